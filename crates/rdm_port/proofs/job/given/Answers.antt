@@ -1,0 +1,64 @@
+use Rattle.std.proofs.Common.{◌≡◌, ◌∙◌, true, false, refl, sym, List, Option, Some, None, codes, bytes_eq}
+use Rattle.std.specs.Prelude.{Box, option_map, option_and_then}
+use Rattle.std.specs.Box.{box_value}
+use Rattle.clap.specs.Matches.{first_value, found_of}
+use Rattle.clap.specs.Simple.{subcommand_rows}
+use Rattle.clap.specs.Walk.{Row, Text, rows_of}
+use Rattle.clap.specs.declared.parser.matches.ArgMatches.TheViews.{out-ArgMatches, out-SubCommand}
+use Rattle.clap.specs.declared.parser.matches.Found.{Found}
+use Rattle.clap.specs.declared.parser.matches.SubCommand.{SubCommand}
+use Rattle.clap.specs.Words.{subcommand_rows_of}
+use Rattle.clap.proofs.WalkLemmas.{first_value-rows}
+use Rattle.rdm_port.specs.Words.{value_of, IsGiven}
+use Rattle.rdm_port.specs.declared.job.Job.{Job}
+use Rattle.rdm_port.specs.declared.job.Job.TheVariants.{Decode, Encode}
+use Rattle.rdm_port.proofs.job.given.Goals as goal
+
+-- a command that was given is its name and what was given to it
+with_parts : {Z : Type 0} (sub : Option (Box SubCommand Z)) (name : Text) (rows : List Row)
+    → Some name ≡ option_map (λ b. (out-SubCommand (box_value b)).name.now) sub
+    → Some rows ≡ option_map (λ p. p.1) (subcommand_rows sub) → subcommand_rows sub ≡ Some (name, rows)
+with_parts None name rows p q = cc
+with_parts (Some b) name rows p q = cc
+
+-- its argument is read by its name
+value_of-found : (given : Option (Text × List Row)) (name argument : Text) (found : Found) (value : Option Text)
+    → given ≡ Some (name, rows_of found) → bytes_eq name name ≡ true → value ≡ first_value found argument
+    → option_and_then (value_of name argument) given ≡ value
+value_of-found given name argument found value is same read = rw (is, same) (sym (read ∙ first_value-rows found argument))
+
+-- the other command's isn't
+value_of-other : (given : Option (Text × List Row)) (name other argument : Text) (rows : List Row)
+    → given ≡ Some (name, rows) → bytes_eq name other ≡ false → option_and_then (value_of other argument) given ≡ None
+value_of-other given name other argument rows is differs = rw (is, differs) refl
+
+none_given : (given : Option (Text × List Row)) → option_and_then (value_of (codes "decode") (codes "hex")) given ≡ None
+    → option_and_then (value_of (codes "encode") (codes "uid")) given ≡ None → (job : Job) → IsGiven given job → ⊥
+none_given given p q (Decode digits) asked = let both = sym p ∙ asked in cc
+none_given given p q (Encode uid) asked = let both = sym q ∙ asked in cc
+
+pub returns-in_ok-get_str-in-decode-clause-some : goal.returns-in_ok-get_str-in-decode-clause-some
+returns-in_ok-get_str-in-decode-clause-some c =
+    let parts = rw c.in-decode.is at (with_parts (out-ArgMatches c.args.matches.now).subcommand _ _ c.in_ok-name.ensures.name c.in_ok-name.ensures.rows) in
+    value_of-found (subcommand_rows_of c.args.matches.now) (codes "decode") (codes "hex") (found_of c.in_ok-name.given.now) _ parts refl c.in_ok-get_str-in-decode.ensures
+
+pub returns-in_ok-get_str-in-encode-clause-some : goal.returns-in_ok-get_str-in-encode-clause-some
+returns-in_ok-get_str-in-encode-clause-some c =
+    let parts = rw c.in-encode.is at (with_parts (out-ArgMatches c.args.matches.now).subcommand _ _ c.in_ok-name.ensures.name c.in_ok-name.ensures.rows) in
+    value_of-found (subcommand_rows_of c.args.matches.now) (codes "encode") (codes "uid") (found_of c.in_ok-name.given.now) _ parts refl c.in_ok-get_str-in-encode.ensures
+
+pub returns-in_err-get_str-in-decode-clause-none :
+    goal.returns-in_err-get_str-in-decode-clause-none
+returns-in_err-get_str-in-decode-clause-none c =
+    let parts = rw c.in-decode.is at (with_parts (out-ArgMatches c.args.matches.now).subcommand _ _ c.in_ok-name.ensures.name c.in_ok-name.ensures.rows) in
+    rw c.from_residual-in_err-get_str-in-decode.ensures (none_given (subcommand_rows_of c.args.matches.now)
+    (value_of-found (subcommand_rows_of c.args.matches.now) (codes "decode") (codes "hex") (found_of c.in_ok-name.given.now) _ parts refl c.in_err-get_str-in-decode.ensures)
+    (value_of-other (subcommand_rows_of c.args.matches.now) (codes "decode") (codes "encode") (codes "uid") _ parts refl))
+
+pub returns-in_err-get_str-in-encode-clause-none :
+    goal.returns-in_err-get_str-in-encode-clause-none
+returns-in_err-get_str-in-encode-clause-none c =
+    let parts = rw c.in-encode.is at (with_parts (out-ArgMatches c.args.matches.now).subcommand _ _ c.in_ok-name.ensures.name c.in_ok-name.ensures.rows) in
+    rw c.from_residual-in_err-get_str-in-encode.ensures (none_given (subcommand_rows_of c.args.matches.now)
+    (value_of-other (subcommand_rows_of c.args.matches.now) (codes "encode") (codes "decode") (codes "hex") _ parts refl)
+    (value_of-found (subcommand_rows_of c.args.matches.now) (codes "encode") (codes "uid") (found_of c.in_ok-name.given.now) _ parts refl c.in_err-get_str-in-encode.ensures))

@@ -1,0 +1,51 @@
+-- What the words of a command line ask for, as `clap` reads them.
+use Rattle.std.specs.Prelude.{◌≡◌, ◌==◌, Bool, not, List, [], ◌∷◌, Option, Some, None, bytes_eq, codes, map, option_and_then, if◌then◌else◌, true}
+use Rattle.std.specs.Borrow.{Bor}
+use Rattle.clap.specs.Words.{App, Row, Text, new_app, new_rule, with_rule, with_subcommand, subcommand_of, first_of, fault_of}
+use Rattle.rdm_port.specs.declared.job.Job.{Job}
+use Rattle.rdm_port.specs.declared.job.Job.TheVariants.{Decode, Encode}
+
+-- a command with one argument
+abbrev pub one_argument : Text → Text → App
+one_argument name argument =
+    with_rule (record (new_app name) { top = record (new_app name).top { disable_help_flag = true } }) (record (new_rule argument) { required = true })
+
+-- the program's command line, before its commands
+abbrev pub bare : App
+bare = record (new_app (codes "rdm_port")) {
+  top = record (new_app (codes "rdm_port")).top {
+    no_binary_name = true;
+    subcommand_required = true;
+    disable_help_flag = true;
+    disable_help_subcommand = true;
+  };
+}
+
+-- the program's commands
+abbrev pub commands : App
+commands = with_subcommand (with_subcommand bare (one_argument (codes "decode") (codes "hex")).top) (one_argument (codes "encode") (codes "uid")).top
+
+-- the argument of the command of this name, if that was given
+abbrev pub value_of : Text → Text → Text × List Row → Option Text
+value_of name argument given = if bytes_eq given.0 name then first_of argument given.1 else None
+
+-- the job of a command with its arguments
+abbrev pub IsGiven : Option (Text × List Row) → Job → Type 0
+IsGiven given (Decode digits) = option_and_then (value_of (codes "decode") (codes "hex")) given ≡ Some digits.now
+IsGiven given (Encode uid) = option_and_then (value_of (codes "encode") (codes "uid")) given ≡ Some uid.now
+
+abbrev pub texts_of : List (Bor Text) → List Text
+texts_of words = map (λ word. word.now) words
+
+-- the words ask for the job
+abbrev pub Asks : List Text → Job → Type 0
+Asks words job = (fault_of commands words ≡ []) × IsGiven (subcommand_of commands words) job
+
+-- the words ask for no job
+abbrev pub AsksNothing : List Text → Type 0
+AsksNothing words = (job : Job) → Asks words job → ⊥
+
+-- the word doesn't begin with a hyphen (45), as options do
+abbrev pub is_plain : Text → Bool
+is_plain [] = true
+is_plain (x ∷ xs) = not (x == 45)

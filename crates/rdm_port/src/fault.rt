@@ -1,0 +1,42 @@
+//! What the program prints where it has no answer.
+ghost use Rattle.std.specs.Prelude.{◌≡◌};
+ghost use Rattle.rdm_port.specs.Fault.{fault_line, fault_status};
+
+use crate::job::WordsFault;
+
+/// Why a command line has no answer.
+#[derive(Clone, Copy, Debug, PartialEq, Eq)]
+pub enum Fault {
+    /// The words fit no command.
+    CommandLine,
+    /// The bytes aren't given as pairs of hexadecimal digits.
+    Hex,
+    /// The UID isn't given as four hexadecimal digits, a colon and eight hexadecimal digits.
+    Uid,
+    /// Memory was refused.
+    Memory,
+}
+
+impl Fault {
+    /// The line that tells it.
+    pub fn line(self) -> &'static str
+        ensures { result.now ≡ fault_line self }
+    {
+        match self {
+            Fault::CommandLine => "fault: command line",
+            Fault::Hex => "fault: hex",
+            Fault::Uid => "fault: uid",
+            Fault::Memory => "fault: memory",
+        }
+    }
+
+    /// The program's status with it: 2 for words that fit no command, 1 for all else.
+    pub fn status(self) -> u8
+        ensures { result ≡ fault_status self }
+    {
+        match self {
+            Fault::CommandLine => 2,
+            Fault::Hex | Fault::Uid | Fault::Memory => 1,
+        }
+    }
+}

@@ -1,0 +1,12 @@
+pub mod BytesLemmas
+pub mod UidLemmas
+pub mod BranchLemmas
+pub mod EachBehindLemmas
+pub mod Text
+pub mod OffsetLemmas
+pub mod PacketLemmas
+pub mod Decoded
+pub mod CommandLemmas
+pub mod ReadBack
+pub mod Acknowledged
+pub mod SetLemmas

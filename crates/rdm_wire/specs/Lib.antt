@@ -1,0 +1,12 @@
+pub mod Uid
+pub mod Span
+pub mod Bytes
+pub mod UidText
+pub mod BranchText
+pub mod Packet
+pub mod Header
+pub mod Commands
+pub mod Reading
+pub mod Honest
+pub mod Frames
+pub mod Lists

@@ -1,0 +1,23 @@
+-- UIDs as text.
+use Rattle.std.specs.Prelude.{◌≡◌, ℕ, ◌^◌, ◌<◌, List, ◌∷◌, ◌++◌, length, take, drop, Ok}
+use Rattle.hex.specs.Hex.{decode_of, encode_lower}
+use Rattle.rdm_wire.specs.Bytes.{uid_bytes}
+
+-- the code of a colon
+abbrev pub colon : ℕ
+colon = 58
+
+-- text is a text of the UID u: four hexadecimal digits, a colon and eight hexadecimal digits, in either case
+pub record UidText (text : List ℕ) (u : ℕ) : Type 0 where
+  pub manufacturer : List ℕ
+  pub device : List ℕ
+  pub parts : text ≡ manufacturer ++ colon ∷ device
+  pub manufacturer_length : length manufacturer ≡ 4
+  pub device_length : length device ≡ 8
+  pub in_range : u < 2 ^ 48
+  pub manufacturer_digits : decode_of manufacturer ≡ Ok (take 2 (uid_bytes u))
+  pub device_digits : decode_of device ≡ Ok (drop 2 (uid_bytes u))
+
+-- the text of the UID u in lower case
+abbrev pub uid_text : ℕ → List ℕ
+uid_text u = encode_lower (take 2 (uid_bytes u)) ++ colon ∷ encode_lower (drop 2 (uid_bytes u))

@@ -1,0 +1,31 @@
+//! What goes over an RDM line: UIDs, packets, and the replies to a discovery's branch.
+#![tactic(auto)]
+
+mod branch;
+mod checksum;
+mod discovery;
+mod frame;
+mod laws;
+mod mute_ack;
+mod request;
+mod response;
+#[cfg(test)]
+mod tests;
+mod uid;
+mod uid_range;
+mod uid_set;
+
+pub use branch::{
+    BranchReply, LONGEST_BRANCH_REPLY, LONGEST_PREAMBLE, read_branch_reply, write_branch_reply,
+};
+pub use discovery::{encode_branch, encode_mute, encode_unmute};
+pub use frame::{Frame, MOST_FRAME_BYTES, MOST_PARAMETER_BYTES};
+pub use laws::{
+    frames_tell_commands, one_text, packets_tell_fields, responses_decode, what_frames_ask,
+};
+pub use mute_ack::{MuteAck, reads_mute_ack};
+pub use request::{QUEUED_MESSAGE, ReqClass, Request, encode_request};
+pub use response::{AckType, PacketFault, RespClass, Response, decode_response};
+pub use uid::{Uid, UidFault};
+pub use uid_range::UidRange;
+pub use uid_set::{MOST_DEVICES, SetFull, UidSet};

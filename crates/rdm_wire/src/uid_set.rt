@@ -1,0 +1,157 @@
+//! Sets of devices.
+ghost use Rattle.std.specs.Prelude.{⊤, ◌≡◌, ◌≢◌, ◌<◌, ◌≤◌, ◌^◌, ◌↔◌, ◌==◌, ℕ, [], length, true, false, Ok, IsErr, OnOk, IfNone, IfSome, OnSome, insert};
+ghost use Rattle.std.specs.Iterator.Runs.{EveryRun, ItemsMapTo};
+ghost use Rattle.std.specs.Slice.Iter.{iter_rest, iter_steps};
+ghost use Rattle.rdm_wire.specs.Uid.{has, with_uid, is_broadcast, IsDeviceSet};
+
+use crate::uid::Uid;
+use arrayvec::ArrayVec;
+use std::alloc::AllocError;
+use std::marker::Model;
+use std::slice;
+use thiserror::Error;
+
+/// How many devices a set has room for (profile of this project).
+pub const MOST_DEVICES: usize = 256;
+
+/// UIDs of devices, ascending and without repeats: [`MOST_DEVICES`] at most. Contracts see the list of their numbers.
+#[derive(Debug, Drop, PartialEq, Eq)]
+pub struct UidSet {
+    uids: ArrayVec<Uid, MOST_DEVICES>,
+}
+
+impl Model for UidSet {
+    ghost use Rattle.std.specs.Prelude.{List, ℕ};
+    ghost use Rattle.rdm_wire.specs.Uid.{IsDeviceSet};
+
+    ghost Value = { List ℕ };
+
+    ghost view = { λ s. s.uids.items };
+
+    ghost invariant = { λ s. IsDeviceSet s.uids.items };
+
+    ghost inverse = { λ us. record { uids = record { items = us } } };
+}
+
+/// A set has no room for another device.
+#[derive(Clone, Copy, Debug, PartialEq, Eq, Error)]
+#[error("a set has room for 256 devices")]
+pub struct SetFull;
+
+impl UidSet {
+    /// The empty set.
+    pub fn new() -> UidSet
+        ensures { result ≡ [] }
+    {
+        UidSet {
+            uids: ArrayVec::new(),
+        }
+    }
+
+    /// How many devices there are.
+    pub fn len(&self) -> usize
+        ensures value { result ≡ length self.now }
+        ensures fits { result ≤ MOST_DEVICES }
+        ensures devices { IsDeviceSet self.now }
+    {
+        self.uids.len()
+    }
+
+    /// Whether there is no device.
+    pub fn is_empty(&self) -> bool
+        ensures { result ≡ (length self.now == 0) }
+    {
+        self.uids.is_empty()
+    }
+
+    /// Whether there is no room for another device.
+    pub fn is_full(&self) -> bool
+        ensures value { result ≡ (length self.now == MOST_DEVICES) }
+        ensures fits { length self.now ≤ MOST_DEVICES }
+    {
+        self.uids.is_full()
+    }
+
+    /// The UIDs, ascending.
+    pub fn as_slice(&self) -> &[Uid]
+        ensures value { result.now ≡ self.now }
+        ensures fits { length result.now ≤ MOST_DEVICES }
+        ensures devices { IsDeviceSet self.now }
+    {
+        self.uids.as_slice()
+    }
+
+    /// The UIDs, ascending.
+    pub fn iter(&self) -> slice::Iter<'_, Uid>
+        ensures rest { iter_rest result ≡ self.now }
+        ensures fits { length (iter_rest result) < 2 ^ 64 }
+        ensures runs { EveryRun (iter_steps {A = ℕ}) (λ p. ItemsMapTo p (λ u. u.now) (iter_rest p.from)) }
+    {
+        self.as_slice().iter()
+    }
+
+    /// Whether `uid` is in it.
+    pub fn contains(&self, uid: Uid) -> bool
+        ensures value { result ≡ has self.now uid }
+        ensures devices { IsDeviceSet self.now }
+    {
+        self.place(uid).is_none()
+    }
+
+    /// Puts in `uid`, a device's; `false` where it was there already. [`SetFull`]: it isn't there and there is no
+    /// room. Where it isn't put in, the set is unchanged.
+    pub fn insert(&mut self, uid: Uid) -> Result<bool, SetFull>
+        requires { is_broadcast uid ≡ false }
+        ensures there { (result ≡ Ok false) ↔ (has self.old uid ≡ true) }
+        ensures full { IsErr result ↔ ((has self.old uid ≡ false) × (length self.old ≡ MOST_DEVICES)) }
+        ensures inserted { OnOk result (self.new ≡ with_uid uid self.old) }
+        ensures unchanged { result ≢ Ok true → self.new ≡ self.old }
+        ensures fits { length self.old ≤ MOST_DEVICES }
+        ensures devices { IsDeviceSet self.old × IsDeviceSet self.new }
+    {
+        let Some(place) = self.place(uid) else {
+            return Ok(false);
+        };
+        if self.is_full() {
+            return Err(SetFull);
+        }
+        self.uids.insert(place, uid);
+        Ok(true)
+    }
+
+    // The index at which `uid` is to be put in; `None` where it is there.
+    fn place(&self, uid: Uid) -> Option<usize>
+        ensures there { IfNone result (has self.now uid ≡ true) }
+        ensures absent { OnSome result (has self.now uid ≡ false) }
+        ensures place { IfSome result (λ i. (i ≤ length self.now) × (with_uid uid self.now ≡ insert self.now i uid)) }
+        ensures in_range { uid < 2 ^ 48 }
+        ensures fits { length self.now ≤ MOST_DEVICES }
+        ensures devices { IsDeviceSet self.now }
+    {
+        // For the proof alone: a UID's number is below 2^48.
+        let _in_range = uid.number();
+        match self.as_slice().binary_search(&uid) {
+            Ok(_) => None,
+            Err(place) => Some(place),
+        }
+    }
+
+    /// The same set again.
+    pub fn copied(&self) -> UidSet
+        ensures { result ≡ self.now }
+    {
+        UidSet {
+            uids: ArrayVec::try_from(self.as_slice()).unwrap(),
+        }
+    }
+}
+
+impl Clone for UidSet {
+    ghost is_clone = { λ s t. t ≡ s };
+
+    ghost is_infallible = { λ _. ⊤ };
+
+    fn clone(&self) -> Result<UidSet, AllocError> {
+        Ok(self.copied())
+    }
+}
