@@ -1,0 +1,213 @@
+//! A request's replies, joined.
+ghost use Rattle.std.specs.Prelude.{◌≡◌, ◌<◌, ◌↔◌, List, [], ◌∷◌, ◌++◌, length, not, IfOk, OnErr};
+ghost use Rattle.rdm_join.specs.Result.{result_of, head_of, differs};
+ghost use Rattle.rdm_join.specs.Standing.{IsOpen, StandsAt, Moves, head_of_standing, step_of, ended_standing, stage_with_part, takes_whole};
+ghost use Rattle.rdm_join.specs.declared.verdict.Judged.{Judged};
+ghost use Rattle.rdm_join.specs.declared.verdict.Judged.TheVariants.{Whole, Part};
+
+use crate::status::Status;
+use crate::verdict::Judged;
+use arrayvec::ArrayVec;
+use rdm_wire::{AckType, RespClass, Response};
+use std::alloc::{AllocError, Global};
+use std::marker::Model;
+
+/// How many bytes an answer has, at most, with all its parts together (profile of this project).
+pub const MOST_JOINED_BYTES: usize = 4096;
+
+/// How many replies an answer comes in, at most: a part in the last one's place ends the request (profile of this
+/// project).
+pub const MOST_PARTS: usize = 256;
+
+/// What the last reply of a completed request says beside its data.
+#[derive(Clone, Copy, Debug, PartialEq, Eq)]
+pub struct ReplyHead {
+    /// How the device responded.
+    pub ack: AckType,
+    /// What it answered.
+    pub class: RespClass,
+    /// The parameter's identifier.
+    pub pid: u16,
+    /// The sub-device: 0 is the root.
+    pub sub_device: u16,
+}
+
+impl ReplyHead {
+    // Whether it answers the same: its class, PID and sub-device are those of `other`.
+    fn goes_with(self, other: ReplyHead) -> bool
+        ensures { result ≡ not (differs self other) }
+    {
+        self.class == other.class && self.pid == other.pid && self.sub_device == other.sub_device
+    }
+}
+
+fn head_of(response: &Response) -> ReplyHead
+    ensures { result ≡ head_of response.now }
+{
+    ReplyHead {
+        ack: response.ack,
+        class: response.class,
+        pid: response.pid,
+        sub_device: response.sub_device,
+    }
+}
+
+/// What a verdict makes of the request.
+#[derive(Clone, Copy, Debug, PartialEq, Eq)]
+pub enum Step {
+    /// A part was joined: the same request is to be sent again, for the rest.
+    More,
+    /// The request has ended so.
+    Done(Status),
+}
+
+/// How far a request is.
+#[derive(Clone, Copy, Debug)]
+enum Stage {
+    /// No part has come.
+    Waiting,
+    /// So many parts have come, and the first had this head.
+    Joining { first: ReplyHead, parts: usize },
+    /// It has ended. Where it is completed, its last reply had this head.
+    Ended(Option<ReplyHead>),
+}
+
+impl Stage {
+    // The stage behind one more part, if it goes with the first and isn't in the last place.
+    fn with_part(self, head: ReplyHead) -> Option<Stage>
+        ensures { result ≡ stage_with_part self head }
+    {
+        match self {
+            Stage::Waiting => Some(Stage::Joining {
+                first: head,
+                parts: 1,
+            }),
+            Stage::Joining { first, parts } if first.goes_with(head) && parts < MOST_PARTS - 1 => {
+                Some(Stage::Joining {
+                    first,
+                    parts: parts + 1,
+                })
+            }
+            _ => None,
+        }
+    }
+
+    // Whether a reply that has all, or the rest, of the answer ends the request well.
+    fn takes_whole(self, head: ReplyHead) -> bool
+        ensures { result ≡ takes_whole self head }
+    {
+        match self {
+            Stage::Waiting => true,
+            Stage::Joining { first, .. } => first.goes_with(head) && head.ack == AckType::Ack,
+            Stage::Ended(_) => false,
+        }
+    }
+}
+
+/// Joins the replies to one request: the same request is sent until a reply has all, or the rest, of the answer
+/// (E1.20, ACK_OVERFLOW). Contracts see how far the request is, and its data: after any list of verdicts these are
+/// those of the verdicts' result, and where there is none yet, of their parts (`StandsAt`).
+#[derive(Debug, Drop)]
+pub struct Joiner {
+    stage: Stage,
+    joined: ArrayVec<u8, MOST_JOINED_BYTES>,
+}
+
+impl Model for Joiner {
+    ghost use Rattle.rdm_join.specs.Standing.{Standing};
+
+    ghost Value = { Standing };
+
+    ghost view = { λ j. record { stage = j.stage; data_ = j.joined.items } };
+}
+
+impl Joiner {
+    /// A joiner to which no verdict was given. It allocates nothing.
+    pub fn new() -> Joiner
+        ensures is_open { IsOpen result }
+        ensures stands { StandsAt [] result }
+    {
+        Joiner {
+            stage: Stage::Waiting,
+            joined: ArrayVec::new(),
+        }
+    }
+
+    /// Gives it the verdict on the next reply. The last one must not have answered `Done`.
+    ///
+    /// A reply joins with the parts before it where it has the class, the PID and the sub-device of the first, is an
+    /// ACK unless it is a part itself, leaves the data within `MOST_JOINED_BYTES`, and is no part in the last of
+    /// `MOST_PARTS` places. Else the request ends as an invalid response (profile of this project).
+    pub fn add(&mut self, judged: Judged) -> Step
+        requires { IsOpen self.old }
+        ensures more { (result ≡ Step.More) ↔ IsOpen self.new }
+        ensures stands { (vs : List Judged) → StandsAt vs self.old → StandsAt (vs ++ judged ∷ []) self.new }
+        ensures step { (vs : List Judged) → StandsAt vs self.old → result ≡ step_of (result_of (vs ++ judged ∷ [])) }
+    {
+        match judged {
+            Judged::Whole(response) => self.add_whole(&response),
+            Judged::Part(response) => self.add_part(&response),
+            Judged::Ended(status) => self.end(status),
+        }
+    }
+
+    fn add_whole(&mut self, whole: &Response) -> Step
+        requires { IsOpen self.old }
+        ensures { Moves self.old (Whole whole.now) result self.new }
+    {
+        let head = head_of(whole);
+        if !self.stage.takes_whole(head)
+            || self.joined.try_extend_from_slice(&whole.param).is_err()
+        {
+            return self.end(Status::InvalidResponse);
+        }
+        self.stage = Stage::Ended(Some(head));
+        Step::Done(Status::Completed)
+    }
+
+    fn add_part(&mut self, part: &Response) -> Step
+        requires { IsOpen self.old }
+        ensures { Moves self.old (Part part.now) result self.new }
+    {
+        let Some(stage) = self.stage.with_part(head_of(part)) else {
+            return self.end(Status::InvalidResponse);
+        };
+        if self.joined.try_extend_from_slice(&part.param).is_err() {
+            return self.end(Status::InvalidResponse);
+        }
+        self.stage = stage;
+        Step::More
+    }
+
+    // Ends the request without data.
+    fn end(&mut self, status: Status) -> Step
+        ensures stands { self.new ≡ ended_standing }
+        ensures step { result ≡ Step.Done status }
+    {
+        self.stage = Stage::Ended(None);
+        self.joined.clear();
+        Step::Done(status)
+    }
+
+    /// The head of the last reply, where the request is completed: where `add` answered `Done(Completed)`.
+    pub fn head(&self) -> Option<ReplyHead>
+        ensures { result ≡ head_of_standing self.now }
+    {
+        match self.stage {
+            Stage::Ended(head) => head,
+            Stage::Waiting | Stage::Joining { .. } => None,
+        }
+    }
+
+    /// A copy of the data: of the parts so far, and of the whole answer where the request is completed. There is none
+    /// where it has ended otherwise. It is the only call that allocates: an `Err` says that no memory was left. No
+    /// data takes no memory, and can't fail.
+    pub fn take_data(&self, alloc: Global) -> Result<Vec<u8>, AllocError>
+        ensures ok { IfOk result (λ v. v.items ≡ self.now.data_) }
+        ensures err { OnErr result (0 < length self.now.data_) }
+    {
+        let mut data = Vec::new(alloc);
+        data.extend_from_slice(&self.joined)?;
+        Ok(data)
+    }
+}

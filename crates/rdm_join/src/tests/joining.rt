@@ -1,0 +1,128 @@
+//! Replies in parts, and what they are joined to.
+ghost use Rattle.rdm_join.specs.Standing.{IsOpen};
+
+use crate::{Joiner, Judged, Status, Step};
+use arrayvec::ArrayVec;
+use rdm_wire::{AckType, MOST_PARAMETER_BYTES, RespClass, Response, Uid};
+use std::process::Abort;
+use std::test::Fail;
+
+// A response to a GET of the parameter `0060`, with so many bytes of this value as data.
+fn response(rt: &impl Abort, ack: AckType, length: usize, value: u8) -> Response {
+    let mut param = ArrayVec::new();
+    for _ in 0..length {
+        assert!(rt; param.try_push(value).is_ok());
+    }
+    Response {
+        source: Uid::new(0x1234, 1),
+        dest: Uid::new(0x7a70, 0x100),
+        tn: 0,
+        ack,
+        count: 0,
+        sub_device: 0,
+        class: RespClass::Get,
+        pid: 0x0060,
+        param,
+    }
+}
+
+fn part(rt: &impl Abort, length: usize, value: u8) -> Judged {
+    Judged::Part(response(rt, AckType::Overflow, length, value))
+}
+
+fn whole(rt: &impl Abort, length: usize, value: u8) -> Judged {
+    Judged::Whole(response(rt, AckType::Ack, length, value))
+}
+
+// A joiner that was given so many parts of this length; the bytes of each are its number's low byte.
+fn with_parts(rt: &impl Abort, count: usize, length: usize) -> Joiner
+    ensures { IsOpen result }
+{
+    let mut joiner = Joiner::new();
+    for number in 0..count {
+        let step = joiner.add(part(rt, length, (number % 256) as u8));
+        assert_eq!(rt; step, Step::More);
+    }
+    joiner
+}
+
+#[test]
+fn joins_parts_in_order(rt: HostRuntime) -> Result<(), Fail> {
+    let mut joiner = with_parts(&rt, 2, MOST_PARAMETER_BYTES);
+    assert!(rt; joiner.head().is_none());
+    assert_eq!(rt; joiner.add(whole(&rt, 3, 2)), Step::Done(Status::Completed));
+    assert_eq!(rt; joiner.head().map(|head| head.ack), Some(AckType::Ack));
+    let data = joiner.take_data(rt.alloc())?;
+    assert_eq!(rt; data.len(), 465);
+    let (front, rest) = data.split_at(MOST_PARAMETER_BYTES);
+    let (middle, back) = rest.split_at(MOST_PARAMETER_BYTES);
+    assert!(rt; front.iter().all(|byte| *byte == 0));
+    assert!(rt; middle.iter().all(|byte| *byte == 1));
+    assert!(rt; back.iter().all(|byte| *byte == 2));
+    Ok(())
+}
+
+#[test]
+fn ends_at_the_last_part(rt: HostRuntime) -> Result<(), Fail> {
+    let mut refused = with_parts(&rt, 255, 0);
+    assert_eq!(rt;
+        refused.add(part(&rt, 0, 1)),
+        Step::Done(Status::InvalidResponse)
+    );
+    assert!(rt; refused.head().is_none());
+
+    let mut joined = with_parts(&rt, 255, 0);
+    assert_eq!(rt; joined.add(whole(&rt, 0, 1)), Step::Done(Status::Completed));
+    assert_eq!(rt; joined.take_data(rt.alloc())?.len(), 0);
+    Ok(())
+}
+
+#[test]
+fn joins_no_more_bytes_than_fit(rt: HostRuntime) -> Result<(), Fail> {
+    let mut joined = with_parts(&rt, 17, MOST_PARAMETER_BYTES);
+    assert_eq!(rt;
+        joined.add(whole(&rt, 169, 1)),
+        Step::Done(Status::Completed)
+    );
+    assert_eq!(rt; joined.take_data(rt.alloc())?.len(), 4096);
+
+    let mut refused = with_parts(&rt, 17, MOST_PARAMETER_BYTES);
+    assert_eq!(rt;
+        refused.add(whole(&rt, 170, 1)),
+        Step::Done(Status::InvalidResponse)
+    );
+    assert_eq!(rt; refused.take_data(rt.alloc())?.len(), 0);
+    Ok(())
+}
+
+#[test]
+fn ends_at_a_reply_of_another_kind(rt: HostRuntime) {
+    let nack = response(&rt, AckType::Nack, 2, 0);
+    let other_pid = Response {
+        pid: 0x0061,
+        ..response(&rt, AckType::Ack, 0, 0)
+    };
+    let set = Response {
+        class: RespClass::Set,
+        ..response(&rt, AckType::Ack, 0, 0)
+    };
+    let sub_device = Response {
+        sub_device: 1,
+        ..response(&rt, AckType::Ack, 0, 0)
+    };
+    for reply in [nack, other_pid, set, sub_device] {
+        let mut joiner = with_parts(&rt, 1, 2);
+        assert_eq!(rt;
+            joiner.add(Judged::Whole(reply)),
+            Step::Done(Status::InvalidResponse)
+        );
+    }
+    let mut joiner = Joiner::new();
+    let step = joiner.add(Judged::Whole(response(&rt, AckType::Nack, 2, 0)));
+    assert_eq!(rt; step, Step::Done(Status::Completed));
+    assert_eq!(rt; joiner.head().map(|head| head.ack), Some(AckType::Nack));
+    assert_eq!(rt;
+        Joiner::new().add(Judged::Ended(Status::Timeout)),
+        Step::Done(Status::Timeout)
+    );
+}
