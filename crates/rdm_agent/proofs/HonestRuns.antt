@@ -1,0 +1,38 @@
+-- Runs on an honest line.
+use Rattle.std.proofs.Common.{◌≡◌, ℕ, true, List, take, None, sym, ap, ◌∙◌, subst}
+use Rattle.std.specs.Prelude.{MatchOption}
+use Rattle.rdm_wire.specs.Uid.{has, IsDeviceSet}
+use Rattle.rdm_wire.specs.Lists.{once}
+use Rattle.rdm_wire.specs.Honest.{Seen}
+use Rattle.rdm_agent.specs.Run.{acked_in}
+use Rattle.rdm_agent.specs.Certificate.{Certificate}
+use Rattle.rdm_agent.specs.Cause.{Cause}
+use Rattle.rdm_agent.specs.Machine.{AgentState, Runs, start, next_of, fault_of}
+use Rattle.rdm_agent.specs.Statements.{FindsAll, FindsEach, FindsNoPhantom}
+use Rattle.rdm_agent.specs.declared.kind.Kind.{Kind}
+use Rattle.rdm_agent.proofs.OneDevice.{found}
+use Rattle.rdm_agent.proofs.Honest.{devices, no_phantom}
+use Rattle.rdm_agent.proofs.Sets.{has-set_of, has-once, has-take}
+use Rattle.rdm_agent.proofs.Runs.{stands, ends_certified, ends_at_failure}
+
+-- a run without fault has its certificate
+certificate : (kind : Kind) (known : List ℕ) (budget : ℕ) (x : List Seen) (b : AgentState) → IsDeviceSet known → Runs (start kind known budget) x b → next_of b ≡ None → fault_of b.phase ≡ None → Certificate kind known x b.found
+certificate kind known budget x b set run end fault = subst (λ f. MatchOption f (Certificate kind known x b.found) (λ g. Cause budget ⊥ g x)) fault (ends_certified kind known budget x b set run end).0
+
+-- on an honest line that is the devices
+pub finds_all : FindsAll
+finds_all kind known budget x b set run present end fault honest = devices kind known x b.found present (certificate kind known budget x b set run end fault) honest
+
+-- and it has each device to which the line was honest
+pub finds_each : FindsEach
+finds_each kind known budget x b set run u end fault device honest = found kind known x b.found u device (certificate kind known budget x b set run end fault) honest
+
+-- what is found is acknowledged, and so a device
+pub finds_no_phantom : FindsNoPhantom
+finds_no_phantom kind known budget x b set run present u honest here = no_phantom present x u (ends_at_failure kind known budget x b set run).0 honest acked
+  where
+    first : has (take 256 (once (acked_in x))) u ≡ true
+    first = sym (has-set_of (take 256 (once (acked_in x))) u) ∙ ap (λ us. has us u) (sym (stands kind known budget x b set run).reports) ∙ here
+
+    acked : has (acked_in x) u ≡ true
+    acked = sym (has-once (acked_in x) u) ∙ has-take 256 (once (acked_in x)) u first

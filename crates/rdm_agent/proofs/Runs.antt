@@ -1,0 +1,241 @@
+-- What is shown of whole runs.
+use Rattle.std.proofs.Common.{◌≡◌, ℕ, ◌+◌, ◌<◌, ◌≤◌, Bool, true, false, cond, List, [], ◌∷◌, ◌++◌, length, map, Option, None, Some, refl, sym, ap, ◌∙◌, subst, append_assoc, append-nil, arith}
+use Rattle.std.specs.Prelude.{◌≢◌, nat_lt, MatchOption}
+use Rattle.std.specs.List.{AllByRecursion}
+use Rattle.std.proofs.lemmas.Bool.{ltb-false, le-ltb, cond-false}
+use Rattle.std.proofs.lemmas.List.{length-map, length-take}
+use Rattle.rdm_wire.specs.Uid.{IsDevice, IsDeviceSet}
+use Rattle.rdm_wire.specs.Honest.{Asked, Heard, Seen}
+use Rattle.rdm_wire.specs.Honest.Asked.{Unmute, Branch, Mute}
+use Rattle.rdm_wire.specs.Honest.Heard.{Acked, Failed, Silent, One, Noise}
+use Rattle.rdm_agent.specs.Run.{FailureIsLast}
+use Rattle.rdm_agent.specs.Certificate.{Certificate, known_of}
+use Rattle.rdm_agent.specs.Cause.{Cause, IsCorrupt, EndsFailed, AllReported}
+use Rattle.rdm_agent.specs.Machine.{Phase, AgentState, Runs, start, next_of, wanted, fed, fault_of, heard_by_phase, to_phase, open_ranges}
+use Rattle.rdm_agent.specs.Machine.Phase.{Unmuting, Knowing, Searching, Muting, Over}
+use Rattle.rdm_agent.specs.Statements.{AsksInOrder, EndsAtFailure, EndsAtBudget, FindsAcknowledged, HasFewRanges, EndsCertified, IsInOrder}
+use Rattle.rdm_agent.specs.declared.kind.Kind.{Kind}
+use Rattle.rdm_agent.specs.declared.kind.Kind.TheVariants.{Full, Incremental}
+use Rattle.rdm_agent.specs.declared.fault.AgentFault.TheVariants.{LineFailed, Exhausted}
+use Rattle.rdm_agent.proofs.Members.{heads, tails}
+use Rattle.rdm_agent.proofs.OneDevice.{NotFailed}
+use Rattle.rdm_agent.proofs.AllDevices.{failed_none}
+use Rattle.rdm_agent.proofs.Pushes.{All-at}
+use Rattle.rdm_agent.proofs.FoundLemmas.{IsFound-all_reported, found-same}
+use Rattle.rdm_agent.proofs.CorruptLemmas.{is_new-device, not_corrupt-no_branch, not_corrupt-spelt}
+use Rattle.rdm_agent.proofs.UnmutePhase.{no_branches}
+use Rattle.rdm_agent.proofs.Stacks.{IsStack-length, IsStack-ends}
+use Rattle.rdm_agent.proofs.RunLemmas.{to_phase-stands, reported-same, unmuting-stands, known-stands, searching-stands, muting-stands, is_muting-device}
+use Rattle.rdm_agent.proofs.Standing.{IsFound, InPhase, IsUnderWay, Stands}
+
+module _ (kind : Kind) (known : List ℕ) (budget : ℕ) where
+  -- while something is wanted, no exchange has failed, there was room for what is found, and nothing is corrupt
+  record IsOpen (x : List Seen) (found : List ℕ) : Type 0 where
+    pub no_failure : AllByRecursion NotFailed x
+    pub is_found : IsFound x found
+    pub not_corrupt : (u : ℕ) → IsCorrupt u x → ⊥
+
+  is_open : (phase : Phase) (x : List Seen) (found : List ℕ) → InPhase kind known budget phase x found → MatchOption (wanted phase) (Unit {0}) (λ asked. IsOpen x found)
+  is_open (Unmuting more left) x found p = record { no_failure = p.1.no_failure; is_found = p.1.is_found; not_corrupt = λ u c. not_corrupt-no_branch u x (no_branches x p.1.unmutes) c }
+  is_open (Knowing u tries left) x found p = let w = p.muting.under_way in record { no_failure = w.no_failure; is_found = w.is_found; not_corrupt = λ v c. not_corrupt-no_branch v x p.muting.no_branch c }
+  is_open (Searching silences top below) x found p = let w = p.searches.under_way in record { no_failure = w.no_failure; is_found = w.is_found; not_corrupt = p.not_corrupt }
+  is_open (Muting u tries top below) x found p = let w = p.searches.under_way in record {
+    no_failure = w.no_failure;
+    is_found = w.is_found;
+    not_corrupt = λ v c. not_corrupt-spelt v u tries top x found w.is_found (IsStack-ends top below p.searches.stack).1 (is_new-device found top u p.new) p.spelt p.few c;
+  }
+  is_open (Over fault) x found p = tt
+
+  module _ (x : List Seen) (a : AgentState) (s : Stands kind known budget x a) (goes : nat_lt a.frames a.budget ≡ true) where
+    -- the agent stands behind what is wanted and its reply
+    Behind : AgentState → Heard → Option Asked → Type 0
+    Behind b h o = MatchOption o (Unit {0}) (λ asked. Stands kind known budget (x ++ record { asked = asked; heard = h } ∷ []) b)
+
+    by_phase : (phase : Phase) (h : Heard) → h ≢ Failed → InPhase kind known budget phase x a.found → Behind (heard_by_phase a phase h) h (wanted phase)
+    unfolding Behind
+    by_phase (Unmuting more left) h sound p = unmuting-stands kind known budget x a s goes more left h sound p
+    by_phase (Knowing u tries left) h sound p = known-stands kind known budget x a s goes u tries left h sound p
+    by_phase (Searching silences top below) h sound p = searching-stands kind known budget x a s goes silences top below h sound p
+    by_phase (Muting u tries top below) h sound p = muting-stands kind known budget x a s goes u tries top below h sound p
+    by_phase (Over fault) h sound p = tt
+
+    failed-stands : (asked : Asked) → wanted a.phase ≡ Some asked → Stands kind known budget (x ++ record { asked = asked; heard = Failed } ∷ []) (to_phase a (Over (Some LineFailed)))
+    failed-stands asked w = to_phase-stands kind known budget x a s goes e (Over (Some LineFailed)) (reported-same kind known budget x a s goes e (failed_none asked Failed refl)) (record {
+      before = x;
+      last = e;
+      whole = refl;
+      no_failure = before.no_failure;
+      certified = (record { before = x; asked = asked; whole = refl }, IsFound-all_reported (x ++ e ∷ []) a.found (found-same x a.found e before.is_found (failed_none asked Failed refl)));
+    })
+      where
+        before : IsOpen x a.found
+        before = subst (λ o. MatchOption o (Unit {0}) (λ q. IsOpen x a.found)) w (is_open a.phase x a.found s.phase)
+
+        e : Seen
+        e = record { asked = asked; heard = Failed }
+
+    fed-stands : (asked : Asked) (h : Heard) → wanted a.phase ≡ Some asked → Stands kind known budget (x ++ record { asked = asked; heard = h } ∷ []) (fed a h)
+    unfolding Behind
+    fed-stands asked Failed w = failed-stands asked w
+    fed-stands asked Silent w = subst (Behind (heard_by_phase a a.phase Silent) Silent) w (by_phase a.phase Silent (λ q. cc) s.phase)
+    fed-stands asked (One u) w = subst (Behind (heard_by_phase a a.phase (One u)) (One u)) w (by_phase a.phase (One u) (λ q. cc) s.phase)
+    fed-stands asked (Acked ack) w = subst (Behind (heard_by_phase a a.phase (Acked ack)) (Acked ack)) w (by_phase a.phase (Acked ack) (λ q. cc) s.phase)
+    fed-stands asked Noise w = subst (Behind (heard_by_phase a a.phase Noise) Noise) w (by_phase a.phase Noise (λ q. cc) s.phase)
+
+  -- what is asked next is wanted, within the budget
+  wanted_next : (a : AgentState) (asked : Asked) → next_of a ≡ Some asked → (nat_lt a.frames a.budget ≡ true) × (wanted a.phase ≡ Some asked)
+  wanted_next a asked next = by_test (nat_lt a.frames a.budget) refl next
+    where
+      by_test : (b : Bool) → nat_lt a.frames a.budget ≡ b → cond b (wanted a.phase) None ≡ Some asked → (nat_lt a.frames a.budget ≡ true) × (wanted a.phase ≡ Some asked)
+      by_test true goes w = (goes, w)
+      by_test false out w = absurd (none_some w)
+        where
+          none_some : None ≡ Some asked → ⊥
+          none_some q = cc
+
+  runs-stand : (front x : List Seen) (a b : AgentState) → Stands kind known budget front a → Runs a x b → Stands kind known budget (front ++ x) b
+  runs-stand front [] a b s end = subst (λ l. Stands kind known budget l b) (sym (append-nil front)) (subst (λ c. Stands kind known budget front c) (sym end) s)
+  runs-stand front (e ∷ x) a b s run = let w = wanted_next a e.asked run.0 in
+      subst (λ l. Stands kind known budget l b) (append_assoc front (e ∷ []) x) (runs-stand (front ++ e ∷ []) x (fed a e.heard) b (fed-stands front a s w.0 e.asked e.heard w.1) run.1)
+
+known_devices : (kind : Kind) (known : List ℕ) → IsDeviceSet known → AllByRecursion IsDevice (known_of kind known)
+known_devices Full known set = tt
+known_devices Incremental known set = set.devices
+
+-- an agent that ran stands behind its exchanges
+pub stands : (kind : Kind) (known : List ℕ) (budget : ℕ) (x : List Seen) (b : AgentState) → IsDeviceSet known → Runs (start kind known budget) x b → Stands kind known budget x b
+stands kind known budget x b set run = runs-stand kind known budget [] x (start kind known budget) b (record {
+  budget_is = refl;
+  frames_are = refl;
+  within = omega arith;
+  reports = refl;
+  phase = (omega arith, record { unmutes = tt; no_failure = tt; counted = refl; is_found = record { set = refl; counted = refl; room = omega arith }; left_is = refl; devices = known_devices kind known set });
+}) run
+
+-- three unmutes were made
+begun-length : (known : List ℕ) (busy : Option ℕ) (x : List Seen) (found : List ℕ) → IsUnderWay known busy x found → 3 ≤ length x
+begun-length known busy x found w = omega (arith, length-take 3 (map (λ (e : Seen). e.asked) x), length-map x (λ (e : Seen). e.asked), ap length w.begun)
+
+too_early : {n : ℕ} → 3 ≤ n → n < 3 → ⊥
+too_early some early = omega arith
+
+not_wanted : (goes : Bool) (asked : Asked) → cond goes (Some asked) None ≡ None → goes ≡ false
+not_wanted false asked end = refl
+not_wanted true asked end = absurd (some_none end)
+  where
+    some_none : Some asked ≡ None → ⊥
+    some_none p = cc
+
+-- what is wanted is in order
+wants_in_order : (kind : Kind) (known : List ℕ) (budget : ℕ) (phase : Phase) (x : List Seen) (found : List ℕ) → InPhase kind known budget phase x found → MatchOption (wanted phase) (Unit {0}) (IsInOrder (length x))
+wants_in_order kind known budget (Unmuting more left) x found p = ((λ early. refl), λ late. absurd (too_late p.0 p.1.counted late))
+  where
+    too_late : 1 ≤ more → length x + more ≡ 3 → 3 ≤ length x → ⊥
+    too_late some counted late = omega arith
+wants_in_order kind known budget (Knowing u tries left) x found p = ((λ early. absurd (too_early (begun-length (known_of kind known) (Some u) x found p.muting.under_way) early)), λ late. p.muting.devices.0)
+wants_in_order kind known budget (Searching silences top below) x found p = ((λ early. absurd (too_early (begun-length (known_of kind known) None x found p.searches.under_way) early)), λ late. IsStack-ends top below p.searches.stack)
+wants_in_order kind known budget (Muting u tries top below) x found p = ((λ early. absurd (too_early (begun-length (known_of kind known) (Some u) x found p.searches.under_way) early)), λ late. is_muting-device (known_of kind known) u tries top below x found p)
+wants_in_order kind known budget (Over fault) x found p = tt
+
+-- three unmutes, then branches and mutes of devices, counted and within the budget
+pub asks_in_order : AsksInOrder
+asks_in_order kind known budget x b set run = (asked (nat_lt b.frames b.budget), s.frames_are, s.within)
+  where
+    s : Stands kind known budget x b
+    s = stands kind known budget x b set run
+
+    asked : (goes : Bool) → MatchOption (cond goes (wanted b.phase) None) (Unit {0}) (IsInOrder (length x))
+    asked true = wants_in_order kind known budget b.phase x b.found s.phase
+    asked false = tt
+
+-- a run that ended without being over used up its budget
+exhausted : (kind : Kind) (known : List ℕ) (budget : ℕ) (x : List Seen) (found : List ℕ) → IsOpen kind known budget x found → length x ≡ budget → Cause budget ⊥ Exhausted x
+exhausted kind known budget x found o used = (
+  record { used = used; not_failed = λ f. All-at NotFailed x f.before [] (record { asked = f.asked; heard = Failed }) o.no_failure f.whole refl; not_corrupt = o.not_corrupt },
+  IsFound-all_reported x found o.is_found,
+)
+
+ended : (kind : Kind) (known : List ℕ) (budget : ℕ) (phase : Phase) (x : List Seen) (found : List ℕ) (goes : Bool) → InPhase kind known budget phase x found → cond goes (wanted phase) None ≡ None → (goes ≡ false → length x ≡ budget)
+    → MatchOption (fault_of phase) (Certificate kind known x found) (λ f. Cause budget ⊥ f x)
+ended kind known budget (Over fault) x found goes p end used = p.certified
+ended kind known budget (Unmuting more left) x found goes p end used = exhausted kind known budget x found (is_open kind known budget (Unmuting more left) x found p) (used (not_wanted goes Unmute end))
+ended kind known budget (Knowing u tries left) x found goes p end used = exhausted kind known budget x found (is_open kind known budget (Knowing u tries left) x found p) (used (not_wanted goes (Mute u) end))
+ended kind known budget (Searching silences top below) x found goes p end used =
+    exhausted kind known budget x found (is_open kind known budget (Searching silences top below) x found p) (used (not_wanted goes (Branch top.lo top.hi) end))
+ended kind known budget (Muting u tries top below) x found goes p end used = exhausted kind known budget x found (is_open kind known budget (Muting u tries top below) x found p) (used (not_wanted goes (Mute u) end))
+
+-- its certificate, or its fault's cause; and it reports what was acknowledged
+pub ends_certified : EndsCertified
+ends_certified kind known budget x b set run end = (ended kind known budget b.phase x b.found (nat_lt b.frames b.budget) s.phase end used, s.reports)
+  where
+    s : Stands kind known budget x b
+    s = stands kind known budget x b set run
+
+    used : nat_lt b.frames b.budget ≡ false → length x ≡ budget
+    used out = let most : b.budget ≤ b.frames = ltb-false b.frames b.budget out in let same = s.budget_is in let frames = s.frames_are in let within = s.within in omega arith
+
+-- no more than 49 ranges are open
+pub few_open_ranges : HasFewRanges
+few_open_ranges kind known budget x b set run = few b.phase (stands kind known budget x b set run).phase
+  where
+    few : (phase : Phase) → InPhase kind known budget phase x b.found → open_ranges phase ≤ 49
+    few (Unmuting more left) p = omega arith
+    few (Knowing u tries left) p = omega arith
+    few (Searching silences top below) p = IsStack-length top below p.searches.stack
+    few (Muting u tries top below) p = IsStack-length top below p.searches.stack
+    few (Over fault) p = omega arith
+
+-- a failure is the last exchange
+not_before : (before front back : List Seen) (last e : Seen) → AllByRecursion NotFailed before → before ++ last ∷ [] ≡ front ++ e ∷ back → e.heard ≡ Failed → back ≡ []
+not_before [] [] back last e sound same failed = sym (tails same)
+not_before [] (d ∷ front) back last e sound same failed = absurd (nothing front (tails same))
+  where
+    nothing : (l : List Seen) → [] ≡ l ++ e ∷ back → ⊥
+    nothing [] p = cc
+    nothing (c ∷ l) p = cc
+not_before (d ∷ before) [] back last e sound same failed = absurd (sound.0 (ap (λ x. x.heard) (heads same) ∙ failed))
+not_before (d ∷ before) (c ∷ front) back last e sound same failed = not_before before front back last e sound.1 (tails same) failed
+
+none_failed : {o : Option Asked} (x : List Seen) → AllByRecursion NotFailed x → FailureIsLast x × (EndsFailed x → o ≡ None)
+none_failed x sound = (
+  (λ front back e whole failed. absurd (All-at NotFailed x front back e sound whole failed)),
+  λ f. absurd (All-at NotFailed x f.before [] (record { asked = f.asked; heard = Failed }) sound f.whole refl),
+)
+
+failed_phase : (kind : Kind) (known : List ℕ) (budget : ℕ) (phase : Phase) (x : List Seen) (found : List ℕ) → InPhase kind known budget phase x found → FailureIsLast x × (EndsFailed x → wanted phase ≡ None)
+failed_phase kind known budget (Over fault) x found p = ((λ front back e whole failed. not_before p.before front back p.last e p.no_failure (sym p.whole ∙ whole) failed), λ f. refl)
+failed_phase kind known budget (Unmuting more left) x found p = none_failed x (is_open kind known budget (Unmuting more left) x found p).no_failure
+failed_phase kind known budget (Knowing u tries left) x found p = none_failed x (is_open kind known budget (Knowing u tries left) x found p).no_failure
+failed_phase kind known budget (Searching silences top below) x found p = none_failed x (is_open kind known budget (Searching silences top below) x found p).no_failure
+failed_phase kind known budget (Muting u tries top below) x found p = none_failed x (is_open kind known budget (Muting u tries top below) x found p).no_failure
+
+-- an agent asks nothing behind a failure
+pub ends_at_failure : EndsAtFailure
+ends_at_failure kind known budget x b set run = (f.0, λ failed. nothing (nat_lt b.frames b.budget) (f.1 failed))
+  where
+    f : FailureIsLast x × (EndsFailed x → wanted b.phase ≡ None)
+    f = failed_phase kind known budget b.phase x b.found (stands kind known budget x b set run).phase
+
+    nothing : (goes : Bool) → wanted b.phase ≡ None → cond goes (wanted b.phase) None ≡ None
+    nothing true none = none
+    nothing false none = refl
+
+-- an agent that goes on has found all that was acknowledged
+pub all_reported : (kind : Kind) (known : List ℕ) (budget : ℕ) (x : List Seen) (b : AgentState) (asked : Asked) → IsDeviceSet known → Runs (start kind known budget) x b → next_of b ≡ Some asked → AllReported x
+all_reported kind known budget x b asked set run next = IsFound-all_reported x b.found going.is_found
+  where
+    going : IsOpen kind known budget x b.found
+    going = subst (λ o. MatchOption o (Unit {0}) (λ q. IsOpen kind known budget x b.found)) (wanted_next kind known budget b asked next).1 (is_open kind known budget b.phase x b.found (stands kind known budget x b set run).phase)
+
+-- one whose budget is used up asks nothing
+pub ends_at_budget : EndsAtBudget
+ends_at_budget kind known budget x b set run used = let s = stands kind known budget x b set run in
+    cond-false (nat_lt b.frames b.budget) (wanted b.phase) None (le-ltb b.frames b.budget (let same = s.budget_is in let frames = s.frames_are in omega arith))
+
+-- at any moment an agent has found what it reports
+pub finds_acknowledged : FindsAcknowledged
+finds_acknowledged kind known budget x b set run = ((stands kind known budget x b set run).reports, λ goes. by_next goes (next_of b) refl)
+  where
+    by_next : next_of b ≢ None → (next : Option Asked) → next_of b ≡ next → AllReported x
+    by_next goes None end = absurd (goes end)
+    by_next goes (Some asked) next = all_reported kind known budget x b asked set run next

@@ -1,0 +1,82 @@
+-- The sample run has its certificate.
+use Rattle.std.proofs.Common.{◌≡◌, ℕ, true, List, [], ◌∷◌, ◌++◌, take, drop, Some, None, refl, subst, inl, inr, arith}
+use Rattle.std.specs.Prelude.{◌⊎◌, nat_le}
+use Rattle.std.proofs.lemmas.Bool.{le-leb, and_from}
+use Rattle.rdm_wire.specs.Uid.{has}
+use Rattle.rdm_wire.specs.Lists.{EachBehind}
+use Rattle.rdm_wire.specs.Honest.{Seen}
+use Rattle.rdm_wire.specs.Honest.Asked.{Unmute, Mute}
+use Rattle.rdm_wire.specs.Honest.Heard.{Silent, One, Acked}
+use Rattle.rdm_wire.proofs.EachBehindLemmas.{EachBehind-push}
+use Rattle.rdm_agent.specs.Run.{muted_by, read_in}
+use Rattle.rdm_agent.specs.Certificate.{Certificate}
+use Rattle.rdm_agent.specs.SampleRun.{sample_run, sample_uid, exchange, all_branch}
+use Rattle.rdm_agent.specs.declared.kind.Kind.TheVariants.{Full}
+
+-- a muted UID was read before
+abbrev WasRead : List Seen → Seen → Type 0
+WasRead before e = (u : ℕ) → muted_by e ≡ Some u → (has [] u ≡ true) ⊎ (has (read_in before) u ≡ true)
+
+no_mute : (u : ℕ) → None ≡ Some u → ⊥
+no_mute u h = cc
+
+no_element : (front back : List Seen) (e : Seen) → [] ≡ front ++ e ∷ back → ⊥
+no_element [] back e w = cc
+no_element (f ∷ front) back e w = cc
+
+is_sample : (u : ℕ) → Some sample_uid ≡ Some u → (has [] u ≡ true) ⊎ (has (sample_uid ∷ []) u ≡ true)
+is_sample u h = inr (subst (λ (v : ℕ). has (sample_uid ∷ []) v ≡ true) (same h) refl)
+  where
+    same : Some sample_uid ≡ Some u → sample_uid ≡ u
+    same k = cc
+
+first_five : EachBehind WasRead (take 5 sample_run)
+first_five =
+    EachBehind-push WasRead (take 4 sample_run) (exchange (Mute sample_uid) (Acked (record { control = 0; binding = None })))
+    (EachBehind-push WasRead (take 3 sample_run) (exchange all_branch (One sample_uid))
+    (EachBehind-push WasRead (take 2 sample_run) (exchange Unmute Silent)
+    (EachBehind-push WasRead (take 1 sample_run) (exchange Unmute Silent)
+    (EachBehind-push WasRead [] (exchange Unmute Silent) (λ front back e w. absurd (no_element front back e w)) (λ u m. absurd (no_mute u m)))
+    (λ u m. absurd (no_mute u m)))
+    (λ u m. absurd (no_mute u m)))
+    (λ u m. absurd (no_mute u m)))
+    is_sample
+
+silent_branch : Seen
+silent_branch = exchange all_branch Silent
+
+pub read_before : EachBehind WasRead sample_run
+unfolding silent_branch
+read_before =
+    EachBehind-push WasRead (take 9 sample_run) silent_branch
+    (EachBehind-push WasRead (take 8 sample_run) silent_branch
+    (EachBehind-push WasRead (take 7 sample_run) silent_branch
+    (EachBehind-push WasRead (take 6 sample_run) silent_branch
+    (EachBehind-push WasRead (take 5 sample_run) silent_branch first_five (λ u m. absurd (no_mute u m)))
+    (λ u m. absurd (no_mute u m)))
+    (λ u m. absurd (no_mute u m)))
+    (λ u m. absurd (no_mute u m)))
+    (λ u m. absurd (no_mute u m))
+
+pub certified : Certificate Full [] sample_run (sample_uid ∷ [])
+certified = record {
+  unmutes = refl;
+  no_failure = ((λ h. cc), ((λ h. cc), ((λ h. cc), ((λ h. cc), ((λ h. cc), ((λ h. cc), ((λ h. cc), ((λ h. cc), ((λ h. cc), ((λ h. cc), tt))))))))));
+  set = refl;
+  tried = (record { device = record { in_range = omega arith; own = refl }; tried = inl refl }, tt);
+  cleared = λ u below. inr (record {
+    lo = 0;
+    hi = 0xffffffffffff;
+    within = and_from (nat_le 0 u) (nat_le u 0xffffffffffff) (le-leb 0 u (omega arith)) (le-leb u 0xffffffffffff (omega arith));
+    silent = record {
+      front = take 5 sample_run;
+      run = drop 5 sample_run;
+      back = [];
+      whole = refl;
+      many = refl;
+      each = ((refl, refl), ((refl, refl), ((refl, refl), ((refl, refl), ((refl, refl), tt)))));
+    };
+  });
+  known_first = tt;
+  read_first = read_before;
+}

@@ -1,0 +1,126 @@
+-- What an exchange behind the unmutes keeps.
+use Rattle.std.proofs.Common.{◌≡◌, ℕ, true, false, List, [], ◌∷◌, ◌++◌, ◌+◌, Option, None, Some, refl, sym, ap, ◌∙◌, subst, inl, inr, true≢false, append_assoc, append-nil}
+use Rattle.std.specs.Prelude.{◌⊎◌}
+use Rattle.std.proofs.lemmas.List.{length_push}
+use Rattle.rdm_wire.specs.Uid.{has, IsDevice}
+use Rattle.rdm_wire.specs.Honest.{Heard, Seen, is_acked}
+use Rattle.rdm_wire.specs.Honest.Asked.{Branch, Mute}
+use Rattle.rdm_wire.specs.Honest.Heard.{Acked, Failed, Silent, One, Noise}
+use Rattle.rdm_wire.specs.declared.mute_ack.MuteAck.{MuteAck}
+use Rattle.rdm_wire.proofs.EachBehindLemmas.{EachBehind-push}
+use Rattle.rdm_agent.specs.Run.{ack_of, muted_by, read_in, InSuccession, IsLostMute}
+use Rattle.rdm_agent.specs.Certificate.{IsTried}
+use Rattle.rdm_agent.proofs.OneDevice.{NotFailed}
+use Rattle.rdm_agent.proofs.Pushes.{All-push, push-has, begun-push, IsTried-push}
+use Rattle.rdm_agent.proofs.Standing.{EndsWith, IsFound, IsUnderWay, WasNamed}
+
+-- the last exchanges, as one more comes
+pub EndsWith-none : (P : Seen → Type 0) (x : List Seen) → EndsWith 0 P x
+EndsWith-none P x = record { front = x; run = []; whole = sym (append-nil x); many = refl; each = tt }
+
+pub EndsWith-push : {n : ℕ} {P : Seen → Type 0} {x : List Seen} (e : Seen) → EndsWith n P x → P e → EndsWith (n + 1) P (x ++ e ∷ [])
+EndsWith-push {n} {P} e s p = record {
+  front = s.front;
+  run = s.run ++ e ∷ [];
+  whole = ap (λ l. l ++ e ∷ []) s.whole ∙ append_assoc s.front s.run (e ∷ []);
+  many = length_push s.run e ∙ ap (λ m. m + 1) s.many;
+  each = All-push P s.run e s.each p;
+}
+
+pub EndsWith-succession : {n : ℕ} {P : Seen → Type 0} {x : List Seen} → EndsWith n P x → InSuccession n P x
+EndsWith-succession s = record { front = s.front; run = s.run; back = []; whole = s.whole ∙ sym (append-nil (s.front ++ s.run)); many = s.many; each = s.each }
+
+-- a mute that is lost acknowledges nothing
+pub lost-acks_none : (u : ℕ) (h : Heard) → is_acked h ≡ false → ack_of (Mute u) h ≡ None
+lost-acks_none u (Acked ack) lost = absurd (true≢false lost)
+lost-acks_none u Failed lost = refl
+lost-acks_none u Silent lost = refl
+lost-acks_none u (One v) lost = refl
+lost-acks_none u Noise lost = refl
+
+-- a mute of a UID that is known, or was read
+pub named-mute : (known : List ℕ) (x : List Seen) (u : ℕ) (h : Heard) → (has known u ≡ true) ⊎ (has (read_in x) u ≡ true) → WasNamed known x (record { asked = Mute u; heard = h })
+named-mute known x u h was v p = subst (λ (w : ℕ). (has known w ≡ true) ⊎ (has (read_in x) w ≡ true)) (same p) was
+  where
+    same : Some u ≡ Some v → u ≡ v
+    same q = cc
+
+module _ (known : List ℕ) (x : List Seen) (found : List ℕ) where
+  -- what one more exchange keeps: later and more are what is busy and found behind it
+  pushed : (busy later : Option ℕ) (more : List ℕ) (e : Seen) → IsUnderWay known busy x found → NotFailed e → IsFound (x ++ e ∷ []) more → ((u : ℕ) → has found u ≡ true → has more u ≡ true)
+      → ((u : ℕ) → (busy ≡ Some u) ⊎ (muted_by e ≡ Some u) → (later ≡ Some u) ⊎ IsTried more (x ++ e ∷ []) u) → WasNamed known x e → IsUnderWay known later (x ++ e ∷ []) more
+  pushed busy later more e w sound is_found grows moved named = record {
+    begun = begun-push x (e ∷ []) w.begun;
+    no_failure = All-push NotFailed x e w.no_failure sound;
+    is_found = is_found;
+    tried = λ u h. elim (push-has muted_by x e u h) [
+      | inl before ↦ elim (w.tried u before) [
+        | inl was ↦ moved u (inl was)
+        | inr tried ↦ inr (IsTried-push more (e ∷ []) (grows u) tried)
+      ]
+      | inr last ↦ moved u (inr last)
+    ];
+    named = EachBehind-push (WasNamed known) x e w.named named;
+  }
+
+  -- a branch
+  pub under_way-branch : (busy : Option ℕ) (lo hi : ℕ) (h : Heard) → IsUnderWay known None x found → NotFailed (record { asked = Branch lo hi; heard = h }) → IsFound (x ++ record { asked = Branch lo hi; heard = h } ∷ []) found
+      → IsUnderWay known busy (x ++ record { asked = Branch lo hi; heard = h } ∷ []) found
+  under_way-branch busy lo hi h w sound is_found =
+      pushed None busy found (record { asked = Branch lo hi; heard = h }) w sound is_found (λ u here. here) (λ u was. absurd (nobody u was)) (λ u was. absurd (none_some u was))
+    where
+      none_some : (u : ℕ) → None ≡ Some u → ⊥
+      none_some u p = cc
+
+      nobody : (u : ℕ) → (None ≡ Some u) ⊎ (None ≡ Some u) → ⊥
+      nobody u (inl p) = none_some u p
+      nobody u (inr p) = none_some u p
+
+  -- a mute that is lost
+  pub under_way-lost : (u : ℕ) (h : Heard) → IsUnderWay known (Some u) x found → NotFailed (record { asked = Mute u; heard = h }) → IsFound (x ++ record { asked = Mute u; heard = h } ∷ []) found
+      → WasNamed known x (record { asked = Mute u; heard = h }) → IsUnderWay known (Some u) (x ++ record { asked = Mute u; heard = h } ∷ []) found
+  under_way-lost u h w sound is_found named = pushed (Some u) (Some u) found (record { asked = Mute u; heard = h }) w sound is_found (λ v here. here) (λ v was. inl (elim was [ inl p ↦ p | inr p ↦ p ])) named
+
+  -- one that is acknowledged
+  pub under_way-acked : (u : ℕ) (ack : MuteAck) (more : List ℕ) → IsDevice u → IsUnderWay known (Some u) x found → IsFound (x ++ record { asked = Mute u; heard = Acked ack } ∷ []) more
+      → ((v : ℕ) → has found v ≡ true → has more v ≡ true) → has more u ≡ true → WasNamed known x (record { asked = Mute u; heard = Acked ack }) → IsUnderWay known None (x ++ record { asked = Mute u; heard = Acked ack } ∷ []) more
+  under_way-acked u ack more device w is_found grows here named =
+      pushed (Some u) None more (record { asked = Mute u; heard = Acked ack }) w sound is_found grows (λ v was. inr (tried v (elim was [ inl p ↦ p | inr p ↦ p ]))) named
+    where
+      sound : Acked ack ≡ Failed → ⊥
+      sound p = cc
+
+      same : (v : ℕ) → Some u ≡ Some v → u ≡ v
+      same v p = cc
+
+      tried : (v : ℕ) → Some u ≡ Some v → IsTried more (x ++ record { asked = Mute u; heard = Acked ack } ∷ []) v
+      tried v p = subst (λ (w : ℕ). IsTried more (x ++ record { asked = Mute u; heard = Acked ack } ∷ []) w) (same v p) (record { device = device; tried = inl here })
+
+-- what is given up was lost five times
+pub under_way-given_up : (known : List ℕ) (u : ℕ) (x : List Seen) (found : List ℕ) → IsDevice u → InSuccession 5 (IsLostMute u) x → IsUnderWay known (Some u) x found → IsUnderWay known None x found
+under_way-given_up known u x found device five w = record {
+  begun = w.begun;
+  no_failure = w.no_failure;
+  is_found = w.is_found;
+  tried = λ v h. elim (w.tried v h) [
+    | inl busy ↦ inr (subst (λ (w : ℕ). IsTried found x w) (same v busy) (record { device = device; tried = inr five }))
+    | inr tried ↦ inr tried
+  ];
+  named = w.named;
+}
+  where
+    same : (v : ℕ) → Some u ≡ Some v → u ≡ v
+    same v p = cc
+
+-- one is taken up
+pub under_way-taken_up : (known : List ℕ) (u : ℕ) (x : List Seen) (found : List ℕ) → IsUnderWay known None x found → IsUnderWay known (Some u) x found
+under_way-taken_up known u x found w = record {
+  begun = w.begun;
+  no_failure = w.no_failure;
+  is_found = w.is_found;
+  tried = λ v h. elim (w.tried v h) [ inl nobody ↦ absurd (none_some v nobody) | inr tried ↦ inr tried ];
+  named = w.named;
+}
+  where
+    none_some : (v : ℕ) → None ≡ Some v → ⊥
+    none_some v p = cc

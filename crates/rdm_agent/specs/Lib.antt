@@ -1,0 +1,10 @@
+pub mod Run
+pub mod Certificate
+pub mod Cause
+pub mod Fault
+pub mod Machine
+pub mod SampleRun
+pub mod Statements
+pub mod Stands
+pub mod Sound
+pub mod View

@@ -1,0 +1,105 @@
+-- Words on a run's exchanges.
+use Rattle.std.specs.Prelude.{◌≡◌, ℕ, Bool, true, false, List, [], ◌∷◌, ◌++◌, length, take, Option, Some, None, filter_map}
+use Rattle.std.specs.List.{AllByRecursion}
+use Rattle.rdm_wire.specs.Uid.{set_of}
+use Rattle.rdm_wire.specs.Lists.{once}
+use Rattle.rdm_wire.specs.declared.branch.BranchReply.{BranchReply}
+use Rattle.rdm_wire.specs.declared.branch.BranchReply.TheVariants as replies
+use Rattle.rdm_wire.specs.declared.mute_ack.MuteAck.{MuteAck}
+use Rattle.rdm_wire.specs.Honest.{Asked, Heard, Seen, is_acked}
+use Rattle.rdm_wire.specs.Honest.Asked.{Unmute, Branch, Mute, Other}
+use Rattle.rdm_wire.specs.Honest.Heard.{Failed, Silent, One, Acked, Noise}
+use Rattle.rdm_agent.specs.declared.op.Op.{Op}
+use Rattle.rdm_agent.specs.declared.op.Op.TheVariants as ops
+use Rattle.rdm_agent.specs.declared.op.OpReply.{OpReply}
+use Rattle.rdm_agent.specs.declared.op.OpReply.TheVariants as came
+
+-- what an operation asks
+abbrev pub asked_by : Op → Asked
+asked_by ops.UnmuteAll = Unmute
+asked_by (ops.Mute u) = Mute u
+asked_by (ops.Branch r) = Branch r.lo r.hi
+asked_by ops.End = Other
+
+abbrev pub heard_of_branch : BranchReply → Heard
+heard_of_branch replies.Silent = Silent
+heard_of_branch (replies.One u) = One u
+heard_of_branch replies.Collision = Noise
+
+abbrev pub heard_of_mute : Option MuteAck → Heard
+heard_of_mute None = Silent
+heard_of_mute (Some ack) = Acked ack
+
+-- how a reply is heard
+abbrev pub heard_by : OpReply → Heard
+heard_by came.Done = Silent
+heard_by (came.Mute ack) = heard_of_mute ack
+heard_by (came.Branch reply) = heard_of_branch reply
+heard_by came.Failed = Failed
+
+-- an operation with its reply, as an exchange
+abbrev pub seen_op : Op × OpReply → Seen
+seen_op e = record { asked = asked_by e.0; heard = heard_by e.1 }
+
+-- the UID that an exchange mutes, whose mute it finds acknowledged, and that it reads
+abbrev pub mute_of : Asked → Option ℕ
+mute_of (Mute u) = Some u
+mute_of _ = None
+
+abbrev pub ack_of : Asked → Heard → Option ℕ
+ack_of (Mute u) (Acked ack) = Some u
+ack_of _ _ = None
+
+abbrev pub text_of : Asked → Heard → Option ℕ
+text_of (Branch lo hi) (One u) = Some u
+text_of _ _ = None
+
+abbrev pub asks_range : Asked → Bool
+asks_range (Branch lo hi) = true
+asks_range _ = false
+
+abbrev pub muted_by : Seen → Option ℕ
+muted_by x = mute_of x.asked
+
+abbrev pub acked_by : Seen → Option ℕ
+acked_by x = ack_of x.asked x.heard
+
+abbrev pub read_by : Seen → Option ℕ
+read_by x = text_of x.asked x.heard
+
+abbrev pub is_branch : Seen → Bool
+is_branch x = asks_range x.asked
+
+-- in order, the UIDs that were muted, whose mute was acknowledged, and that were read
+abbrev pub muted_in : List Seen → List ℕ
+muted_in x = filter_map muted_by x
+
+abbrev pub acked_in : List Seen → List ℕ
+acked_in x = filter_map acked_by x
+
+abbrev pub read_in : List Seen → List ℕ
+read_in x = filter_map read_by x
+
+-- the set that is reported: the acknowledged UIDs, of more than 256 the first 256
+abbrev pub reported : List Seen → List ℕ
+reported x = set_of (take 256 (once (acked_in x)))
+
+-- nothing stands behind a failure
+abbrev pub FailureIsLast : List Seen → Type 0
+FailureIsLast x = (front back : List Seen) (e : Seen) → x ≡ front ++ e ∷ back → e.heard ≡ Failed → back ≡ []
+
+-- n exchanges of the list, one behind the other, have P
+pub record InSuccession (n : ℕ) (P : Seen → Type 0) (x : List Seen) : Type 0 where
+  pub front : List Seen
+  pub run : List Seen
+  pub back : List Seen
+  pub whole : x ≡ front ++ run ++ back
+  pub many : length run ≡ n
+  pub each : AllByRecursion P run
+
+-- a branch of this range without a byte, and a mute of u without an acknowledgement
+abbrev pub IsSilentBranch : ℕ → ℕ → Seen → Type 0
+IsSilentBranch lo hi x = (x.asked ≡ Branch lo hi) × (x.heard ≡ Silent)
+
+abbrev pub IsLostMute : ℕ → Seen → Type 0
+IsLostMute u x = (x.asked ≡ Mute u) × (is_acked x.heard ≡ false)

@@ -1,0 +1,10 @@
+//! What a run starts from.
+
+/// What a discovery run starts from (profile of this project).
+#[derive(Clone, Copy, Debug, PartialEq, Eq)]
+pub enum Kind {
+    /// From nothing: the whole range of UIDs is searched.
+    Full,
+    /// From known devices: each of them is muted first, and then the whole range is searched.
+    Incremental,
+}

@@ -1,0 +1,51 @@
+//! Known UIDs, one after another.
+ghost use Rattle.std.specs.Prelude.{◌≡◌, ◌∷◌, [], MatchOption};
+ghost use Rattle.rdm_wire.specs.Uid.{IsDeviceSet};
+ghost use Rattle.rdm_agent.specs.Certificate.{known_of};
+
+use crate::kind::Kind;
+use rdm_wire::{Uid, UidSet};
+use std::marker::Model;
+
+/// The known UIDs that a run hasn't come to yet, in ascending order. Contracts see the list of their numbers.
+#[derive(Debug, Drop)]
+pub(crate) struct KnownLeft {
+    uids: UidSet,
+    taken: usize,
+}
+
+impl Model for KnownLeft {
+    ghost use Rattle.std.specs.Prelude.{List, ℕ, ◌≤◌, drop, length};
+    ghost use Rattle.rdm_wire.specs.Uid.{IsDeviceSet};
+
+    ghost Value = { List ℕ };
+
+    ghost view = { λ k. drop k.taken k.uids };
+
+    ghost invariant = { λ k. IsDeviceSet k.uids × (k.taken ≤ length k.uids) };
+}
+
+impl KnownLeft {
+    /// The known UIDs that a run of this kind mutes first: none, or all.
+    pub(crate) fn new(kind: Kind, known: &UidSet) -> KnownLeft
+        ensures value { result ≡ known_of kind known.now }
+        ensures devices { IsDeviceSet known.now }
+    {
+        // For the proof alone: a set's UIDs are devices'.
+        let _devices = known.len();
+        let uids = match kind {
+            Kind::Full => UidSet::new(),
+            Kind::Incremental => known.copied(),
+        };
+        KnownLeft { uids, taken: 0 }
+    }
+
+    /// Takes the least one; `None` where none is left.
+    pub(crate) fn next(&mut self) -> Option<Uid>
+        ensures { MatchOption result ((self.old ≡ []) × (self.new ≡ [])) (λ u. self.old ≡ u ∷ self.new) }
+    {
+        let uid = *self.uids.as_slice().get(self.taken)?;
+        self.taken += 1;
+        Some(uid)
+    }
+}

@@ -1,0 +1,70 @@
+//! Where a run stands.
+ghost use Rattle.std.specs.Prelude.{◌≡◌, ℕ, List};
+ghost use Rattle.rdm_wire.specs.Span.{Span};
+ghost use Rattle.rdm_agent.specs.Machine.{wanted, fault_of};
+ghost use Rattle.rdm_agent.specs.Stands.{op_of};
+
+use crate::fault::AgentFault;
+use crate::op::Op;
+use rdm_wire::{Uid, UidRange};
+
+/// Where a run stands. Contracts see it together with the known UIDs that are left and the ranges below the top one.
+#[derive(Clone, Copy, Debug, PartialEq, Eq)]
+pub(crate) enum Phase {
+    /// So many unmutes are still to be sent, this one among them.
+    Unmuting {
+        /// 1 to [`UNMUTES`](crate::UNMUTES).
+        more: u8,
+    },
+    /// A known UID is being muted, and so many tries had no answer.
+    MutingKnown {
+        /// The UID.
+        uid: Uid,
+        /// Below [`TRIES`](crate::TRIES).
+        tries: u8,
+    },
+    /// The top range is being branched, and was silent so many times in succession.
+    Searching {
+        /// The range.
+        top: UidRange,
+        /// Below [`TRIES`](crate::TRIES).
+        silences: u8,
+    },
+    /// A UID that the top range's branch spelt is being muted, and so many tries had no answer.
+    MutingRead {
+        /// The UID.
+        uid: Uid,
+        /// Below [`TRIES`](crate::TRIES).
+        tries: u8,
+        /// The range.
+        top: UidRange,
+    },
+    /// The run has ended.
+    Ended(Option<AgentFault>),
+}
+
+impl Phase {
+    ghost use Rattle.rdm_agent.specs.View.{phase_of};
+
+    /// What it asks of the line.
+    pub(crate) fn op(self) -> Op
+        ensures { (known : List ℕ) (below : List Span) → result ≡ op_of (wanted (phase_of self known below)) }
+    {
+        match self {
+            Phase::Unmuting { .. } => Op::UnmuteAll,
+            Phase::MutingKnown { uid, .. } | Phase::MutingRead { uid, .. } => Op::Mute(uid),
+            Phase::Searching { top, .. } => Op::Branch(top),
+            Phase::Ended(_) => Op::End,
+        }
+    }
+
+    /// The fault of a run that asks nothing more in it: where it hasn't ended, its frames are used up.
+    pub(crate) fn fault(self) -> Option<AgentFault>
+        ensures { (known : List ℕ) (below : List Span) → result ≡ fault_of (phase_of self known below) }
+    {
+        match self {
+            Phase::Ended(fault) => fault,
+            _ => Some(AgentFault::Exhausted),
+        }
+    }
+}

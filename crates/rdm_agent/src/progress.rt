@@ -1,0 +1,211 @@
+//! How a run goes on behind a reply.
+ghost use Rattle.std.specs.Prelude.{◌≡◌, ◌<◌, ◌+◌, ◌-◌, ◌⊎◌, Some, [], true, false, if◌then◌else◌, nat_lt};
+ghost use Rattle.std.specs.List.{AllByRecursion};
+ghost use Rattle.rdm_wire.specs.Span.{Span};
+ghost use Rattle.rdm_wire.specs.Uid.{is_broadcast, IsDevice};
+ghost use Rattle.rdm_agent.specs.Machine.{fed, wanted, to_found, split, search_from, search_below, is_new, known_heard, branch_heard, mute_heard};
+ghost use Rattle.rdm_agent.specs.Machine.Phase.{Unmuting as unmuting};
+ghost use Rattle.rdm_agent.specs.Run.{heard_by, heard_of_mute, heard_of_branch};
+ghost use Rattle.rdm_agent.specs.Stands.{fits, op_of};
+ghost use Rattle.rdm_agent.specs.Sound.{IsSound, IsFresh, IsStack};
+ghost use Rattle.rdm_agent.specs.declared.fault.AgentFault.TheVariants.{TooMany};
+ghost use Rattle.rdm_agent.specs.View.{seen_phase, Steps};
+
+use crate::fault::AgentFault;
+use crate::known::KnownLeft;
+use crate::limits::TRIES;
+use crate::op::OpReply;
+use crate::phase::Phase;
+use crate::ranges::RangesBelow;
+use rdm_wire::{BranchReply, MuteAck, SetFull, Uid, UidRange, UidSet};
+
+/// What a run has found, and what it hasn't looked at yet.
+#[derive(Debug, Drop)]
+pub(crate) struct Progress {
+    /// The known UIDs that weren't muted yet.
+    pub(crate) known: KnownLeft,
+    /// The devices whose mute was acknowledged.
+    pub(crate) found: UidSet,
+    /// The open ranges but the top one.
+    pub(crate) below: RangesBelow,
+}
+
+impl Progress {
+    /// The phase behind a reply that fits what the phase before it asks.
+    pub(crate) fn heard(&mut self, phase: Phase, reply: OpReply) -> Phase
+        requires fits { fits reply (op_of (wanted (seen_phase phase self.old))) ≡ true }
+        requires sound { IsSound (seen_phase phase self.old) }
+        requires fresh { IsFresh (seen_phase phase self.old) self.old.below }
+        ensures state { Steps (λ a. fed a (heard_by reply)) phase self.old result self.new }
+        ensures sound { IsSound (seen_phase result self.new) }
+        ensures fresh { IsFresh (seen_phase result self.new) self.new.below }
+    {
+        match (phase, reply) {
+            (_, OpReply::Failed) => Phase::Ended(Some(AgentFault::LineFailed)),
+            (Phase::Unmuting { more }, OpReply::Done) => self.unmuted(more),
+            (Phase::MutingKnown { uid, tries }, OpReply::Mute(ack)) => {
+                self.known_muted(uid, tries, ack)
+            }
+            (Phase::Searching { top, silences }, OpReply::Branch(reply)) => {
+                self.branched(top, silences, reply)
+            }
+            (Phase::MutingRead { uid, tries, top }, OpReply::Mute(ack)) => {
+                self.read_muted(uid, tries, top, ack)
+            }
+            _ => unreachable!(),
+        }
+    }
+
+    // Behind an unmute.
+    fn unmuted(&mut self, more: u8) -> Phase
+        requires devices { AllByRecursion IsDevice self.old.known }
+        requires fresh { self.old.below ≡ [] }
+        ensures phase { seen_phase result self.new
+            ≡ (if nat_lt 1 more then unmuting (more - 1) self.old.known else search_from self.old.known) }
+        ensures found { self.new.found ≡ self.old.found }
+        ensures sound { IsSound (seen_phase result self.new) }
+        ensures fresh { self.new.below ≡ [] }
+    {
+        if more > 1 {
+            Phase::Unmuting { more: more - 1 }
+        } else {
+            self.next_known()
+        }
+    }
+
+    // The next known UID is muted; where none is left the search begins.
+    fn next_known(&mut self) -> Phase
+        requires devices { AllByRecursion IsDevice self.old.known }
+        requires fresh { self.old.below ≡ [] }
+        ensures phase { seen_phase result self.new ≡ search_from self.old.known }
+        ensures found { self.new.found ≡ self.old.found }
+        ensures sound { IsSound (seen_phase result self.new) }
+        ensures fresh { self.new.below ≡ [] }
+    {
+        match self.known.next() {
+            Some(uid) => Phase::MutingKnown { uid, tries: 0 },
+            None => Phase::Searching {
+                top: UidRange::whole(),
+                silences: 0,
+            },
+        }
+    }
+
+    // Behind the mute of a known UID.
+    fn known_muted(&mut self, uid: Uid, tries: u8, ack: Option<MuteAck>) -> Phase
+        requires device { IsDevice uid }
+        requires tries { tries < TRIES }
+        requires devices { AllByRecursion IsDevice self.old.known }
+        requires fresh { self.old.below ≡ [] }
+        ensures state { Steps (λ a. known_heard a uid tries self.old.known (heard_of_mute ack))
+            (Phase.MutingKnown uid tries) self.old result self.new }
+        ensures sound { IsSound (seen_phase result self.new) }
+        ensures fresh { self.new.below ≡ [] }
+    {
+        if ack.is_some() {
+            let onward = self.next_known();
+            return self.find(uid, onward);
+        }
+        match tries + 1 {
+            TRIES => self.next_known(),
+            tries => Phase::MutingKnown { uid, tries },
+        }
+    }
+
+    // Behind a branch of the top range.
+    fn branched(&mut self, top: UidRange, silences: u8, reply: BranchReply) -> Phase
+        requires silences { silences < TRIES }
+        requires ranges { IsStack top self.old.below }
+        ensures state { Steps (λ a. branch_heard a silences top self.old.below (heard_of_branch reply))
+            (Phase.Searching top silences) self.old result self.new }
+        ensures sound { IsSound (seen_phase result self.new) }
+        ensures fresh { IsFresh (seen_phase result self.new) self.new.below }
+    {
+        match reply {
+            BranchReply::Silent => match silences + 1 {
+                TRIES => self.next_range(),
+                silences => Phase::Searching { top, silences },
+            },
+            BranchReply::One(uid) if self.is_new(uid, top) => Phase::MutingRead {
+                uid,
+                tries: 0,
+                top,
+            },
+            BranchReply::One(_) | BranchReply::Collision => self.split(top),
+        }
+    }
+
+    // Behind the mute of a UID that a branch of the top range spelt.
+    fn read_muted(&mut self, uid: Uid, tries: u8, top: UidRange, ack: Option<MuteAck>) -> Phase
+        requires device { IsDevice uid }
+        requires tries { tries < TRIES }
+        requires ranges { IsStack top self.old.below }
+        ensures state { Steps (λ a. mute_heard a uid tries top self.old.below (heard_of_mute ack))
+            (Phase.MutingRead uid tries top) self.old result self.new }
+        ensures sound { IsSound (seen_phase result self.new) }
+        ensures fresh { IsFresh (seen_phase result self.new) self.new.below }
+    {
+        if ack.is_some() {
+            return self.find(uid, Phase::Searching { top, silences: 0 });
+        }
+        match tries + 1 {
+            TRIES => self.split(top),
+            tries => Phase::MutingRead { uid, tries, top },
+        }
+    }
+
+    // A device is found, and the run goes on; where there is no room for it the run ends.
+    fn find(&mut self, uid: Uid, onward: Phase) -> Phase
+        requires { is_broadcast uid ≡ false }
+        ensures state { Steps (λ a. to_found a uid (seen_phase onward self.old)) onward self.old result self.new }
+        ensures known { self.new.known ≡ self.old.known }
+        ensures below { self.new.below ≡ self.old.below }
+        ensures onward { (result ≡ onward) ⊎ (result ≡ Phase.Ended (Some TooMany)) }
+    {
+        match self.found.insert(uid) {
+            Ok(_) => onward,
+            Err(SetFull) => Phase::Ended(Some(AgentFault::TooMany)),
+        }
+    }
+
+    // The range below the top one is searched; where there is none the run ends.
+    fn next_range(&mut self) -> Phase
+        requires { (top : Span) × IsStack top self.old.below }
+        ensures phase { seen_phase result self.new ≡ search_below self.old.below }
+        ensures found { self.new.found ≡ self.old.found }
+        ensures sound { IsSound (seen_phase result self.new) }
+        ensures fresh { IsFresh (seen_phase result self.new) self.new.below }
+    {
+        match self.below.pop() {
+            Some(top) => Phase::Searching { top, silences: 0 },
+            None => Phase::Ended(None),
+        }
+    }
+
+    // The halves of the top range are searched, the lower one first; of one UID there are none.
+    fn split(&mut self, top: UidRange) -> Phase
+        requires { IsStack top self.old.below }
+        ensures phase { seen_phase result self.new ≡ split top self.old.below }
+        ensures found { self.new.found ≡ self.old.found }
+        ensures sound { IsSound (seen_phase result self.new) }
+        ensures fresh { IsFresh (seen_phase result self.new) self.new.below }
+    {
+        match top.halves() {
+            Some((lower, upper)) => {
+                self.below.push(upper);
+                Phase::Searching {
+                    top: lower,
+                    silences: 0,
+                }
+            }
+            None => Phase::Ended(Some(AgentFault::Corrupt(top.lo))),
+        }
+    }
+
+    // Whether a UID may be that of a device of the range that wasn't found yet.
+    fn is_new(&self, uid: Uid, top: UidRange) -> bool
+        ensures { result ≡ is_new self.now.found top uid }
+    {
+        !uid.is_broadcast() && top.contains(uid) && !self.found.contains(uid)
+    }
+}
