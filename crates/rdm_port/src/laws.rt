@@ -1,3 +1,4 @@
+//! What words ask for, as the contract of a function that does nothing. The definitions stand in `specs`.
 ghost use Rattle.std.specs.Prelude.{◌≡◌, ℕ, List, [], ◌∷◌, true, codes};
 ghost use Rattle.std.specs.Borrow.{Bor};
 ghost use Rattle.rdm_port.specs.Words.{Asks, AsksNothing, is_plain};
@@ -7,9 +8,12 @@ use crate::job::Job;
 /// A command's name and a word that doesn't begin with a hyphen ask for that command, and behind `--` any word may
 /// stand. No words, a command's name alone, and words for help ask for nothing.
 pub fn what_words_ask()
-    ensures decode { (digits : Bor (List ℕ)) → is_plain digits.now ≡ true → Asks (codes "decode" ∷ digits.now ∷ []) (Job.Decode digits) }
-    ensures encode { (uid : Bor (List ℕ)) → is_plain uid.now ≡ true → Asks (codes "encode" ∷ uid.now ∷ []) (Job.Encode uid) }
-    ensures any_word { (digits : Bor (List ℕ)) → Asks (codes "decode" ∷ codes "--" ∷ digits.now ∷ []) (Job.Decode digits) }
+    ensures decode { (digits : Bor (List ℕ)) → is_plain digits.now ≡ true
+        → Asks (codes "decode" ∷ digits.now ∷ []) (Job.Decode digits) }
+    ensures encode { (uid : Bor (List ℕ)) → is_plain uid.now ≡ true
+        → Asks (codes "encode" ∷ uid.now ∷ []) (Job.Encode uid) }
+    ensures any_word { (digits : Bor (List ℕ))
+        → Asks (codes "decode" ∷ codes "--" ∷ digits.now ∷ []) (Job.Decode digits) }
     ensures no_words { AsksNothing [] }
     ensures no_argument { AsksNothing (codes "decode" ∷ []) }
     ensures help { AsksNothing (codes "--help" ∷ []) }

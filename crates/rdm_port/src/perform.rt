@@ -1,17 +1,18 @@
 //! What a command line prints, and its status.
-ghost use Rattle.std.specs.Prelude.{◌≡◌, ◌≤◌, ◌⊎◌, ◌*◌, ◌+◌, ℕ, List, IfOk, IfErr, Err, length};
+ghost use Rattle.std.specs.Prelude.{◌≡◌, ◌≤◌, ℕ, List, IfOk, IfErr, length};
 ghost use Rattle.std.specs.Bool.{OnTrue, OnFalse};
 ghost use Rattle.std.specs.Io.KnownBytes.{Appends};
 ghost use Rattle.hex.specs.Hex.{encode_lower};
-ghost use Rattle.arrayvec.specs.ArrayVec.{array_vec_len};
-ghost use Rattle.rdm_port.specs.Fault.{HasFault, fault_line, fault_status, IsFaultOf};
+ghost use Rattle.rdm_port.specs.Fault.{HasFault, IsFaultOf};
 ghost use Rattle.rdm_port.specs.Outcome.{Answers, IsOutcome, IsPrinted, IsCutShort, reply_text, line_of};
 
 use crate::fault::Fault;
 use crate::job::{Job, WordsFault};
 use arrayvec::ArrayVec;
 use hex::FromHexError;
-use rdm_wire::{BranchReply, LONGEST_PREAMBLE, Uid, read_branch_reply, write_branch_reply};
+use rdm_wire::{
+    BranchReply, LONGEST_BRANCH_REPLY, LONGEST_PREAMBLE, Uid, read_branch_reply, write_branch_reply,
+};
 use std::alloc::Global;
 use std::io::{ErrorKind, Read, Write};
 
@@ -20,14 +21,15 @@ const DONE: u8 = 0;
 const NOT_WRITTEN: u8 = 1;
 
 // How many characters a line has at most, its end not counted: those of a reply in hexadecimal.
-const LONGEST_TEXT: usize = 48;
+const LONGEST_TEXT: usize = 2 * LONGEST_BRANCH_REPLY;
 
-const LONGEST_LINE: usize = 49;
+const LONGEST_LINE: usize = LONGEST_TEXT + 1;
 
 type Text = ArrayVec<u8, LONGEST_TEXT>;
 
 /// Prints a command line's one line, and gives its status: 0 where it is done, 1 where there is a fault or the line
-/// can't be written, 2 where the words fit no command (profile of this project).
+/// can't be written, 2 where the words fit no command (profile of this project). The reader is for a command that
+/// reads a file: none of these does.
 pub fn perform<R: Read, W: Write>(
     alloc: Global,
     job: Result<Job<'_>, WordsFault>,
@@ -101,7 +103,7 @@ fn encode(uid: &str) -> Result<Text, Fault>
 
 // Bytes in hexadecimal.
 fn digits_of(bytes: &[u8]) -> Text
-    requires { length bytes.now ≤ 24 }
+    requires { length bytes.now ≤ LONGEST_BRANCH_REPLY }
     ensures { result.items ≡ encode_lower bytes.now }
 {
     let mut digits = [0; LONGEST_TEXT];
@@ -111,7 +113,7 @@ fn digits_of(bytes: &[u8]) -> Text
 }
 
 fn text_of(bytes: &[u8]) -> Text
-    requires { length bytes.now ≤ 48 }
+    requires { length bytes.now ≤ LONGEST_TEXT }
     ensures { result.items ≡ bytes.now }
 {
     let mut text = ArrayVec::new();
@@ -121,7 +123,7 @@ fn text_of(bytes: &[u8]) -> Text
 
 // The text with the line's end.
 fn line(text: &[u8]) -> ArrayVec<u8, LONGEST_LINE>
-    requires { length text.now ≤ 48 }
+    requires { length text.now ≤ LONGEST_TEXT }
     ensures { result.items ≡ line_of text.now }
 {
     let mut line = ArrayVec::new();
@@ -137,6 +139,7 @@ fn takes_all<W: Write>(writer: &mut W, bytes: &[u8]) -> bool
     ensures some { OnFalse result (IsCutShort (W.contents writer.old) (W.contents writer.new) bytes.now) }
 {
     let mut written = 0;
+    // A loop has to end: this bound is one that no writer reaches. A write that was interrupted is tried again.
     'writing: for _ in 0..u64::MAX {
         if written == bytes.len() {
             break;

@@ -1,7 +1,6 @@
 -- The commands that the controller sends.
-use Rattle.std.specs.Prelude.{ℕ, ◌<◌, ◌^◌, List, [], ◌++◌}
-use Rattle.rdm_wire.specs.Bytes.{uid_bytes}
-use Rattle.rdm_wire.specs.Packet.{Fields, Fits, packet, request_fields, discovery_fields, all_devices}
+use Rattle.std.specs.Prelude.{ℕ, ◌<◌, ◌^◌, List}
+use Rattle.rdm_wire.specs.Packet.{Fields, Fits, packet, request_fields, unmute_fields, branch_fields, mute_fields}
 use Rattle.rdm_wire.specs.declared.request.Request.{Request}
 
 -- one for each encoder
@@ -13,9 +12,9 @@ pub data Command : Type 0 where
 
 -- the fields of a command's packet, from this source with this number
 abbrev pub command_fields : Command → ℕ → ℕ → Fields
-command_fields Unmute s tn = discovery_fields all_devices 3 [] s tn
-command_fields (Branch lo hi) s tn = discovery_fields all_devices 1 (uid_bytes lo ++ uid_bytes hi) s tn
-command_fields (Mute u) s tn = discovery_fields u 2 [] s tn
+command_fields Unmute s tn = unmute_fields s tn
+command_fields (Branch lo hi) s tn = branch_fields lo hi s tn
+command_fields (Mute u) s tn = mute_fields u s tn
 command_fields (GetOrSet r) s tn = request_fields r s tn
 
 abbrev pub command_frame : Command → ℕ → ℕ → List ℕ

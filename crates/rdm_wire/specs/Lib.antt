@@ -10,3 +10,4 @@ pub mod Reading
 pub mod Honest
 pub mod Frames
 pub mod Lists
+pub mod SampleFrames

@@ -195,14 +195,23 @@ discovery_fields dest pid param s tn = record {
 abbrev pub all_devices : ℕ
 all_devices = 0xffffffffffff
 
+abbrev pub unmute_fields : ℕ → ℕ → Fields
+unmute_fields s tn = discovery_fields all_devices 3 [] s tn
+
+abbrev pub branch_fields : ℕ → ℕ → ℕ → ℕ → Fields
+branch_fields lo hi s tn = discovery_fields all_devices 1 (uid_bytes lo ++ uid_bytes hi) s tn
+
+abbrev pub mute_fields : ℕ → ℕ → ℕ → Fields
+mute_fields u s tn = discovery_fields u 2 [] s tn
+
 abbrev pub request_frame : Request → ℕ → ℕ → List ℕ
 request_frame r s tn = packet (request_fields r s tn)
 
 abbrev pub branch_frame : ℕ → ℕ → ℕ → ℕ → List ℕ
-branch_frame lo hi s tn = packet (discovery_fields all_devices 1 (uid_bytes lo ++ uid_bytes hi) s tn)
+branch_frame lo hi s tn = packet (branch_fields lo hi s tn)
 
 abbrev pub mute_frame : ℕ → ℕ → ℕ → List ℕ
-mute_frame u s tn = packet (discovery_fields u 2 [] s tn)
+mute_frame u s tn = packet (mute_fields u s tn)
 
 abbrev pub unmute_frame : ℕ → ℕ → List ℕ
-unmute_frame s tn = packet (discovery_fields all_devices 3 [] s tn)
+unmute_frame s tn = packet (unmute_fields s tn)

@@ -15,13 +15,13 @@ behind_preamble n (x ∷ xs) =
     else (if (x == 0xfe) && nat_lt 0 n then behind_preamble (n - 1) xs else None)
 
 -- the UID that sixteen bytes spell, if their sum is right
-abbrev pub coded_uid : List ℕ → Option ℕ
-coded_uid e =
+abbrev pub uid_of_coded : List ℕ → Option ℕ
+uid_of_coded e =
     if nat_le 16 (length e) && (number_of (ands (drop 12 (take 16 e))) == checksum (take 12 e)) then Some (number_of (ands (take 12 e))) else None
 
 -- the UID whose text the bytes are, computed
 abbrev pub text_read : List ℕ → Option ℕ
-text_read b = option_and_then coded_uid (behind_preamble 7 b)
+text_read b = option_and_then uid_of_coded (behind_preamble 7 b)
 
 -- the response acknowledges a mute of u by s with this number
 abbrev pub acks : ℕ → ℕ → ℕ → Response → Bool

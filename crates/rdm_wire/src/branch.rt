@@ -3,7 +3,7 @@ ghost use Rattle.std.specs.Prelude.{◌≡◌, ◌↔◌, ◌≤◌, ◌*◌, �
 ghost use Rattle.std.specs.List.{flat_map, prefix_len};
 ghost use Rattle.arrayvec.specs.ArrayVec.{array_vec_len};
 ghost use Rattle.rdm_wire.specs.BranchText.{BranchText, ReadsAs, branch_text, pair_of, ands as ands_of};
-ghost use Rattle.rdm_wire.specs.Reading.{text_read, behind_preamble as behind_preamble_of, coded_uid};
+ghost use Rattle.rdm_wire.specs.Reading.{text_read, behind_preamble as behind_preamble_of, uid_of_coded};
 
 use crate::checksum::checksum;
 use crate::uid::Uid;
@@ -23,8 +23,11 @@ pub enum BranchReply {
 /// How many preamble bytes a reply has at most (E1.20, discovery unique branch).
 pub const LONGEST_PREAMBLE: u8 = 7;
 
-/// How many bytes a device's reply has at most.
-pub const LONGEST_BRANCH_REPLY: usize = 24;
+/// How many bytes a device's reply has at most (E1.20, discovery unique branch): 24.
+pub const LONGEST_BRANCH_REPLY: usize = LONGEST_PREAMBLE as usize
+    + 1
+    + ENCODED_UID_LEN
+    + ENCODED_CHECKSUM_LEN;
 
 const PREAMBLE: u8 = 0xfe;
 
@@ -64,7 +67,8 @@ fn uid_of_text(bytes: &[u8]) -> Option<Uid>
 
 // What stands behind the preamble and the separator.
 fn behind_preamble(bytes: &[u8]) -> Option<&[u8]>
-    ensures { MatchOption result (behind_preamble_of 7 bytes.now ≡ None) (λ rest. behind_preamble_of 7 bytes.now ≡ Some rest.now) }
+    ensures { MatchOption result (behind_preamble_of LONGEST_PREAMBLE bytes.now ≡ None)
+        (λ rest. behind_preamble_of LONGEST_PREAMBLE bytes.now ≡ Some rest.now) }
 {
     let preamble = preamble_len(bytes);
     if preamble > usize::from(LONGEST_PREAMBLE) {
@@ -88,7 +92,7 @@ fn preamble_len(bytes: &[u8]) -> usize
 
 // The UID that encoded bytes give, if the checksum behind it is their sum as received.
 fn uid_of_encoded(encoded: &[u8]) -> Option<Uid>
-    ensures { result ≡ coded_uid encoded.now }
+    ensures { result ≡ uid_of_coded encoded.now }
 {
     let (encoded_uid, rest) = encoded.split_at_checked(ENCODED_UID_LEN)?;
     let (encoded_checksum, _) = rest.split_at_checked(ENCODED_CHECKSUM_LEN)?;
@@ -110,9 +114,10 @@ fn ands<const N: usize>(pairs: &[u8]) -> [u8; N]
     bytes
 }
 
-/// The reply of the device `uid` to a branch, behind a preamble of 0 to 7 bytes (E1.20, discovery unique branch).
+/// The reply of the device `uid` to a branch, behind a preamble of 0 to [`LONGEST_PREAMBLE`] bytes (E1.20,
+/// discovery unique branch).
 pub fn write_branch_reply(uid: Uid, preamble: u8) -> ArrayVec<u8, LONGEST_BRANCH_REPLY>
-    requires { preamble ≤ 7 }
+    requires { preamble ≤ LONGEST_PREAMBLE }
     ensures text { result.items ≡ branch_text uid preamble }
     ensures reads { BranchText result.items uid }
 {

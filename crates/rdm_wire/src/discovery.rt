@@ -1,9 +1,10 @@
 //! The packets of discovery.
-ghost use Rattle.std.specs.Prelude.{◌≡◌, ◌++◌, ℕ, List, [], false};
+ghost use Rattle.std.specs.Prelude.{◌≡◌, ◌++◌, ℕ, List, false};
 ghost use Rattle.rdm_wire.specs.Uid.{is_broadcast};
 ghost use Rattle.rdm_wire.specs.Bytes.{uid_bytes};
 ghost use Rattle.rdm_wire.specs.Header.{header_fields};
-ghost use Rattle.rdm_wire.specs.Packet.{Packet, discovery_fields, branch_frame, mute_frame, unmute_frame, all_devices};
+ghost use Rattle.rdm_wire.specs.Packet.{Packet, branch_frame, mute_frame, unmute_frame};
+ghost use Rattle.rdm_wire.specs.Packet.{discovery_fields, branch_fields, mute_fields, unmute_fields};
 
 use crate::frame::{Frame, Header, NO_MESSAGES, PORT_ID, class};
 use crate::uid::Uid;
@@ -25,7 +26,7 @@ const ROOT_DEVICE: u16 = 0;
 /// controller `source`, with the transaction number `tn`. It goes to all devices; its data are the two bounds.
 pub fn encode_branch(range: UidRange, source: Uid, tn: u8) -> Frame
     ensures frame { result.items ≡ branch_frame range.lo range.hi source tn }
-    ensures packet { Packet (discovery_fields all_devices 1 (uid_bytes range.lo ++ uid_bytes range.hi) source tn) result.items }
+    ensures packet { Packet (branch_fields range.lo range.hi source tn) result.items }
 {
     discovery_header(Uid::ALL, source, tn, DISC_UNIQUE_BRANCH).encode(&bounds_of(range))
 }
@@ -35,7 +36,7 @@ pub fn encode_branch(range: UidRange, source: Uid, tn: u8) -> Frame
 pub fn encode_mute(uid: Uid, source: Uid, tn: u8) -> Frame
     requires { is_broadcast uid ≡ false }
     ensures frame { result.items ≡ mute_frame uid source tn }
-    ensures packet { Packet (discovery_fields uid 2 [] source tn) result.items }
+    ensures packet { Packet (mute_fields uid source tn) result.items }
 {
     discovery_header(uid, source, tn, DISC_MUTE).encode(&[])
 }
@@ -44,7 +45,7 @@ pub fn encode_mute(uid: Uid, source: Uid, tn: u8) -> Frame
 /// number `tn`. It has no data, and is not answered.
 pub fn encode_unmute(source: Uid, tn: u8) -> Frame
     ensures frame { result.items ≡ unmute_frame source tn }
-    ensures packet { Packet (discovery_fields all_devices 3 [] source tn) result.items }
+    ensures packet { Packet (unmute_fields source tn) result.items }
 {
     discovery_header(Uid::ALL, source, tn, DISC_UN_MUTE).encode(&[])
 }

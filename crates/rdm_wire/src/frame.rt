@@ -131,7 +131,7 @@ impl Header {
 
     /// The packet with this header and these data.
     pub(crate) fn encode(self, param: &[u8]) -> Frame
-        requires { length param.now ≤ 231 }
+        requires { length param.now ≤ MOST_PARAMETER_BYTES }
         ensures { Packet (header_fields self param.now) result.items }
     {
         let mut frame = Frame::new();
@@ -146,7 +146,7 @@ impl Header {
 
     // The bytes before so many bytes of parameter data.
     fn to_bytes(self, pdl: u8) -> [u8; HEADER_LENGTH]
-        requires { pdl ≤ 231 }
+        requires { pdl ≤ MOST_PARAMETER_BYTES }
         ensures bytes { (param : List ℕ) → length param ≡ pdl → result ≡ header_of (header_fields self param) }
         ensures in_range { (param : List ℕ) → length param ≡ pdl → Fits (header_fields self param) }
     {

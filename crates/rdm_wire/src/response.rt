@@ -9,6 +9,7 @@ use crate::frame::{
 };
 use crate::uid::Uid;
 use arrayvec::ArrayVec;
+use thiserror::Error;
 
 /// What a response answers (E1.20, command class).
 #[derive(Clone, Copy, Debug, PartialEq, Eq)]
@@ -35,23 +36,31 @@ pub enum AckType {
 }
 
 /// Why bytes are no response, in the order in which it is tested (profile of this project).
-#[derive(Clone, Copy, Debug, PartialEq, Eq)]
+#[derive(Clone, Copy, Debug, PartialEq, Eq, Error)]
 pub enum PacketFault {
     /// There are fewer than 26 bytes.
+    #[error("a packet has 26 bytes at least")]
     TooShort,
     /// The first byte isn't the start code `cc`.
+    #[error("a packet begins with the start code cc")]
     WrongStart,
     /// The second byte isn't the sub start code `01`.
+    #[error("a packet has the sub start code 01")]
     WrongSubStart,
     /// The message length is below 24, or the bytes end before the checksum that it points to does.
+    #[error("the message length does not fit the bytes")]
     LengthMismatch,
     /// The length of the parameter data isn't the message length less 24.
+    #[error("the parameter data length does not fit the message length")]
     ParamLengthMismatch,
     /// The checksum isn't the sum of the bytes before it.
+    #[error("the checksum is wrong")]
     Checksum,
     /// The command class isn't that of a response.
+    #[error("the command class is not that of a response")]
     InvalidClass,
     /// The response type is none that there is.
+    #[error("there is no such response type")]
     InvalidResponseType,
 }
 
@@ -141,7 +150,8 @@ pub fn decode_response(bytes: &[u8]) -> Result<Response, PacketFault>
 // The message length of the packet that the bytes begin with, whatever its class and its response type.
 fn message_length(bytes: &[u8]) -> Result<usize, PacketFault>
     ensures fault { IfErr result (λ fault. decoded bytes.now ≡ Err fault) }
-    ensures packet { IfOk result (λ n. decoded bytes.now ≡ response_of bytes.now (class_of_code (fields_at bytes.now).class) (ack_of_code (fields_at bytes.now).port)) }
+    ensures packet { IfOk result (λ n. decoded bytes.now
+        ≡ response_of bytes.now (class_of_code (fields_at bytes.now).class) (ack_of_code (fields_at bytes.now).port)) }
     ensures length { IfOk result (λ n. n ≡ 24 + slice_index bytes.now 23) }
     ensures fits { IfOk result (λ n. n ≤ 255) }
     ensures within { IfOk result (λ n. n + 2 ≤ length bytes.now) }

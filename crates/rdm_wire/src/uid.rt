@@ -100,7 +100,8 @@ impl Uid {
         ensures ok { (u : ℕ) → (result ≡ Ok u) ↔ UidText text.now u }
         ensures length { IsErrOf result UidFault.Length ↔ (length text.now ≢ 13) }
         // Any other fault is of the digits.
-        ensures separator { IsErrOf result UidFault.Separator ↔ ((length text.now ≡ 13) × (slice_index text.now 4 ≢ colon)) }
+        ensures separator { IsErrOf result UidFault.Separator
+            ↔ ((length text.now ≡ 13) × (slice_index text.now 4 ≢ colon)) }
     {
         let bytes = text.as_bytes();
         if bytes.len() != TEXT_LEN {
@@ -120,7 +121,7 @@ impl Uid {
         Ok(Uid::from_bytes([m0, m1, d0, d1, d2, d3]))
     }
 
-    /// Its text in lower case, as `7a70:00000001`.
+    /// Its text in lower case, as `7a70:00000001` (profile of this project).
     pub fn to_text(self) -> [u8; TEXT_LEN]
         ensures text { result ≡ uid_text self }
         ensures reads { UidText result self }

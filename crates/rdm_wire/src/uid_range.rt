@@ -6,7 +6,8 @@ ghost use Rattle.rdm_wire.specs.Uid.{is_within};
 use crate::uid::Uid;
 use std::marker::Model;
 
-/// The UIDs from `lo` to `hi`, both among them, so there is at least one. Contracts see the two numbers.
+/// The UIDs from `lo` to `hi`, both among them, so there is at least one: the range of a branch (E1.20, discovery
+/// unique branch). Contracts see the two numbers.
 ///
 /// The default, which stands in the places of an array that aren't used, is UID 0 alone.
 #[derive(Clone, Copy, Debug, Default, PartialEq, Eq)]

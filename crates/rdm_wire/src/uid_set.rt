@@ -14,7 +14,8 @@ use thiserror::Error;
 /// How many devices a set has room for (profile of this project).
 pub const MOST_DEVICES: usize = 256;
 
-/// UIDs of devices, ascending and without repeats: [`MOST_DEVICES`] at most. Contracts see the list of their numbers.
+/// UIDs of devices, ascending and without repeats: [`MOST_DEVICES`] at most (profile of this project). Contracts see
+/// the list of their numbers.
 #[derive(Debug, Drop, PartialEq, Eq)]
 pub struct UidSet {
     uids: ArrayVec<Uid, MOST_DEVICES>,
