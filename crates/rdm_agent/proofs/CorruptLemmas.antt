@@ -12,6 +12,7 @@ use Rattle.rdm_wire.specs.declared.mute_ack.MuteAck.{MuteAck}
 use Rattle.rdm_agent.specs.Run.{acked_by, acked_in, asks_range, is_branch, IsLostMute}
 use Rattle.rdm_agent.specs.Cause.{IsCorrupt, IsCorruptReply}
 use Rattle.rdm_agent.specs.Machine.{is_new}
+use Rattle.rdm_agent.specs.declared.limits.TheConstants.{TRIES}
 use Rattle.rdm_agent.proofs.Members.{last_part, tails, heads}
 use Rattle.rdm_agent.proofs.OneDevice.{NotFailed}
 use Rattle.rdm_agent.proofs.Pushes.{All-at, All-push, has-front}
@@ -57,7 +58,7 @@ corrupt-reply top x found h is_found sound loud refused one = record {
 }
 
 -- a UID that alone was spelt by its range, and whose five mutes are lost
-pub corrupt-mutes : (top : Span) (u : ℕ) (x : List Seen) (found : List ℕ) → AllByRecursion NotFailed x → IsNewDevice found top u → WasSpelt u 5 top x → top.lo ≡ top.hi → IsCorrupt top.lo x
+pub corrupt-mutes : (top : Span) (u : ℕ) (x : List Seen) (found : List ℕ) → AllByRecursion NotFailed x → IsNewDevice found top u → WasSpelt u TRIES top x → top.lo ≡ top.hi → IsCorrupt top.lo x
 corrupt-mutes top u x found sound new spelt one = record {
   before = spelt.before;
   heard = One u;
@@ -102,7 +103,7 @@ lost_no_branches u (e ∷ x) all = (ap asks_range all.0.0, lost_no_branches u x 
 record OfOne (u lo hi : ℕ) (front back : List Seen) (h : Heard) : Type 0 where
   pub from : lo ≡ u
   pub to : hi ≡ u
-  pub cause : ((back ≡ []) × IsCorruptReply u front h) ⊎ ((h ≡ One u) × (length back ≡ 5) × AllByRecursion (IsLostMute u) back)
+  pub cause : ((back ≡ []) × IsCorruptReply u front h) ⊎ ((h ≡ One u) × (length back ≡ TRIES) × AllByRecursion (IsLostMute u) back)
 
 of_one : (u : ℕ) (x front back : List Seen) (lo hi : ℕ) (h : Heard) → x ≡ front ++ record { asked = Branch lo hi; heard = h } ∷ back → AllByRecursion NoBranch back → IsCorrupt u x → OfOne u lo hi front back h
 of_one u x front back lo hi h whole others c = record { from = (bounds (ap (λ e. e.asked) s.branches)).0; to = (bounds (ap (λ e. e.asked) s.branches)).1; cause = cause c.cause }
@@ -119,8 +120,8 @@ of_one u x front back lo hi h whole others c = record { from = (bounds (ap (λ e
     heard : h ≡ c.heard
     heard = ap (λ e. e.heard) s.branches
 
-    cause : ((c.mutes ≡ []) × IsCorruptReply u c.before c.heard) ⊎ ((c.heard ≡ One u) × (length c.mutes ≡ 5) × AllByRecursion (IsLostMute u) c.mutes × AllByRecursion NotFailed c.mutes)
-        → ((back ≡ []) × IsCorruptReply u front h) ⊎ ((h ≡ One u) × (length back ≡ 5) × AllByRecursion (IsLostMute u) back)
+    cause : ((c.mutes ≡ []) × IsCorruptReply u c.before c.heard) ⊎ ((c.heard ≡ One u) × (length c.mutes ≡ TRIES) × AllByRecursion (IsLostMute u) c.mutes × AllByRecursion NotFailed c.mutes)
+        → ((back ≡ []) × IsCorruptReply u front h) ⊎ ((h ≡ One u) × (length back ≡ TRIES) × AllByRecursion (IsLostMute u) back)
     cause (inl bad) = inl (
       s.backs ∙ bad.0,
       record {
@@ -150,7 +151,7 @@ not_corrupt-silent u x lo hi c = elim (of_one u (x ++ record { asked = Branch lo
     not_one p = cc
 
 -- or where it spelt a new device, whose mutes aren't all lost yet,
-pub not_corrupt-spelt : (w u tries : ℕ) (top : Span) (x : List Seen) (found : List ℕ) → IsFound x found → top.hi < 2 ^ 48 → IsNewDevice found top u → WasSpelt u tries top x → tries ≤ 4 → IsCorrupt w x → ⊥
+pub not_corrupt-spelt : (w u tries : ℕ) (top : Span) (x : List Seen) (found : List ℕ) → IsFound x found → top.hi < 2 ^ 48 → IsNewDevice found top u → WasSpelt u tries top x → tries < TRIES → IsCorrupt w x → ⊥
 not_corrupt-spelt w u tries top x found is_found end new spelt few c = elim o.cause [
   | inl bad ↦ true≢false (sym (here bad.1) ∙ new.new)
   | inr lost ↦ let many = spelt.many in let five = lost.1 in omega arith

@@ -2,6 +2,7 @@
 use Rattle.std.proofs.Common.{◌≡◌, ℕ, ◌+◌, ◌<◌, true, false, List, [], ◌∷◌, ◌++◌, length, take, None, Some, refl, sym, ap, ◌∙◌, arith}
 use Rattle.std.proofs.lemmas.List.{take_all, take_at, length_push}
 use Rattle.rdm_wire.specs.Uid.{has, set_of, with_uid}
+use Rattle.rdm_wire.specs.declared.uid_set.TheConstants.{MOST_DEVICES}
 use Rattle.rdm_wire.specs.Lists.{once}
 use Rattle.rdm_wire.specs.Honest.{Seen}
 use Rattle.rdm_wire.specs.Honest.Asked.{Mute}
@@ -19,7 +20,7 @@ IsFound-all_reported x found f = let room = f.room in let counted = f.counted in
 
 -- the found UIDs are those that are reported
 pub IsFound-reported : (x : List Seen) (found : List ℕ) → IsFound x found → found ≡ reported x
-IsFound-reported x found f = f.set ∙ sym (ap set_of (take_all 256 (once (acked_in x)) (IsFound-all_reported x found f)) ∙ set_of-once (acked_in x))
+IsFound-reported x found f = f.set ∙ sym (ap set_of (take_all MOST_DEVICES (once (acked_in x)) (IsFound-all_reported x found f)) ∙ set_of-once (acked_in x))
 
 -- a UID is acknowledged exactly where it is found
 pub IsFound-has : (x : List Seen) (found : List ℕ) → IsFound x found → (u : ℕ) → has (acked_in x) u ≡ has found u
@@ -40,7 +41,7 @@ module _ (x : List Seen) (found : List ℕ) (e : Seen) (f : IsFound x found) whe
   }
 
   -- another is found
-  pub found-new : (u : ℕ) → acked_by e ≡ Some u → has found u ≡ false → length found < 256 → IsFound (x ++ e ∷ []) (with_uid u found)
+  pub found-new : (u : ℕ) → acked_by e ≡ Some u → has found u ≡ false → length found < MOST_DEVICES → IsFound (x ++ e ∷ []) (with_uid u found)
   found-new u some new space = record {
     set = ap (λ us. with_uid u us) f.set ∙ sym (ap set_of more ∙ set_of-push (acked_in x) u);
     counted = counted_on (length-with_uid u found new) f.counted (ap (λ us. length (once us)) more ∙ ap length (once-new (acked_in x) u (IsFound-has x found f u ∙ new)) ∙ length_push (once (acked_in x)) u);
@@ -54,15 +55,15 @@ module _ (x : List Seen) (found : List ℕ) (e : Seen) (f : IsFound x found) whe
       counted_on p q r = omega arith
 
   -- one too many isn't reported
-  pub found-reports : (u : ℕ) → acked_by e ≡ Some u → has found u ≡ false → length found ≡ 256 → found ≡ reported (x ++ e ∷ [])
+  pub found-reports : (u : ℕ) → acked_by e ≡ Some u → has found u ≡ false → length found ≡ MOST_DEVICES → found ≡ reported (x ++ e ∷ [])
   found-reports u some new full = f.set ∙ sym (ap set_of first ∙ set_of-once (acked_in x))
     where
-      first : take 256 (once (acked_in (x ++ e ∷ []))) ≡ once (acked_in x)
-      first = ap (λ us. take 256 (once us)) (read-push_some acked_by x e u some) ∙ ap (λ us. take 256 us) (once-new (acked_in x) u (IsFound-has x found f u ∙ new))
-          ∙ take_at (once (acked_in x)) (u ∷ []) 256 (sym f.counted ∙ full)
+      first : take MOST_DEVICES (once (acked_in (x ++ e ∷ []))) ≡ once (acked_in x)
+      first = ap (λ us. take MOST_DEVICES (once us)) (read-push_some acked_by x e u some) ∙ ap (λ us. take MOST_DEVICES us) (once-new (acked_in x) u (IsFound-has x found f u ∙ new))
+          ∙ take_at (once (acked_in x)) (u ∷ []) MOST_DEVICES (sym f.counted ∙ full)
 
   -- and ends the run
-  pub found-one_too_many : (u : ℕ) (ack : MuteAck) → e ≡ record { asked = Mute u; heard = Acked ack } → has found u ≡ false → length found ≡ 256 → IsOneTooMany (x ++ e ∷ [])
+  pub found-one_too_many : (u : ℕ) (ack : MuteAck) → e ≡ record { asked = Mute u; heard = Acked ack } → has found u ≡ false → length found ≡ MOST_DEVICES → IsOneTooMany (x ++ e ∷ [])
   found-one_too_many u ack is new full = record {
     before = x;
     last = record { asked = Mute u; heard = Acked ack };

@@ -2,6 +2,7 @@
 use Rattle.std.proofs.Common.{◌≡◌, ℕ, true, List, take, None, sym, ap, ◌∙◌, subst}
 use Rattle.std.specs.Prelude.{MatchOption}
 use Rattle.rdm_wire.specs.Uid.{has, IsDeviceSet}
+use Rattle.rdm_wire.specs.declared.uid_set.TheConstants.{MOST_DEVICES}
 use Rattle.rdm_wire.specs.Lists.{once}
 use Rattle.rdm_wire.specs.Honest.{Seen}
 use Rattle.rdm_agent.specs.Run.{acked_in}
@@ -31,8 +32,8 @@ finds_each kind known budget x b set run u end fault device honest = found kind 
 pub finds_no_phantom : FindsNoPhantom
 finds_no_phantom kind known budget x b set run present u honest here = no_phantom present x u (ends_at_failure kind known budget x b set run).0 honest acked
   where
-    first : has (take 256 (once (acked_in x))) u ≡ true
-    first = sym (has-set_of (take 256 (once (acked_in x))) u) ∙ ap (λ us. has us u) (sym (stands kind known budget x b set run).reports) ∙ here
+    first : has (take MOST_DEVICES (once (acked_in x))) u ≡ true
+    first = sym (has-set_of (take MOST_DEVICES (once (acked_in x))) u) ∙ ap (λ us. has us u) (sym (stands kind known budget x b set run).reports) ∙ here
 
     acked : has (acked_in x) u ≡ true
-    acked = sym (has-once (acked_in x) u) ∙ has-take 256 (once (acked_in x)) u first
+    acked = sym (has-once (acked_in x) u) ∙ has-take MOST_DEVICES (once (acked_in x)) u first

@@ -12,6 +12,7 @@ use Rattle.rdm_agent.specs.Run.{mute_of, muted_by, muted_in, is_branch, InSucces
 use Rattle.rdm_agent.specs.Certificate.{known_of}
 use Rattle.rdm_agent.specs.Machine.{search_from}
 use Rattle.rdm_agent.specs.declared.kind.Kind.{Kind}
+use Rattle.rdm_agent.specs.declared.limits.TheConstants.{TRIES}
 use Rattle.rdm_agent.proofs.OneDevice.{NotFailed}
 use Rattle.rdm_agent.proofs.Pushes.{All-push, has-front, has-at, no_branch-before}
 use Rattle.rdm_agent.proofs.Stacks.{IsStack-whole}
@@ -20,10 +21,10 @@ use Rattle.rdm_agent.proofs.FoundLemmas.{found-same}
 use Rattle.rdm_agent.proofs.UnderWay.{EndsWith-none, named-mute, lost-acks_none, under_way-lost, under_way-acked, under_way-given_up, under_way-taken_up}
 use Rattle.rdm_agent.proofs.Standing.{IsFound, MutesKnown, InPhase}
 
-five_muted : (u : ℕ) (x : List Seen) → InSuccession 5 (IsLostMute u) x → has (muted_in x) u ≡ true
+five_muted : (u : ℕ) (x : List Seen) → InSuccession TRIES (IsLostMute u) x → has (muted_in x) u ≡ true
 five_muted u x s = by_run s.run s.many s.each s.whole
   where
-    by_run : (run : List Seen) → length run ≡ 5 → AllByRecursion (IsLostMute u) run → x ≡ s.front ++ run ++ s.back → has (muted_in x) u ≡ true
+    by_run : (run : List Seen) → length run ≡ TRIES → AllByRecursion (IsLostMute u) run → x ≡ s.front ++ run ++ s.back → has (muted_in x) u ≡ true
     by_run [] five each whole = absurd (omega (arith, five))
     by_run (e ∷ run) five each whole =
         subst (λ l. has (muted_in l) u ≡ true) (sym (whole ∙ append_assoc s.front (e ∷ run) s.back)) (has-at muted_by s.front e (run ++ s.back) u (ap mute_of each.0.0))
@@ -67,7 +68,7 @@ module _ (known : List ℕ) (u : ℕ) (left : List ℕ) (x : List Seen) (found :
       e = record { asked = Mute u; heard = Acked ack }
 
   -- five were lost
-  pub known-given_up : InSuccession 5 (IsLostMute u) x → MutesKnown known None left x found
+  pub known-given_up : InSuccession TRIES (IsLostMute u) x → MutesKnown known None left x found
   known-given_up five = record {
     under_way = under_way-given_up known u x found m.devices.0 five m.under_way;
     no_branch = m.no_branch;

@@ -19,3 +19,4 @@ pub mod UnmutePhase
 pub mod RunLemmas
 pub mod Runs
 pub mod HonestRuns
+pub mod Carried

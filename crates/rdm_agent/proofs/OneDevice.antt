@@ -10,6 +10,7 @@ use Rattle.rdm_wire.specs.Honest.Heard.{Failed, Silent}
 use Rattle.rdm_agent.specs.Run.{mute_of, muted_by, muted_in, InSuccession, IsSilentBranch, IsLostMute}
 use Rattle.rdm_agent.specs.Certificate.{Certificate, IsTried, IsCleared}
 use Rattle.rdm_agent.specs.declared.kind.Kind.{Kind}
+use Rattle.rdm_agent.specs.declared.limits.TheConstants.{TRIES}
 use Rattle.rdm_agent.proofs.Pushes.{has-front}
 use Rattle.rdm_agent.proofs.Members.{heads, tails, has-put, has-first, member, first_part, last_part}
 
@@ -147,17 +148,17 @@ no_branch : (q : Asked) (lo hi : ℕ) → q ≡ Unmute → q ≡ Branch lo hi �
 no_branch q lo hi p r = cc
 
 -- a run of branches doesn't begin at an unmute
-peel : (lo hi : ℕ) (e : Seen) (xs front run back : List Seen) → e.asked ≡ Unmute → AllByRecursion (IsSilentBranch lo hi) run → length run ≡ 5 → e ∷ xs ≡ front ++ (run ++ back) → (others : List Seen) × (xs ≡ others ++ (run ++ back))
+peel : (lo hi : ℕ) (e : Seen) (xs front run back : List Seen) → e.asked ≡ Unmute → AllByRecursion (IsSilentBranch lo hi) run → length run ≡ TRIES → e ∷ xs ≡ front ++ (run ++ back) → (others : List Seen) × (xs ≡ others ++ (run ++ back))
 peel lo hi e xs [] [] back p each five whole = absurd (zero_is_five five)
   where
-    zero_is_five : length {A = Seen} [] ≡ 5 → ⊥
+    zero_is_five : length {A = Seen} [] ≡ TRIES → ⊥
     zero_is_five h = omega arith
 peel lo hi e xs [] (r ∷ run) back p each five whole =
     absurd (no_branch e.asked lo hi p (ap (λ x. x.asked) (heads whole) ∙ each.0.0))
 peel lo hi e xs (f ∷ front) run back p each five whole = (front, tails whole)
 
 -- five mutes of the device in succession aren't lost
-pub five_mutes : (u : ℕ) (s : LineState) (x : List Seen) → AllByRecursion NotFailed x → Chain (HonestToStep u) s x → InSuccession 5 (IsLostMute u) x → ⊥
+pub five_mutes : (u : ℕ) (s : LineState) (x : List Seen) → AllByRecursion NotFailed x → Chain (HonestToStep u) s x → InSuccession TRIES (IsLostMute u) x → ⊥
 five_mutes u s x ok chain five = too_many (mutes u r.state five.run five.back five.each (first_part NotFailed five.run five.back behind) r.chain)
   where
     whole : x ≡ five.front ++ (five.run ++ five.back)
@@ -177,7 +178,7 @@ five_mutes u s x ok chain five = too_many (mutes u r.state five.run five.back fi
     too_many (inr few) = let many = five.many in omega arith
 
 -- a device in a range that was silent five times in succession was muted before, behind the three unmutes
-cleared_muted : (u : ℕ) (x rest : List Seen) → AllByRecursion NotFailed rest → Begun u x rest → (lo hi : ℕ) → is_within lo hi u ≡ true → (front run back : List Seen) → rest ≡ front ++ (run ++ back) → length run ≡ 5 → AllByRecursion (IsSilentBranch lo hi) run → has (muted_in rest) u ≡ true
+cleared_muted : (u : ℕ) (x rest : List Seen) → AllByRecursion NotFailed rest → Begun u x rest → (lo hi : ℕ) → is_within lo hi u ≡ true → (front run back : List Seen) → rest ≡ front ++ (run ++ back) → length run ≡ TRIES → AllByRecursion (IsSilentBranch lo hi) run → has (muted_in rest) u ≡ true
 cleared_muted u x rest ok begun lo hi within front run back whole five each = by_muted (cases_Bool (r.state.muted u))
   where
     all : AllByRecursion NotFailed (front ++ (run ++ back))
@@ -228,7 +229,7 @@ cleared_found u s m (a ∷ b ∷ c ∷ rest) unmutes ok tried chain cleared =
     pc : c.asked ≡ Unmute
     pc = heads (tails (tails unmutes))
 
-    five : InSuccession 5 (IsSilentBranch cleared.lo cleared.hi) (a ∷ b ∷ c ∷ rest)
+    five : InSuccession TRIES (IsSilentBranch cleared.lo cleared.hi) (a ∷ b ∷ c ∷ rest)
     five = cleared.silent
 
     one : (others : List Seen) × (b ∷ c ∷ rest ≡ others ++ (five.run ++ five.back))

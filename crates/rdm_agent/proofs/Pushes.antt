@@ -1,12 +1,13 @@
 -- What a list of exchanges keeps as it grows at its end.
 use Rattle.std.proofs.Common.{◌≡◌, ℕ, ◌+◌, Bool, true, false, cond, not, one-add, List, [], ◌∷◌, ◌++◌, map, take, append_assoc, Option, None, Some, refl, sym, ap, ◌∙◌, subst, inl, inr, true≢false}
-use Rattle.std.specs.Prelude.{◌⊎◌, filter_map}
+use Rattle.std.specs.Prelude.{◌⊎◌, filter_map, replicate}
 use Rattle.std.specs.List.{AllByRecursion, before_first, position_or_len, cons_option}
 use Rattle.rdm_wire.specs.Uid.{has}
 use Rattle.rdm_wire.specs.Honest.{Asked, Seen}
 use Rattle.rdm_wire.specs.Honest.Asked.{Unmute}
 use Rattle.rdm_agent.specs.Run.{InSuccession, is_branch}
 use Rattle.rdm_agent.specs.Certificate.{IsTried, IsCleared}
+use Rattle.rdm_agent.specs.declared.limits.TheConstants.{UNMUTES}
 use Rattle.rdm_agent.proofs.Members.{has-put, has-first, put-has, last_part}
 
 -- what holds of each holds of each of the longer list
@@ -102,17 +103,17 @@ pub IsTried-push : {s : List ℕ} {x : List Seen} {u : ℕ} (t : List ℕ) (y : 
 IsTried-push t y more tried = record { device = tried.device; tried = elim tried.tried [ inl found ↦ inl (more found) | inr lost ↦ inr (InSuccession-push y lost) ] }
 
 -- the first three are unmutes
-pub begun-push : (x y : List Seen) → take 3 (map (λ (e : Seen). e.asked) x) ≡ Unmute ∷ Unmute ∷ Unmute ∷ [] → take 3 (map (λ (e : Seen). e.asked) (x ++ y)) ≡ Unmute ∷ Unmute ∷ Unmute ∷ []
+pub begun-push : (x y : List Seen) → take UNMUTES (map (λ (e : Seen). e.asked) x) ≡ replicate UNMUTES Unmute → take UNMUTES (map (λ (e : Seen). e.asked) (x ++ y)) ≡ replicate UNMUTES Unmute
 begun-push (a ∷ b ∷ c ∷ x) y begun = begun
 begun-push [] y begun = absurd (short begun)
   where
-    short : ◌≡◌ {A = List Asked} [] (Unmute ∷ Unmute ∷ Unmute ∷ []) → ⊥
+    short : ◌≡◌ {A = List Asked} [] (replicate UNMUTES Unmute) → ⊥
     short h = cc
 begun-push (a ∷ []) y begun = absurd (short a.asked begun)
   where
-    short : (q : Asked) → q ∷ [] ≡ Unmute ∷ Unmute ∷ Unmute ∷ [] → ⊥
+    short : (q : Asked) → q ∷ [] ≡ replicate UNMUTES Unmute → ⊥
     short q h = cc
 begun-push (a ∷ b ∷ []) y begun = absurd (short a.asked b.asked begun)
   where
-    short : (p q : Asked) → p ∷ q ∷ [] ≡ Unmute ∷ Unmute ∷ Unmute ∷ [] → ⊥
+    short : (p q : Asked) → p ∷ q ∷ [] ≡ replicate UNMUTES Unmute → ⊥
     short p q h = cc

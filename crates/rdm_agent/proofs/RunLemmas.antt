@@ -5,6 +5,7 @@ use Rattle.std.specs.List.{AllByRecursion}
 use Rattle.std.proofs.lemmas.Bool.{cond_both, or_left, or_right, eq-eqb, eqb-true, eqb-false, ltb-true, ltb-false}
 use Rattle.std.proofs.lemmas.List.{length_push}
 use Rattle.rdm_wire.specs.Uid.{has, set_of, with_uid, IsDevice}
+use Rattle.rdm_wire.specs.declared.uid_set.TheConstants.{MOST_DEVICES}
 use Rattle.rdm_wire.specs.Lists.{once}
 use Rattle.rdm_wire.specs.Span.{Span}
 use Rattle.rdm_wire.specs.Honest.{Asked, Heard, Seen, is_acked}
@@ -17,6 +18,7 @@ use Rattle.rdm_agent.specs.Machine.{Phase, AgentState, heard_by_phase, branch_he
 use Rattle.rdm_agent.specs.Machine.Phase.{Unmuting, Knowing, Searching, Muting, Over}
 use Rattle.rdm_agent.specs.declared.kind.Kind.{Kind}
 use Rattle.rdm_agent.specs.declared.fault.AgentFault.TheVariants.{TooMany}
+use Rattle.rdm_agent.specs.declared.limits.TheConstants.{TRIES}
 use Rattle.rdm_agent.proofs.OneDevice.{NotFailed}
 use Rattle.rdm_agent.proofs.Pushes.{All-push, read-push_none, has-at}
 use Rattle.rdm_agent.proofs.Sets.{has-with_uid}
@@ -34,7 +36,7 @@ use Rattle.rdm_agent.proofs.Standing.{EndsWith, IsFound, MutesKnown, Searches, I
 abbrev exchange : Asked → Heard → Seen
 exchange asked h = record { asked = asked; heard = h }
 
-few_more : (n : ℕ) → n ≤ 4 → (n ≡ 4 → ⊥) → n + 1 ≤ 4
+few_more : (n : ℕ) → n < TRIES → (n + 1 ≡ TRIES → ⊥) → n + 1 < TRIES
 few_more n few fewer = grind arith
 
 -- one more mute of what was spelt is lost
@@ -72,13 +74,13 @@ module _ (kind : Kind) (known : List ℕ) (budget : ℕ) (x : List Seen) (a : Ag
 
   -- without an acknowledgement the same is reported
   pub reported-same : (e : Seen) → acked_by e ≡ None → a.found ≡ reported (x ++ e ∷ [])
-  reported-same e none = s.reports ∙ ap (λ us. set_of (take 256 (once us))) (sym (read-push_none acked_by x e none))
+  reported-same e none = s.reports ∙ ap (λ us. set_of (take MOST_DEVICES (once us))) (sym (read-push_none acked_by x e none))
 
   -- an acknowledgement comes
   to_found-stands : (u : ℕ) (ack : MuteAck) (phase : Phase) → AllByRecursion NotFailed x → IsFound x a.found
       → ((more : List ℕ) → IsFound (x ++ exchange (Mute u) (Acked ack) ∷ []) more → ((v : ℕ) → has a.found v ≡ true → has more v ≡ true) → has more u ≡ true → InPhase kind known budget phase (x ++ exchange (Mute u) (Acked ack) ∷ []) more)
       → Stands kind known budget (x ++ exchange (Mute u) (Acked ack) ∷ []) (to_found a u phase)
-  to_found-stands u ack phase sound f onward = cond_both (has a.found u) _ _ P at_old (λ new. cond_both (nat_lt (length a.found) 256) _ _ P (at_new new) (at_full new))
+  to_found-stands u ack phase sound f onward = cond_both (has a.found u) _ _ P at_old (λ new. cond_both (nat_lt (length a.found) MOST_DEVICES) _ _ P (at_new new) (at_full new))
     where
       e : Seen
       e = exchange (Mute u) (Acked ack)
@@ -90,8 +92,8 @@ module _ (kind : Kind) (known : List ℕ) (budget : ℕ) (x : List Seen) (a : Ag
       at_old old = let is_found : IsFound (x ++ e ∷ []) a.found = found-again x a.found e f u refl old in
           to_phase-stands e phase (IsFound-reported (x ++ e ∷ []) a.found is_found) (onward a.found is_found (λ v here. here) old)
 
-      at_new : has a.found u ≡ false → nat_lt (length a.found) 256 ≡ true → P (record { budget = a.budget; frames = a.frames + 1; found = with_uid u a.found; phase = phase })
-      at_new new space = let is_found : IsFound (x ++ e ∷ []) (with_uid u a.found) = found-new x a.found e f u refl new (ltb-true (length a.found) 256 space) in record {
+      at_new : has a.found u ≡ false → nat_lt (length a.found) MOST_DEVICES ≡ true → P (record { budget = a.budget; frames = a.frames + 1; found = with_uid u a.found; phase = phase })
+      at_new new space = let is_found : IsFound (x ++ e ∷ []) (with_uid u a.found) = found-new x a.found e f u refl new (ltb-true (length a.found) MOST_DEVICES space) in record {
         budget_is = s.budget_is;
         frames_are = (counted e).0;
         within = (counted e).1;
@@ -99,7 +101,7 @@ module _ (kind : Kind) (known : List ℕ) (budget : ℕ) (x : List Seen) (a : Ag
         phase = onward (with_uid u a.found) is_found (λ v here. has-with_uid u a.found v ∙ or_right (v == u) (has a.found v) here) (has-with_uid u a.found u ∙ or_left (u == u) (has a.found u) (eq-eqb u u refl));
       }
 
-      at_full : has a.found u ≡ false → nat_lt (length a.found) 256 ≡ false → P (to_phase a (Over (Some TooMany)))
+      at_full : has a.found u ≡ false → nat_lt (length a.found) MOST_DEVICES ≡ false → P (to_phase a (Over (Some TooMany)))
       at_full new full = to_phase-stands e (Over (Some TooMany)) (found-reports x a.found e f u refl new all) (record {
         before = x;
         last = e;
@@ -108,8 +110,8 @@ module _ (kind : Kind) (known : List ℕ) (budget : ℕ) (x : List Seen) (a : Ag
         certified = found-one_too_many x a.found e f u ack refl new all;
       })
         where
-          all : length a.found ≡ 256
-          all = let room = f.room in let least = ltb-false (length a.found) 256 full in omega arith
+          all : length a.found ≡ MOST_DEVICES
+          all = let room = f.room in let least = ltb-false (length a.found) MOST_DEVICES full in omega arith
 
   -- an unmute
   pub unmuting-stands : (more : ℕ) (left : List ℕ) (h : Heard) → h ≢ Failed → InPhase kind known budget (Unmuting more left) x a.found → Stands kind known budget (x ++ exchange Unmute h ∷ []) (heard_by_phase a (Unmuting more left) h)
@@ -126,11 +128,11 @@ module _ (kind : Kind) (known : List ℕ) (budget : ℕ) (x : List Seen) (a : Ag
 
   -- a known UID is muted
   known_lost-stands : (u tries : ℕ) (left : List ℕ) (h : Heard) → h ≢ Failed → is_acked h ≡ false → IsKnowing (known_of kind known) u tries left x a.found
-      → Stands kind known budget (x ++ exchange (Mute u) h ∷ []) (to_phase a (cond (tries == 4) (search_from left) (Knowing u (tries + 1) left)))
-  known_lost-stands u tries left h sound lost p = to_phase-stands e (cond (tries == 4) (search_from left) (Knowing u (tries + 1) left)) (reported-same e (lost-acks_none u h lost))
-      (cond_both (tries == 4) _ _ (λ q. InPhase kind known budget q (x ++ e ∷ []) a.found)
-      (λ five. known-next kind known budget left (x ++ e ∷ []) a.found (known-given_up (known_of kind known) u left (x ++ e ∷ []) a.found muting (EndsWith-succession (subst (λ n. EndsWith n (IsLostMute u) (x ++ e ∷ [])) (ap (λ n. n + 1) (eqb-true tries 4 five)) ends))))
-      (λ fewer. record { muting = muting; few = few_more tries p.few (eqb-false tries 4 fewer); lost = ends }))
+      → Stands kind known budget (x ++ exchange (Mute u) h ∷ []) (to_phase a (cond ((tries + 1) == TRIES) (search_from left) (Knowing u (tries + 1) left)))
+  known_lost-stands u tries left h sound lost p = to_phase-stands e (cond ((tries + 1) == TRIES) (search_from left) (Knowing u (tries + 1) left)) (reported-same e (lost-acks_none u h lost))
+      (cond_both ((tries + 1) == TRIES) _ _ (λ q. InPhase kind known budget q (x ++ e ∷ []) a.found)
+      (λ five. known-next kind known budget left (x ++ e ∷ []) a.found (known-given_up (known_of kind known) u left (x ++ e ∷ []) a.found muting (EndsWith-succession (subst (λ n. EndsWith n (IsLostMute u) (x ++ e ∷ [])) (eqb-true (tries + 1) TRIES five) ends))))
+      (λ fewer. record { muting = muting; few = few_more tries p.few (eqb-false (tries + 1) TRIES fewer); lost = ends }))
     where
       e : Seen
       e = exchange (Mute u) h
@@ -160,11 +162,11 @@ module _ (kind : Kind) (known : List ℕ) (budget : ℕ) (x : List Seen) (a : Ag
       e = exchange (Branch top.lo top.hi) h
 
   silent-stands : (silences : ℕ) (top : Span) (below : List Span) → IsSearching (known_of kind known) silences top below x a.found
-      → Stands kind known budget (x ++ exchange (Branch top.lo top.hi) Silent ∷ []) (to_phase a (cond (silences == 4) (search_below below) (Searching (silences + 1) top below)))
-  silent-stands silences top below p = to_phase-stands e (cond (silences == 4) (search_below below) (Searching (silences + 1) top below)) (reported-same e refl)
-      (cond_both (silences == 4) _ _ (λ q. InPhase kind known budget q (x ++ e ∷ []) a.found)
-      (λ five. search-next kind known budget top below x e a.found searches (EndsWith-succession (subst (λ n. EndsWith n (IsSilentBranch top.lo top.hi) (x ++ e ∷ [])) (ap (λ n. n + 1) (eqb-true silences 4 five)) ends)) not_corrupt)
-      (λ fewer. record { searches = searches; few = few_more silences p.few (eqb-false silences 4 fewer); silent = ends; not_corrupt = not_corrupt }))
+      → Stands kind known budget (x ++ exchange (Branch top.lo top.hi) Silent ∷ []) (to_phase a (cond ((silences + 1) == TRIES) (search_below below) (Searching (silences + 1) top below)))
+  silent-stands silences top below p = to_phase-stands e (cond ((silences + 1) == TRIES) (search_below below) (Searching (silences + 1) top below)) (reported-same e refl)
+      (cond_both ((silences + 1) == TRIES) _ _ (λ q. InPhase kind known budget q (x ++ e ∷ []) a.found)
+      (λ five. search-next kind known budget top below x e a.found searches (EndsWith-succession (subst (λ n. EndsWith n (IsSilentBranch top.lo top.hi) (x ++ e ∷ [])) (eqb-true (silences + 1) TRIES five) ends)) not_corrupt)
+      (λ fewer. record { searches = searches; few = few_more silences p.few (eqb-false (silences + 1) TRIES fewer); silent = ends; not_corrupt = not_corrupt }))
     where
       e : Seen
       e = exchange (Branch top.lo top.hi) Silent
@@ -216,10 +218,10 @@ module _ (kind : Kind) (known : List ℕ) (budget : ℕ) (x : List Seen) (a : Ag
   read_is u tries top w = subst (λ l. has (read_in l) u ≡ true) (sym w.whole) (has-at read_by w.before (exchange (Branch top.lo top.hi) (One u)) w.mutes u refl)
 
   mute_lost-stands : (u tries : ℕ) (top : Span) (below : List Span) (h : Heard) → h ≢ Failed → is_acked h ≡ false → IsMuting (known_of kind known) u tries top below x a.found
-      → Stands kind known budget (x ++ exchange (Mute u) h ∷ []) (to_phase a (cond (tries == 4) (split top below) (Muting u (tries + 1) top below)))
-  mute_lost-stands u tries top below h sound lost p = to_phase-stands e (cond (tries == 4) (split top below) (Muting u (tries + 1) top below)) (reported-same e (lost-acks_none u h lost))
-      (cond_both (tries == 4) _ _ (λ q. InPhase kind known budget q (x ++ e ∷ []) a.found) (λ last. given_up (spelt_five (eqb-true tries 4 last)))
-      (λ fewer. record { searches = searches; few = few_more tries p.few (eqb-false tries 4 fewer); new = p.new; spelt = spelt }))
+      → Stands kind known budget (x ++ exchange (Mute u) h ∷ []) (to_phase a (cond ((tries + 1) == TRIES) (split top below) (Muting u (tries + 1) top below)))
+  mute_lost-stands u tries top below h sound lost p = to_phase-stands e (cond ((tries + 1) == TRIES) (split top below) (Muting u (tries + 1) top below)) (reported-same e (lost-acks_none u h lost))
+      (cond_both ((tries + 1) == TRIES) _ _ (λ q. InPhase kind known budget q (x ++ e ∷ []) a.found) (λ last. given_up (spelt_five (eqb-true (tries + 1) TRIES last)))
+      (λ fewer. record { searches = searches; few = few_more tries p.few (eqb-false (tries + 1) TRIES fewer); new = p.new; spelt = spelt }))
     where
       e : Seen
       e = exchange (Mute u) h
@@ -230,11 +232,11 @@ module _ (kind : Kind) (known : List ℕ) (budget : ℕ) (x : List Seen) (a : Ag
       spelt : WasSpelt u (tries + 1) top (x ++ e ∷ [])
       spelt = WasSpelt-push u tries top x h lost p.spelt
 
-      spelt_five : tries ≡ 4 → WasSpelt u 5 top (x ++ e ∷ [])
-      spelt_five four = subst (λ n. WasSpelt u n top (x ++ e ∷ [])) (ap (λ n. n + 1) four) spelt
+      spelt_five : tries + 1 ≡ TRIES → WasSpelt u TRIES top (x ++ e ∷ [])
+      spelt_five five = subst (λ n. WasSpelt u n top (x ++ e ∷ [])) five spelt
 
-      given_up : WasSpelt u 5 top (x ++ e ∷ []) → InPhase kind known budget (split top below) (x ++ e ∷ []) a.found
-      given_up five = search-collided kind known budget top below x e a.found (search-given_up (known_of kind known) top below (x ++ e ∷ []) a.found u (is_muting-device (known_of kind known) u tries top below x a.found p) (WasSpelt-succession u 5 top (x ++ e ∷ []) five) searches)
+      given_up : WasSpelt u TRIES top (x ++ e ∷ []) → InPhase kind known budget (split top below) (x ++ e ∷ []) a.found
+      given_up five = search-collided kind known budget top below x e a.found (search-given_up (known_of kind known) top below (x ++ e ∷ []) a.found u (is_muting-device (known_of kind known) u tries top below x a.found p) (WasSpelt-succession u TRIES top (x ++ e ∷ []) five) searches)
           (corrupt-mutes top u (x ++ e ∷ []) a.found searches.under_way.no_failure (is_new-device a.found top u p.new) five)
           (λ several w c. not_corrupt-several w (x ++ e ∷ []) five.before five.mutes top.lo top.hi (One u) five.whole (lost_no_branches u five.mutes five.lost) several c)
 

@@ -17,6 +17,7 @@ use Rattle.rdm_agent.specs.Statements.{AsksInOrder, EndsAtFailure, EndsAtBudget,
 use Rattle.rdm_agent.specs.declared.kind.Kind.{Kind}
 use Rattle.rdm_agent.specs.declared.kind.Kind.TheVariants.{Full, Incremental}
 use Rattle.rdm_agent.specs.declared.fault.AgentFault.TheVariants.{LineFailed, Exhausted}
+use Rattle.rdm_agent.specs.declared.limits.TheConstants.{UNMUTES}
 use Rattle.rdm_agent.proofs.Members.{heads, tails}
 use Rattle.rdm_agent.proofs.OneDevice.{NotFailed}
 use Rattle.rdm_agent.proofs.AllDevices.{failed_none}
@@ -113,10 +114,10 @@ stands kind known budget x b set run = runs-stand kind known budget [] x (start 
 }) run
 
 -- three unmutes were made
-begun-length : (known : List ℕ) (busy : Option ℕ) (x : List Seen) (found : List ℕ) → IsUnderWay known busy x found → 3 ≤ length x
-begun-length known busy x found w = omega (arith, length-take 3 (map (λ (e : Seen). e.asked) x), length-map x (λ (e : Seen). e.asked), ap length w.begun)
+begun-length : (known : List ℕ) (busy : Option ℕ) (x : List Seen) (found : List ℕ) → IsUnderWay known busy x found → UNMUTES ≤ length x
+begun-length known busy x found w = omega (arith, length-take UNMUTES (map (λ (e : Seen). e.asked) x), length-map x (λ (e : Seen). e.asked), ap length w.begun)
 
-too_early : {n : ℕ} → 3 ≤ n → n < 3 → ⊥
+too_early : {n : ℕ} → UNMUTES ≤ n → n < UNMUTES → ⊥
 too_early some early = omega arith
 
 not_wanted : (goes : Bool) (asked : Asked) → cond goes (Some asked) None ≡ None → goes ≡ false
@@ -130,7 +131,7 @@ not_wanted true asked end = absurd (some_none end)
 wants_in_order : (kind : Kind) (known : List ℕ) (budget : ℕ) (phase : Phase) (x : List Seen) (found : List ℕ) → InPhase kind known budget phase x found → MatchOption (wanted phase) (Unit {0}) (IsInOrder (length x))
 wants_in_order kind known budget (Unmuting more left) x found p = ((λ early. refl), λ late. absurd (too_late p.0 p.1.counted late))
   where
-    too_late : 1 ≤ more → length x + more ≡ 3 → 3 ≤ length x → ⊥
+    too_late : 1 ≤ more → length x + more ≡ UNMUTES → UNMUTES ≤ length x → ⊥
     too_late some counted late = omega arith
 wants_in_order kind known budget (Knowing u tries left) x found p = ((λ early. absurd (too_early (begun-length (known_of kind known) (Some u) x found p.muting.under_way) early)), λ late. p.muting.devices.0)
 wants_in_order kind known budget (Searching silences top below) x found p = ((λ early. absurd (too_early (begun-length (known_of kind known) None x found p.searches.under_way) early)), λ late. IsStack-ends top below p.searches.stack)

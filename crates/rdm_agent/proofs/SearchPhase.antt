@@ -14,6 +14,7 @@ use Rattle.rdm_agent.specs.Certificate.{Certificate, IsTried, IsCleared, known_o
 use Rattle.rdm_agent.specs.Cause.{IsCorrupt}
 use Rattle.rdm_agent.specs.Machine.{split, search_below}
 use Rattle.rdm_agent.specs.declared.kind.Kind.{Kind}
+use Rattle.rdm_agent.specs.declared.limits.TheConstants.{TRIES}
 use Rattle.rdm_agent.proofs.Members.{first_part}
 use Rattle.rdm_agent.proofs.OneDevice.{NotFailed}
 use Rattle.rdm_agent.proofs.Pushes.{has-before_branch, IsCleared-push}
@@ -63,7 +64,7 @@ module _ (known : List ℕ) (top : Span) (below : List Span) (x : List Seen) (fo
       e = record { asked = Mute u; heard = Acked ack }
 
   -- five were lost
-  pub search-given_up : (u : ℕ) → IsDevice u → InSuccession 5 (IsLostMute u) x → Searches known (Some u) top below x found → Searches known None top below x found
+  pub search-given_up : (u : ℕ) → IsDevice u → InSuccession TRIES (IsLostMute u) x → Searches known (Some u) top below x found → Searches known None top below x found
   search-given_up u device five s = record {
     under_way = under_way-given_up known u x found device five s.under_way;
     known_first = s.known_first;
@@ -76,7 +77,7 @@ module _ (known : List ℕ) (top : Span) (below : List Span) (x : List Seen) (fo
   search-split two s = record { under_way = s.under_way; known_first = s.known_first; stack = IsStack-split top below two s.stack; cleared = s.cleared }
 
   -- five silences clear the top range
-  pub search-cleared : InSuccession 5 (IsSilentBranch top.lo top.hi) x → Searches known None top below x found → (u : ℕ) → u < top.hi + 1 → (has found u ≡ true) ⊎ IsCleared x u
+  pub search-cleared : InSuccession TRIES (IsSilentBranch top.lo top.hi) x → Searches known None top below x found → (u : ℕ) → u < top.hi + 1 → (has found u ≡ true) ⊎ IsCleared x u
   search-cleared five s u low = elim (cases_lt u top.lo) [
     | inl lower ↦ s.cleared u lower
     | inr inside ↦ inr (record { lo = top.lo; hi = top.hi; within = and_from (nat_le top.lo u) (nat_le u top.hi) (le-leb top.lo u inside) (le-leb u top.hi (omega arith)); silent = five })
@@ -100,7 +101,7 @@ all_cleared kind known x found w known_first cleared = record {
 
 -- the top range is taken off: the next one is searched, or the run ends
 pub search-next : (kind : Kind) (known : List ℕ) (budget : ℕ) (top : Span) (below : List Span) (x : List Seen) (e : Seen) (found : List ℕ) → Searches (known_of kind known) None top below (x ++ e ∷ []) found
-    → InSuccession 5 (IsSilentBranch top.lo top.hi) (x ++ e ∷ []) → ((u : ℕ) → IsCorrupt u (x ++ e ∷ []) → ⊥) → InPhase kind known budget (search_below below) (x ++ e ∷ []) found
+    → InSuccession TRIES (IsSilentBranch top.lo top.hi) (x ++ e ∷ []) → ((u : ℕ) → IsCorrupt u (x ++ e ∷ []) → ⊥) → InPhase kind known budget (search_below below) (x ++ e ∷ []) found
 search-next kind known budget top [] x e found s five not_corrupt = record {
   before = x;
   last = e;

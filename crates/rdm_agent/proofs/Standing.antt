@@ -1,8 +1,9 @@
 -- What holds of an agent behind its exchanges: the invariant of a run.
 use Rattle.std.proofs.Common.{◌≡◌, ℕ, ◌+◌, ◌<◌, ◌≤◌, true, false, List, [], ◌∷◌, ◌++◌, length, map, take, Option, Some, None}
-use Rattle.std.specs.Prelude.{◌⊎◌, MatchOption}
+use Rattle.std.specs.Prelude.{◌⊎◌, MatchOption, replicate}
 use Rattle.std.specs.List.{AllByRecursion, before_first}
 use Rattle.rdm_wire.specs.Uid.{has, set_of, IsDevice}
+use Rattle.rdm_wire.specs.declared.uid_set.TheConstants.{MOST_DEVICES}
 use Rattle.rdm_wire.specs.Lists.{EachBehind, once}
 use Rattle.rdm_wire.specs.Span.{Span}
 use Rattle.rdm_wire.specs.Honest.{Seen}
@@ -17,6 +18,7 @@ use Rattle.rdm_agent.specs.declared.kind.Kind.{Kind}
 use Rattle.rdm_agent.specs.declared.fault.AgentFault.{AgentFault}
 use Rattle.rdm_agent.proofs.OneDevice.{NotFailed}
 use Rattle.rdm_agent.specs.Sound.{IsStack}
+use Rattle.rdm_agent.specs.declared.limits.TheConstants.{TRIES, UNMUTES}
 
 -- the last n exchanges have P
 pub record EndsWith (n : ℕ) (P : Seen → Type 0) (x : List Seen) : Type 0 where
@@ -30,7 +32,7 @@ pub record EndsWith (n : ℕ) (P : Seen → Type 0) (x : List Seen) : Type 0 whe
 pub record IsFound (x : List Seen) (found : List ℕ) : Type 0 where
   pub set : found ≡ set_of (acked_in x)
   pub counted : length found ≡ length (once (acked_in x))
-  pub room : length found ≤ 256
+  pub room : length found ≤ MOST_DEVICES
 
 -- a muted UID is known, or was read before
 abbrev pub WasNamed : List ℕ → List Seen → Seen → Type 0
@@ -38,7 +40,7 @@ WasNamed known before e = (u : ℕ) → muted_by e ≡ Some u → (has known u �
 
 -- behind the unmutes; busy is the UID that is being muted
 pub record IsUnderWay (known : List ℕ) (busy : Option ℕ) (x : List Seen) (found : List ℕ) : Type 0 where
-  pub begun : take 3 (map (λ e. e.asked) x) ≡ Unmute ∷ Unmute ∷ Unmute ∷ []
+  pub begun : take UNMUTES (map (λ e. e.asked) x) ≡ replicate UNMUTES Unmute
   pub no_failure : AllByRecursion NotFailed x
   pub is_found : IsFound x found
   pub tried : (u : ℕ) → has (muted_in x) u ≡ true → (busy ≡ Some u) ⊎ IsTried found x u
@@ -63,7 +65,7 @@ pub record Searches (known : List ℕ) (busy : Option ℕ) (top : Span) (below :
 pub record IsUnmuting (known : List ℕ) (more : ℕ) (left : List ℕ) (x : List Seen) (found : List ℕ) : Type 0 where
   pub unmutes : AllByRecursion (λ e. e.asked ≡ Unmute) x
   pub no_failure : AllByRecursion NotFailed x
-  pub counted : length x + more ≡ 3
+  pub counted : length x + more ≡ UNMUTES
   pub is_found : IsFound x found
   pub left_is : left ≡ known
   pub devices : AllByRecursion IsDevice known
@@ -71,13 +73,13 @@ pub record IsUnmuting (known : List ℕ) (more : ℕ) (left : List ℕ) (x : Lis
 -- a known UID is muted, so far in vain
 pub record IsKnowing (known : List ℕ) (u tries : ℕ) (left : List ℕ) (x : List Seen) (found : List ℕ) : Type 0 where
   pub muting : MutesKnown known (Some u) (u ∷ left) x found
-  pub few : tries ≤ 4
+  pub few : tries < TRIES
   pub lost : EndsWith tries (IsLostMute u) x
 
 -- the top range is branched, so often in silence
 pub record IsSearching (known : List ℕ) (silences : ℕ) (top : Span) (below : List Span) (x : List Seen) (found : List ℕ) : Type 0 where
   pub searches : Searches known None top below x found
-  pub few : silences ≤ 4
+  pub few : silences < TRIES
   pub silent : EndsWith silences (IsSilentBranch top.lo top.hi) x
   pub not_corrupt : (u : ℕ) → IsCorrupt u x → ⊥
 
@@ -92,7 +94,7 @@ pub record WasSpelt (u tries : ℕ) (top : Span) (x : List Seen) : Type 0 where
 -- what the top range spelt may be a new device, and is muted, so far in vain
 pub record IsMuting (known : List ℕ) (u tries : ℕ) (top : Span) (below : List Span) (x : List Seen) (found : List ℕ) : Type 0 where
   pub searches : Searches known (Some u) top below x found
-  pub few : tries ≤ 4
+  pub few : tries < TRIES
   pub new : is_new found top u ≡ true
   pub spelt : WasSpelt u tries top x
 

@@ -86,10 +86,6 @@ feed-stands a b reply fitting is kind known budget false x s = record {
 }
 feed-stands a b reply fitting is kind known budget true x s = absurd (fits_goes reply (next_op a) fitting (rw s.is.1 (aborted_ends s.before)))
 
-pub abort-stands : (a : AgentState) → OfEach a (λ kind known budget aborted x. next_op a ≢ End → StandsAfter kind known budget true x (ended_by_abort a))
-abort-stands a kind known budget false x s goes = record { devices = s.devices; before = a; runs = runs-own kind known budget x a s; is = (goes, refl) }
-abort-stands a kind known budget true x s goes = absurd (goes (rw s.is.1 (aborted_ends s.before)))
-
 -- what is asked stands in order
 pub next-in_order : (a : AgentState) → OfEach a (λ kind known budget aborted x. next_op a ≢ End → IsInOrder (length x) (asked_by (next_op a)))
 next-in_order a kind known budget false x s goes =
@@ -106,10 +102,6 @@ next-in_budget a kind known budget true x s full = rw s.is.1 (aborted_ends s.bef
 pub next-failed : (a : AgentState) → OfEach a (λ kind known budget aborted x. EndsFailed x → next_op a ≡ End)
 next-failed a kind known budget false x s failed = none_ends a ((ends_at_failure kind known budget x a s.devices (runs-own kind known budget x a s)).1 failed)
 next-failed a kind known budget true x s failed = rw s.is.1 (aborted_ends s.before)
-
-pub next-aborted : (a : AgentState) → OfEach a (λ kind known budget aborted x. aborted ≡ true → next_op a ≡ End)
-next-aborted a kind known budget false x s is = absurd (true≢false (sym is))
-next-aborted a kind known budget true x s is = rw s.is.1 (aborted_ends s.before)
 
 pub frames-counted : (a : AgentState) → OfEach a (λ kind known budget aborted x. (a.frames ≡ length x) × (a.frames ≤ budget))
 frames-counted a kind known budget false x s = let all = asks_in_order kind known budget x a s.devices (runs-own kind known budget x a s) in let is : a.frames ≡ length x = all.1 in let most : length x ≤ budget = all.2 in (is, omega arith)

@@ -10,6 +10,7 @@ use Rattle.rdm_wire.specs.declared.mute_ack.MuteAck.{MuteAck}
 use Rattle.rdm_wire.proofs.EachBehindLemmas.{EachBehind-push}
 use Rattle.rdm_agent.specs.Run.{ack_of, muted_by, read_in, InSuccession, IsLostMute}
 use Rattle.rdm_agent.specs.Certificate.{IsTried}
+use Rattle.rdm_agent.specs.declared.limits.TheConstants.{TRIES}
 use Rattle.rdm_agent.proofs.OneDevice.{NotFailed}
 use Rattle.rdm_agent.proofs.Pushes.{All-push, push-has, begun-push, IsTried-push}
 use Rattle.rdm_agent.proofs.Standing.{EndsWith, IsFound, IsUnderWay, WasNamed}
@@ -97,7 +98,7 @@ module _ (known : List ℕ) (x : List Seen) (found : List ℕ) where
       tried v p = subst (λ (w : ℕ). IsTried more (x ++ record { asked = Mute u; heard = Acked ack } ∷ []) w) (same v p) (record { device = device; tried = inl here })
 
 -- what is given up was lost five times
-pub under_way-given_up : (known : List ℕ) (u : ℕ) (x : List Seen) (found : List ℕ) → IsDevice u → InSuccession 5 (IsLostMute u) x → IsUnderWay known (Some u) x found → IsUnderWay known None x found
+pub under_way-given_up : (known : List ℕ) (u : ℕ) (x : List Seen) (found : List ℕ) → IsDevice u → InSuccession TRIES (IsLostMute u) x → IsUnderWay known (Some u) x found → IsUnderWay known None x found
 under_way-given_up known u x found device five w = record {
   begun = w.begun;
   no_failure = w.no_failure;

@@ -1,12 +1,13 @@
 -- The three unmutes, with which a run begins.
 use Rattle.std.proofs.Common.{◌≡◌, ℕ, ◌-◌, ◌≤◌, false, true, List, [], ◌∷◌, ◌++◌, length, map, take, Option, None, Some, refl, sym, ap, ◌∙◌, subst, inr, true≢false, arith}
-use Rattle.std.specs.Prelude.{filter_map}
+use Rattle.std.specs.Prelude.{filter_map, replicate}
 use Rattle.std.specs.List.{AllByRecursion}
 use Rattle.std.proofs.lemmas.List.{length_push}
 use Rattle.rdm_wire.specs.Uid.{has, IsDevice}
 use Rattle.rdm_wire.specs.Honest.{Heard, Seen}
 use Rattle.rdm_wire.specs.Honest.Asked.{Unmute}
 use Rattle.rdm_agent.specs.Run.{mute_of, asks_range, muted_by, is_branch}
+use Rattle.rdm_agent.specs.declared.limits.TheConstants.{UNMUTES}
 use Rattle.rdm_agent.proofs.OneDevice.{NotFailed}
 use Rattle.rdm_agent.proofs.Pushes.{All-push, All-at}
 use Rattle.rdm_agent.proofs.Sets.{each_member}
@@ -29,7 +30,7 @@ unmuting-push known more left x found h some sound s = record {
   devices = s.devices;
 }
 
-three_unmutes : (x : List Seen) → length x ≡ 3 → AllByRecursion IsUnmute x → take 3 (map (λ e. e.asked) x) ≡ Unmute ∷ Unmute ∷ Unmute ∷ []
+three_unmutes : (x : List Seen) → length x ≡ UNMUTES → AllByRecursion IsUnmute x → take UNMUTES (map (λ e. e.asked) x) ≡ replicate UNMUTES Unmute
 three_unmutes (a ∷ b ∷ c ∷ x) three all = rw (all.0, all.1.0, all.1.1.0) refl
 three_unmutes [] three all = absurd (omega (arith, three))
 three_unmutes (a ∷ []) three all = absurd (omega (arith, three))

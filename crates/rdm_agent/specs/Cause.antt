@@ -2,6 +2,7 @@
 use Rattle.std.specs.Prelude.{◌≡◌, ◌≢◌, ◌⊎◌, ℕ, ◌≤◌, true, false, List, [], ◌∷◌, ◌++◌, length}
 use Rattle.std.specs.List.{AllByRecursion}
 use Rattle.rdm_wire.specs.Uid.{IsDevice, has, set_of}
+use Rattle.rdm_wire.specs.declared.uid_set.TheConstants.{MOST_DEVICES}
 use Rattle.rdm_wire.specs.Lists.{once}
 use Rattle.rdm_wire.specs.Honest.{Asked, Heard, Seen, is_acked}
 use Rattle.rdm_wire.specs.Honest.Asked.{Branch, Mute}
@@ -9,6 +10,7 @@ use Rattle.rdm_wire.specs.Honest.Heard.{Failed, Silent, One}
 use Rattle.rdm_agent.specs.Run.{acked_in, IsLostMute}
 use Rattle.rdm_agent.specs.declared.fault.AgentFault.{AgentFault}
 use Rattle.rdm_agent.specs.declared.fault.AgentFault.TheVariants.{Corrupt, TooMany, Exhausted, LineFailed, Aborted}
+use Rattle.rdm_agent.specs.declared.limits.TheConstants.{TRIES}
 
 -- a reply to the branch of u alone that shows neither an empty range nor a new device u
 pub record IsCorruptReply (u : ℕ) (before : List Seen) (heard : Heard) : Type 0 where
@@ -17,16 +19,16 @@ pub record IsCorruptReply (u : ℕ) (before : List Seen) (heard : Heard) : Type 
   pub not_found : heard ≡ One u → IsDevice u → has (acked_in before) u ≡ true
 
 -- the last branch is of the range of u alone. Its reply is the last one, and corrupt; or it is u, and the
--- five exchanges behind it, the last ones, are mutes of u without an acknowledgement, none failed
+-- exchanges behind it, the last ones, are TRIES mutes of u without an acknowledgement, none failed
 pub record IsCorrupt (u : ℕ) (x : List Seen) : Type 0 where
   pub before : List Seen
   pub heard : Heard
   pub mutes : List Seen
   pub whole : x ≡ before ++ record { asked = Branch u u; heard = heard } ∷ mutes
   pub cause : ((mutes ≡ []) × IsCorruptReply u before heard)
-      ⊎ ((heard ≡ One u) × (length mutes ≡ 5) × AllByRecursion (IsLostMute u) mutes × AllByRecursion (λ e. e.heard ≢ Failed) mutes)
+      ⊎ ((heard ≡ One u) × (length mutes ≡ TRIES) × AllByRecursion (IsLostMute u) mutes × AllByRecursion (λ e. e.heard ≢ Failed) mutes)
 
--- 256 UIDs were acknowledged, and the last exchange acknowledges another
+-- as many UIDs were acknowledged as a set has room for, and the last exchange acknowledges another
 pub record IsOneTooMany (x : List Seen) : Type 0 where
   pub before : List Seen
   pub last : Seen
@@ -34,7 +36,7 @@ pub record IsOneTooMany (x : List Seen) : Type 0 where
   pub whole : x ≡ before ++ last ∷ []
   pub asked : last.asked ≡ Mute uid
   pub acked : is_acked last.heard ≡ true
-  pub full : length (set_of (acked_in before)) ≡ 256
+  pub full : length (set_of (acked_in before)) ≡ MOST_DEVICES
   pub another : has (acked_in before) uid ≡ false
 
 -- the last event is a failure
@@ -49,9 +51,9 @@ pub record IsExhausted (budget : ℕ) (x : List Seen) : Type 0 where
   pub not_failed : EndsFailed x → ⊥
   pub not_corrupt : (u : ℕ) → IsCorrupt u x → ⊥
 
--- at most 256 UIDs were acknowledged, so that all of them are reported
+-- no more UIDs were acknowledged than a set has room for, so that all of them are reported
 abbrev pub AllReported : List Seen → Type 0
-AllReported x = length (once (acked_in x)) ≤ 256
+AllReported x = length (once (acked_in x)) ≤ MOST_DEVICES
 
 -- the cause of a fault, for a budget, and a fact that says that the run was aborted; without TooMany all
 -- acknowledged UIDs are reported

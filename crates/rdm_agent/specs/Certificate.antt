@@ -1,5 +1,5 @@
 -- What a run without fault shows of its set.
-use Rattle.std.specs.Prelude.{◌≡◌, ◌≢◌, ◌⊎◌, ℕ, ◌<◌, ◌^◌, true, List, [], ◌∷◌, take, map, Some}
+use Rattle.std.specs.Prelude.{◌≡◌, ◌≢◌, ◌⊎◌, ℕ, ◌<◌, ◌^◌, true, List, [], take, map, replicate, Some}
 use Rattle.std.specs.List.{AllByRecursion, before_first}
 use Rattle.rdm_wire.specs.Uid.{IsDevice, has, is_within, set_of}
 use Rattle.rdm_wire.specs.Lists.{EachBehind}
@@ -9,27 +9,28 @@ use Rattle.rdm_wire.specs.Honest.Heard.{Failed}
 use Rattle.rdm_agent.specs.Run.{muted_by, muted_in, acked_in, read_in, is_branch, InSuccession, IsSilentBranch, IsLostMute}
 use Rattle.rdm_agent.specs.declared.kind.Kind.{Kind}
 use Rattle.rdm_agent.specs.declared.kind.Kind.TheVariants.{Full, Incremental}
+use Rattle.rdm_agent.specs.declared.limits.TheConstants.{TRIES, UNMUTES}
 
 -- the UIDs that a run of this kind starts from
 abbrev pub known_of : Kind → List ℕ → List ℕ
 known_of Full known = []
 known_of Incremental known = known
 
--- a muted UID is a device's, and acknowledged, or muted five times in succession without acknowledgement
+-- a muted UID is a device's, and acknowledged, or muted TRIES times in succession without acknowledgement
 pub record IsTried (s : List ℕ) (x : List Seen) (u : ℕ) : Type 0 where
   pub device : IsDevice u
-  pub tried : (has s u ≡ true) ⊎ InSuccession 5 (IsLostMute u) x
+  pub tried : (has s u ≡ true) ⊎ InSuccession TRIES (IsLostMute u) x
 
--- u lies in a range that was branched five times in succession, and silent each time
+-- u lies in a range that was branched TRIES times in succession, and silent each time
 pub record IsCleared (x : List Seen) (u : ℕ) : Type 0 where
   pub lo : ℕ
   pub hi : ℕ
   pub within : is_within lo hi u ≡ true
-  pub silent : InSuccession 5 (IsSilentBranch lo hi) x
+  pub silent : InSuccession TRIES (IsSilentBranch lo hi) x
 
 pub record Certificate (kind : Kind) (known : List ℕ) (x : List Seen) (s : List ℕ) : Type 0 where
-  -- three unmutes first, and no failure
-  pub unmutes : take 3 (map (λ e. e.asked) x) ≡ Unmute ∷ Unmute ∷ Unmute ∷ []
+  -- the unmutes first, and no failure
+  pub unmutes : take UNMUTES (map (λ e. e.asked) x) ≡ replicate UNMUTES Unmute
   pub no_failure : AllByRecursion (λ e. e.heard ≢ Failed) x
   -- the set is that of the acknowledged UIDs
   pub set : s ≡ set_of (acked_in x)

@@ -1,6 +1,7 @@
 -- The agent as a machine over what it hears.
 use Rattle.std.specs.Prelude.{◌≡◌, ℕ, ◌+◌, ◌-◌, Bool, ◌&&◌, not, List, [], ◌∷◌, length, fold, Option, Some, None, ◌==◌, nat_lt, if◌then◌else◌}
 use Rattle.rdm_wire.specs.Uid.{has, is_within, is_broadcast, with_uid}
+use Rattle.rdm_wire.specs.declared.uid_set.TheConstants.{MOST_DEVICES}
 use Rattle.rdm_wire.specs.Span.{Span, whole, lower_half, upper_half}
 use Rattle.rdm_wire.specs.Honest.{Asked, Heard, Seen}
 use Rattle.rdm_wire.specs.Honest.Asked.{Unmute, Branch, Mute}
@@ -8,6 +9,7 @@ use Rattle.rdm_wire.specs.Honest.Heard.{Failed, Silent, One, Acked, Noise}
 use Rattle.rdm_agent.specs.Certificate.{known_of}
 use Rattle.rdm_agent.specs.declared.kind.Kind.{Kind}
 use Rattle.rdm_agent.specs.declared.fault.AgentFault.{AgentFault}
+use Rattle.rdm_agent.specs.declared.limits.TheConstants.{TRIES, UNMUTES}
 use Rattle.rdm_agent.specs.declared.fault.AgentFault.TheVariants.{Corrupt, TooMany, Exhausted, LineFailed}
 
 -- unmutes still to send; a known UID with the tries made; the top range with its silences and the ranges below;
@@ -26,7 +28,7 @@ pub record AgentState : Type 0 where
   pub phase : Phase
 
 abbrev pub start : Kind → List ℕ → ℕ → AgentState
-start kind known budget = record { budget = budget; frames = 0; found = []; phase = Unmuting 3 (known_of kind known) }
+start kind known budget = record { budget = budget; frames = 0; found = []; phase = Unmuting UNMUTES (known_of kind known) }
 
 -- what a phase asks; nothing at the end
 abbrev pub wanted : Phase → Option Asked
@@ -65,21 +67,21 @@ to_phase a phase = record { budget = a.budget; frames = a.frames + 1; found = a.
 abbrev pub to_found : AgentState → ℕ → Phase → AgentState
 to_found a u phase =
     if has a.found u then to_phase a phase
-    else (if nat_lt (length a.found) 256 then record { budget = a.budget; frames = a.frames + 1; found = with_uid u a.found; phase = phase }
+    else (if nat_lt (length a.found) MOST_DEVICES then record { budget = a.budget; frames = a.frames + 1; found = with_uid u a.found; phase = phase }
     else to_phase a (Over (Some TooMany)))
 
 abbrev pub branch_heard : AgentState → ℕ → Span → List Span → Heard → AgentState
-branch_heard a silences top below Silent = to_phase a (if silences == 4 then search_below below else Searching (silences + 1) top below)
+branch_heard a silences top below Silent = to_phase a (if (silences + 1) == TRIES then search_below below else Searching (silences + 1) top below)
 branch_heard a silences top below (One u) = to_phase a (if is_new a.found top u then Muting u 0 top below else split top below)
 branch_heard a silences top below _ = to_phase a (split top below)
 
 abbrev pub known_heard : AgentState → ℕ → ℕ → List ℕ → Heard → AgentState
 known_heard a u tries known (Acked ack) = to_found a u (search_from known)
-known_heard a u tries known _ = to_phase a (if tries == 4 then search_from known else Knowing u (tries + 1) known)
+known_heard a u tries known _ = to_phase a (if (tries + 1) == TRIES then search_from known else Knowing u (tries + 1) known)
 
 abbrev pub mute_heard : AgentState → ℕ → ℕ → Span → List Span → Heard → AgentState
 mute_heard a u tries top below (Acked ack) = to_found a u (Searching 0 top below)
-mute_heard a u tries top below _ = to_phase a (if tries == 4 then split top below else Muting u (tries + 1) top below)
+mute_heard a u tries top below _ = to_phase a (if (tries + 1) == TRIES then split top below else Muting u (tries + 1) top below)
 
 abbrev pub heard_by_phase : AgentState → Phase → Heard → AgentState
 heard_by_phase a (Unmuting more known) heard = to_phase a (if nat_lt 1 more then Unmuting (more - 1) known else search_from known)

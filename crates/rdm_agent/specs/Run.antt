@@ -2,6 +2,7 @@
 use Rattle.std.specs.Prelude.{◌≡◌, ℕ, Bool, true, false, List, [], ◌∷◌, ◌++◌, length, take, Option, Some, None, filter_map}
 use Rattle.std.specs.List.{AllByRecursion}
 use Rattle.rdm_wire.specs.Uid.{set_of}
+use Rattle.rdm_wire.specs.declared.uid_set.TheConstants.{MOST_DEVICES}
 use Rattle.rdm_wire.specs.Lists.{once}
 use Rattle.rdm_wire.specs.declared.branch.BranchReply.{BranchReply}
 use Rattle.rdm_wire.specs.declared.branch.BranchReply.TheVariants as replies
@@ -80,9 +81,9 @@ acked_in x = filter_map acked_by x
 abbrev pub read_in : List Seen → List ℕ
 read_in x = filter_map read_by x
 
--- the set that is reported: the acknowledged UIDs, of more than 256 the first 256
+-- the set that is reported: the acknowledged UIDs, of more than a set has room for the first ones
 abbrev pub reported : List Seen → List ℕ
-reported x = set_of (take 256 (once (acked_in x)))
+reported x = set_of (take MOST_DEVICES (once (acked_in x)))
 
 -- nothing stands behind a failure
 abbrev pub FailureIsLast : List Seen → Type 0

@@ -5,6 +5,7 @@ use Rattle.rdm_wire.specs.Uid.{IsDevice}
 use Rattle.rdm_wire.specs.Span.{Span}
 use Rattle.rdm_agent.specs.Machine.{Phase}
 use Rattle.rdm_agent.specs.Machine.Phase.{Unmuting, Knowing, Searching, Muting, Over}
+use Rattle.rdm_agent.specs.declared.limits.TheConstants.{TRIES}
 
 -- ranges that cover the UIDs from one on, each of 2^l UIDs where l is at least the level, and rises
 abbrev pub Ascends : ℕ → ℕ → List Span → Type 0
@@ -18,12 +19,12 @@ pub record IsStack (top : Span) (below : List Span) : Type 0 where
   pub size : top.hi + 1 ≡ top.lo + 2 ^ level
   pub rest : Ascends (top.hi + 1) level below
 
--- a phase's UIDs are devices', its counts below five, its ranges halves of halves
+-- a phase's UIDs are devices', its counts below TRIES, its ranges halves of halves
 abbrev pub IsSound : Phase → Type 0
 IsSound (Unmuting more known) = AllByRecursion IsDevice known
-IsSound (Knowing u tries known) = IsDevice u × (tries < 5) × AllByRecursion IsDevice known
-IsSound (Searching silences top below) = (silences < 5) × IsStack top below
-IsSound (Muting u tries top below) = IsDevice u × (tries < 5) × IsStack top below
+IsSound (Knowing u tries known) = IsDevice u × (tries < TRIES) × AllByRecursion IsDevice known
+IsSound (Searching silences top below) = (silences < TRIES) × IsStack top below
+IsSound (Muting u tries top below) = IsDevice u × (tries < TRIES) × IsStack top below
 IsSound (Over fault) = Unit {0}
 
 -- no range waits before the search

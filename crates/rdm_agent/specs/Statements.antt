@@ -8,6 +8,7 @@ use Rattle.rdm_agent.specs.Certificate.{Certificate}
 use Rattle.rdm_agent.specs.Cause.{Cause, EndsFailed, AllReported}
 use Rattle.rdm_agent.specs.Machine.{AgentState, Runs, start, next_of, fault_of, open_ranges}
 use Rattle.rdm_agent.specs.declared.kind.Kind.{Kind}
+use Rattle.rdm_agent.specs.declared.limits.TheConstants.{MOST_RANGES, UNMUTES}
 
 -- whatever the line replies: this holds of each agent b that a run of this kind, with this known set and budget,
 -- comes to by the exchanges x
@@ -21,9 +22,9 @@ IsSearch (Mute u) = IsDevice u
 IsSearch Unmute = ⊥
 IsSearch Other = ⊥
 
--- what is asked behind so many exchanges: three unmutes first, then branches and mutes of devices
+-- what is asked behind so many exchanges: UNMUTES unmutes first, then branches and mutes of devices
 abbrev pub IsInOrder : ℕ → Asked → Type 0
-IsInOrder before asked = (before < 3 → asked ≡ Unmute) × (3 ≤ before → IsSearch asked)
+IsInOrder before asked = (before < UNMUTES → asked ≡ Unmute) × (UNMUTES ≤ before → IsSearch asked)
 
 -- it asks in this order, counts its exchanges and stays in its budget
 abbrev pub AsksInOrder : Type 0
@@ -41,9 +42,9 @@ EndsAtBudget = OfEachRun (λ kind known budget x b. length x ≡ budget → next
 abbrev pub FindsAcknowledged : Type 0
 FindsAcknowledged = OfEachRun (λ kind known budget x b. (b.found ≡ reported x) × (next_of b ≢ None → AllReported x))
 
--- at most 49 ranges are open
+-- few ranges are open
 abbrev pub HasFewRanges : Type 0
-HasFewRanges = OfEachRun (λ kind known budget x b. open_ranges b.phase ≤ 49)
+HasFewRanges = OfEachRun (λ kind known budget x b. open_ranges b.phase ≤ MOST_RANGES)
 
 -- at the end it has its certificate, or its fault's cause, and it reports the acknowledged UIDs
 abbrev pub EndsCertified : Type 0

@@ -110,8 +110,9 @@ impl Agent {
         self
     }
 
-    /// What the run found; it must have ended (`next` is [`Op::End`]). `Ok`: all devices, as its certificate shows.
-    /// `Err`: why it ended, and the devices found until then, of more than 256 the first 256.
+    /// What the run found; it must have ended (`next` is [`Op::End`]). `Ok`: the devices found, with the
+    /// certificate that each other UID was silent. `Err`: why it ended, and the devices found until then, of more than
+    /// a set has room for the first ones.
     pub fn end(self) -> Result<UidSet, (AgentFault, UidSet)>
         requires { next_op self ≡ End }
         ensures value { result ≡ answer_of (fault_of self.phase) self.found }
@@ -136,7 +137,8 @@ impl Agent {
         }
     }
 
-    /// How many ranges are still open: 1 from the start, 0 at the end of the search, 49 at most.
+    /// How many ranges are still open: 1 from the start, [`MOST_RANGES`] at most. 0 at the end of the search, behind a
+    /// failure and behind an abort; where the budget ended in the midst of the search, those that it left open.
     pub fn open_ranges(&self) -> usize
         ensures value { result ≡ open_ranges self.now.phase }
         ensures at_most { result ≤ MOST_RANGES }

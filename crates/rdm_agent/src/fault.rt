@@ -2,26 +2,32 @@
 ghost use Rattle.std.specs.Prelude.{◌≡◌};
 
 use rdm_wire::Uid;
+use thiserror::Error;
 
 /// Why a run ended without an answer (profile of this project), with its number.
-#[derive(Clone, Copy, Debug, PartialEq, Eq)]
+#[derive(Clone, Copy, Debug, PartialEq, Eq, Error)]
 pub enum AgentFault {
-    /// 1: the branch of this UID alone was answered as by several devices.
+    /// 1: the branch of this UID alone was answered, but showed no new device.
+    #[error("the branch of one UID alone was answered, but showed no new device")]
     Corrupt(Uid),
     /// 2: more devices than a set has room for.
+    #[error("more devices were found than a set has room for")]
     TooMany,
     /// 3: the frames that were allowed are used up.
+    #[error("the frames that were allowed are used up")]
     Exhausted,
     /// 4: the line failed.
+    #[error("the line failed")]
     LineFailed,
     /// 5: the run was aborted.
+    #[error("the run was aborted")]
     Aborted,
 }
 
 impl AgentFault {
     ghost use Rattle.rdm_agent.specs.Fault.{fault_number};
 
-    /// The number that the program prints.
+    /// Its number, 1 to 5.
     pub fn number(self) -> u8
         ensures { result ≡ fault_number self }
     {

@@ -8,14 +8,20 @@ pub const UNMUTES: u8 = 3;
 /// (profile of this project).
 pub const TRIES: u8 = 5;
 
-/// How many ranges are open at most: one at each of the 48 depths, and one more at the deepest.
+/// How many ranges are open at most: one at each of the 48 depths, and one more at the deepest (profile of this
+/// project, which splits a range of E1.20's discovery branch in halves).
 pub const MOST_RANGES: usize = 49;
 
-// What a device costs at most, on a line that loses at most four replies in succession: its branches, mutes and
-// splits, and the silences of the ranges beside it.
+// What a device adds by the count below: 24 splits of ten exchanges, 24 last ranges of five, and ten of its own.
 const FRAMES_PER_DEVICE: u64 = 370;
 
-/// The frames that suffice for [`MOST_DEVICES`] devices and as many known UIDs on such a line: 96,008.
+/// The exchanges that are meant to suffice for [`MOST_DEVICES`] devices and as many known UIDs, on a line that loses
+/// at most four replies in succession (profile of this project): 96,008, by this count, which isn't proved.
+///
+/// For `n` devices and `k` known UIDs: a range that is split holds two unmuted devices, and there are 48 depths, so
+/// there are at most `24 n` splits, of at most 5 branches and 5 mutes each; 5 silences for each of `24 n + 1` last
+/// ranges; 5 branches and 5 mutes for each device; 5 mutes for each known UID; and 3 unmutes. Together these are
+/// `8 + 370 n + 5 k`.
 pub const DEFAULT_BUDGET: u64 = UNMUTES as u64
     + TRIES as u64
     + (FRAMES_PER_DEVICE + TRIES as u64) * MOST_DEVICES as u64;

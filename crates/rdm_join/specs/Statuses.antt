@@ -5,7 +5,7 @@ use Rattle.rdm_wire.specs.declared.response.PacketFault.TheVariants as faults
 use Rattle.rdm_join.specs.declared.status.Status.{Status}
 use Rattle.rdm_join.specs.declared.status.Status.TheVariants as status
 
--- the number that is printed
+-- the number of a status
 abbrev pub number_of_status : Status → ℕ
 number_of_status status.Completed = 0
 number_of_status status.WasBroadcast = 1

@@ -19,7 +19,7 @@ pub const MOST_JOINED_BYTES: usize = 4096;
 /// project).
 pub const MOST_PARTS: usize = 256;
 
-/// What the last reply of a completed request says beside its data.
+/// What the last reply of a completed request says beside its data (E1.20, response packet).
 #[derive(Clone, Copy, Debug, PartialEq, Eq)]
 pub struct ReplyHead {
     /// How the device responded.
@@ -142,7 +142,8 @@ impl Joiner {
         requires { IsOpen self.old }
         ensures more { (result ≡ Step.More) ↔ IsOpen self.new }
         ensures stands { (vs : List Judged) → StandsAt vs self.old → StandsAt (vs ++ judged ∷ []) self.new }
-        ensures step { (vs : List Judged) → StandsAt vs self.old → result ≡ step_of (result_of (vs ++ judged ∷ [])) }
+        ensures step { (vs : List Judged) → StandsAt vs self.old →
+            result ≡ step_of (result_of (vs ++ judged ∷ [])) }
     {
         match judged {
             Judged::Whole(response) => self.add_whole(&response),
@@ -189,7 +190,8 @@ impl Joiner {
         Step::Done(status)
     }
 
-    /// The head of the last reply, where the request is completed: where `add` answered `Done(Completed)`.
+    /// The head of the last reply, where the request is completed: where `add` answered `Done(Completed)` (profile of
+    /// this project).
     pub fn head(&self) -> Option<ReplyHead>
         ensures { result ≡ head_of_standing self.now }
     {

@@ -4,7 +4,7 @@ ghost use Rattle.rdm_join.specs.Statuses.{number_of_status, status_of_fault};
 
 use rdm_wire::PacketFault;
 
-/// How a request ended (profile of this project). The comment gives the number that the program prints.
+/// How a request ended (profile of this project), with its number.
 #[derive(Clone, Copy, Debug, PartialEq, Eq)]
 pub enum Status {
     /// 0: the device answered.
@@ -48,7 +48,7 @@ pub enum Status {
 }
 
 impl Status {
-    /// The number that the program and its log print: 0 to 18.
+    /// Its number, 0 to 18.
     pub fn number(self) -> u8
         ensures { result ≡ number_of_status self }
     {

@@ -9,7 +9,7 @@ use rdm_wire::{AckType, QUEUED_MESSAGE, ReqClass, RespClass, Response, Uid, deco
 /// The sub-device that addresses all of them (E1.20, sub-devices).
 pub const ALL_SUB_DEVICES: u16 = 0xffff;
 
-/// What of a request's frame its reply is judged by.
+/// What of a request's frame its reply is judged by (E1.20, request packet).
 #[derive(Clone, Copy, Debug)]
 pub struct Sent {
     /// The device, or a broadcast UID.

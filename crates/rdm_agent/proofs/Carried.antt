@@ -1,0 +1,171 @@
+-- The frames that the encoders write carry the agent's operations.
+use Rattle.std.proofs.Common.{◌≡◌, ℕ, ◌<◌, ◌^◌, Bool, true, false, cond, List, [], ◌∷◌, Option, Some, None, bytes_eq, refl, sym, ap, ◌∙◌, subst, arith}
+use Rattle.std.specs.Prelude.{◌↔◌, nat_lt}
+use Rattle.std.proofs.lemmas.Slice.Eq.{bytes_eq-Decides}
+use Rattle.rdm_wire.specs.Span.{Span}
+use Rattle.rdm_wire.specs.BranchText.{ReadsAs}
+use Rattle.rdm_wire.specs.Reading.{text_read, ack_read}
+use Rattle.rdm_wire.specs.Packet.{Fields, fields_at, all_devices, branch_frame, mute_frame, unmute_frame}
+use Rattle.rdm_wire.specs.Commands.{CanSend, command_fields}
+use Rattle.rdm_wire.specs.Commands.Command.{Unmute, Branch, Mute}
+use Rattle.rdm_wire.specs.Frames.{asked_in, asked_with, heard_in, heard_bytes, one_or_noise, acked_or_noise, seen}
+use Rattle.rdm_wire.specs.Honest.{Asked, Heard, Seen}
+use Rattle.rdm_wire.specs.Honest.Asked.{Unmute as unmuted, Branch as branched, Mute as muted, Other as nothing}
+use Rattle.rdm_wire.specs.Honest.Heard.{Silent, Acked, Noise}
+use Rattle.rdm_wire.specs.declared.mute_ack.MuteAck.{MuteAck}
+use Rattle.rdm_wire.specs.declared.branch.BranchReply.{BranchReply}
+use Rattle.rdm_wire.specs.declared.branch.BranchReply.TheVariants as replies
+use Rattle.rdm_wire.proofs.BytesLemmas.{number_of-uid_bytes}
+use Rattle.rdm_wire.proofs.PacketLemmas.{fields_at-packet}
+use Rattle.rdm_wire.proofs.Text.{text_read-of, of-text_read}
+use Rattle.rdm_wire.proofs.CommandLemmas.{one_command}
+use Rattle.rdm_agent.specs.Machine.{Phase, AgentState, fed, heard_by_phase, wanted}
+use Rattle.rdm_agent.specs.Machine.Phase.{Unmuting, Knowing, Searching, Muting, Over}
+use Rattle.rdm_agent.specs.Run.{heard_by, heard_of_mute, seen_op}
+use Rattle.rdm_agent.specs.Stands.{next_op, op_of}
+use Rattle.rdm_agent.specs.declared.op.Op.{Op}
+use Rattle.rdm_agent.specs.declared.op.Op.TheVariants as ops
+use Rattle.rdm_agent.specs.declared.op.OpReply.TheVariants as came
+
+same_bytes : (b c : List ℕ) → b ≡ c → bytes_eq b c ≡ true
+same_bytes b c same = (bytes_eq-Decides b c).1 same
+
+other_bytes : (b c : List ℕ) → (b ≡ c → ⊥) → bytes_eq b c ≡ false
+other_bytes b c other = by_test (bytes_eq b c) refl
+  where
+    by_test : (t : Bool) → bytes_eq b c ≡ t → bytes_eq b c ≡ false
+    by_test true is = absurd (other ((bytes_eq-Decides b c).0 is))
+    by_test false is = is
+
+-- of some tests in order, the second holds first, or the third
+second : {W : Type 0} (p q : Bool) (a b c : W) → p ≡ false → q ≡ true → cond p a (cond q b c) ≡ b
+second p q a b c fails holds = rw (fails, holds) refl
+
+third : {W : Type 0} (p q r : Bool) (a b c d : W) → p ≡ false → q ≡ false → r ≡ true → cond p a (cond q b (cond r c d)) ≡ c
+third p q r a b c d fails too holds = rw (fails, too, holds) refl
+
+-- what can send one command can send the others
+can_unmute : (s tn : ℕ) → s < 2 ^ 48 → tn < 2 ^ 8 → CanSend Unmute s tn
+can_unmute s tn source number = record {
+  fits = record { dest = omega arith; source = source; tn = number; port = omega arith; count = omega arith; sub_device = omega arith; class = omega arith; pid = omega arith; param = omega arith };
+  bounds = tt;
+}
+
+can_branch : (s tn : ℕ) → s < 2 ^ 48 → tn < 2 ^ 8 → CanSend (Branch 0 0) s tn
+can_branch s tn source number = record {
+  fits = record { dest = omega arith; source = source; tn = number; port = omega arith; count = omega arith; sub_device = omega arith; class = omega arith; pid = omega arith; param = omega arith };
+  bounds = (omega arith, omega arith);
+}
+
+-- what the frames ask
+pub unmute_asks : (s tn : ℕ) → CanSend Unmute s tn → asked_in (unmute_frame s tn) ≡ unmuted
+unmute_asks s tn can = ap (asked_with (unmute_frame s tn)) (fields_at-packet (command_fields Unmute s tn) can.fits)
+    ∙ rw (same_bytes (unmute_frame s tn) (unmute_frame s tn) refl) refl
+
+pub branch_asks : (lo hi s tn : ℕ) → CanSend (Branch lo hi) s tn → asked_in (branch_frame lo hi s tn) ≡ branched lo hi
+branch_asks lo hi s tn can = ap (asked_with (branch_frame lo hi s tn)) (fields_at-packet (command_fields (Branch lo hi) s tn) can.fits)
+    ∙ bounds _ _ (number_of-uid_bytes lo can.bounds.0) (number_of-uid_bytes hi can.bounds.1)
+  where
+    no_unmute : branch_frame lo hi s tn ≡ unmute_frame s tn → ⊥
+    no_unmute same = let one : Branch lo hi ≡ Unmute = (one_command (Branch lo hi) Unmute s tn s tn can (can_unmute s tn can.fits.source can.fits.tn) same).0 in cc
+
+    bounds : (low high : ℕ) → low ≡ lo → high ≡ hi
+        → cond (bytes_eq (branch_frame lo hi s tn) (unmute_frame s tn)) unmuted
+        (cond (bytes_eq (branch_frame lo hi s tn) (branch_frame low high s tn)) (branched low high)
+        (cond (bytes_eq (branch_frame lo hi s tn) (mute_frame all_devices s tn)) (muted all_devices) nothing)) ≡ branched lo hi
+    bounds low high is_low is_high =
+        second _ _ unmuted (branched low high) (cond (bytes_eq (branch_frame lo hi s tn) (mute_frame all_devices s tn)) (muted all_devices) nothing) (other_bytes (branch_frame lo hi s tn) (unmute_frame s tn) no_unmute) (same_bytes (branch_frame lo hi s tn) (branch_frame low high s tn) (ap (λ n. branch_frame n hi s tn) (sym is_low) ∙ ap (λ n. branch_frame low n s tn) (sym is_high)))
+        ∙ ap (λ n. branched n high) is_low ∙ ap (λ n. branched lo n) is_high
+
+pub mute_asks : (u s tn : ℕ) → CanSend (Mute u) s tn → asked_in (mute_frame u s tn) ≡ muted u
+mute_asks u s tn can = ap (asked_with (mute_frame u s tn)) (fields_at-packet (command_fields (Mute u) s tn) can.fits)
+    ∙ third _ _ _ unmuted (branched 0 0) (muted u) nothing (other_bytes (mute_frame u s tn) (unmute_frame s tn) no_unmute) (other_bytes (mute_frame u s tn) (branch_frame 0 0 s tn) no_branch) (same_bytes (mute_frame u s tn) (mute_frame u s tn) refl)
+  where
+    no_unmute : mute_frame u s tn ≡ unmute_frame s tn → ⊥
+    no_unmute same = let one : Mute u ≡ Unmute = (one_command (Mute u) Unmute s tn s tn can (can_unmute s tn can.fits.source can.fits.tn) same).0 in cc
+
+    no_branch : mute_frame u s tn ≡ branch_frame 0 0 s tn → ⊥
+    no_branch same = let one : Mute u ≡ Branch 0 0 = (one_command (Mute u) (Branch 0 0) s tn s tn can (can_branch s tn can.fits.source can.fits.tn) same).0 in cc
+
+-- how bytes are heard behind a frame with these fields that asks this
+heard_behind : (frame : List ℕ) (f : Fields) (asked : Asked) (bytes : List ℕ) → fields_at frame ≡ f → asked_in frame ≡ asked → heard_in frame (Some bytes) ≡ heard_bytes f.source f.tn asked bytes
+heard_behind frame f asked bytes fields asks =
+    ap (λ (g : Fields). heard_bytes g.source g.tn (asked_in frame) bytes) fields ∙ ap (λ a. heard_bytes f.source f.tn a bytes) asks
+
+-- behind a branch
+read_heard : (lo hi s tn : ℕ) (bytes : List ℕ) (reply : BranchReply) → ReadsAs bytes reply → heard_bytes s tn (branched lo hi) bytes ≡ heard_by (came.Branch reply)
+read_heard lo hi s tn [] replies.Silent reads = refl
+read_heard lo hi s tn [] (replies.One u) reads = let read : text_read [] ≡ Some u = text_read-of [] u reads in cc
+read_heard lo hi s tn [] replies.Collision reads = absurd (reads.0 refl)
+read_heard lo hi s tn (b ∷ bs) replies.Silent reads = cc
+read_heard lo hi s tn (b ∷ bs) (replies.One u) reads = ap one_or_noise (text_read-of (b ∷ bs) u reads)
+read_heard lo hi s tn (b ∷ bs) replies.Collision reads = by_option (text_read (b ∷ bs)) refl
+  where
+    by_option : (o : Option ℕ) → text_read (b ∷ bs) ≡ o → one_or_noise o ≡ Noise
+    by_option None is = refl
+    by_option (Some u) is = absurd (reads.1 u (of-text_read (b ∷ bs) u is))
+
+pub branch_seen : (r : Span) (s tn : ℕ) (bytes : List ℕ) (reply : BranchReply) → CanSend (Branch r.lo r.hi) s tn → ReadsAs bytes reply → seen (branch_frame r.lo r.hi s tn) (Some bytes) ≡ seen_op (ops.Branch r, came.Branch reply)
+branch_seen r s tn bytes reply can reads = both _ _ asks
+    (heard_behind (branch_frame r.lo r.hi s tn) (command_fields (Branch r.lo r.hi) s tn) (branched r.lo r.hi) bytes (fields_at-packet (command_fields (Branch r.lo r.hi) s tn) can.fits) asks
+    ∙ read_heard r.lo r.hi s tn bytes reply reads)
+  where
+    asks : asked_in (branch_frame r.lo r.hi s tn) ≡ branched r.lo r.hi
+    asks = branch_asks r.lo r.hi s tn can
+
+    both : (asked : Asked) (heard : Heard) → asked ≡ branched r.lo r.hi → heard ≡ heard_by (came.Branch reply) → ◌≡◌ {A = Seen} (record { asked = asked; heard = heard }) (seen_op (ops.Branch r, came.Branch reply))
+    both asked heard is_asked is_heard = rw (is_asked, is_heard) refl
+
+-- behind a mute
+mute_hears : (u s tn : ℕ) (bytes : List ℕ) → CanSend (Mute u) s tn → heard_in (mute_frame u s tn) (Some bytes) ≡ heard_bytes s tn (muted u) bytes
+mute_hears u s tn bytes can = heard_behind (mute_frame u s tn) (command_fields (Mute u) s tn) (muted u) bytes (fields_at-packet (command_fields (Mute u) s tn) can.fits) (mute_asks u s tn can)
+
+acked_heard : (u s tn : ℕ) (bytes : List ℕ) (ack : MuteAck) → (heard_bytes s tn (muted u) bytes ≡ Acked ack) ↔ (ack_read u s tn bytes ≡ Some ack)
+acked_heard u s tn [] ack = (λ e. cc, λ e. cc)
+acked_heard u s tn (b ∷ bs) ack = by_option (ack_read u s tn (b ∷ bs))
+  where
+    by_option : (o : Option MuteAck) → (acked_or_noise o ≡ Acked ack) ↔ (o ≡ Some ack)
+    by_option None = (λ e. cc, λ e. cc)
+    by_option (Some a) = (λ e. cc, λ e. cc)
+
+pub mute_heard : (u s tn : ℕ) (bytes : List ℕ) (ack : MuteAck) → CanSend (Mute u) s tn → (heard_in (mute_frame u s tn) (Some bytes) ≡ Acked ack) ↔ (ack_read u s tn bytes ≡ Some ack)
+mute_heard u s tn bytes ack can = subst (λ h. (h ≡ Acked ack) ↔ (ack_read u s tn bytes ≡ Some ack)) (sym (mute_hears u s tn bytes can)) (acked_heard u s tn bytes ack)
+
+-- an agent that doesn't search takes other bytes as silence
+noise_is_silence : (a : AgentState) (phase : Phase) → ((r : Span) → op_of (wanted phase) ≡ ops.Branch r → ⊥) → heard_by_phase a phase Noise ≡ heard_by_phase a phase Silent
+noise_is_silence a (Unmuting more known) other = refl
+noise_is_silence a (Knowing u tries known) other = refl
+noise_is_silence a (Searching silences top below) other = absurd (other top refl)
+noise_is_silence a (Muting u tries top below) other = refl
+noise_is_silence a (Over fault) other = refl
+
+-- what an agent that goes on wants
+wants : (a : AgentState) (op : Op) → next_op a ≡ op → (op ≡ ops.End → ⊥) → op_of (wanted a.phase) ≡ op
+wants a op next goes = by_test (nat_lt a.frames a.budget) next
+  where
+    by_test : (b : Bool) → op_of (cond b (wanted a.phase) None) ≡ op → op_of (wanted a.phase) ≡ op
+    by_test true is = is
+    by_test false is = absurd (goes (sym is))
+
+noise_fed : (a : AgentState) (op : Op) → next_op a ≡ op → (op ≡ ops.End → ⊥) → ((r : Span) → op ≡ ops.Branch r → ⊥) → fed a Noise ≡ fed a Silent
+noise_fed a op next goes other = noise_is_silence a a.phase (λ r is. other r (sym (wants a op next goes) ∙ is))
+
+pub mute_fed : (a : AgentState) (u s tn : ℕ) (bytes : List ℕ) → next_op a ≡ ops.Mute u → CanSend (Mute u) s tn → fed a (heard_in (mute_frame u s tn) (Some bytes)) ≡ fed a (heard_by (came.Mute (ack_read u s tn bytes)))
+mute_fed a u s tn bytes next can = ap (fed a) (mute_hears u s tn bytes can) ∙ by_bytes bytes
+  where
+    by_option : (o : Option MuteAck) → fed a (acked_or_noise o) ≡ fed a (heard_of_mute o)
+    by_option None = noise_fed a (ops.Mute u) next (λ e. cc) (λ r e. cc)
+    by_option (Some ack) = refl
+
+    by_bytes : (l : List ℕ) → fed a (heard_bytes s tn (muted u) l) ≡ fed a (heard_of_mute (ack_read u s tn l))
+    by_bytes [] = refl
+    by_bytes (b ∷ bs) = by_option (ack_read u s tn (b ∷ bs))
+
+-- behind an unmute
+pub unmute_fed : (a : AgentState) (s tn : ℕ) (bytes : List ℕ) → next_op a ≡ ops.UnmuteAll → CanSend Unmute s tn → fed a (heard_in (unmute_frame s tn) (Some bytes)) ≡ fed a (heard_by came.Done)
+unmute_fed a s tn bytes next can =
+    ap (fed a) (heard_behind (unmute_frame s tn) (command_fields Unmute s tn) unmuted bytes (fields_at-packet (command_fields Unmute s tn) can.fits) (unmute_asks s tn can)) ∙ by_bytes bytes
+  where
+    by_bytes : (l : List ℕ) → fed a (heard_bytes s tn unmuted l) ≡ fed a Silent
+    by_bytes [] = refl
+    by_bytes (b ∷ bs) = noise_fed a ops.UnmuteAll next (λ e. cc) (λ r e. cc)
