@@ -1,0 +1,5 @@
+use Rattle.rdm_queue.proofs.CallLemmas.{given_each}
+use Rattle.rdm_queue.proofs.controller.Controller.give.Goals as goal
+
+pub returns-clause-frame : goal.returns-clause-frame
+returns-clause-frame c = rw (← c.self.view_is) (given_each c.take.result c.self.inside.queue c.take.new.self c.take.ensures.frame)

@@ -1,0 +1,5 @@
+use Rattle.rdm_queue.proofs.AfterLemmas.{first_after}
+use Rattle.rdm_queue.proofs.controller.Controller.new.Goals as goal
+
+pub returns : goal.returns
+returns c = rw c.new.ensures (first_after c.args.config)

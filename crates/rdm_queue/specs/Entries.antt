@@ -1,0 +1,99 @@
+-- A log's entries, oldest first, as lists: what was accepted, sent, and so on, and a request's exchanges.
+use Rattle.std.specs.Prelude.{ℕ, Bool, List, map, filter, zip, Option, Some, None, ◌==◌, filter_map}
+use Rattle.arrayvec.specs.ArrayVec.{ArrayVec}
+use Rattle.rdm_wire.specs.declared.request.Request.{Request}
+use Rattle.rdm_join.specs.declared.event.LineEvent.{LineEvent}
+use Rattle.rdm_join.specs.declared.status.Status.{Status}
+use Rattle.rdm_join.specs.declared.verdict.Judged.{Judged}
+use Rattle.rdm_join.specs.Verdict.{verdict, sent_by}
+use Rattle.rdm_join.specs.Result.{Joined, result_of}
+use Rattle.rdm_queue.specs.declared.entry.Owner.{Owner}
+use Rattle.rdm_queue.specs.declared.entry.Owner.TheVariants as owners
+use Rattle.rdm_queue.specs.declared.entry.Entry.{Entry}
+use Rattle.rdm_queue.specs.declared.entry.Entry.TheVariants.{Join, Accept, Send, Came, Finish, Collect}
+
+pub record Accepted : Type 0 where
+  pub client : ℕ
+  pub number : ℕ
+  pub request : Request
+
+pub record Sending : Type 0 where
+  pub owner : Owner
+  pub frame : ArrayVec ℕ
+
+pub record Finished : Type 0 where
+  pub number : ℕ
+  pub status : Status
+  pub len : ℕ
+
+abbrev pub join_of : Entry → Option ℕ
+join_of (Join c places) = Some places
+join_of _ = None
+
+abbrev pub accepted_of : Entry → Option Accepted
+accepted_of (Accept c n request) = Some (record { client = c.0; number = n; request = request })
+accepted_of _ = None
+
+abbrev pub sending_of : Entry → Option Sending
+sending_of (Send owner frame) = Some (record { owner = owner; frame = frame })
+sending_of _ = None
+
+abbrev pub came_of : Entry → Option LineEvent
+came_of (Came event) = Some event
+came_of _ = None
+
+abbrev pub finished_of : Entry → Option Finished
+finished_of (Finish n status len) = Some (record { number = n; status = status; len = len })
+finished_of _ = None
+
+abbrev pub collector_of : Entry → Option ℕ
+collector_of (Collect c) = Some c.0
+collector_of _ = None
+
+-- in order: the places joined with, the Accepts, Sends, events that came, Finishes, and the clients of the Collects
+unfoldable pub joins : List Entry → List ℕ
+joins h = filter_map join_of h
+
+unfoldable pub accepts : List Entry → List Accepted
+accepts h = filter_map accepted_of h
+
+unfoldable pub sends : List Entry → List Sending
+sends h = filter_map sending_of h
+
+unfoldable pub cames : List Entry → List LineEvent
+cames h = filter_map came_of h
+
+unfoldable pub finishes : List Entry → List Finished
+finishes h = filter_map finished_of h
+
+unfoldable pub collectors : List Entry → List ℕ
+collectors h = filter_map collector_of h
+
+-- a frame and what came for it: the first Send with the first Came, and so on
+pub record Traded : Type 0 where
+  pub owner : Owner
+  pub frame : ArrayVec ℕ
+  pub event : LineEvent
+
+abbrev pub traded_of : Sending × LineEvent → Traded
+traded_of e = record { owner = e.0.owner; frame = e.0.frame; event = e.1 }
+
+unfoldable pub traded : List Entry → List Traded
+traded h = map traded_of (zip (sends h) (cames h))
+
+abbrev pub is_request : ℕ → Owner → Bool
+is_request n (owners.Request m) = n == m
+
+-- the exchanges of a request, and their verdicts
+unfoldable pub of_request : ℕ → List Entry → List Traded
+of_request n h = filter (λ t. is_request n t.owner) (traded h)
+
+abbrev pub verdict_on : Traded → Judged
+verdict_on t = verdict (sent_by t.frame.items) t.event
+
+unfoldable pub verdicts : ℕ → List Entry → List Judged
+verdicts n h = map verdict_on (of_request n h)
+
+-- a request's result, or None where it is open
+unfoldable pub result : ℕ → List Entry → Option Joined
+result n h = result_of (verdicts n h)

@@ -1,0 +1,19 @@
+-- What a queue's fields keep.
+use Rattle.std.specs.Prelude.{ℕ, ◌≤◌, ◌<◌, sum, slice_index, length, OnSome}
+use Rattle.rdm_wire.specs.Uid.{IsDevice}
+use Rattle.rdm_queue.specs.declared.config.TheConstants.{MOST_PLACES}
+use Rattle.rdm_join.specs.Standing.{IsOpen}
+use Rattle.rdm_queue.specs.Standing.{Standing, outstanding}
+
+-- no client has more outstanding than its places, and there is memory for all places; a reply is awaited for one that
+-- waits alone, and the oldest isn't decided
+pub record IsHeld (s : Standing) (waiting outcomes : ℕ) : Type 0 where
+  pub source : IsDevice s.source
+  pub greatest : s.greatest ≤ MOST_PLACES
+  pub budget : 1 ≤ s.budget
+  pub few_places : sum s.places ≤ s.greatest
+  pub few : (c : ℕ) → outstanding c s ≤ slice_index s.places c
+  pub waiting_room : sum s.places ≤ waiting
+  pub outcome_room : sum s.places ≤ outcomes
+  pub awaits_one : OnSome s.awaited (0 < length s.waiting)
+  pub undecided : IsOpen s.joiner

@@ -1,0 +1,70 @@
+-- What one client called, and what it is told.
+use Rattle.std.specs.Prelude.{ℕ, Bool, false, ◌&&◌, ◌||◌, List, filter, Option, Some, None, ◌==◌, filter_map}
+use Rattle.rdm_join.specs.declared.status.Status.{Status}
+use Rattle.rdm_join.specs.declared.status.Status.TheVariants.{Completed, FailedToSend}
+use Rattle.rdm_join.specs.Result.{Joined, ended}
+use Rattle.rdm_queue.specs.declared.entry.ClientId.{ClientId}
+use Rattle.rdm_queue.specs.declared.entry.Call.{Call}
+use Rattle.rdm_queue.specs.declared.entry.Call.TheVariants as calls
+use Rattle.rdm_queue.specs.declared.entry.Opening.{Opening}
+use Rattle.rdm_queue.specs.declared.entry.Entry.{Entry}
+use Rattle.rdm_queue.specs.declared.entry.Entry.TheVariants.{Refuse, Accept, Finish}
+use Rattle.rdm_queue.specs.declared.outcome.Completion.{Completion}
+use Rattle.rdm_queue.specs.declared.outcome.Outcome.{Outcome}
+use Rattle.rdm_queue.specs.declared.outcome.Outcome.TheVariants as outcomes
+use Rattle.rdm_queue.specs.Entries.{result}
+use Rattle.rdm_queue.specs.Clients.{is_answer_to}
+use Rattle.rdm_queue.specs.Refusals.{number_of_submit_fault}
+use Rattle.rdm_queue.specs.declared.fault.SubmitFault.TheVariants as submit_faults
+
+abbrev pub is_client : ℕ → Option ClientId → Bool
+is_client c None = false
+is_client c (Some d) = c == d.0
+
+-- an entry of the client's calls: an Accept, or a Refuse of its submit
+abbrev pub is_call_of : ℕ → Entry → Bool
+is_call_of c (Accept d n request) = c == d.0
+is_call_of c (Refuse d call cause) = is_client c d
+is_call_of c _ = false
+
+abbrev pub calls_of : ℕ → List Entry → List Entry
+calls_of c h = filter (is_call_of c) h
+
+-- a Refuse of the client's call, since the queue is closed
+abbrev pub is_closed_refusal : ℕ → Entry → Bool
+is_closed_refusal c (Refuse d call cause) = (cause.0 == number_of_submit_fault submit_faults.Closed) && is_client c d
+is_closed_refusal c _ = false
+
+-- what a client is told of, in order: its Finishes and refusals by a close
+abbrev pub told : Opening → ℕ → List Entry → List Entry
+told o c h = filter (λ e. is_answer_to o c h e || is_closed_refusal c e) h
+
+-- an outcome as its client sees it: vectors with the same bytes are one
+pub data SeenOutcome : Type 0 where
+  SeenRequest : Option ℕ → Joined → SeenOutcome
+
+abbrev pub seen_completion : Completion → Joined
+seen_completion done = record { status = done.status; data_ = done.bytes.items; head = done.reply }
+
+abbrev pub seen : Outcome → SeenOutcome
+seen (outcomes.Request number done) = SeenRequest number (seen_completion done)
+
+-- the completion of a status: with status Completed the joined data and the last reply's head
+abbrev pub completion_of : Status → Option Joined → Joined
+completion_of Completed (Some j) = record { status = Completed; data_ = j.data_; head = j.head }
+completion_of status _ = ended status
+
+-- the outcome of a call that a close refused; a join has none
+abbrev pub refused_outcome : Call → Option SeenOutcome
+refused_outcome (calls.Submit request) = Some (SeenRequest None (completion_of FailedToSend None))
+refused_outcome (calls.Join places) = None
+
+-- the outcome of a Finish or a refusal
+abbrev pub outcome_of : List Entry → Entry → Option SeenOutcome
+outcome_of h (Finish n status len) = Some (SeenRequest (Some n) (completion_of status (result n h)))
+outcome_of h (Refuse c call cause) = refused_outcome call
+outcome_of h _ = None
+
+-- all that a client is told, as outcomes
+abbrev pub outcomes_told : Opening → ℕ → List Entry → List SeenOutcome
+outcomes_told o c h = filter_map (outcome_of h) (told o c h)

@@ -1,0 +1,16 @@
+//! How a controller is set up.
+use rdm_wire::Uid;
+
+/// The greatest number of places for all clients together: sixteen clients with 255 each (profile of this project).
+pub const MOST_PLACES: u16 = 4080;
+
+/// How a controller is set up.
+#[derive(Clone, Copy, Debug)]
+pub struct Config {
+    /// The controller's own UID, which isn't broadcast.
+    pub source: Uid,
+    /// The greatest queue size, which the clients share: 0 to 4,080 places.
+    pub places: u16,
+    /// How many frames a discovery may take, from 1.
+    pub budget: u64,
+}

@@ -1,0 +1,120 @@
+//! What a log holds.
+use arrayvec::ArrayVec;
+use rdm_join::{LineEvent, Status};
+use rdm_wire::{Frame, Request, Uid};
+
+/// How many clients may join (profile of this project).
+pub const MOST_CLIENTS: usize = 16;
+
+/// The number that no request is given: where it would be the next one, the numbers have run out (profile of this
+/// project).
+pub const NEVER_GIVEN: u64 = u64::MAX;
+
+/// A client, numbered from 0 in the order of joining.
+#[derive(Clone, Copy, Debug, PartialEq, Eq)]
+pub struct ClientId(pub u8);
+
+/// A call that was refused, with what it was given.
+#[derive(Debug, Drop)]
+pub enum Call {
+    /// A join with so many places.
+    Join(u8),
+    /// A submit of this request.
+    Submit(Request),
+}
+
+/// Whose a frame is.
+#[derive(Clone, Copy, Debug, PartialEq, Eq)]
+pub enum Owner {
+    /// The request with this number.
+    Request(u64),
+}
+
+/// The number of the fault that refused a call, from 1 in the order in which the call's faults are tested.
+#[derive(Clone, Copy, Debug, PartialEq, Eq)]
+pub struct Cause(pub u8);
+
+/// One entry of a log.
+#[derive(Debug, Drop)]
+pub enum Entry {
+    /// A client joined.
+    Join {
+        /// The client.
+        client: ClientId,
+        /// Its places: how many requests it may have outstanding.
+        places: u8,
+    },
+    /// A call was refused.
+    Refuse {
+        /// The caller; None for a join.
+        client: Option<ClientId>,
+        /// What was called.
+        call: Call,
+        /// Why it was refused.
+        cause: Cause,
+    },
+    /// A request was accepted.
+    Accept {
+        /// Who submitted it.
+        client: ClientId,
+        /// Its number.
+        number: u64,
+        /// What it asks.
+        request: Request,
+    },
+    /// A frame was given for the line.
+    Send {
+        /// Whose it is.
+        owner: Owner,
+        /// Its bytes.
+        frame: Frame,
+    },
+    /// The line's answer to the last frame.
+    Came {
+        /// What came.
+        event: LineEvent,
+    },
+    /// A request was finished. With status Completed its data are those of the replies to its frames, one behind
+    /// the other.
+    Finish {
+        /// The request's number.
+        number: u64,
+        /// How it ended.
+        status: Status,
+        /// How many bytes its joined data have; 0 for each status but Completed.
+        len: usize,
+    },
+    /// A client was given its oldest outcome.
+    Collect {
+        /// The client.
+        client: ClientId,
+    },
+    /// Sending was paused.
+    Pause,
+    /// Sending was resumed.
+    Resume,
+    /// The queue was closed.
+    Close,
+}
+
+/// What a log stands behind: how the queue stood before its first entry. A number that is "next" is the one that will
+/// be given next.
+#[derive(Debug, Drop)]
+pub struct Opening {
+    /// The controller's own UID.
+    pub source: Uid,
+    /// How many places there are for all clients together.
+    pub greatest: u16,
+    /// How many frames a discovery may take.
+    pub budget: u64,
+    /// The places of each client that had joined.
+    pub places: ArrayVec<u8, MOST_CLIENTS>,
+    /// Whether sending was paused.
+    pub paused: bool,
+    /// Whether the queue was closed.
+    pub closed: bool,
+    /// The next request's number.
+    pub next_request: u64,
+    /// The next frame's transaction number.
+    pub next_tn: u8,
+}

@@ -1,0 +1,40 @@
+//! A queue of requests on one RDM line, with the log of all that it does.
+//!
+//! # What calls cost
+//!
+//! A [`Controller`] keeps one list of the requests that aren't finished and one of the outcomes that aren't collected,
+//! for all clients together.
+//!
+//! - `submit` and `next_outcome` look through those lists for the client: linear in the requests outstanding.
+//! - `deliver` and `next_outcome` move up what stands behind an element taken from such a list: linear in them too.
+//!   A close, and the reply behind it, finish all that wait in one pass.
+//! - `join_client` adds up the places of the clients, 16 at most, and reserves the memory for all of them.
+//! - The other calls take constant time. So does each entry of a [`Log`], whose memory is reserved when it is made.
+//! - A [`Session`] copies each request and each frame once, into its log. The joined data of a request are copied once,
+//!   into its outcome.
+//!
+//! Lists for each client will make all of these constant in what others have outstanding.
+#![tactic(auto)]
+
+mod config;
+mod controller;
+mod copies;
+mod entry;
+mod fault;
+mod laws;
+mod log;
+mod outcome;
+mod queue;
+mod session;
+
+pub use config::Config;
+pub use controller::Controller;
+pub use entry::{Call, Cause, ClientId, Entry, Opening, Owner};
+pub use fault::{JoinFault, LogFull, NoMemory, NotAsked, SubmitFault};
+pub use laws::{counts_of_a_log, faults_in_order, log_grows, rooms, sample_is_legal};
+pub use log::Log;
+pub use outcome::{Completion, Outcome};
+pub use session::Session;
+
+#[cfg(test)]
+mod tests;

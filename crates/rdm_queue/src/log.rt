@@ -1,0 +1,135 @@
+//! The log of a session.
+use crate::entry::{Entry, Opening};
+use crate::fault::NoMemory;
+use crate::queue::Settled;
+use arrayvec::ArrayVec;
+use rdm_wire::Uid;
+use std::alloc::Global;
+use std::marker::Model;
+
+/// The greatest number of free entries that a log may be made with (profile of this project).
+pub const MOST_FREE_ENTRIES: usize = 1_000_000;
+
+/// How many entries have to be free for each call that a full log refuses (profile of this project).
+pub const LEAST_FREE: usize = 3;
+
+/// The entries of a session, oldest first, and what they stand behind. Its memory is reserved when it is made.
+#[derive(Debug, Drop)]
+pub struct Log {
+    opening: Opening,
+    entries: Vec<Entry>,
+    room: usize,
+}
+
+impl Model for Log {
+    ghost use Rattle.std.specs.Prelude.{◌≤◌, vec_len, vec_capacity};
+    ghost use Rattle.rdm_queue.specs.Kept.{Kept};
+
+    ghost Value = { Kept };
+
+    ghost use Rattle.rdm_queue.specs.Stored.{IsStored};
+
+    ghost view = { λ l. record { opening = l.opening; entries = l.entries.items; room = l.room } };
+
+    ghost invariant = { λ l. IsStored l.room (vec_len l.entries) (vec_capacity l.entries) };
+}
+
+impl Log {
+    ghost use Rattle.std.specs.Prelude.{◌≡◌, ◌+◌, ◌<◌, ◌≤◌, List, [], ◌∷◌, IfOk, length, map};
+    ghost use Rattle.rdm_queue.specs.Kept.{grown, blank_opening};
+    ghost use Rattle.rdm_queue.specs.Records.{owed_is};
+    ghost use Rattle.rdm_queue.specs.Standing.{finish_of};
+    ghost use Rattle.rdm_queue.specs.declared.entry.Opening.{Opening};
+
+    /// A log without entries, with room for so many, 0 to 1,000,000, and one more for a close. Its opening has 0
+    /// everywhere and no places, is neither paused nor closed, and is written when a session begins.
+    /// Err: there was no memory.
+    pub fn new(alloc: Global, free: usize) -> Result<Log, NoMemory>
+        requires { free ≤ MOST_FREE_ENTRIES }
+        ensures { IfOk result (λ log. log ≡ record { opening = blank_opening; entries = []; room = free + 1 }) }
+    {
+        let room = free + 1;
+        let Ok(entries) = Vec::with_capacity(alloc, room) else {
+            return Err(NoMemory);
+        };
+        Ok(Log {
+            opening: Log::blank(),
+            entries,
+            room,
+        })
+    }
+
+    /// How the queue stood before the first entry.
+    pub fn opening(&self) -> &Opening
+        ensures { result.now ≡ self.now.opening }
+    {
+        &self.opening
+    }
+
+    /// The entries, oldest first.
+    pub fn entries(&self) -> &[Entry]
+        ensures { result.now ≡ self.now.entries }
+    {
+        self.entries.as_slice()
+    }
+
+    /// The entries that there is room for, those that stand among them.
+    pub(crate) fn room(&self) -> usize
+        ensures room { result ≡ self.now.room }
+        ensures within { length self.now.entries ≤ self.now.room }
+        ensures some { 1 ≤ self.now.room }
+    {
+        self.room
+    }
+
+    /// The same log behind another opening.
+    pub(crate) fn behind(self, opening: Opening) -> Log
+        ensures log { result ≡ record self { opening = opening } }
+        ensures some { 1 ≤ self.room }
+    {
+        let Log {
+            opening: _,
+            entries,
+            room,
+        } = self;
+        Log {
+            opening,
+            entries,
+            room,
+        }
+    }
+
+    /// Puts an entry at the end.
+    pub(crate) fn append(&mut self, entry: Entry)
+        requires { length self.old.entries < self.old.room }
+        ensures { self.new ≡ grown self.old (entry ∷ []) }
+    {
+        self.entries.push_reserved(entry);
+    }
+
+    /// Puts the ends of requests at the end.
+    pub(crate) fn append_ends(&mut self, settled: &[Settled])
+        requires { length self.old.entries + length settled.now ≤ self.old.room }
+        ensures { self.new ≡ grown self.old (map finish_of (map owed_is settled.now)) }
+    {
+        for one in settled {
+            self.append(one.entry());
+        }
+    }
+
+    // The opening that a new log has.
+    fn blank() -> Opening
+        ensures { result ≡ blank_opening }
+    {
+        Opening {
+            source: Uid::default(),
+            greatest: 0,
+            budget: 0,
+            places: ArrayVec::new(),
+            paused: false,
+            closed: false,
+            next_request: 0,
+            next_tn: 0,
+        }
+    }
+}

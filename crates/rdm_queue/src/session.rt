@@ -1,0 +1,331 @@
+//! A controller that keeps a log of all that it does.
+ghost use Rattle.std.specs.Prelude.{◌≡◌, if◌then◌else◌};
+ghost use Rattle.rdm_queue.specs.Kept.{opened};
+
+use crate::config::Config;
+use crate::controller::Controller;
+use crate::copies::{copy_of_frame, copy_of_request};
+use crate::entry::{Call, Cause, ClientId, Entry, Opening};
+use crate::fault::{JoinFault, LogFull, NoMemory, NotAsked, SubmitFault};
+use crate::log::{LEAST_FREE, Log};
+use crate::outcome::Outcome;
+use arrayvec::ArrayVec;
+use rdm_join::LineEvent;
+use rdm_wire::{Frame, Request};
+use std::alloc::Global;
+use std::marker::Model;
+
+/// A controller with a log of all that it does. Contracts see the log; it is legal at all times, the controller stands
+/// after it, and there is room for the entries that are owed.
+#[derive(Debug, Drop)]
+pub struct Session {
+    controller: Controller,
+    log: Log,
+}
+
+impl Model for Session {
+    ghost use Rattle.rdm_queue.specs.Kept.{Kept};
+
+    ghost Value = { Kept };
+
+    ghost use Rattle.rdm_queue.specs.Recorded.{IsRecorded};
+
+    ghost view = { λ s. s.log };
+
+    ghost invariant = { λ s. IsRecorded s.controller s.log };
+}
+
+impl Session {
+    ghost use Rattle.std.specs.Prelude.{◌≡◌, ◌↔◌, ◌++◌, ◌∷◌, [], List, Bool, true, false, IsTrue, IsErr, length, ◌+◌, IfOk, IfErr, IfSome, IfNone, OnOk, OnErr, Some, None};
+    ghost use Rattle.rdm_queue.specs.declared.entry.Owner.{Owner};
+    ghost use Rattle.rdm_queue.specs.declared.entry.Entry.{Entry};
+    ghost use Rattle.rdm_queue.specs.declared.entry.Entry.TheVariants.{Join, Accept, Send, Came, Collect, Pause, Resume, Close};
+    ghost use Rattle.rdm_queue.specs.History.{awaited, is_paused, is_closed, can_pause, can_resume, next_client, next_request, is_idle, reserved};
+    ghost use Rattle.rdm_queue.specs.Clients.{uncollected};
+    ghost use Rattle.rdm_queue.specs.MaySend.{MaySend, NoSend};
+    ghost use Rattle.rdm_queue.specs.Legal.{Legal};
+    ghost use Rattle.rdm_queue.specs.Blocks.{is_full_log, join_refusal, submit_refusal, RefusesJoin, join_refused, submit_refused, switch_block, AllResults, IsOldest};
+    ghost use Rattle.rdm_queue.specs.Kept.{Kept, grown, free_entries, opened};
+    ghost use Rattle.rdm_queue.specs.Config.{IsConfig};
+    ghost use Rattle.rdm_queue.specs.Stands.{StandsAfter};
+
+    /// A session without clients, neither paused nor closed, whose numbers begin at 0. It writes the log's opening.
+    /// Err: there was no memory; the log comes back as it was.
+    pub fn new(alloc: Global, config: Config, log: Log) -> Result<Session, (NoMemory, Log)>
+        requires config_is { IsConfig config }
+        requires empty { log.entries ≡ [] }
+        ensures ok { IfOk result (λ s. s ≡ record log { opening = opened config }) }
+        ensures legal { OnOk result (Legal (opened config) []) }
+        ensures err { IfErr result (λ e. e.1 ≡ log) }
+    {
+        let opening = opening_of(&config);
+        let Ok(controller) = Controller::new(alloc, config) else {
+            return Err((NoMemory, log));
+        };
+        Ok(Session {
+            controller,
+            log: log.behind(opening),
+        })
+    }
+
+    /// Lets a client join, as [`Controller::join_client`] does. A refusal but LogFull is an entry.
+    /// Err: LogFull, or else the first other fault that stands.
+    pub fn join_client(&mut self, alloc: Global, places: u8) -> Result<ClientId, JoinFault>
+        ensures joined { IfOk result (λ c. (join_refusal self.old places ≡ None) × (c.0 ≡ next_client self.old.opening self.old.entries)
+            × (self.new ≡ grown self.old (Join c places ∷ []))) }
+        ensures refused { IfErr result (λ fault. RefusesJoin (join_refusal self.old places) fault
+            × (self.new ≡ grown self.old (join_refused places fault))) }
+        ensures legal { Legal self.new.opening self.new.entries }
+    {
+        if self.is_full() {
+            return Err(JoinFault::LogFull);
+        }
+        match self.controller.join_client(alloc, places) {
+            Ok(client) => {
+                self.log.append(Entry::Join { client, places });
+                Ok(client)
+            }
+            Err(fault) => {
+                self.log.append(Entry::Refuse {
+                    client: None,
+                    call: Call::Join(places),
+                    cause: Cause(fault.number()),
+                });
+                Err(fault)
+            }
+        }
+    }
+
+    /// Accepts a client's request, as [`Controller::submit`] does. A refusal but LogFull is an entry.
+    /// Err: LogFull, or else the first other fault that stands; the request comes back.
+    pub fn submit(
+        &mut self,
+        client: ClientId,
+        request: Request,
+    ) -> Result<u64, (SubmitFault, Request)>
+        ensures accepted { IfOk result (λ n. (submit_refusal self.old client.0 ≡ None) × (n ≡ next_request self.old.opening self.old.entries)
+            × (self.new ≡ grown self.old (Accept client n request ∷ []))) }
+        ensures refused { IfErr result (λ e. (submit_refusal self.old client.0 ≡ Some e.0)
+            × (self.new ≡ grown self.old (submit_refused client request e.0))) }
+        ensures back { IfErr result (λ e. e.1 ≡ request) }
+        ensures legal { Legal self.new.opening self.new.entries }
+    {
+        if self.is_full() {
+            return Err((SubmitFault::LogFull, request));
+        }
+        let copy = copy_of_request(&request);
+        match self.controller.submit(client, request) {
+            Ok(number) => {
+                self.log.append(Entry::Accept {
+                    client,
+                    number,
+                    request: copy,
+                });
+                Ok(number)
+            }
+            Err((fault, request)) => {
+                self.log.append(Entry::Refuse {
+                    client: Some(client),
+                    call: Call::Submit(copy),
+                    cause: Cause(fault.number()),
+                });
+                Err((fault, request))
+            }
+        }
+    }
+
+    /// Pauses, as [`Controller::pause`] does; an entry where that has an effect.
+    pub fn pause(&mut self) -> Result<(), LogFull>
+        ensures log_full { IsErr result ↔ IsTrue (is_full_log self.old) }
+        ensures paused { OnOk result (self.new ≡ grown self.old (switch_block (can_pause self.old.opening self.old.entries) Pause)) }
+        ensures refused { OnErr result (self.new ≡ self.old) }
+        ensures legal { Legal self.new.opening self.new.entries }
+    {
+        if self.is_full() {
+            return Err(LogFull);
+        }
+        if !self.controller.can_pause() {
+            return Ok(());
+        }
+        self.controller.pause();
+        self.log.append(Entry::Pause);
+        Ok(())
+    }
+
+    /// Resumes, as [`Controller::resume`] does; an entry where that has an effect.
+    pub fn resume(&mut self) -> Result<(), LogFull>
+        ensures log_full { IsErr result ↔ IsTrue (is_full_log self.old) }
+        ensures resumed { OnOk result (self.new ≡ grown self.old (switch_block (can_resume self.old.opening self.old.entries) Resume)) }
+        ensures refused { OnErr result (self.new ≡ self.old) }
+        ensures legal { Legal self.new.opening self.new.entries }
+    {
+        if self.is_full() {
+            return Err(LogFull);
+        }
+        if !self.controller.can_resume() {
+            return Ok(());
+        }
+        self.controller.resume();
+        self.log.append(Entry::Resume);
+        Ok(())
+    }
+
+    /// Closes, as [`Controller::close`] does; an entry where that has an effect, and behind it those of the requests
+    /// that it finishes. There is always room for them.
+    pub fn close(&mut self)
+        ensures closes { is_closed self.old.opening self.old.entries ≡ false
+            → (results : List Entry) × AllResults results × (self.new ≡ grown self.old (Close ∷ results)) }
+        ensures closed { is_closed self.old.opening self.old.entries ≡ true → self.new ≡ self.old }
+        ensures legal { Legal self.new.opening self.new.entries }
+    {
+        if self.controller.is_closed() {
+            return;
+        }
+        let before = self.controller.outcomes().len();
+        self.controller.shut();
+        self.log.append(Entry::Close);
+        self.log.append_ends(&self.controller.outcomes()[before..]);
+    }
+
+    /// The next frame for the line, as [`Controller::take`] gives it; an entry where there is one.
+    pub fn take(&mut self) -> Result<Option<Frame>, LogFull>
+        ensures log_full { IsErr result ↔ IsTrue (is_full_log self.old) }
+        ensures frame { IfOk result (λ taken. IfSome taken (λ frame. (owner : Owner) × MaySend self.old.opening self.old.entries owner frame
+            × (self.new ≡ grown self.old (Send owner frame ∷ [])))) }
+        ensures none { IfOk result (λ taken. IfNone taken (NoSend self.old.opening self.old.entries × (self.new ≡ self.old))) }
+        ensures refused { OnErr result (self.new ≡ self.old) }
+        ensures legal { Legal self.new.opening self.new.entries }
+    {
+        if self.is_full() {
+            return Err(LogFull);
+        }
+        let Some((owner, frame)) = self.controller.give() else {
+            return Ok(None);
+        };
+        let copy = copy_of_frame(&frame);
+        self.log.append(Entry::Send { owner, frame: copy });
+        Ok(Some(frame))
+    }
+
+    /// Takes what the line answered, as [`Controller::deliver`] does; an entry, and behind it those of the requests
+    /// that it finishes. There is always room for them.
+    /// Err: no reply is awaited; nothing has changed, and the event comes back.
+    pub fn deliver(&mut self, alloc: Global, event: LineEvent) -> Result<(), (NotAsked, LineEvent)>
+        ensures not_asked { IsErr result ↔ (awaited self.old.entries ≡ false) }
+        ensures delivered { OnOk result ((results : List Entry) × AllResults results × (self.new ≡ grown self.old (Came event ∷ results))) }
+        ensures refused { IfErr result (λ e. (e.1 ≡ event) × (self.new ≡ self.old)) }
+        ensures legal { Legal self.new.opening self.new.entries }
+    {
+        if !self.controller.awaits() {
+            return Err((NotAsked, event));
+        }
+        let before = self.controller.outcomes().len();
+        self.controller.hear(alloc, &event);
+        self.log.append(Entry::Came { event });
+        self.log.append_ends(&self.controller.outcomes()[before..]);
+        Ok(())
+    }
+
+    /// A client's oldest outcome, as [`Controller::next_outcome`] gives it; an entry where there is one. There is always
+    /// room for it.
+    pub fn next_outcome(&mut self, client: ClientId) -> Option<Outcome>
+        ensures outcome { IfSome result (λ outcome. IsOldest self.old.opening self.old.entries client.0 outcome
+            × (self.new ≡ grown self.old (Collect client ∷ []))) }
+        ensures none { IfNone result ((uncollected self.old.opening client.0 self.old.entries ≡ []) × (self.new ≡ self.old)) }
+        ensures legal { Legal self.new.opening self.new.entries }
+    {
+        let outcome = self.controller.next_outcome(client)?;
+        self.log.append(Entry::Collect { client });
+        Some(outcome)
+    }
+
+    /// How many entries are free: those that there is room for, less those that stand and those that are reserved. One
+    /// is reserved for a close, one for a reply that is awaited, two for each request that isn't finished, and one
+    /// for each outcome that isn't collected.
+    pub fn free(&self) -> usize
+        ensures free { result ≡ free_entries self.now }
+        ensures kept { length self.now.entries + reserved self.now.opening self.now.entries + result ≡ self.now.room }
+    {
+        let room = self.log.room();
+        let close = one_if(!self.controller.is_closed());
+        let reply = one_if(self.controller.awaits());
+        let unfinished = self.controller.waiting();
+        let uncollected = self.controller.outcomes().len();
+        room - self.log.entries().len() - (close + reply + 2 * unfinished + uncollected)
+    }
+
+    // Whether the log is full for the calls that it refuses.
+    fn is_full(&self) -> bool
+        ensures { result ≡ is_full_log self.now }
+    {
+        self.free() < LEAST_FREE
+    }
+
+    /// The log.
+    pub fn log(&self) -> &Log
+        ensures log { result.now ≡ self.now }
+        ensures legal { Legal self.now.opening self.now.entries }
+    {
+        &self.log
+    }
+
+    /// Whether nothing waits, is under way or is uncollected.
+    pub fn is_idle(&self) -> bool
+        ensures { result ≡ is_idle self.now.entries }
+    {
+        self.controller.is_idle()
+    }
+
+    /// Whether sending is paused.
+    pub fn is_paused(&self) -> bool
+        ensures { result ≡ is_paused self.now.opening self.now.entries }
+    {
+        self.controller.is_paused()
+    }
+
+    /// Whether it is closed.
+    pub fn is_closed(&self) -> bool
+        ensures { result ≡ is_closed self.now.opening self.now.entries }
+    {
+        self.controller.is_closed()
+    }
+
+    /// Whether a reply is awaited.
+    pub fn awaits(&self) -> bool
+        ensures { result ≡ awaited self.now.entries }
+    {
+        self.controller.awaits()
+    }
+
+    /// The controller, and the log that it stands after.
+    pub fn end(self) -> (Controller, Log)
+        ensures log { result.1 ≡ self }
+        ensures controller { StandsAfter self.opening self.entries result.0 }
+    {
+        let Session { controller, log } = self;
+        (controller, log)
+    }
+}
+
+// What a session that is set up so stands behind.
+fn opening_of(config: &Config) -> Opening
+    ensures { result ≡ opened config.now }
+{
+    Opening {
+        source: config.source,
+        greatest: config.places,
+        budget: config.budget,
+        places: ArrayVec::new(),
+        paused: false,
+        closed: false,
+        next_request: 0,
+        next_tn: 0,
+    }
+}
+
+// One where the flag is set, else none.
+fn one_if(flag: bool) -> usize
+    ensures { result ≡ (if flag then 1 else 0) }
+{
+    if flag { 1 } else { 0 }
+}

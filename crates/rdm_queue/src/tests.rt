@@ -1,0 +1,7 @@
+//! What lies outside the proofs: whole exchanges with bytes and statuses from outside, and that calls succeed.
+
+mod closing;
+mod controller;
+mod packets;
+mod parts;
+mod places;

@@ -1,0 +1,67 @@
+//! Places, clients and the room of the log.
+use super::packets::{
+    AMPLE, CLIENT, accepts, collected, delivers, get, session, session_of_one, silence, taken,
+};
+use crate::{ClientId, JoinFault, SubmitFault};
+use rdm_join::Status;
+use std::test::Fail;
+
+#[test]
+fn a_place_is_held_until_the_outcome_is_collected(rt: HostRuntime) -> Result<(), Fail> {
+    let mut session = session_of_one(&rt, rt.alloc(), 2)?;
+    accepts(&rt, &mut session, 0);
+    accepts(&rt, &mut session, 1);
+    let full = session.submit(CLIENT, get());
+    assert!(rt; full.is_err_and(|(fault, request)| fault == SubmitFault::Full && request == get()));
+    let _ = taken(&rt, &mut session);
+    delivers(&rt, rt.alloc(), &mut session, silence());
+    let full = session.submit(CLIENT, get());
+    assert!(rt; full.is_err_and(|(fault, _)| fault == SubmitFault::Full));
+    assert_eq!(rt; collected(&rt, &mut session, 0).status, Status::Timeout);
+    accepts(&rt, &mut session, 2);
+    Ok(())
+}
+
+#[test]
+fn clients_share_the_places(rt: HostRuntime) -> Result<(), Fail> {
+    let mut session = session(rt.alloc(), 2, AMPLE)?;
+    assert_eq!(rt; session.join_client(rt.alloc(), 1), Ok(ClientId(0)));
+    assert_eq!(rt;
+        session.join_client(rt.alloc(), 2),
+        Err(JoinFault::NoPlaces)
+    );
+    assert_eq!(rt; session.join_client(rt.alloc(), 1), Ok(ClientId(1)));
+    session.close();
+    assert_eq!(rt; session.join_client(rt.alloc(), 0), Err(JoinFault::Closed));
+    Ok(())
+}
+
+#[test]
+fn a_seventeenth_client_is_refused(rt: HostRuntime) -> Result<(), Fail> {
+    let mut session = session(rt.alloc(), 4080, AMPLE)?;
+    for number in 0..16 {
+        assert_eq!(rt; session.join_client(rt.alloc(), 1), Ok(ClientId(number)));
+    }
+    assert_eq!(rt;
+        session.join_client(rt.alloc(), 1),
+        Err(JoinFault::TooManyClients)
+    );
+    Ok(())
+}
+
+#[test]
+fn a_full_log_refuses_and_still_closes(rt: HostRuntime) -> Result<(), Fail> {
+    let mut session = session(rt.alloc(), 1, 3)?;
+    assert_eq!(rt; session.join_client(rt.alloc(), 1), Ok(CLIENT));
+    assert_eq!(rt; session.free(), 2);
+    let full = session.submit(CLIENT, get());
+    assert!(rt;
+        full.is_err_and(|(fault, request)| fault == SubmitFault::LogFull && request == get())
+    );
+    session.close();
+    assert!(rt; session.is_closed());
+    let (controller, log) = session.end();
+    assert!(rt; controller.is_closed());
+    assert_eq!(rt; log.entries().len(), 2);
+    Ok(())
+}
