@@ -1,5 +1,6 @@
 pub mod Grows
 pub mod SampleLegal
+pub mod SampleParts
 pub mod Places
 pub mod Counts
 pub mod PushLemmas
@@ -26,3 +27,16 @@ pub mod DecidedLemmas
 pub mod AfterCame
 pub mod CallLemmas
 pub mod RecordedLemmas
+pub mod StableResults
+pub mod Numbers
+pub mod InOrder
+pub mod OneResult
+pub mod NothingAfterClose
+pub mod OwnAnswers
+pub mod FullRefuses
+pub mod Promises
+pub mod ExplainsLemmas
+pub mod ClosedEvents
+pub mod RisingNumbers
+pub mod CollectedEvents
+pub mod EventsPromises

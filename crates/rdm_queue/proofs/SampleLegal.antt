@@ -16,14 +16,14 @@ use Rattle.rdm_queue.proofs.Grows.{pushed, empty}
 no_close : {A : Type 0} → false ≡ true → A
 no_close h = absurd (true≢false (sym h))
 
-some_list : {X : Type 0} (x : X) (xs : List X) → x ∷ xs ≢ []
+pub some_list : {X : Type 0} (x : X) (xs : List X) → x ∷ xs ≢ []
 some_list x xs h = cc
 
 due_join : NothingDue sample_opening join_only
 unfolding accepts finishes is_closed
 due_join = record { results_open = tt; all_closed = λ c w. no_close c }
 
-due_accept : NothingDue sample_opening accepted_one
+pub due_accept : NothingDue sample_opening accepted_one
 unfolding accepts finishes sends cames traded of_request verdicts result is_closed
 due_accept = record { results_open = (refl, tt); all_closed = λ c w. no_close c }
 
@@ -39,7 +39,7 @@ due_collected : NothingDue sample_opening collected_one
 unfolding accepts finishes is_closed
 due_collected = record { results_open = tt; all_closed = λ c w. no_close c }
 
-due_closed : NothingDue sample_opening closed_log
+pub due_closed : NothingDue sample_opening closed_log
 unfolding accepts finishes
 due_closed = record { results_open = tt; all_closed = λ c w. refl }
 
@@ -51,7 +51,7 @@ may_accept : MayFollow sample_opening join_only (Accept (record { 0 = 0 }) 0 sam
 unfolding joins accepts finishes collectors is_closed answers_to
 may_accept = (due_join, refl, refl)
 
-may_send : MayFollow sample_opening accepted_one (Send (owners.Request 0) (record { items = sample_frame }))
+pub may_send : MayFollow sample_opening accepted_one (Send (owners.Request 0) (record { items = sample_frame }))
 unfolding accepts finishes sends awaited is_paused is_closed
 may_send = (
   due_accept,

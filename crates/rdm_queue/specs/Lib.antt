@@ -19,3 +19,7 @@ pub mod Stands
 pub mod Recorded
 pub mod Blocks
 pub mod Sample
+pub mod SampleParts
+pub mod Headline
+pub mod Explains
+pub mod EventsHeadline

@@ -1,5 +1,6 @@
 -- A log to compute with: a join, a request, its frame, silence, its Finish, a Collect, a Close.
-use Rattle.std.specs.Prelude.{ℕ, List, [], ◌∷◌, ◌++◌, false}
+use Rattle.std.specs.Prelude.{ℕ, List, [], ◌∷◌, ◌++◌, false, Some, None, Ok}
+use Rattle.std.specs.Global.{Vec}
 use Rattle.rdm_wire.specs.declared.request.Request.{Request}
 use Rattle.rdm_wire.specs.declared.request.ReqClass.TheVariants as requests
 use Rattle.rdm_join.specs.declared.status.Status.TheVariants.{Timeout}
@@ -8,6 +9,12 @@ use Rattle.rdm_queue.specs.declared.entry.Opening.{Opening}
 use Rattle.rdm_queue.specs.declared.entry.Owner.TheVariants as owners
 use Rattle.rdm_queue.specs.declared.entry.Entry.{Entry}
 use Rattle.rdm_queue.specs.declared.entry.Entry.TheVariants.{Join, Accept, Send, Came, Finish, Collect, Close}
+use Rattle.rdm_queue.specs.declared.outcome.Outcome.TheVariants as outcomes
+use Rattle.rdm_queue.specs.declared.event.Event.{Event}
+use Rattle.rdm_queue.specs.declared.event.Event.TheVariants as events
+use Rattle.rdm_queue.specs.declared.event.Answer.{Answer}
+use Rattle.rdm_queue.specs.declared.event.Answer.TheVariants as answers
+use Rattle.rdm_queue.specs.Kept.{Kept}
 
 -- a GET of PID 0060, asked once, answered by silence
 abbrev pub sample_request : Request
@@ -49,3 +56,25 @@ collected_one = finished_one ++ Collect (record { 0 = 0 }) ∷ []
 
 abbrev pub closed_log : List Entry
 closed_log = collected_one ++ Close ∷ []
+
+-- two requests of one client, and a close with no reply awaited
+abbrev pub accepted_two : List Entry
+accepted_two = Join (record { 0 = 0 }) 2 ∷ Accept (record { 0 = 0 }) 0 sample_request ∷ Accept (record { 0 = 0 }) 1 sample_request ∷ []
+
+abbrev pub closed_two : List Entry
+closed_two = accepted_two ++ Close ∷ []
+
+-- a session that kept this log, with room for eleven entries
+abbrev pub kept_with : List Entry → Kept
+kept_with h = record { opening = sample_opening; entries = h; room = 11 }
+
+-- the calls of closed_log, and their answers
+abbrev pub sample_events : List Event
+sample_events =
+    events.Join 1 ∷ events.Submit (record { 0 = 0 }) sample_request ∷ events.Take ∷ events.Deliver (Reply (record { items = [] }))
+    ∷ events.Collect (record { 0 = 0 }) ∷ events.Close ∷ []
+
+abbrev pub sample_answers : Vec ℕ → List Answer
+sample_answers none =
+    answers.Join (Ok (record { 0 = 0 })) ∷ answers.Submit (Ok 0) ∷ answers.Take (Ok (Some (record { items = sample_frame }))) ∷ answers.Deliver (Ok tt)
+    ∷ answers.Collect (Some (outcomes.Request (Some 0) (record { status = Timeout; reply = None; bytes = none }))) ∷ answers.Close ∷ []

@@ -2,6 +2,7 @@
 ghost use Rattle.std.specs.Prelude.{◌≡◌};
 
 use arrayvec::ArrayVec;
+use rdm_join::LineEvent;
 use rdm_wire::{Frame, Request};
 
 /// The same request again.
@@ -22,4 +23,14 @@ pub(crate) fn copy_of_frame(frame: &Frame) -> Frame
     ensures { result ≡ frame.now }
 {
     frame.clone().unwrap()
+}
+
+/// The same event of the line again.
+pub(crate) fn copy_of_event(event: &LineEvent) -> LineEvent
+    ensures { result ≡ event.now }
+{
+    match event {
+        LineEvent::Reply(bytes) => LineEvent::Reply(bytes.clone().unwrap()),
+        LineEvent::Failed => LineEvent::Failed,
+    }
 }

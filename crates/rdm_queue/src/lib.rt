@@ -16,21 +16,36 @@
 //! Lists for each client will make all of these constant in what others have outstanding.
 #![tactic(auto)]
 
+mod broken;
 mod config;
 mod controller;
 mod copies;
 mod entry;
+mod event;
+mod explained;
 mod fault;
+mod headline;
 mod laws;
 mod log;
 mod outcome;
 mod queue;
+mod run;
 mod session;
 
+pub use broken::{
+    wrong_answers, wrong_behind_a_close, wrong_collector, wrong_frames, wrong_order, wrong_parts,
+    wrong_refusals, wrong_results,
+};
 pub use config::Config;
 pub use controller::Controller;
 pub use entry::{Call, Cause, ClientId, Entry, Opening, Owner};
+pub use event::{Answer, Event};
+pub use explained::{each_event_is_answered, not_explained, parts_are_joined, sample_is_explained};
 pub use fault::{JoinFault, LogFull, NoMemory, NotAsked, SubmitFault};
+pub use headline::{
+    answers_keep_promises, exactly_one_result, first_in_first_out, full_queue_refuses,
+    joined_answer, legal_keeps_promises, nothing_after_close,
+};
 pub use laws::{counts_of_a_log, faults_in_order, log_grows, rooms, sample_is_legal};
 pub use log::Log;
 pub use outcome::{Completion, Outcome};

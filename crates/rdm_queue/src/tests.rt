@@ -5,3 +5,4 @@ mod controller;
 mod packets;
 mod parts;
 mod places;
+mod running;

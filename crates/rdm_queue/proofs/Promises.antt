@@ -1,0 +1,20 @@
+-- All that is promised of a legal log.
+use Rattle.std.specs.Prelude.{List}
+use Rattle.rdm_queue.specs.declared.entry.Opening.{Opening}
+use Rattle.rdm_queue.specs.declared.entry.Entry.{Entry}
+use Rattle.rdm_queue.specs.Legal.{Legal}
+use Rattle.rdm_queue.specs.Headline.{Promised}
+use Rattle.rdm_queue.proofs.OneResult.{one_result}
+use Rattle.rdm_queue.proofs.OwnAnswers.{own_answers}
+use Rattle.rdm_queue.proofs.InOrder.{in_order}
+use Rattle.rdm_queue.proofs.FullRefuses.{full_refuses}
+use Rattle.rdm_queue.proofs.NothingAfterClose.{after_close}
+
+pub promised : (o : Opening) (h : List Entry) → Legal o h → Promised o h
+promised o h legal = record {
+  one_result = one_result o h legal;
+  own_answers = own_answers o h legal;
+  in_order = in_order o h legal;
+  full_refuses = full_refuses o h legal;
+  nothing_after_close = after_close o h legal;
+}

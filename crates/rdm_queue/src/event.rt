@@ -1,0 +1,48 @@
+//! What is asked of a session, as one value, and what it answers.
+use crate::entry::ClientId;
+use crate::fault::{JoinFault, LogFull, NotAsked, SubmitFault};
+use crate::outcome::Outcome;
+use rdm_join::LineEvent;
+use rdm_wire::{Frame, Request};
+
+/// A call of a session.
+#[derive(Debug, Drop)]
+pub enum Event {
+    /// A client joins, with so many places.
+    Join(u8),
+    /// A client submits a request.
+    Submit(ClientId, Request),
+    /// Sending is paused.
+    Pause,
+    /// Sending is resumed.
+    Resume,
+    /// The queue is closed.
+    Close,
+    /// The next frame is taken for the line.
+    Take,
+    /// What the line answered to the last frame is delivered.
+    Deliver(LineEvent),
+    /// A client collects its oldest outcome.
+    Collect(ClientId),
+}
+
+/// What a session answers: the result of the call of that name.
+#[derive(Debug, Drop)]
+pub enum Answer {
+    /// The client, or why it may not join.
+    Join(Result<ClientId, JoinFault>),
+    /// The request's number, or why it isn't accepted, with the request.
+    Submit(Result<u64, (SubmitFault, Request)>),
+    /// Done, or the log is full.
+    Pause(Result<(), LogFull>),
+    /// Done, or the log is full.
+    Resume(Result<(), LogFull>),
+    /// Done.
+    Close,
+    /// The frame, or None where none may be sent; or the log is full.
+    Take(Result<Option<Frame>, LogFull>),
+    /// Done; or no reply was awaited, with what was delivered.
+    Deliver(Result<(), (NotAsked, LineEvent)>),
+    /// The outcome, or None where there is none.
+    Collect(Option<Outcome>),
+}

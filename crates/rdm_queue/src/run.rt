@@ -1,0 +1,54 @@
+//! A list of events, answered one by one.
+use crate::copies::{copy_of_event, copy_of_request};
+use crate::event::{Answer, Event};
+use crate::fault::NoMemory;
+use crate::session::Session;
+use std::alloc::Global;
+
+impl Session {
+    ghost use Rattle.std.specs.Prelude.{◌≡◌, List, IfOk, OnErr};
+    ghost use Rattle.rdm_queue.specs.Legal.{Legal};
+    ghost use Rattle.rdm_queue.specs.Explains.{IsAnswered, Explains};
+    ghost use Rattle.rdm_queue.specs.EventsHeadline.{EventsPromised};
+
+    /// Makes the call of an event, and gives its answer. What the call refuses comes back in the answer.
+    pub fn answer(&mut self, alloc: Global, event: &Event) -> Answer
+        ensures answered { IsAnswered self.old event.now result self.new }
+        ensures legal { Legal self.new.opening self.new.entries }
+    {
+        match event {
+            Event::Join(places) => Answer::Join(self.join_client(alloc, *places)),
+            Event::Submit(client, request) => {
+                Answer::Submit(self.submit(*client, copy_of_request(request)))
+            }
+            Event::Pause => Answer::Pause(self.pause()),
+            Event::Resume => Answer::Resume(self.resume()),
+            Event::Close => {
+                self.close();
+                Answer::Close
+            }
+            Event::Take => Answer::Take(self.take()),
+            Event::Deliver(event) => Answer::Deliver(self.deliver(alloc, copy_of_event(event))),
+            Event::Collect(client) => Answer::Collect(self.next_outcome(*client)),
+        }
+    }
+
+    /// Answers each event by its call, in order, and gives the answers: one for each event.
+    /// Err: there was no memory for the answers; the session is unchanged, and no call was made.
+    pub fn run(&mut self, alloc: Global, events: &[Event]) -> Result<Vec<Answer>, NoMemory>
+        ensures explains { IfOk result (λ answers. Explains self.old events.now answers.items self.new) }
+        ensures promised { IfOk result (λ answers. EventsPromised self.old events.now answers.items self.new) }
+        ensures legal { Legal self.new.opening self.new.entries }
+        ensures unchanged { OnErr result (self.new ≡ self.old) }
+    {
+        // The log is legal, also where there are no events.
+        self.log();
+        let Ok(mut answers) = Vec::with_capacity(alloc, events.len()) else {
+            return Err(NoMemory);
+        };
+        for event in events {
+            answers.push_reserved(self.answer(alloc, event));
+        }
+        Ok(answers)
+    }
+}
