@@ -1,18 +1,14 @@
 -- What a client has outstanding, and what it may collect, as the log grows.
-use Rattle.std.proofs.Common.{◌≡◌, ℕ, ◌+◌, List, [], ◌∷◌, ◌++◌, length, None, if◌then◌else◌, refl, ap, arith, filter}
+use Rattle.std.proofs.Common.{◌≡◌, ℕ, ◌+◌, List, [], ◌∷◌, ◌++◌, length, None, refl, ap, arith, filter}
 use Rattle.std.specs.Prelude.{◌==◌}
 use Rattle.rdm_wire.specs.Lists.{EachBehind}
-use Rattle.rdm_wire.specs.declared.request.Request.{Request}
-use Rattle.rdm_queue.specs.declared.entry.ClientId.{ClientId}
 use Rattle.rdm_queue.specs.declared.entry.Opening.{Opening}
 use Rattle.rdm_queue.specs.declared.entry.Entry.{Entry}
-use Rattle.rdm_queue.specs.declared.entry.Entry.TheVariants.{Accept, Collect}
-use Rattle.rdm_queue.specs.Entries.{Accepted, accepted_of, finished_of, collector_of, accepts, collectors}
+use Rattle.rdm_queue.specs.Entries.{accepted_of, finished_of, collector_of}
 use Rattle.rdm_queue.specs.Clients.{accepts_by, collects_by, uncollected, outstanding_requests}
 use Rattle.rdm_queue.specs.Legal.{MayFollow}
 use Rattle.rdm_queue.proofs.Grows.{front}
-use Rattle.rdm_queue.proofs.Counts.{length_filter_push}
-use Rattle.rdm_queue.proofs.PushLemmas.{accepts_same, accepts_more, collectors_same, collectors_more}
+use Rattle.rdm_queue.proofs.PushLemmas.{accepts_same, collectors_same}
 use Rattle.rdm_queue.proofs.ClientLemmas.{answers_same}
 use Rattle.rdm_queue.proofs.ClientFacts.{client_facts, outstanding_is}
 
@@ -27,18 +23,7 @@ outstanding_before o c h e each = outstanding_is o h (client_facts o h (front o 
 outstanding_behind : (o : Opening) (c : ℕ) (h : List Entry) (e : Entry) → EachBehind (MayFollow o) (h ++ e ∷ []) → outstanding_requests o c (h ++ e ∷ []) + length (collects_by c (h ++ e ∷ [])) ≡ length (accepts_by c (h ++ e ∷ []))
 outstanding_behind o c h e each = outstanding_is o (h ++ e ∷ []) (client_facts o (h ++ e ∷ []) each) c
 
--- what is outstanding: one more behind its Accept, one fewer behind its Collect
+-- what is outstanding stays behind an entry that neither accepts nor collects
 pub outstanding_same : (o : Opening) (c : ℕ) (h : List Entry) (e : Entry) → EachBehind (MayFollow o) (h ++ e ∷ []) → accepted_of e ≡ None → collector_of e ≡ None → outstanding_requests o c (h ++ e ∷ []) ≡ outstanding_requests o c h
 outstanding_same o c h e each accept collect =
     omega (arith, outstanding_before o c h e each, outstanding_behind o c h e each, ap (λ l. length (filter (λ a. c == a.client) l)) (accepts_same h e accept), ap (λ l. length (filter (λ d. c == d) l)) (collectors_same h e collect))
-
-pub outstanding_accept : (o : Opening) (c : ℕ) (h : List Entry) (d : ClientId) (n : ℕ) (request : Request) → EachBehind (MayFollow o) (h ++ Accept d n request ∷ []) → outstanding_requests o c (h ++ Accept d n request ∷ []) ≡ outstanding_requests o c h + (if c == d.0 then 1 else 0)
-outstanding_accept o c h d n request each =
-    let a : Accepted = record { client = d.0; number = n; request = request } in
-    let e = Accept d n request in
-    omega (arith, outstanding_before o c h e each, outstanding_behind o c h e each, ap (λ l. length (filter (λ b. c == b.client) l)) (accepts_more h e a refl), length_filter_push (λ b. c == b.client) (accepts h) a, ap (λ l. length (filter (λ d. c == d) l)) (collectors_same h e refl))
-
-pub outstanding_collect : (o : Opening) (c : ℕ) (h : List Entry) (d : ClientId) → EachBehind (MayFollow o) (h ++ Collect d ∷ []) → outstanding_requests o c (h ++ Collect d ∷ []) + (if c == d.0 then 1 else 0) ≡ outstanding_requests o c h
-outstanding_collect o c h d each =
-    let e = Collect d in
-    omega (arith, outstanding_before o c h e each, outstanding_behind o c h e each, ap (λ l. length (filter (λ a. c == a.client) l)) (accepts_same h e refl), ap (λ l. length (filter (λ x. c == x) l)) (collectors_more h e d.0 refl), length_filter_push (λ x. c == x) (collectors h) d.0)

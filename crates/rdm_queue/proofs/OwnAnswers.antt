@@ -28,14 +28,14 @@ use Rattle.rdm_queue.specs.declared.entry.Opening.{Opening}
 use Rattle.rdm_queue.specs.declared.entry.Entry.{Entry}
 use Rattle.rdm_queue.specs.declared.entry.Entry.TheVariants.{Finish}
 use Rattle.rdm_queue.specs.Entries.{Finished, Traded, finishes, verdict_on, of_request, verdicts, result}
-use Rattle.rdm_queue.specs.MayFinish.{IsClosing, FitsResult, MayFinish}
+use Rattle.rdm_queue.specs.MayFinish.{Tells, IsClosing, FitsResult, MayFinish}
 use Rattle.rdm_queue.specs.Legal.{MayFollow, Legal}
 use Rattle.rdm_queue.proofs.Grows.{front}
 use Rattle.rdm_queue.proofs.PushLemmas.{finishes-append, finishes_more, sends_same, cames_same}
 use Rattle.rdm_queue.proofs.ExchangeLemmas.{result_same}
 use Rattle.rdm_queue.proofs.LegalFacts.{legal_facts, unfinished_number}
 use Rattle.rdm_queue.proofs.StableResults.{result_step}
-use Rattle.rdm_queue.specs.Headline.{Tells, OwnAnswer, OwnAnswers}
+use Rattle.rdm_queue.specs.Headline.{OwnAnswer, OwnAnswers}
 
 -- want of memory comes from no event
 abbrev is_no_memory : Status → Bool

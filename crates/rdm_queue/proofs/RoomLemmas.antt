@@ -16,7 +16,6 @@ use Rattle.rdm_queue.specs.declared.entry.Entry.TheVariants.{Join, Refuse, Accep
 use Rattle.rdm_queue.specs.Entries.{Accepted, Finished, accepts, finishes, collectors}
 use Rattle.rdm_queue.specs.History.{awaited, is_closed, unfinished, reserved}
 use Rattle.rdm_queue.specs.Legal.{MayFollow}
-use Rattle.rdm_queue.specs.Closing.{closing_finishes}
 use Rattle.rdm_queue.proofs.Grows.{front, pushed}
 use Rattle.rdm_queue.proofs.LegalFacts.{legal_facts}
 use Rattle.rdm_queue.proofs.ClientFacts.{client_facts, collects_within}
@@ -91,8 +90,3 @@ taken_step o h e each may = taken_same o h e (same_behind h e refl refl refl ref
 pub taken_block : (o : Opening) (h block : List Entry) → EachBehind (MayFollow o) (h ++ block) → taken o (h ++ block) ≡ taken o h + added_by block
 taken_block o h [] each = rw append-nil (omega arith)
 taken_block o h (e ∷ block) each = omega (arith, rw (append_assoc h (e ∷ []) block) at (taken_block o (h ++ e ∷ []) block (rw (append_assoc h (e ∷ []) block) each)), taken_step o h e (front o h (e ∷ block) each) (each h block e refl))
-
--- Finishes take nothing
-pub added_by_closing : (rest : List Accepted) → added_by (closing_finishes rest) ≡ 0
-added_by_closing [] = refl
-added_by_closing (a ∷ rest) = omega (arith, added_by_closing rest)

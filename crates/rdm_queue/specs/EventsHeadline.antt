@@ -89,7 +89,7 @@ pub record EventsPromised (old : Kept) (es : List Event) (rs : List Answer) (new
   -- and nothing starts behind it, nor where the queue was closed before
   pub nothing_after : (i j : ℕ) (answer : Answer) → i < j → slice_get es i ≡ Some events.Close → slice_get rs j ≡ Some answer → starts answer ≡ false
   pub nothing_closed : is_closed old.opening old.entries ≡ true → (j : ℕ) (answer : Answer) → slice_get rs j ≡ Some answer → starts answer ≡ false
-  -- a full queue refuses, and changes nothing
+  -- a full queue refuses, and changes nothing but the log
   pub full : (i : ℕ) (c : ClientId) (request : Request) (answer : Answer) → slice_get es i ≡ Some (events.Submit c request) → slice_get rs i ≡ Some answer → FullExactly old es rs new i c request answer
   -- a client collects the joined answers of its own requests
   pub collected : (i : ℕ) (c : ClientId) (outcome : Outcome) → slice_get es i ≡ Some (events.Collect c) → slice_get rs i ≡ Some (answers.Collect (Some outcome)) → IsOwnOutcome new.opening new.entries c.0 outcome

@@ -5,6 +5,7 @@ use Rattle.rdm_wire.specs.declared.request.Request.{Request}
 use Rattle.rdm_join.specs.declared.status.Status.{Status}
 use Rattle.rdm_join.specs.declared.status.Status.TheVariants.{Completed, FailedToSend, NoMemory}
 use Rattle.rdm_join.specs.Result.{Joined, IsResult}
+use Rattle.rdm_queue.specs.MayFinish.{Tells}
 use Rattle.rdm_queue.specs.declared.entry.TheConstants.{NEVER_GIVEN}
 use Rattle.rdm_queue.specs.declared.entry.ClientId.{ClientId}
 use Rattle.rdm_queue.specs.declared.entry.Call.{Call}
@@ -38,10 +39,6 @@ pub record OneResult (o : Opening) (h : List Entry) : Type 0 where
   pub accepted : (n : ℕ) → 0 < result_count n h → Contains (numbers_accepted (accepts h)) n
   -- once closed, with no reply awaited, each accepted request has one
   pub exactly_one : is_closed o h ≡ true → awaited h ≡ false → (n : ℕ) → Contains (numbers_accepted (accepts h)) n → result_count n h ≡ 1
-
--- a status and a length tell a joined result: its own, or want of memory for its data
-abbrev pub Tells : Joined → Status → ℕ → Type 0
-Tells j status len = ((status ≡ j.status) × (len ≡ length j.data_)) ⊎ ((status ≡ NoMemory) × (j.status ≡ Completed) × (j.data_ ≢ []) × (len ≡ 0))
 
 -- The joined answer of a request's own exchanges, as a Finish behind h tells it.
 pub record OwnAnswer (o : Opening) (h : List Entry) (n : ℕ) (status : Status) (len : ℕ) : Type 0 where

@@ -13,11 +13,14 @@ pub record IsClosing (o : Opening) (h : List Entry) : Type 0 where
   pub closed : is_closed o h ≡ true
   pub not_awaited : awaited h ≡ false
 
--- a status and a length fit a result: its own, or want of memory for its data; of an open result, at a close alone
+-- a status and a length tell a joined result: its own, or want of memory for its data
+abbrev pub Tells : Joined → Status → ℕ → Type 0
+Tells j status len = ((status ≡ j.status) × (len ≡ length j.data_)) ⊎ ((status ≡ NoMemory) × (j.status ≡ Completed) × (j.data_ ≢ []) × (len ≡ 0))
+
+-- they fit a result that is decided where they tell it, and an open one at a close alone
 abbrev pub FitsResult : Type 0 → Option Joined → Status → ℕ → Type 0
 FitsResult closing None status len = closing × (status ≡ FailedToSend) × (len ≡ 0)
-FitsResult closing (Some j) status len =
-    ((status ≡ j.status) × (len ≡ length j.data_)) ⊎ ((status ≡ NoMemory) × (j.status ≡ Completed) × (j.data_ ≢ []) × (len ≡ 0))
+FitsResult closing (Some j) status len = Tells j status len
 
 -- the oldest unfinished request may be finished
 pub record MayFinish (o : Opening) (h : List Entry) (n : ℕ) (status : Status) (len : ℕ) : Type 0 where

@@ -8,7 +8,7 @@ use Rattle.rdm_queue.specs.declared.entry.Call.{Call}
 use Rattle.rdm_queue.specs.declared.entry.Call.TheVariants as calls
 use Rattle.rdm_queue.specs.declared.entry.Opening.{Opening}
 use Rattle.rdm_queue.specs.declared.entry.Entry.{Entry}
-use Rattle.rdm_queue.specs.declared.entry.Entry.TheVariants.{Refuse, Accept, Finish}
+use Rattle.rdm_queue.specs.declared.entry.Entry.TheVariants.{Refuse, Finish}
 use Rattle.rdm_queue.specs.declared.outcome.Completion.{Completion}
 use Rattle.rdm_queue.specs.declared.outcome.Outcome.{Outcome}
 use Rattle.rdm_queue.specs.declared.outcome.Outcome.TheVariants as outcomes
@@ -20,15 +20,6 @@ use Rattle.rdm_queue.specs.declared.fault.SubmitFault.TheVariants as submit_faul
 abbrev pub is_client : ℕ → Option ClientId → Bool
 is_client c None = false
 is_client c (Some d) = c == d.0
-
--- an entry of the client's calls: an Accept, or a Refuse of its submit
-abbrev pub is_call_of : ℕ → Entry → Bool
-is_call_of c (Accept d n request) = c == d.0
-is_call_of c (Refuse d call cause) = is_client c d
-is_call_of c _ = false
-
-abbrev pub calls_of : ℕ → List Entry → List Entry
-calls_of c h = filter (is_call_of c) h
 
 -- a Refuse of the client's call, since the queue is closed
 abbrev pub is_closed_refusal : ℕ → Entry → Bool

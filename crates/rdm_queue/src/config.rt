@@ -4,7 +4,7 @@ use rdm_wire::Uid;
 /// The greatest number of places for all clients together: sixteen clients with 255 each (profile of this project).
 pub const MOST_PLACES: u16 = 4080;
 
-/// How a controller is set up.
+/// How a controller is set up (profile of this project).
 #[derive(Clone, Copy, Debug)]
 pub struct Config {
     /// The controller's own UID, which isn't broadcast.

@@ -44,7 +44,8 @@ impl Controller {
     ghost use Rattle.rdm_queue.specs.Standing.{Owed, finish_of, IsGiven};
     ghost use Rattle.rdm_queue.specs.Stands.{StandsAfter, ForEachLog, GoesOn};
 
-    /// A controller without clients, neither paused nor closed, whose numbers begin at 0.
+    /// A controller without clients, neither paused nor closed, whose numbers begin at 0. Its UID isn't broadcast, there
+    /// are at most [`MOST_PLACES`](crate::MOST_PLACES) places, and the budget is at least 1.
     /// Err: there was no memory.
     pub fn new(alloc: Global, config: Config) -> Result<Controller, NoMemory>
         requires { IsConfig config }

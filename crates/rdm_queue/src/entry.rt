@@ -10,11 +10,11 @@ pub const MOST_CLIENTS: usize = 16;
 /// project).
 pub const NEVER_GIVEN: u64 = u64::MAX;
 
-/// A client, numbered from 0 in the order of joining.
+/// A client, numbered from 0 in the order of joining (profile of this project).
 #[derive(Clone, Copy, Debug, PartialEq, Eq)]
 pub struct ClientId(pub u8);
 
-/// A call that was refused, with what it was given.
+/// A call that was refused, with what it was given (profile of this project).
 #[derive(Debug, Drop)]
 pub enum Call {
     /// A join with so many places.
@@ -23,18 +23,19 @@ pub enum Call {
     Submit(Request),
 }
 
-/// Whose a frame is.
+/// Whose a frame is (profile of this project).
 #[derive(Clone, Copy, Debug, PartialEq, Eq)]
 pub enum Owner {
     /// The request with this number.
     Request(u64),
 }
 
-/// The number of the fault that refused a call, from 1 in the order in which the call's faults are tested.
+/// The number of the fault that refused a call (profile of this project). The faults that leave an entry are numbered
+/// from 1 in the order in which they are tested.
 #[derive(Clone, Copy, Debug, PartialEq, Eq)]
 pub struct Cause(pub u8);
 
-/// One entry of a log.
+/// One entry of a log (profile of this project).
 #[derive(Debug, Drop)]
 pub enum Entry {
     /// A client joined.
@@ -98,7 +99,7 @@ pub enum Entry {
 }
 
 /// What a log stands behind: how the queue stood before its first entry. A number that is "next" is the one that will
-/// be given next.
+/// be given next (profile of this project).
 #[derive(Debug, Drop)]
 pub struct Opening {
     /// The controller's own UID.

@@ -5,7 +5,7 @@ use crate::outcome::Outcome;
 use rdm_join::LineEvent;
 use rdm_wire::{Frame, Request};
 
-/// A call of a session.
+/// A call of a session (profile of this project).
 #[derive(Debug, Drop)]
 pub enum Event {
     /// A client joins, with so many places.
@@ -26,7 +26,7 @@ pub enum Event {
     Collect(ClientId),
 }
 
-/// What a session answers: the result of the call of that name.
+/// What a session answers: the result of the call of that name (profile of this project).
 #[derive(Debug, Drop)]
 pub enum Answer {
     /// The client, or why it may not join.

@@ -1,17 +1,17 @@
 //! Why a call is refused.
 use thiserror::Error;
 
-/// There was no memory, and nothing has changed.
+/// There was no memory, and nothing has changed (profile of this project).
 #[derive(Clone, Copy, Debug, PartialEq, Eq, Error)]
 #[error("no memory")]
 pub struct NoMemory;
 
-/// The log has fewer than three free entries, and nothing has changed.
+/// The log has fewer than three free entries, and nothing has changed (profile of this project).
 #[derive(Clone, Copy, Debug, PartialEq, Eq, Error)]
 #[error("the log is full")]
 pub struct LogFull;
 
-/// No reply is awaited, and nothing has changed.
+/// No reply is awaited, and nothing has changed (profile of this project).
 #[derive(Clone, Copy, Debug, PartialEq, Eq, Error)]
 #[error("no reply is awaited")]
 pub struct NotAsked;
@@ -57,7 +57,7 @@ impl JoinFault {
     ghost use Rattle.std.specs.Prelude.{◌≡◌};
     ghost use Rattle.rdm_queue.specs.Refusals.{number_of_join_fault};
 
-    /// The fault's number, as an entry of the log has it.
+    /// The fault's number, as an entry of the log has it; LogFull's stands in none.
     pub fn number(self) -> u8
         ensures { result ≡ number_of_join_fault self }
     {
@@ -75,7 +75,7 @@ impl SubmitFault {
     ghost use Rattle.std.specs.Prelude.{◌≡◌};
     ghost use Rattle.rdm_queue.specs.Refusals.{number_of_submit_fault};
 
-    /// The fault's number, as an entry of the log has it.
+    /// The fault's number, as an entry of the log has it; LogFull's stands in none.
     pub fn number(self) -> u8
         ensures { result ≡ number_of_submit_fault self }
     {

@@ -1,3 +1,4 @@
+//! Laws of logs, and a sample log that is legal.
 ghost use Rattle.std.specs.Prelude.{◌≡◌, List, [], ◌∷◌, ◌++◌, Some, None, true};
 ghost use Rattle.rdm_wire.specs.Lists.{EachBehind};
 ghost use Rattle.rdm_join.specs.Result.{ended};

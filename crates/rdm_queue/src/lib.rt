@@ -10,7 +10,8 @@
 //!   A close, and the reply behind it, finish all that wait in one pass.
 //! - `join_client` adds up the places of the clients, 16 at most, and reserves the memory for all of them.
 //! - The other calls take constant time. So does each entry of a [`Log`], whose memory is reserved when it is made.
-//! - A [`Session`] copies each request and each frame once, into its log. The joined data of a request are copied once,
+//! - A [`Session`] copies each request and each frame once, into its log; `answer` and `run`, which are lent their events,
+//!   copy each request and each event once more. The joined data of a request are copied once,
 //!   into its outcome.
 //!
 //! Lists for each client will make all of these constant in what others have outstanding.
@@ -36,9 +37,9 @@ pub use broken::{
     wrong_answers, wrong_behind_a_close, wrong_collector, wrong_frames, wrong_order, wrong_parts,
     wrong_refusals, wrong_results,
 };
-pub use config::Config;
+pub use config::{Config, MOST_PLACES};
 pub use controller::Controller;
-pub use entry::{Call, Cause, ClientId, Entry, Opening, Owner};
+pub use entry::{Call, Cause, ClientId, Entry, MOST_CLIENTS, NEVER_GIVEN, Opening, Owner};
 pub use event::{Answer, Event};
 pub use explained::{each_event_is_answered, not_explained, parts_are_joined, sample_is_explained};
 pub use fault::{JoinFault, LogFull, NoMemory, NotAsked, SubmitFault};
@@ -47,7 +48,7 @@ pub use headline::{
     joined_answer, legal_keeps_promises, nothing_after_close,
 };
 pub use laws::{counts_of_a_log, faults_in_order, log_grows, rooms, sample_is_legal};
-pub use log::Log;
+pub use log::{LEAST_FREE, Log, MOST_FREE_ENTRIES};
 pub use outcome::{Completion, Outcome};
 pub use session::Session;
 

@@ -13,7 +13,8 @@ pub const MOST_FREE_ENTRIES: usize = 1_000_000;
 /// How many entries have to be free for each call that a full log refuses (profile of this project).
 pub const LEAST_FREE: usize = 3;
 
-/// The entries of a session, oldest first, and what they stand behind. Its memory is reserved when it is made.
+/// The entries of a session, oldest first, and what they stand behind (profile of this project). Its memory is
+/// reserved when it is made.
 #[derive(Debug, Drop)]
 pub struct Log {
     opening: Opening,

@@ -1,7 +1,7 @@
 //! What a client is given for its calls.
 use rdm_join::{ReplyHead, Status};
 
-/// How a request ended, and what was answered.
+/// How a request ended, and what was answered (profile of this project).
 #[derive(Debug, Drop)]
 pub struct Completion {
     /// How it ended.
@@ -12,12 +12,12 @@ pub struct Completion {
     pub bytes: Vec<u8>,
 }
 
-/// What a client collects.
+/// What a client collects (profile of this project).
 #[derive(Debug, Drop)]
 pub enum Outcome {
     /// A request has ended.
     Request {
-        /// Its number; None for one that was never accepted.
+        /// Its number. A controller gives none without one; None is for a request that was never accepted.
         number: Option<u64>,
         /// How it ended.
         done: Completion,

