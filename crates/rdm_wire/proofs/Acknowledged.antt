@@ -4,8 +4,9 @@ use Rattle.std.specs.Prelude.{◌⊎◌, ◌↔◌, ◌==◌}
 use Rattle.std.proofs.lemmas.Bool.{eq-eqb, eqb-true, and_parts, or_cases, cases_Bool}
 use Rattle.std.proofs.Math.Bool.{or-true}
 use Rattle.hex.specs.Hex.{IsBytes}
-use Rattle.rdm_wire.specs.Packet.{MuteAcked, MuteAckedWith, decoded, code_of_class, code_of_ack, ack_data}
-use Rattle.rdm_wire.specs.Reading.{acks, ack_of, ack_read}
+use Rattle.rdm_wire.specs.MuteAcks.{MuteAcked, MuteAckedWith, ack_data}
+use Rattle.rdm_wire.specs.Responses.{decoded, code_of_class, code_of_ack}
+use Rattle.rdm_wire.specs.Reading.{acks, ack_in_response, ack_read}
 use Rattle.rdm_wire.specs.declared.mute_ack.MuteAck.{MuteAck}
 use Rattle.rdm_wire.specs.declared.response.Response.{Response}
 use Rattle.rdm_wire.specs.declared.response.PacketFault.{PacketFault}
@@ -18,7 +19,7 @@ use Rattle.rdm_wire.proofs.ReadBack.{read_back}
 
 -- bytes that acknowledge a mute are read so, with their data
 pub ack_read-of : (u s n : ℕ) (b : List ℕ) (a : MuteAcked u s n b) → ack_read u s n b ≡ Some (ack_data a.response.param.items)
-ack_read-of u s n b a = ap (ack_of u s n) (decoded-of a.response b a.reads) ∙ ap (λ t. cond t (Some (ack_data a.response.param.items)) None) all
+ack_read-of u s n b a = ap (ack_in_response u s n) (decoded-of a.response b a.reads) ∙ ap (λ t. cond t (Some (ack_data a.response.param.items)) None) all
   where
     size : (length a.response.param.items ≡ 2) ⊎ (length a.response.param.items ≡ 8) → ((length a.response.param.items == 2) || (length a.response.param.items == 8)) ≡ true
     size (inl two) = ap (λ t. t || (length a.response.param.items == 8)) (eq-eqb _ 2 two)
@@ -76,14 +77,14 @@ of-ack_read u s n b ack bytes read = by_result (decoded b) refl read
     same : (a : MuteAck) → Some a ≡ Some ack → a ≡ ack
     same a h = cc
 
-    by_test : (r : Response) → decoded b ≡ Ok r → (acks u s n r ≡ true) ⊎ (acks u s n r ≡ false) → ack_of u s n (Ok r) ≡ Some ack → MuteAckedWith u s n b ack
+    by_test : (r : Response) → decoded b ≡ Ok r → (acks u s n r ≡ true) ⊎ (acks u s n r ≡ false) → ack_in_response u s n (Ok r) ≡ Some ack → MuteAckedWith u s n b ack
     by_test r is (inl all) h = subst (MuteAckedWith u s n b) (same _ (subst (λ t. cond t (Some (ack_data r.param.items)) None ≡ Some ack) all h)) (of_acks u s n b r bytes is all)
     by_test r is (inr not_all) h = absurd (let wrong : None ≡ Some ack = subst (λ t. cond t (Some (ack_data r.param.items)) None ≡ Some ack) not_all h in let never : ⊥ = cc in never)
 
-    by_result : (x : Result Response PacketFault) → decoded b ≡ x → ack_of u s n x ≡ Some ack → MuteAckedWith u s n b ack
+    by_result : (x : Result Response PacketFault) → decoded b ≡ x → ack_in_response u s n x ≡ Some ack → MuteAckedWith u s n b ack
     by_result (Ok r) is h = by_test r is (cases_Bool (acks u s n r)) h
     by_result (Err fault) is h = absurd (let never : ⊥ = cc in never)
 
--- what the bytes are read as is an acknowledgement exactly where they acknowledge the mute, with their data
+-- what the bytes are read as is an acknowledgement exactly when they acknowledge the mute, with their data
 pub acks_exactly : (u s n : ℕ) (b : List ℕ) (x : Option MuteAck) → IsBytes b → x ≡ ack_read u s n b → (ack : MuteAck) → (x ≡ Some ack) ↔ MuteAckedWith u s n b ack
 acks_exactly u s n b x bytes value ack = (λ h. of-ack_read u s n b ack bytes (sym value ∙ h), λ says. value ∙ ack_read-of u s n b says.0 ∙ ap Some (sym says.1))

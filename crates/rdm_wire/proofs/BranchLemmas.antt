@@ -4,7 +4,7 @@ use Rattle.std.specs.Prelude.{◌==◌, bit_and, bit_or}
 use Rattle.std.specs.List.{prefix_len, flat_map}
 use Rattle.std.proofs.lemmas.Bool.{eqb-true, lt-ltb, and_parts, cases_lt}
 use Rattle.hex.specs.Hex.{IsBytes}
-use Rattle.rdm_wire.specs.Reading.{behind_preamble}
+use Rattle.rdm_wire.specs.Reading.{after_preamble}
 use Rattle.rdm_wire.specs.Bytes.{number_of, two_bytes, uid_bytes, checksum}
 use Rattle.rdm_wire.specs.BranchText.{BranchText, branch_text, ands, pair_of}
 use Rattle.rdm_wire.proofs.BytesLemmas.{number_of-uid_bytes, number_of-two_bytes, IsBytes-uid_bytes, IsBytes-two_bytes}
@@ -14,18 +14,18 @@ use Rattle.std.proofs.lemmas.List.{append-nil}
 abbrev pub is_fe : ℕ → Bool
 is_fe byte = byte == 0xfe
 
--- what stands behind a separator
-abbrev pub behind_separator : List ℕ → Option (List ℕ)
-behind_separator [] = None
-behind_separator (x ∷ xs) = cond (x == 0xaa) (Some xs) None
+-- what stands after a separator
+abbrev pub after_separator : List ℕ → Option (List ℕ)
+after_separator [] = None
+after_separator (x ∷ xs) = cond (x == 0xaa) (Some xs) None
 
 -- a preamble that is too long isn't taken off
-pub preamble_too_long : (n : ℕ) (b : List ℕ) → n < prefix_len is_fe b → behind_preamble n b ≡ None
+pub preamble_too_long : (n : ℕ) (b : List ℕ) → n < prefix_len is_fe b → after_preamble n b ≡ None
 preamble_too_long n [] h = refl
 preamble_too_long n (x ∷ xs) h = of_byte n (is_fe x) refl h (λ m more. preamble_too_long m xs more)
   where
     of_byte : (n : ℕ) (fe : Bool) → is_fe x ≡ fe → n < cond fe (1 + prefix_len is_fe xs) 0
-        → ((m : ℕ) → m < prefix_len is_fe xs → behind_preamble m xs ≡ None) → behind_preamble n (x ∷ xs) ≡ None
+        → ((m : ℕ) → m < prefix_len is_fe xs → after_preamble m xs ≡ None) → after_preamble n (x ∷ xs) ≡ None
     of_byte n false is h rest = absurd (omega arith)
     of_byte zero true is h rest = rw (eqb-true x 0xfe is) refl
     of_byte (suc m) true is h rest =
@@ -33,14 +33,14 @@ preamble_too_long n (x ∷ xs) h = of_byte n (is_fe x) refl h (λ m more. preamb
         rw (eqb-true x 0xfe is, lt-ltb 0 (suc m) (omega arith), one_less) (rest m (omega arith))
 
 -- a short one is, and then the separator
-pub behind_preamble-short : (n : ℕ) (b : List ℕ) → prefix_len is_fe b ≤ n
-    → behind_preamble n b ≡ behind_separator (drop (prefix_len is_fe b) b)
-behind_preamble-short n [] h = refl
-behind_preamble-short n (x ∷ xs) h = of_byte n (is_fe x) refl h (λ m short. behind_preamble-short m xs short)
+pub after_preamble-short : (n : ℕ) (b : List ℕ) → prefix_len is_fe b ≤ n
+    → after_preamble n b ≡ after_separator (drop (prefix_len is_fe b) b)
+after_preamble-short n [] h = refl
+after_preamble-short n (x ∷ xs) h = of_byte n (is_fe x) refl h (λ m short. after_preamble-short m xs short)
   where
     of_byte : (n : ℕ) (fe : Bool) → is_fe x ≡ fe → cond fe (1 + prefix_len is_fe xs) 0 ≤ n
-        → ((m : ℕ) → prefix_len is_fe xs ≤ m → behind_preamble m xs ≡ behind_separator (drop (prefix_len is_fe xs) xs))
-        → behind_preamble n (x ∷ xs) ≡ behind_separator (drop (cond fe (1 + prefix_len is_fe xs) 0) (x ∷ xs))
+        → ((m : ℕ) → prefix_len is_fe xs ≤ m → after_preamble m xs ≡ after_separator (drop (prefix_len is_fe xs) xs))
+        → after_preamble n (x ∷ xs) ≡ after_separator (drop (cond fe (1 + prefix_len is_fe xs) 0) (x ∷ xs))
     of_byte n false is h rest = rw is refl
     of_byte zero true is h rest = absurd (omega arith)
     of_byte (suc m) true is h rest =

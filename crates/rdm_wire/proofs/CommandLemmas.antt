@@ -1,7 +1,8 @@
 -- Two commands never have one frame.
 use Rattle.std.proofs.Common.{◌≡◌, ℕ, ◌<◌, ◌^◌, List, ◌++◌, take, drop, refl, sym, ap, ◌∙◌, arith}
 use Rattle.rdm_wire.specs.Bytes.{number_of, uid_bytes}
-use Rattle.rdm_wire.specs.Packet.{code_of_request_class, fields_at}
+use Rattle.rdm_wire.specs.CommandFrames.{code_of_request_class}
+use Rattle.rdm_wire.specs.Packet.{fields_at}
 use Rattle.rdm_wire.specs.Commands.{Command, command_fields, command_frame, CanSend, HasUids}
 use Rattle.rdm_wire.specs.Commands.Command.{Unmute, Branch, Mute, GetOrSet}
 use Rattle.rdm_wire.specs.declared.request.Request.{Request}

@@ -3,7 +3,8 @@ use Rattle.std.proofs.Common.{◌≡◌, ℕ, ◌+◌, ◌-◌, ◌≤◌, Bool,
 use Rattle.std.specs.Prelude.{slice_index}
 use Rattle.std.proofs.lemmas.Bool.{eq-eqb, le-ltb}
 use Rattle.rdm_wire.specs.Bytes.{number_at, checksum}
-use Rattle.rdm_wire.specs.Packet.{Fields, Fits, Reads, decoded, response_of, response_at, fields_of, packet, class_of_code, ack_of_code, code_of_class, code_of_ack}
+use Rattle.rdm_wire.specs.Packet.{Fields, Fits, packet}
+use Rattle.rdm_wire.specs.Responses.{Reads, decoded, response_of, response_at, fields_of, class_of_code, ack_of_code, code_of_class, code_of_ack}
 use Rattle.rdm_wire.specs.declared.response.Response.{Response}
 use Rattle.rdm_wire.specs.declared.response.RespClass.{RespClass}
 use Rattle.rdm_wire.specs.declared.response.RespClass.TheVariants as responses

@@ -1,7 +1,7 @@
 pub mod BytesLemmas
 pub mod UidLemmas
 pub mod BranchLemmas
-pub mod EachBehindLemmas
+pub mod EachAfterLemmas
 pub mod Text
 pub mod OffsetLemmas
 pub mod PacketLemmas
@@ -10,3 +10,8 @@ pub mod CommandLemmas
 pub mod ReadBack
 pub mod Acknowledged
 pub mod SetLemmas
+pub mod CommandReads
+pub mod CommandAsks
+pub mod DeviceLemmas
+pub mod HonestOverLemmas
+pub mod SampleLineLemmas

@@ -1,12 +1,18 @@
 -- Bytes at an offset, as the numbers that they spell.
-use Rattle.std.proofs.Common.{drop-cons, ◌≡◌, ℕ, ◌+◌, ◌^◌, ◌<◌, ◌≤◌, List, [], ◌∷◌, ◌++◌, length, take, drop, ap, ◌∙◌, arith}
+use Rattle.std.proofs.Common.{drop-cons, ◌≡◌, ℕ, zero, suc, ◌+◌, ◌^◌, ◌<◌, ◌≤◌, List, [], ◌∷◌, ◌++◌, length, take, drop, ap, ◌∙◌, arith}
 use Rattle.std.specs.Prelude.{slice_index}
 use Rattle.std.proofs.lemmas.List.{get_or-drop, drop-drop, length-drop}
 use Rattle.hex.specs.Hex.{IsBytes}
 use Rattle.rdm_wire.specs.Bytes.{number_of, two_bytes, uid_bytes}
 
-IsBytes-drop : (n : ℕ) (xs : List ℕ) → IsBytes xs → IsBytes (drop n xs)
+pub IsBytes-drop : (n : ℕ) (xs : List ℕ) → IsBytes xs → IsBytes (drop n xs)
 IsBytes-drop n xs bytes i = rw get_or-drop (bytes (n + i))
+
+pub IsBytes-take : (n : ℕ) (xs : List ℕ) → IsBytes xs → IsBytes (take n xs)
+IsBytes-take zero xs bytes i = omega arith
+IsBytes-take (suc n) [] bytes i = omega arith
+IsBytes-take (suc n) (x ∷ xs) bytes zero = bytes 0
+IsBytes-take (suc n) (x ∷ xs) bytes (suc i) = IsBytes-take n xs (λ j. bytes (suc j)) i
 
 abbrev pub one_byte : ℕ → List ℕ
 one_byte n = n ∷ []
@@ -51,7 +57,7 @@ uid_first : (xs : List ℕ) → IsBytes xs → 6 ≤ length xs → Begins 6 uid_
 uid_first (a ∷ b ∷ c ∷ d ∷ e ∷ f ∷ rest) bytes long = uid_of a b c d e f rest (bytes 0) (bytes 1) (bytes 2) (bytes 3) (bytes 4) (bytes 5)
 uid_first xs bytes long = absurd (omega arith)
 
--- what stands first behind an offset stands there
+-- what stands first after an offset stands there
 at_offset : (at size : ℕ) (written : ℕ → List ℕ) (b : List ℕ) → Begins size written (drop at b) → IsWrittenAt at size written b
 at_offset at size written b first = record {
   bytes = first.bytes ∙ ap (λ l. written (number_of (take size (drop at b))) ++ l) (drop-drop size at b);

@@ -1,4 +1,4 @@
--- A packet, with any bytes behind it.
+-- A packet, with any bytes after it.
 use Rattle.std.proofs.Common.{◌≡◌, ℕ, ◌+◌, ◌-◌, List, [], ◌++◌, length, take, drop, refl, sym, ap, ◌∙◌, subst, append_assoc, append-nil, length-append, arith}
 use Rattle.std.specs.Prelude.{slice_range}
 use Rattle.std.proofs.Math.Seq.{drop-append_seam, take-append_seam}
@@ -16,17 +16,17 @@ whole f rest = append_assoc (body_of f) (two_bytes (checksum (body_of f))) rest
 pub front : (f : Fields) (rest : List ℕ) → take (24 + length f.param) (packet f ++ rest) ≡ body_of f
 front f rest = subst (λ (n : ℕ). take n (packet f ++ rest) ≡ body_of f) (body_length f) (ap (take (length (body_of f))) (whole f rest) ∙ take-append_seam (body_of f) (two_bytes (checksum (body_of f)) ++ rest))
 
-pub behind : (f : Fields) (rest : List ℕ) → drop (24 + length f.param) (packet f ++ rest) ≡ two_bytes (checksum (body_of f)) ++ rest
-behind f rest = subst (λ (n : ℕ). drop n (packet f ++ rest) ≡ two_bytes (checksum (body_of f)) ++ rest) (body_length f) (ap (drop (length (body_of f))) (whole f rest) ∙ drop-append_seam (body_of f) (two_bytes (checksum (body_of f)) ++ rest))
+pub after : (f : Fields) (rest : List ℕ) → drop (24 + length f.param) (packet f ++ rest) ≡ two_bytes (checksum (body_of f)) ++ rest
+after f rest = subst (λ (n : ℕ). drop n (packet f ++ rest) ≡ two_bytes (checksum (body_of f)) ++ rest) (body_length f) (ap (drop (length (body_of f))) (whole f rest) ∙ drop-append_seam (body_of f) (two_bytes (checksum (body_of f)) ++ rest))
 
--- the sum stands behind the body
+-- the sum stands after the body
 pub sum_at : (f : Fields) (rest : List ℕ) → number_at (24 + length f.param) 2 (packet f ++ rest) ≡ checksum (body_of f)
-sum_at f rest = ap (λ l. number_of (take (24 + length f.param + 2 - (24 + length f.param)) l)) (behind f rest) ∙ two_of (checksum (body_of f)) (24 + length f.param + 2 - (24 + length f.param)) (omega arith) ∙ number_of-two_bytes (checksum (body_of f)) (omega arith)
+sum_at f rest = ap (λ l. number_of (take (24 + length f.param + 2 - (24 + length f.param)) l)) (after f rest) ∙ two_of (checksum (body_of f)) (24 + length f.param + 2 - (24 + length f.param)) (omega arith) ∙ number_of-two_bytes (checksum (body_of f)) (omega arith)
   where
     two_of : (c n : ℕ) → n ≡ 2 → number_of (take n (two_bytes c ++ rest)) ≡ number_of (two_bytes c)
     two_of c n h = rw h refl
 
--- the data stand behind the header
+-- the data stand after the header
 pub param_at : (f : Fields) (rest : List ℕ) → slice_range (packet f ++ rest) 24 (24 + length f.param) ≡ f.param
 param_at f rest = counted (24 + length f.param - 24) (omega arith)
   where

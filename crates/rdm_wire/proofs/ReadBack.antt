@@ -6,7 +6,8 @@ use Rattle.std.proofs.lemmas.List.{drop-drop, length-drop, take-append-drop, len
 use Rattle.std.proofs.Math.Seq.{take-append_seam}
 use Rattle.hex.specs.Hex.{IsBytes}
 use Rattle.rdm_wire.specs.Bytes.{number_of, number_at, checksum, two_bytes, uid_bytes}
-use Rattle.rdm_wire.specs.Packet.{Fields, Fits, Reads, decoded, response_of, response_at, fields_at, fields_of, packet, body_of, header_of, class_of_code, ack_of_code, code_of_class, code_of_ack}
+use Rattle.rdm_wire.specs.Packet.{Fields, Fits, fields_at, packet, body_of, header_of}
+use Rattle.rdm_wire.specs.Responses.{Reads, decoded, response_of, response_at, fields_of, class_of_code, ack_of_code, code_of_class, code_of_ack}
 use Rattle.rdm_wire.specs.declared.response.Response.{Response}
 use Rattle.rdm_wire.specs.declared.response.RespClass.{RespClass}
 use Rattle.rdm_wire.specs.declared.response.RespClass.TheVariants as responses
@@ -62,7 +63,7 @@ code_of-ack code ack h = elim (by_code code 0 _ _ _ h) [
     is : (k : ℕ) (chosen : AckType) → code_of_ack chosen ≡ k → (code ≡ k) × (chosen ≡ ack) → code_of_ack ack ≡ code
     is k chosen e h = sym (ap code_of_ack h.1) ∙ e ∙ sym h.0
 
--- where a fault doesn't hold, what stands behind it decides
+-- where a fault doesn't hold, what stands after it decides
 fault_is_not : (r : Response) (a : Bool) (e : PacketFault) (rest : Result Response PacketFault) → cond a (Err e) rest ≡ Ok r → (a ≡ false) × (rest ≡ Ok r)
 fault_is_not r true e rest h = absurd (let wrong : ⊥ = cc in wrong)
 fault_is_not r false e rest h = (refl, h)
@@ -120,12 +121,12 @@ joined b t1 t2 t3 t9 t15 t16 t17 t18 t20 t21 t23 t24 l dest source tn port count
     rw (h0, h1, h2, h3, h9, h15, h16, h17, h18, h20, h21, h23) refl
 
 -- the fields at the offsets are in range, and the packet's header and data stand there
-record HasBody (b : List ℕ) : Type 0 where
-  fits : Fits (fields_at b)
-  size : length (fields_at b).param ≡ slice_index b 23
-  body : b ≡ body_of (fields_at b) ++ drop (24 + slice_index b 23) b
+pub record HasBody (b : List ℕ) : Type 0 where
+  pub fits : Fits (fields_at b)
+  pub size : length (fields_at b).param ≡ slice_index b 23
+  pub body : b ≡ body_of (fields_at b) ++ drop (24 + slice_index b 23) b
 
-has_body : (b : List ℕ) → IsBytes b → slice_index b 0 ≡ 0xcc → slice_index b 1 ≡ 0x01 → slice_index b 2 ≡ 24 + slice_index b 23 → 24 + slice_index b 23 ≤ length b → HasBody b
+pub has_body : (b : List ℕ) → IsBytes b → slice_index b 0 ≡ 0xcc → slice_index b 1 ≡ 0x01 → slice_index b 2 ≡ 24 + slice_index b 23 → 24 + slice_index b 23 ≤ length b → HasBody b
 has_body b bytes start sub_start len long = record {
   fits = record {
     dest = (uid_at 3 b bytes (omega arith)).below;
@@ -208,6 +209,6 @@ read_back b r bytes h = subst (λ (f : Fields). Fits f × (rest : List ℕ) × (
     fields : fields_of r ≡ fields_at b
     fields = ap fields_of at_offsets.is ∙ fields_are b r.class r.ack (omega (arith, d.form.long)) (code_of-class _ r.class at_offsets.class_is) (code_of-ack _ r.ack at_offsets.ack_is)
 
--- a result that is what the bytes decode to is a response exactly where they begin with its packet
+-- a result that is what the bytes decode to is a response exactly when they begin with its packet
 pub reads_exactly : (b : List ℕ) (x : Result Response PacketFault) → IsBytes b → x ≡ decoded b → (r : Response) → (x ≡ Ok r) ↔ Reads r b
 reads_exactly b x bytes value r = (λ h. read_back b r bytes (sym value ∙ h), λ h. value ∙ decoded-of r b h)

@@ -9,8 +9,8 @@ use Rattle.std.proofs.lemmas.List.Sorted.{searched}
 use Rattle.std.proofs.lemmas.Bool.{cases_order, eqb-false, eq-eqb, ne_eqb, lt-ltb, le-ltb, ltb-true, ltb-false}
 use Rattle.rdm_wire.specs.Uid.{has, IsAscending, IsDevice, IsDeviceSet, with_uid}
 
--- each is below those behind it
-above-at : (u : ℕ) (us : List ℕ) (j : ℕ) → AllByRecursion (λ v. u < v) us → j < length us → u < get_or us j 0
+-- each is below those after it
+pub above-at : (u : ℕ) (us : List ℕ) (j : ℕ) → AllByRecursion (λ v. u < v) us → j < length us → u < get_or us j 0
 above-at u [] j all p = absurd (omega arith)
 above-at u (v ∷ us) zero all p = all.0
 above-at u (v ∷ us) (suc j) all p = above-at u us j all.1 (omega arith)
@@ -28,14 +28,14 @@ pub record IsPlace (us : List ℕ) (u i : ℕ) : Type 0 where
   pub below : (k : ℕ) → k < i → get_or us k 0 < u
   pub above : (k : ℕ) → i ≤ k → k < length us → u < get_or us k 0
 
-place-rest : (u v : ℕ) (us : List ℕ) (i : ℕ) → IsPlace (v ∷ us) u (suc i) → IsPlace us u i
+pub place-rest : (u v : ℕ) (us : List ℕ) (i : ℕ) → IsPlace (v ∷ us) u (suc i) → IsPlace us u i
 place-rest u v us i place = record {
   within = let p : suc i ≤ suc (length us) = place.within in omega arith;
   below = λ k p. place.below (suc k) (omega arith);
   above = λ k p q. place.above (suc k) (omega arith) (omega arith);
 }
 
-place-first : (u v : ℕ) (us : List ℕ) → IsPlace (v ∷ us) u zero → IsPlace us u zero
+pub place-first : (u v : ℕ) (us : List ℕ) → IsPlace (v ∷ us) u zero → IsPlace us u zero
 place-first u v us place = record {
   within = omega arith;
   below = λ k p. absurd (omega arith);
@@ -60,22 +60,23 @@ with_uid-insert u (v ∷ us) (suc i) place =
     let p : v < u = place.below 0 (omega arith) in
     rw (le-ltb u v (omega arith), ne_eqb u v (omega arith)) (ap (λ l. v ∷ l) (with_uid-insert u us i (place-rest u v us i place)))
 
+-- what is below the first stands before it
+pub place-before : (u : ℕ) (v : ℕ) (vs : List ℕ) → IsAscending (v ∷ vs) → u < v → IsPlace (v ∷ vs) u zero
+place-before u v vs a less = record {
+  within = omega arith;
+  below = λ k p. absurd (omega arith);
+  above = λ k p q. let least : v ≤ get_or (v ∷ vs) k 0 = ascending-at (v ∷ vs) a 0 k (omega arith) q in omega arith;
+}
+
 -- a set isn't changed by a UID that is in it
 pub with_uid-present : (u : ℕ) (us : List ℕ) → IsAscending us → has us u ≡ true → with_uid u us ≡ us
 with_uid-present u [] a h = absurd (true≢false (sym h))
 with_uid-present u (v ∷ us) a h =
     elim (cases_order u v) [
       | inl same ↦ rw (le-ltb u v (omega arith), eq-eqb u v same) refl
-      | inr (inl less) ↦ absurd (true≢false (sym h ∙ has-at_place u (v ∷ us) zero (before less)))
+      | inr (inl less) ↦ absurd (true≢false (sym h ∙ has-at_place u (v ∷ us) zero (place-before u v us a less)))
       | inr (inr more) ↦ rw (le-ltb u v (omega arith), ne_eqb u v (omega arith)) (ap (λ l. v ∷ l) (with_uid-present u us a.1 (rw (ne_eqb u v (omega arith)) at h)))
     ]
-  where
-    before : u < v → IsPlace (v ∷ us) u zero
-    before less = record {
-      within = omega arith;
-      below = λ k p. absurd (omega arith);
-      above = λ k p q. let least : v ≤ get_or (v ∷ us) k 0 = ascending-at (v ∷ us) a 0 k (omega arith) q in omega arith;
-    }
 
 -- what holds of all and of u holds of all with u
 pub all-with_uid : (P : ℕ → Type 0) (u : ℕ) (us : List ℕ) → P u → AllByRecursion P us → AllByRecursion P (with_uid u us)

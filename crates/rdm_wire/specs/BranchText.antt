@@ -35,7 +35,8 @@ pair_of b = bit_or b 0xaa ∷ bit_or b 0x55 ∷ []
 
 -- the text of u that a device sends
 abbrev pub branch_text : ℕ → ℕ → List ℕ
-branch_text u preamble = replicate preamble 0xfe ++ 0xaa ∷ coded_uid ++ flat_map pair_of (two_bytes (checksum coded_uid))
+branch_text u preamble =
+    replicate preamble 0xfe ++ 0xaa ∷ coded_uid ++ flat_map pair_of (two_bytes (checksum coded_uid))
   where
     coded_uid : List ℕ
     coded_uid = flat_map pair_of (uid_bytes u)

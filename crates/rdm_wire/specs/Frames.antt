@@ -1,7 +1,8 @@
 -- How frames and bytes are seen: what they ask, and what was heard.
 use Rattle.std.specs.Prelude.{ℕ, List, [], ◌∷◌, Option, Some, None, bytes_eq, if◌then◌else◌}
 use Rattle.rdm_wire.specs.Bytes.{number_at}
-use Rattle.rdm_wire.specs.Packet.{Fields, fields_at, branch_frame, mute_frame, unmute_frame}
+use Rattle.rdm_wire.specs.Packet.{Fields, fields_at}
+use Rattle.rdm_wire.specs.CommandFrames.{branch_frame, mute_frame, unmute_frame}
 use Rattle.rdm_wire.specs.Reading.{text_read, ack_read}
 use Rattle.rdm_wire.specs.declared.mute_ack.MuteAck.{MuteAck}
 use Rattle.rdm_wire.specs.Honest.{Asked, Heard, Seen}
@@ -21,7 +22,8 @@ upper_bound f = number_at 6 6 f.param
 abbrev pub asked_with : List ℕ → Fields → Asked
 asked_with frame f =
     if bytes_eq frame (unmute_frame f.source f.tn) then Unmute
-    else (if bytes_eq frame (branch_frame (lower_bound f) (upper_bound f) f.source f.tn) then Branch (lower_bound f) (upper_bound f)
+    else (if bytes_eq frame (branch_frame (lower_bound f) (upper_bound f) f.source f.tn)
+    then Branch (lower_bound f) (upper_bound f)
     else (if bytes_eq frame (mute_frame f.dest f.source f.tn) then Mute f.dest else Other))
 
 -- what a frame asks
@@ -36,7 +38,7 @@ abbrev pub acked_or_noise : Option MuteAck → Heard
 acked_or_noise None = Noise
 acked_or_noise (Some ack) = Acked ack
 
--- how bytes are heard behind a frame of this source and number that asked this
+-- how bytes are heard after a frame of this source and number that asked this
 abbrev pub heard_bytes : ℕ → ℕ → Asked → List ℕ → Heard
 heard_bytes s tn asked [] = Silent
 heard_bytes s tn (Branch lo hi) (b ∷ bs) = one_or_noise (text_read (b ∷ bs))
@@ -50,5 +52,5 @@ heard_in frame None = Failed
 heard_in frame (Some bytes) = heard_bytes (fields_at frame).source (fields_at frame).tn (asked_in frame) bytes
 
 -- a frame and its answer, as an exchange
-abbrev pub seen : List ℕ → Option (List ℕ) → Seen
-seen frame answer = record { asked = asked_in frame; heard = heard_in frame answer }
+abbrev pub seen_exchange : List ℕ → Option (List ℕ) → Seen
+seen_exchange frame answer = record { asked = asked_in frame; heard = heard_in frame answer }

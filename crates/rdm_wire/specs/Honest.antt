@@ -1,6 +1,7 @@
 -- The honest line, over what was asked and what was heard: once for frames and bytes, and for the agent's
 -- operations and replies.
-use Rattle.std.specs.Prelude.{◌≡◌, ◌⊎◌, ℕ, ◌+◌, ◌≤◌, Bool, true, false, ◌&&◌, not, List, [], ◌∷◌, ◌==◌, filter, if◌then◌else◌, MatchBool}
+use Rattle.std.specs.Prelude.{◌≡◌, ◌⊎◌, ℕ, ◌+◌, ◌≤◌, Bool, true, false, ◌&&◌, not, List, [], ◌∷◌, ◌==◌, filter}
+use Rattle.std.specs.Prelude.{if◌then◌else◌, MatchBool}
 use Rattle.rdm_wire.specs.Uid.{has, is_within, IsDeviceSet}
 use Rattle.rdm_wire.specs.declared.mute_ack.MuteAck.{MuteAck}
 
@@ -72,7 +73,7 @@ MuteMoves u old heard new =
     ((is_acked heard ≡ true) × (new.muted u ≡ true) × Counts new 0 0 0)
     ⊎ ((heard ≡ Silent) × ((new.muted u ≡ true) ⊎ KeepsMuted u old new) × Counts new 0 (old.lost_mutes + 1) 0)
 
--- an unmute doesn't mute u; the third in succession, and each behind it, leaves it unmuted
+-- an unmute doesn't mute u; the third in succession, and each after it, leaves it unmuted
 pub record UnmuteMoves (u : ℕ) (old new : LineState) : Type 0 where
   pub fewer : new.muted u ≡ true → old.muted u ≡ true
   pub third : 3 ≤ old.unmutes + 1 → new.muted u ≡ false
@@ -85,7 +86,9 @@ HonestStep present old (Branch lo hi) heard new =
     × Counts new (lost_after (due_in present old.muted lo hi) heard old.lost_branches) 0 0
 HonestStep present old (Mute u) heard new =
     ((v : ℕ) → (u == v) ≡ false → KeepsMuted v old new)
-    × MatchBool (has present u) (MuteMoves u old heard new) ((heard ≡ Silent) × KeepsMuted u old new × Counts new 0 0 0)
+    × MatchBool (has present u)
+    (MuteMoves u old heard new)
+    ((heard ≡ Silent) × KeepsMuted u old new × Counts new 0 0 0)
 HonestStep present old Unmute heard new = ((u : ℕ) → UnmuteMoves u old new) × Counts new 0 0 (old.unmutes + 1)
 HonestStep present old Other heard new = ((u : ℕ) → KeepsMuted u old new) × Counts new 0 0 0
 
@@ -93,7 +96,8 @@ HonestStep present old Other heard new = ((u : ℕ) → KeepsMuted u old new) ×
 abbrev pub HonestToStep : ℕ → LineState → Asked → Heard → LineState → Type 0
 HonestToStep u old (Branch lo hi) heard new =
     KeepsMuted u old new × Counts new (lost_after (due_in (u ∷ []) old.muted lo hi) heard old.lost_branches) 0 0
-HonestToStep u old (Mute v) heard new = MatchBool (u == v) (MuteMoves u old heard new) (KeepsMuted u old new × Counts new 0 0 0)
+HonestToStep u old (Mute v) heard new =
+    MatchBool (u == v) (MuteMoves u old heard new) (KeepsMuted u old new × Counts new 0 0 0)
 HonestToStep u old Unmute heard new = UnmuteMoves u old new × Counts new 0 0 (old.unmutes + 1)
 HonestToStep u old Other heard new = KeepsMuted u old new × Counts new 0 0 0
 

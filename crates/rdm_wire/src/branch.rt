@@ -3,7 +3,7 @@ ghost use Rattle.std.specs.Prelude.{◌≡◌, ◌↔◌, ◌≤◌, ◌*◌, �
 ghost use Rattle.std.specs.List.{flat_map, prefix_len};
 ghost use Rattle.arrayvec.specs.ArrayVec.{array_vec_len};
 ghost use Rattle.rdm_wire.specs.BranchText.{BranchText, ReadsAs, branch_text, pair_of, ands as ands_of};
-ghost use Rattle.rdm_wire.specs.Reading.{text_read, behind_preamble as behind_preamble_of, uid_of_coded};
+ghost use Rattle.rdm_wire.specs.Reading.{text_read, after_preamble as after_preamble_of, uid_of_coded};
 
 use crate::checksum::checksum;
 use crate::uid::Uid;
@@ -42,7 +42,7 @@ const ENCODED_UID_LEN: usize = 12;
 
 const ENCODED_CHECKSUM_LEN: usize = 4;
 
-/// What the bytes that answered a branch say (E1.20, discovery unique branch). Bytes behind a device's text are
+/// What the bytes that answered a branch say (E1.20, discovery unique branch). Bytes after a device's text are
 /// ignored.
 pub fn read_branch_reply(bytes: &[u8]) -> BranchReply
     ensures one { (u : ℕ) → (result ≡ BranchReply.One u) ↔ BranchText bytes.now u }
@@ -62,13 +62,13 @@ pub fn read_branch_reply(bytes: &[u8]) -> BranchReply
 fn uid_of_text(bytes: &[u8]) -> Option<Uid>
     ensures { result ≡ text_read bytes.now }
 {
-    uid_of_encoded(behind_preamble(bytes)?)
+    uid_of_encoded(after_preamble(bytes)?)
 }
 
-// What stands behind the preamble and the separator.
-fn behind_preamble(bytes: &[u8]) -> Option<&[u8]>
-    ensures { MatchOption result (behind_preamble_of LONGEST_PREAMBLE bytes.now ≡ None)
-        (λ rest. behind_preamble_of LONGEST_PREAMBLE bytes.now ≡ Some rest.now) }
+// What stands after the preamble and the separator.
+fn after_preamble(bytes: &[u8]) -> Option<&[u8]>
+    ensures { MatchOption result (after_preamble_of LONGEST_PREAMBLE bytes.now ≡ None)
+        (λ rest. after_preamble_of LONGEST_PREAMBLE bytes.now ≡ Some rest.now) }
 {
     let preamble = preamble_len(bytes);
     if preamble > usize::from(LONGEST_PREAMBLE) {
@@ -90,7 +90,7 @@ fn preamble_len(bytes: &[u8]) -> usize
     bytes.iter().take_while(|byte| **byte == PREAMBLE).count()
 }
 
-// The UID that encoded bytes give, if the checksum behind it is their sum as received.
+// The UID that encoded bytes give, if the checksum after it is their sum as received.
 fn uid_of_encoded(encoded: &[u8]) -> Option<Uid>
     ensures { result ≡ uid_of_coded encoded.now }
 {
@@ -114,7 +114,7 @@ fn ands<const N: usize>(pairs: &[u8]) -> [u8; N]
     bytes
 }
 
-/// The reply of the device `uid` to a branch, behind a preamble of 0 to [`LONGEST_PREAMBLE`] bytes (E1.20,
+/// The reply of the device `uid` to a branch, after a preamble of 0 to [`LONGEST_PREAMBLE`] bytes (E1.20,
 /// discovery unique branch).
 pub fn write_branch_reply(uid: Uid, preamble: u8) -> ArrayVec<u8, LONGEST_BRANCH_REPLY>
     requires { preamble ≤ LONGEST_PREAMBLE }

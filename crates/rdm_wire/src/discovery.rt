@@ -3,21 +3,22 @@ ghost use Rattle.std.specs.Prelude.{◌≡◌, ◌++◌, ℕ, List, false};
 ghost use Rattle.rdm_wire.specs.Uid.{is_broadcast};
 ghost use Rattle.rdm_wire.specs.Bytes.{uid_bytes};
 ghost use Rattle.rdm_wire.specs.Header.{header_fields};
-ghost use Rattle.rdm_wire.specs.Packet.{Packet, branch_frame, mute_frame, unmute_frame};
-ghost use Rattle.rdm_wire.specs.Packet.{discovery_fields, branch_fields, mute_fields, unmute_fields};
+ghost use Rattle.rdm_wire.specs.Packet.{Packet};
+ghost use Rattle.rdm_wire.specs.CommandFrames.{branch_frame, mute_frame, unmute_frame};
+ghost use Rattle.rdm_wire.specs.CommandFrames.{discovery_fields, branch_fields, mute_fields, unmute_fields};
 
 use crate::frame::{Frame, Header, NO_MESSAGES, PORT_ID, class};
 use crate::uid::Uid;
 use crate::uid_range::UidRange;
 
 /// The parameter of a branch (E1.20, DISC_UNIQUE_BRANCH).
-const DISC_UNIQUE_BRANCH: u16 = 0x0001;
+pub(crate) const DISC_UNIQUE_BRANCH: u16 = 0x0001;
 
 /// The parameter of a mute (E1.20, DISC_MUTE).
 pub(crate) const DISC_MUTE: u16 = 0x0002;
 
 /// The parameter of an unmute (E1.20, DISC_UN_MUTE).
-const DISC_UN_MUTE: u16 = 0x0003;
+pub(crate) const DISC_UN_MUTE: u16 = 0x0003;
 
 // Discovery addresses no sub-device.
 const ROOT_DEVICE: u16 = 0;

@@ -58,7 +58,7 @@ pub(crate) mod offset {
     pub(crate) const COMMAND_CLASS: usize = 20;
     /// The parameter's identifier: 2 bytes.
     pub(crate) const PID: usize = 21;
-    /// The parameter data's length: 1 byte, behind which the data stand.
+    /// The parameter data's length: 1 byte, after which the data stand.
     pub(crate) const PDL: usize = 23;
 }
 

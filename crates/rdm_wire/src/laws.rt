@@ -1,15 +1,38 @@
 //! Laws of bytes, each the contract of a function that does nothing. The definitions stand in `specs`.
-ghost use Rattle.std.specs.Prelude.{◌≡◌, ℕ, List, Some, Ok, ◌++◌};
+ghost use Rattle.std.specs.Prelude.{◌≡◌, ◌≢◌, ◌↔◌, ℕ, List, [], ◌∷◌, Some, Ok, ◌++◌, length, replicate};
 ghost use Rattle.hex.specs.Hex.{IsBytes};
 ghost use Rattle.rdm_wire.specs.BranchText.{BranchText};
 ghost use Rattle.rdm_wire.specs.Reading.{text_read, ack_read};
 ghost use Rattle.rdm_wire.specs.declared.response.Response.{Response};
 ghost use Rattle.rdm_wire.specs.Frames.{asked_in};
-ghost use Rattle.rdm_wire.specs.Commands.{Command, CanSend, command_frame};
+ghost use Rattle.rdm_wire.specs.Commands.{Command, CanSend, command_frame, Writes, command_read, AsksSo};
+ghost use Rattle.rdm_wire.specs.declared.command.Command as read;
+ghost use Rattle.rdm_wire.specs.Uid.{IsDeviceSet};
+ghost use Rattle.rdm_wire.specs.Honest.{Seen, HonestTrace};
+ghost use Rattle.rdm_wire.specs.HonestOver.{HonestOver};
+ghost use Rattle.rdm_wire.specs.Honest.Heard.{Failed, One, Noise};
+ghost use Rattle.rdm_wire.specs.SampleLines.{first_device, one_there, two_there, asked_all};
 ghost use Rattle.rdm_wire.specs.Honest.Asked.{Unmute, Branch, Mute, Other};
-ghost use Rattle.rdm_wire.specs.Packet.{Fields, Fits, fields_at, packet, unmute_frame, branch_frame, mute_frame};
-ghost use Rattle.rdm_wire.specs.Packet.{Reads, MuteAcked, decoded, ack_data};
+ghost use Rattle.rdm_wire.specs.Packet.{Fields, Fits, fields_at, packet};
+ghost use Rattle.rdm_wire.specs.CommandFrames.{unmute_frame, branch_frame, mute_frame};
+ghost use Rattle.rdm_wire.specs.Responses.{Reads, decoded};
+ghost use Rattle.rdm_wire.specs.MuteAcks.{MuteAcked, ack_data};
 ghost use Rattle.rdm_wire.specs.SampleFrames.{frame_with_wrong_sum};
+
+use crate::branch::{LONGEST_BRANCH_REPLY, LONGEST_PREAMBLE};
+use crate::frame::{MOST_FRAME_BYTES, MOST_PARAMETER_BYTES};
+use crate::request::QUEUED_MESSAGE;
+use crate::uid_set::MOST_DEVICES;
+
+/// The numbers of this crate that others build on.
+pub fn limits_are()
+    ensures devices { MOST_DEVICES ≡ 1024 }
+    ensures frame { MOST_FRAME_BYTES ≡ 257 }
+    ensures parameter { MOST_PARAMETER_BYTES ≡ 231 }
+    ensures branch_reply { LONGEST_BRANCH_REPLY ≡ 24 }
+    ensures preamble { LONGEST_PREAMBLE ≡ 7 }
+    ensures queued_message { QUEUED_MESSAGE ≡ 0x0020 }
+{}
 
 /// The bytes are read as the UID whose text they are, so no bytes are the text of two UIDs.
 pub fn one_text()
@@ -18,7 +41,7 @@ pub fn one_text()
     ensures two { (b : List ℕ) (u v : ℕ) → BranchText b u → BranchText b v → u ≡ v }
 {}
 
-/// Bytes decode to a response exactly where they begin with its packet, and an acknowledgement is read with its data.
+/// Bytes decode to a response exactly when they begin with its packet, and an acknowledgement is read with its data.
 pub fn responses_decode()
     ensures decode { (r : Response) (b : List ℕ) → Reads r b → decoded b ≡ Ok r }
     ensures reads { (r : Response) (b : List ℕ) → IsBytes b → decoded b ≡ Ok r → Reads r b }
@@ -45,4 +68,29 @@ pub fn what_frames_ask()
     ensures branch { asked_in (branch_frame 5 0x1234ffffffff 0x7a7000000100 3) ≡ Branch 5 0x1234ffffffff }
     ensures mute { asked_in (mute_frame 0x123400000001 0x7a7000000100 4) ≡ Mute 0x123400000001 }
     ensures wrong_sum { asked_in frame_with_wrong_sum ≡ Other }
+{}
+
+/// What an encoder writes is read as its command, and a frame asks the devices what the command does that it is read
+/// as; bytes that are no command ask no device anything. The definitions stand in `specs`.
+pub fn commands_read_back()
+    ensures read { (command : read.Command) (s tn : ℕ) (b : List ℕ) →
+        Writes command s tn b → command_read b ≡ Some (command, s, tn) }
+    ensures writes { (command : read.Command) (s tn : ℕ) (b : List ℕ) → IsBytes b →
+        command_read b ≡ Some (command, s, tn) → Writes command s tn b }
+    ensures asks { (b : List ℕ) → IsBytes b → AsksSo (command_read b) (asked_in b) }
+{}
+
+/// A line whose present devices are the same at each exchange is the honest line of those devices.
+pub fn one_set_is_a_case()
+    ensures { (present : List ℕ) (x : List Seen) → IsDeviceSet present
+        → HonestTrace present x ↔ HonestOver (replicate (length x) present) x }
+{}
+
+/// A line on which a device comes is honest, and so is one on which a device leaves. One on which a device comes back
+/// isn't.
+pub fn devices_come_and_leave()
+    ensures comes { HonestOver (one_there ∷ two_there ∷ []) (asked_all (One first_device) ∷ asked_all Noise ∷ []) }
+    ensures leaves { HonestOver (two_there ∷ one_there ∷ []) (asked_all Noise ∷ asked_all (One first_device) ∷ []) }
+    ensures comes_back { (a b c : Seen) → a.heard ≢ Failed → b.heard ≢ Failed
+        → HonestOver (two_there ∷ one_there ∷ two_there ∷ []) (a ∷ b ∷ c ∷ []) → ⊥ }
 {}

@@ -1,6 +1,6 @@
 //! The acknowledgement of a mute.
 ghost use Rattle.std.specs.Prelude.{◌≡◌, ◌≤◌, ◌↔◌, Some, length};
-ghost use Rattle.rdm_wire.specs.Packet.{MuteAckedWith, ack_data};
+ghost use Rattle.rdm_wire.specs.MuteAcks.{MuteAckedWith, ack_data};
 ghost use Rattle.rdm_wire.specs.Reading.{ack_read, acks};
 
 use crate::discovery::DISC_MUTE;
@@ -8,7 +8,7 @@ use crate::frame::{u16_at, uid_at};
 use crate::response::{AckType, RespClass, Response, decode_response};
 use crate::uid::Uid;
 
-// How many bytes the control field has, and how many with a binding UID behind it.
+// How many bytes the control field has, and how many with a binding UID after it.
 const CONTROL_LENGTH: usize = 2;
 
 const CONTROL_AND_BINDING_LENGTH: usize = 8;

@@ -1,6 +1,7 @@
 //! Requests that read or change a device's parameters, and their packets.
 ghost use Rattle.std.specs.Prelude.{◌≡◌};
-ghost use Rattle.rdm_wire.specs.Packet.{Packet, code_of_request_class, request_fields, request_frame};
+ghost use Rattle.rdm_wire.specs.Packet.{Packet};
+ghost use Rattle.rdm_wire.specs.CommandFrames.{code_of_request_class, request_fields, request_frame};
 
 use crate::frame::{Frame, Header, MOST_PARAMETER_BYTES, NO_MESSAGES, PORT_ID, class};
 use crate::uid::Uid;

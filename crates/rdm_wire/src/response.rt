@@ -1,11 +1,13 @@
 //! Responses of devices, and how bytes are read as one.
 ghost use Rattle.std.specs.Prelude.{◌≡◌, ◌↔◌, ◌≤◌, ◌+◌, Ok, Err, IfOk, IfErr, length, slice_index};
-ghost use Rattle.rdm_wire.specs.Packet.{Reads, decoded, response_of, fields_at, class_of_code, ack_of_code};
+ghost use Rattle.rdm_wire.specs.Responses.{Reads, decoded, response_of, fields_of};
+ghost use Rattle.rdm_wire.specs.Responses.{class_of_code, ack_of_code, code_of_class, code_of_ack};
+ghost use Rattle.rdm_wire.specs.Packet.{Packet, packet, fields_at};
 
 use crate::checksum::checksum;
 use crate::frame::{
-    CHECKSUM_LENGTH, HEADER_LENGTH, Header, LEAST_FRAME_BYTES, MOST_PARAMETER_BYTES, START_CODE,
-    SUB_START_CODE, class, offset, response_type, u16_at,
+    CHECKSUM_LENGTH, Frame, HEADER_LENGTH, Header, LEAST_FRAME_BYTES, MOST_PARAMETER_BYTES,
+    START_CODE, SUB_START_CODE, class, offset, response_type, u16_at,
 };
 use crate::uid::Uid;
 use arrayvec::ArrayVec;
@@ -88,6 +90,17 @@ pub struct Response {
 }
 
 impl RespClass {
+    // The code of its command class.
+    fn code(self) -> u8
+        ensures { result ≡ code_of_class self }
+    {
+        match self {
+            RespClass::Discovery => class::DISCOVERY_RESPONSE,
+            RespClass::Get => class::GET_RESPONSE,
+            RespClass::Set => class::SET_RESPONSE,
+        }
+    }
+
     // The class with this code, if it is a response's.
     fn from_code(code: u8) -> Option<RespClass>
         ensures { result ≡ class_of_code code }
@@ -102,6 +115,18 @@ impl RespClass {
 }
 
 impl AckType {
+    // The code of its response type.
+    fn code(self) -> u8
+        ensures { result ≡ code_of_ack self }
+    {
+        match self {
+            AckType::Ack => response_type::ACK,
+            AckType::Timer => response_type::ACK_TIMER,
+            AckType::Nack => response_type::NACK_REASON,
+            AckType::Overflow => response_type::ACK_OVERFLOW,
+        }
+    }
+
     // The response type with this code, if there is one.
     fn from_code(code: u8) -> Option<AckType>
         ensures { result ≡ ack_of_code code }
@@ -116,7 +141,7 @@ impl AckType {
     }
 }
 
-/// The response whose packet the bytes begin with (E1.20, packet format). What stands behind the checksum is ignored.
+/// The response whose packet the bytes begin with (E1.20, packet format). What stands after the checksum is ignored.
 /// Otherwise the first fault that holds, in the order in which `PacketFault` names them (profile of this project).
 pub fn decode_response(bytes: &[u8]) -> Result<Response, PacketFault>
     ensures value { result ≡ decoded bytes.now }
@@ -145,6 +170,24 @@ pub fn decode_response(bytes: &[u8]) -> Result<Response, PacketFault>
         pid: header.pid,
         param,
     })
+}
+
+/// The packet of a response, from its device to the controller that it answers (E1.20, packet format).
+pub fn encode_response(response: &Response) -> Frame
+    ensures frame { result.items ≡ packet (fields_of response.now) }
+    ensures packet { Packet (fields_of response.now) result.items }
+{
+    let header = Header {
+        dest: response.dest,
+        source: response.source,
+        tn: response.tn,
+        port: response.ack.code(),
+        count: response.count,
+        sub_device: response.sub_device,
+        class: response.class.code(),
+        pid: response.pid,
+    };
+    header.encode(&response.param)
 }
 
 // The message length of the packet that the bytes begin with, whatever its class and its response type.

@@ -1,5 +1,6 @@
 //! UIDs, which name the devices on a line.
-ghost use Rattle.std.specs.Prelude.{◌≡◌, ◌≢◌, ◌↔◌, ◌+◌, ◌*◌, ◌<◌, ◌^◌, ℕ, List, Some, Ok, IsSome, IfSome, IsErrOf, length, slice_index};
+ghost use Rattle.std.specs.Prelude.{◌≡◌, ◌≢◌, ◌↔◌, ◌+◌, ◌*◌, ◌<◌, ◌^◌, ℕ, List, Some, Ok, IsSome, IfSome, IsErrOf};
+ghost use Rattle.std.specs.Prelude.{length, slice_index};
 ghost use Rattle.hex.specs.Hex.{decode_of};
 ghost use Rattle.rdm_wire.specs.Uid.{is_broadcast};
 ghost use Rattle.rdm_wire.specs.Bytes.{number_of, uid_bytes};
@@ -35,7 +36,7 @@ const TEXT_LEN: usize = 13;
 // What stands between the manufacturer's digits and the device's.
 const SEPARATOR: u8 = b':';
 
-// The place of the separator, behind the manufacturer's digits.
+// The place of the separator, after the manufacturer's digits.
 const SEPARATOR_AT: usize = 4;
 
 /// Why a text is no UID, in the order in which it is tested (profile of this project).
@@ -45,7 +46,7 @@ pub enum UidFault {
     #[error("a UID has 13 characters")]
     Length,
     /// Its fifth byte isn't a colon.
-    #[error("a UID has a colon behind its first four digits")]
+    #[error("a UID has a colon after its first four digits")]
     Separator,
     /// One of the other bytes is no hexadecimal digit.
     #[error("a UID has hexadecimal digits")]

@@ -1,18 +1,22 @@
 //! Sets of devices.
-ghost use Rattle.std.specs.Prelude.{⊤, ◌≡◌, ◌≢◌, ◌<◌, ◌≤◌, ◌^◌, ◌↔◌, ◌==◌, ℕ, [], length, true, false, Ok, IsErr, OnOk, IfNone, IfSome, OnSome, insert};
+ghost use Rattle.std.specs.Prelude.{⊤, ◌≡◌, ◌≢◌, ◌<◌, ◌≤◌, ◌^◌, ◌↔◌, ◌==◌, ℕ, [], length, true, false, Ok, IsErr};
+ghost use Rattle.std.specs.Prelude.{OnOk, IfNone, IfSome, OnSome, insert};
 ghost use Rattle.std.specs.Iterator.Runs.{EveryRun, ItemsMapTo};
 ghost use Rattle.std.specs.Slice.Iter.{iter_rest, iter_steps};
 ghost use Rattle.rdm_wire.specs.Uid.{has, with_uid, is_broadcast, IsDeviceSet};
+ghost use Rattle.rdm_wire.specs.Devices.{uids_of};
 
+use crate::device::Device;
 use crate::uid::Uid;
 use arrayvec::ArrayVec;
 use std::alloc::AllocError;
 use std::marker::Model;
+use std::mem::size_of;
 use std::slice;
 use thiserror::Error;
 
-/// How many devices a set has room for (profile of this project).
-pub const MOST_DEVICES: usize = 256;
+/// How many devices a set has room for: 1,024 (profile of this project).
+pub const MOST_DEVICES: usize = 1024;
 
 /// UIDs of devices, ascending and without repeats: [`MOST_DEVICES`] at most (profile of this project). Contracts see
 /// the list of their numbers.
@@ -20,6 +24,9 @@ pub const MOST_DEVICES: usize = 256;
 pub struct UidSet {
     uids: ArrayVec<Uid, MOST_DEVICES>,
 }
+
+// What the docs say of its size: 8 bytes for each place, and 8 for how many are taken.
+const _: () = prove!(size_of::<UidSet>() == 8 * MOST_DEVICES + 8);
 
 impl Model for UidSet {
     ghost use Rattle.std.specs.Prelude.{List, ℕ};
@@ -36,7 +43,7 @@ impl Model for UidSet {
 
 /// A set has no room for another device.
 #[derive(Clone, Copy, Debug, PartialEq, Eq, Error)]
-#[error("a set has room for 256 devices")]
+#[error("a set has room for 1,024 devices")]
 pub struct SetFull;
 
 impl UidSet {
@@ -135,6 +142,34 @@ impl UidSet {
             Ok(_) => None,
             Err(place) => Some(place),
         }
+    }
+
+    /// Takes out all devices. It costs no more than the devices that there were.
+    pub fn clear(&mut self)
+        ensures { self.new ≡ [] }
+    {
+        self.uids.clear();
+    }
+
+    /// Becomes the same set as `other`. It costs no more than the devices of both.
+    pub fn copy_from(&mut self, other: &UidSet)
+        ensures { self.new ≡ other.now }
+    {
+        self.clear();
+        self.uids.try_extend_from_slice(other.as_slice()).unwrap();
+    }
+
+    /// The UIDs of these devices, which are a set's.
+    pub(crate) fn of_devices(devices: &[Device]) -> UidSet
+        requires devices { IsDeviceSet (uids_of devices.now) }
+        requires fits { length devices.now ≤ MOST_DEVICES }
+        ensures { result ≡ uids_of devices.now }
+    {
+        let mut uids = ArrayVec::new();
+        for device in devices {
+            uids.push(device.uid);
+        }
+        UidSet { uids }
     }
 
     /// The same set again.

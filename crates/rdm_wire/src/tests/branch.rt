@@ -1,6 +1,6 @@
 //! Replies to a branch.
 use crate::BranchReply::{Collision, One, Silent};
-use crate::{LONGEST_PREAMBLE, Uid, read_branch_reply, write_branch_reply};
+use crate::{Uid, read_branch_reply, write_branch_reply};
 use std::test::Fail;
 
 const REPLY: &str = "aafa7ffa75aa55aa55aa55ab55ae57eff5";
@@ -24,7 +24,7 @@ fn reads_replies(rt: HostRuntime) -> Result<(), Fail> {
         (LONGEST_REPLY, One(device())),
         (REPLY, One(device())),
         (REPLY_OF_BROADCAST, One(broadcast())),
-        // Bytes behind the checksum, and then a pair of it with another byte whose AND is the same.
+        // Bytes after the checksum, and then a pair of it with another byte whose AND is the same.
         ("aafa7ffa75aa55aa55aa55ab55ae57eff51234", One(device())),
         ("aafa7ffa75aa55aa55aa55ab55ae57e5e51234", One(device())),
         // The UID's first pair with bytes whose AND is the same: the checksum is of the bytes as received.
@@ -52,7 +52,7 @@ fn reads_replies(rt: HostRuntime) -> Result<(), Fail> {
 fn writes_replies(rt: HostRuntime) -> Result<(), Fail> {
     let rows = [
         (device(), 0, REPLY),
-        (device(), LONGEST_PREAMBLE, LONGEST_REPLY),
+        (device(), 7, LONGEST_REPLY),
         (broadcast(), 0, REPLY_OF_BROADCAST),
     ];
     for (uid, preamble, text) in rows {

@@ -4,9 +4,8 @@ use crate::PacketFault::{
     WrongStart, WrongSubStart,
 };
 use crate::{
-    AckType, MOST_FRAME_BYTES, MOST_PARAMETER_BYTES, MuteAck, PacketFault, ReqClass, Request,
-    RespClass, Response, Uid, UidRange, decode_response, encode_branch, encode_mute,
-    encode_request, encode_unmute, reads_mute_ack,
+    AckType, MuteAck, PacketFault, ReqClass, Request, RespClass, Response, Uid, UidRange,
+    decode_response, encode_branch, encode_mute, encode_request, encode_unmute, reads_mute_ack,
 };
 use arrayvec::ArrayVec;
 use std::process::Abort;
@@ -133,7 +132,7 @@ fn device() -> Uid {
     Uid::new(0x1234, 1)
 }
 
-fn data(rt: &impl Abort, bytes: &[u8]) -> ArrayVec<u8, MOST_PARAMETER_BYTES> {
+fn data(rt: &impl Abort, bytes: &[u8]) -> ArrayVec<u8, 231> {
     let mut param = ArrayVec::new();
     assert!(rt; param.try_extend_from_slice(bytes).is_ok());
     param
@@ -230,7 +229,7 @@ fn decodes(rt: HostRuntime) -> Result<(), Fail> {
 }
 
 #[test]
-fn ignores_bytes_behind_the_checksum(rt: HostRuntime) -> Result<(), Fail> {
+fn ignores_bytes_after_the_checksum(rt: HostRuntime) -> Result<(), Fail> {
     let mut bytes = bytes_of(&rt, MUTE_ACK)?;
     let response = decode_response(&bytes);
     assert!(rt; response.is_ok());
@@ -249,16 +248,12 @@ fn finds_the_first_fault(rt: HostRuntime) -> Result<(), Fail> {
 }
 
 // The longest packet: its header, 231 zeros and its checksum.
-fn longest(rt: &impl Abort, header: &[u8], sum: [u8; 2]) -> ArrayVec<u8, MOST_FRAME_BYTES> {
+fn longest(rt: &impl Abort, header: &[u8], sum: [u8; 2]) -> ArrayVec<u8, 257> {
     let mut frame = ArrayVec::new();
     assert!(rt; frame.try_extend_from_slice(header).is_ok());
-    assert!(rt;
-        frame
-            .try_extend_from_slice(&[0; MOST_PARAMETER_BYTES])
-            .is_ok()
-    );
+    assert!(rt; frame.try_extend_from_slice(&[0; 231]).is_ok());
     assert!(rt; frame.try_extend_from_slice(&sum).is_ok());
-    assert_eq!(rt; frame.len(), MOST_FRAME_BYTES);
+    assert_eq!(rt; frame.len(), 257);
     frame
 }
 
@@ -266,10 +261,7 @@ fn longest(rt: &impl Abort, header: &[u8], sum: [u8; 2]) -> ArrayVec<u8, MOST_FR
 fn longest_packets(rt: HostRuntime) -> Result<(), Fail> {
     let header = bytes_of(&rt, "cc01ff7a70000001001234000000010000000000210060e7")?;
     let response = decode_response(&longest(&rt, &header, [0x04, 0x66])).map_err(|_| "a packet")?;
-    assert_eq!(rt;
-        response.param.as_slice(),
-        [0; MOST_PARAMETER_BYTES].as_slice()
-    );
+    assert_eq!(rt; response.param.as_slice(), [0; 231].as_slice());
     // One byte of data more than the message length has room for.
     let header = bytes_of(&rt, "cc01ff7a70000001001234000000010000000000210060e8")?;
     assert_eq!(rt;
@@ -277,7 +269,7 @@ fn longest_packets(rt: HostRuntime) -> Result<(), Fail> {
         Err(ParamLengthMismatch)
     );
     let header = bytes_of(&rt, "cc01ff1234000000017a70000001000001000000300060e7")?;
-    let set = request(&rt, ReqClass::Set, &[0; MOST_PARAMETER_BYTES]);
+    let set = request(&rt, ReqClass::Set, &[0; 231]);
     assert_eq!(rt;
         encode_request(&set, controller(), 0),
         longest(&rt, &header, [0x04, 0x76])

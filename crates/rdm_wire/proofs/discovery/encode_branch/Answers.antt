@@ -1,5 +1,6 @@
 use Rattle.std.proofs.Common.{ℕ, List, subst}
-use Rattle.rdm_wire.specs.Packet.{Fields, Packet, all_devices, discovery_fields}
+use Rattle.rdm_wire.specs.Packet.{Fields, Packet}
+use Rattle.rdm_wire.specs.CommandFrames.{all_devices, discovery_fields}
 use Rattle.rdm_wire.proofs.discovery.encode_branch.Goals as goal
 
 pub returns-clause-packet : goal.returns-clause-packet

@@ -1,7 +1,7 @@
 use Rattle.std.proofs.Common.{◌≡◌, ℕ, take, rules, sym, ap, ◌∙◌, subst, arith}
 use Rattle.std.specs.Prelude.{slice_index}
 use Rattle.rdm_wire.specs.Bytes.{number_at, checksum}
-use Rattle.rdm_wire.specs.Packet.{response_of, class_of_code, ack_of_code}
+use Rattle.rdm_wire.specs.Responses.{response_of, class_of_code, ack_of_code}
 use Rattle.rdm_wire.proofs.Decoded.{HasForm, decoded-form}
 use Rattle.rdm_wire.proofs.OffsetLemmas.{number_of-one}
 use Rattle.rdm_wire.proofs.response.message_length.Goals as goal

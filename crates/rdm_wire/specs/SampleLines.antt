@@ -1,0 +1,17 @@
+-- Lines of one and of two devices, of which laws tell what is honest.
+use Rattle.std.specs.Prelude.{ℕ, List, [], ◌∷◌}
+use Rattle.rdm_wire.specs.Honest.{Heard, Seen}
+use Rattle.rdm_wire.specs.Honest.Asked.{Branch}
+
+abbrev pub first_device : ℕ
+first_device = 0x123400000001
+
+abbrev pub one_there : List ℕ
+one_there = first_device ∷ []
+
+abbrev pub two_there : List ℕ
+two_there = first_device ∷ 0x9abc00000002 ∷ []
+
+-- all UIDs were asked for, and this was heard
+abbrev pub asked_all : Heard → Seen
+asked_all heard = record { asked = Branch 0 0xffffffffffff; heard = heard }
