@@ -2,48 +2,48 @@
 use Rattle.std.proofs.Common.{◌≡◌, ℕ, zero, suc, ◌<◌, List, [], ◌∷◌, ◌++◌, take, Option, Some, None, refl, sym, ap, ◌∙◌, append_assoc, arith}
 use Rattle.std.proofs.lemmas.List.{append-nil}
 use Rattle.std.specs.Prelude.{slice_get}
-use Rattle.rdm_join.specs.Result.{Joined, result_of, result_behind, or_if_open, decides, decides_option, IsResult}
+use Rattle.rdm_join.specs.Result.{Joined, result_of, result_after, or_if_open, decides, decides_option, IsResult}
 use Rattle.rdm_join.specs.declared.verdict.Judged.{Judged}
 
--- what position i of vs decides behind some others
-abbrev decided_behind : List Judged → List Judged → ℕ → Option Joined
-decided_behind before [] i = None
-decided_behind before (v ∷ vs) zero = decides before v
-decided_behind before (v ∷ vs) (suc i) = decided_behind (before ++ v ∷ []) vs i
+-- what position i of vs decides after some others
+abbrev decided_after : List Judged → List Judged → ℕ → Option Joined
+decided_after before [] i = None
+decided_after before (v ∷ vs) zero = decides before v
+decided_after before (v ∷ vs) (suc i) = decided_after (before ++ v ∷ []) vs i
 
 -- the first position that decides something
 record IsFirst (before vs : List Judged) (j : Joined) : Type 0 where
   at : ℕ
-  here : decided_behind before vs at ≡ Some j
-  earlier : (i : ℕ) → i < at → decided_behind before vs i ≡ None
+  here : decided_after before vs at ≡ Some j
+  earlier : (i : ℕ) → i < at → decided_after before vs i ≡ None
 
 none_some : (j : Joined) → None ≡ Some j → ⊥
 none_some j h = cc
 
 -- the first position that decides is the result, and the other way round
-to_first : (before vs : List Judged) (j : Joined) → result_behind before vs ≡ Some j → IsFirst before vs j
+to_first : (before vs : List Judged) (j : Joined) → result_after before vs ≡ Some j → IsFirst before vs j
 to_first before [] j e = absurd (none_some j e)
 to_first before (v ∷ vs) j e = by_head (decides before v) refl e (to_first (before ++ v ∷ []) vs j)
   where
-    by_head : (o : Option Joined) → decides before v ≡ o → or_if_open o (result_behind (before ++ v ∷ []) vs) ≡ Some j → (result_behind (before ++ v ∷ []) vs ≡ Some j → IsFirst (before ++ v ∷ []) vs j) → IsFirst before (v ∷ vs) j
+    by_head : (o : Option Joined) → decides before v ≡ o → or_if_open o (result_after (before ++ v ∷ []) vs) ≡ Some j → (result_after (before ++ v ∷ []) vs ≡ Some j → IsFirst (before ++ v ∷ []) vs j) → IsFirst before (v ∷ vs) j
     by_head (Some k) p q later = record { at = 0; here = p ∙ q; earlier = λ i below. absurd (none_below i below) }
       where
         none_below : (i : ℕ) → i < 0 → ⊥
         none_below i h = omega arith
     by_head None p q later = let r = later q in record { at = suc r.at; here = r.here; earlier = before_it r.at r.earlier }
       where
-        before_it : (n : ℕ) → ((i : ℕ) → i < n → decided_behind (before ++ v ∷ []) vs i ≡ None) → (i : ℕ) → i < suc n → decided_behind before (v ∷ vs) i ≡ None
+        before_it : (n : ℕ) → ((i : ℕ) → i < n → decided_after (before ++ v ∷ []) vs i ≡ None) → (i : ℕ) → i < suc n → decided_after before (v ∷ vs) i ≡ None
         before_it n all zero below = p
         before_it n all (suc i) below = all i (omega arith)
 
-from_first : (before vs : List Judged) (j : Joined) (n : ℕ) → decided_behind before vs n ≡ Some j → ((i : ℕ) → i < n → decided_behind before vs i ≡ None) → result_behind before vs ≡ Some j
+from_first : (before vs : List Judged) (j : Joined) (n : ℕ) → decided_after before vs n ≡ Some j → ((i : ℕ) → i < n → decided_after before vs i ≡ None) → result_after before vs ≡ Some j
 from_first before [] j n here earlier = absurd (none_some j here)
 from_first before (v ∷ vs) j zero here earlier = rw here refl
 from_first before (v ∷ vs) j (suc n) here earlier =
     rw (earlier 0 (omega arith)) (from_first (before ++ v ∷ []) vs j n here (λ i below. earlier (suc i) (omega arith)))
 
 -- a position of the whole list
-at_position : (before vs : List Judged) (i : ℕ) → decides_option (before ++ take i vs) (slice_get vs i) ≡ decided_behind before vs i
+at_position : (before vs : List Judged) (i : ℕ) → decides_option (before ++ take i vs) (slice_get vs i) ≡ decided_after before vs i
 at_position before [] i = refl
 at_position before (v ∷ vs) zero = ap (λ l. decides l v) (append-nil before)
 at_position before (v ∷ vs) (suc i) = ap (λ l. decides_option l (slice_get vs i)) (sym (append_assoc before (v ∷ []) (take i vs))) ∙ at_position (before ++ v ∷ []) vs i

@@ -7,7 +7,7 @@ use Rattle.std.proofs.lemmas.Bool.{lt-ltb, le-ltb}
 use Rattle.std.proofs.lemmas.Grind.{flat_map-append}
 use Rattle.std.specs.Prelude.{◌==◌}
 use Rattle.std.specs.Result.{is_err}
-use Rattle.rdm_wire.specs.Packet.{code_of_ack}
+use Rattle.rdm_wire.specs.Responses.{code_of_ack}
 use Rattle.rdm_wire.specs.declared.response.Response.{Response}
 use Rattle.rdm_join.specs.declared.verdict.Judged.{Judged}
 use Rattle.rdm_join.specs.declared.verdict.Judged.TheVariants as verdicts
@@ -18,43 +18,42 @@ use Rattle.rdm_join.specs.declared.joiner.ReplyHead.{ReplyHead}
 use Rattle.rdm_join.specs.declared.joiner.Stage.{Stage}
 use Rattle.rdm_join.specs.declared.joiner.Stage.TheVariants.{Waiting, Joining, Ended}
 use Rattle.rdm_join.specs.declared.joiner.Step.TheVariants.{More, Done}
-use Rattle.rdm_join.specs.declared.joiner.TheConstants.{MOST_JOINED_BYTES, MOST_PARTS}
 use Rattle.rdm_join.specs.Result.{Joined, result_of, or_if_open, decides, ended, joined_data, data_of, head_of, differs, is_too_long}
 use Rattle.rdm_join.proofs.ResultLemmas.{result_of-push, whole_ends, end_ends, few_parts}
-use Rattle.rdm_join.specs.Standing.{Standing, head_of_standing, IsOpen, IsOpenStage, StandsAt, Moves, standing_at, stage_of_parts, step_of, ended_standing, stage_with_part, takes_whole}
+use Rattle.rdm_join.specs.JoinerStanding.{JoinerStanding, head_of_standing, IsOpen, IsOpenStage, StandsAt, JoinerMoves, standing_at, stage_of_parts, step_of, ended_standing, stage_with_part, takes_whole}
 
-standing_with : (vs : List Judged) (s : Standing) (o : Option Joined) → StandsAt vs s → result_of vs ≡ o → s ≡ standing_at o vs
+standing_with : (vs : List Judged) (s : JoinerStanding) (o : Option Joined) → StandsAt vs s → result_of vs ≡ o → s ≡ standing_at o vs
 standing_with vs s o at e = at ∙ ap (λ p. standing_at p vs) e
 
-pub open_at : (vs : List Judged) (s : Standing) → StandsAt vs s → IsOpen s → (result_of vs ≡ None) × (s ≡ standing_at None vs)
+pub open_at : (vs : List Judged) (s : JoinerStanding) → StandsAt vs s → IsOpen s → (result_of vs ≡ None) × (s ≡ standing_at None vs)
 open_at vs s at is_open = by_result (result_of vs) refl at
   where
     by_result : (o : Option Joined) → result_of vs ≡ o → s ≡ standing_at o vs → (result_of vs ≡ None) × (s ≡ standing_at None vs)
     by_result None e h = (e, h)
     by_result (Some j) e h = absurd (subst IsOpen h is_open)
 
--- a joiner stands open exactly where the verdicts have no result, and else at their result
+-- a joiner stands open exactly when the verdicts have no result, and else at their result
 parts_are_open : (vs : List Judged) → IsOpenStage (stage_of_parts vs)
 parts_are_open [] = tt
 parts_are_open (Part r ∷ vs) = tt
 parts_are_open (Whole r ∷ vs) = tt
 parts_are_open (verdicts.Ended s ∷ vs) = tt
 
-pub open_exactly : (vs : List Judged) (s : Standing) → StandsAt vs s → IsOpen s ↔ (result_of vs ≡ None)
+pub open_exactly : (vs : List Judged) (s : JoinerStanding) → StandsAt vs s → IsOpen s ↔ (result_of vs ≡ None)
 open_exactly vs s at =
     ((λ is_open. (open_at vs s at is_open).0), (λ none. subst IsOpen (sym (standing_with vs s None at none)) (parts_are_open vs)))
 
-pub head_at_result : (vs : List Judged) (s : Standing) (j : Joined) → StandsAt vs s → result_of vs ≡ Some j → head_of_standing s ≡ j.head
+pub head_at_result : (vs : List Judged) (s : JoinerStanding) (j : Joined) → StandsAt vs s → result_of vs ≡ Some j → head_of_standing s ≡ j.head
 head_at_result vs s j at e = ap head_of_standing (standing_with vs s (Some j) at e)
 
-pub data_at_result : (vs : List Judged) (s : Standing) (j : Joined) → StandsAt vs s → result_of vs ≡ Some j → s.data_ ≡ j.data_
+pub data_at_result : (vs : List Judged) (s : JoinerStanding) (j : Joined) → StandsAt vs s → result_of vs ≡ Some j → s.data_ ≡ j.data_
 data_at_result vs s j at e = ap (λ t. t.data_) (standing_with vs s (Some j) at e)
 
 -- a joiner goes on
-pub moves_on : (old : Standing) (v : Judged) (o : Option Joined) (new : Standing) → IsOpen old
+pub moves_on : (old : JoinerStanding) (v : Judged) (o : Option Joined) (new : JoinerStanding) → IsOpen old
     → ((vs : List Judged) → result_of vs ≡ None → old ≡ standing_at None vs → (decides vs v ≡ o) × (new ≡ standing_at o (vs ++ v ∷ [])))
     → ((step_of o ≡ More) ↔ IsOpen new)
-    → Moves old v (step_of o) new
+    → JoinerMoves old v (step_of o) new
 moves_on old v o new is_open moved still = record {
   more = still;
   stands = λ vs at.
@@ -70,29 +69,29 @@ moves_on old v o new is_open moved still = record {
     pushed vs e d = result_of-push vs v ∙ ap (λ p. or_if_open p (decides vs v)) e ∙ d
 
 -- whether a reply's data has room, as a test and as facts
-abbrev is_long : Standing → Response → Bool
-is_long s r = nat_lt MOST_JOINED_BYTES (length s.data_ + length r.param.items)
+abbrev is_long : JoinerStanding → Response → Bool
+is_long s r = nat_lt 65535 (length s.data_ + length r.param.items)
 
-abbrev pub HasRoom : Standing → Response → Type 0
-HasRoom s r = length s.data_ + length r.param.items ≤ MOST_JOINED_BYTES
+abbrev pub HasRoom : JoinerStanding → Response → Type 0
+HasRoom s r = length s.data_ + length r.param.items ≤ 65535
 
-abbrev pub HasNoRoom : Standing → Response → Type 0
-HasNoRoom s r = MOST_JOINED_BYTES < length s.data_ + length r.param.items
+abbrev pub HasNoRoom : JoinerStanding → Response → Type 0
+HasNoRoom s r = 65535 < length s.data_ + length r.param.items
 
-not_long : (s : Standing) (r : Response) → HasRoom s r → is_long s r ≡ false
-not_long s r fits = le-ltb MOST_JOINED_BYTES (length s.data_ + length r.param.items) fits
+not_long : (s : JoinerStanding) (r : Response) → HasRoom s r → is_long s r ≡ false
+not_long s r fits = le-ltb 65535 (length s.data_ + length r.param.items) fits
 
-long : (s : Standing) (r : Response) → HasNoRoom s r → is_long s r ≡ true
-long s r over = lt-ltb MOST_JOINED_BYTES (length s.data_ + length r.param.items) over
+long : (s : JoinerStanding) (r : Response) → HasNoRoom s r → is_long s r ≡ true
+long s r over = lt-ltb 65535 (length s.data_ + length r.param.items) over
 
--- what decides behind an open list, by where a joiner stands
+-- what decides after an open list, by where a joiner stands
 
-abbrev whole_decided : Standing → Response → Option Joined
+abbrev whole_decided : JoinerStanding → Response → Option Joined
 whole_decided s r =
     if not (takes_whole s.stage (head_of r)) || is_long s r then Some (ended InvalidResponse)
     else Some (record { status = Completed; data_ = s.data_ ++ r.param.items; head = Some (head_of r) })
 
-abbrev part_decided : Standing → Response → Option Joined
+abbrev part_decided : JoinerStanding → Response → Option Joined
 part_decided s r = if is_none (stage_with_part s.stage (head_of r)) || is_long s r then Some (ended InvalidResponse) else None
 
 whole_test : (d acked long : Bool) → (d || not acked || long) ≡ (not (not d && acked) || long)
@@ -115,22 +114,22 @@ part_test false true false stage = refl
 part_test false false true stage = refl
 part_test false false false stage = refl
 
-last_test : (n : ℕ) → n < MOST_PARTS → (n + 1 == MOST_PARTS) ≡ not (nat_lt (n + 1) MOST_PARTS)
+last_test : (n : ℕ) → n < 512 → (n + 1 == 512) ≡ not (nat_lt (n + 1) 512)
 last_test n few = grind (arith, nat_tests)
 
 part_by_standing : (vs : List Judged) (r : Response) → result_of vs ≡ None → decides vs (Part r) ≡ part_decided (standing_at None vs) r
 part_by_standing [] r e = rw or-false refl
 part_by_standing (Part p ∷ vs) r e =
-    let few : suc (length vs) < MOST_PARTS = few_parts (Part p ∷ vs) e in
+    let few : suc (length vs) < 512 = few_parts (Part p ∷ vs) e in
     let size : length vs + 1 ≡ suc (length vs) = omega arith in
     let other = differs (head_of p) (head_of r) in
-    let places = nat_lt (suc (length vs) + 1) MOST_PARTS in
+    let places = nat_lt (suc (length vs) + 1) 512 in
     let tests = part_test other (is_too_long (Part p ∷ vs) r) places (Joining (head_of p) (suc (length vs) + 1)) in
     rw (size, last_test (suc (length vs)) few, tests) refl
 part_by_standing (Whole p ∷ vs) r e = absurd (whole_ends p vs e)
 part_by_standing (verdicts.Ended s ∷ vs) r e = absurd (end_ends s vs e)
 
--- the stage and the data behind one more part
+-- the stage and the data after one more part
 from_some : (b : Bool) (x y : Stage) → (if b then Some x else None) ≡ Some y → x ≡ y
 from_some true x y e = cc
 from_some false x y e = cc
@@ -138,7 +137,7 @@ from_some false x y e = cc
 open_with_part : (old : Stage) (head : ReplyHead) (new : Stage) → stage_with_part old head ≡ Some new → IsOpenStage new
 open_with_part Waiting head new h = let same : Joining head 1 ≡ new = cc in subst IsOpenStage same tt
 open_with_part (Joining first parts) head new h =
-    subst IsOpenStage (from_some (not (differs first head) && nat_lt (parts + 1) MOST_PARTS) (Joining first (parts + 1)) new h) tt
+    subst IsOpenStage (from_some (not (differs first head) && nat_lt (parts + 1) 512) (Joining first (parts + 1)) new h) tt
 open_with_part (Ended last) head new h = cc
 
 stage_of_more : (vs : List Judged) (r : Response) (stage : Stage) → result_of vs ≡ None
@@ -147,7 +146,7 @@ stage_of_more : (vs : List Judged) (r : Response) (stage : Stage) → result_of 
 stage_of_more [] r stage e h = cc
 stage_of_more (Part p ∷ vs) r stage e h =
     let size : length vs + 1 + 1 ≡ length (vs ++ Part r ∷ []) + 1 = omega (arith, length-append vs (Part r ∷ [])) in
-    let takes = not (differs (head_of p) (head_of r)) && nat_lt (length vs + 1 + 1) MOST_PARTS in
+    let takes = not (differs (head_of p) (head_of r)) && nat_lt (length vs + 1 + 1) 512 in
     sym (from_some takes (Joining (head_of p) (length vs + 1 + 1)) stage h) ∙ ap (λ n. Joining (head_of p) n) size
 stage_of_more (Whole p ∷ vs) r stage e h = absurd (whole_ends p vs e)
 stage_of_more (verdicts.Ended s ∷ vs) r stage e h = absurd (end_ends s vs e)
@@ -157,21 +156,21 @@ data_of_more vs r = flat_map-append data_of vs (Part r ∷ []) ∙ ap (λ l. joi
 
 -- what a joiner does, by what its code tests
 
-ends_at : (old : Standing) (v : Judged) (s : Status) → IsOpen old
+ends_at : (old : JoinerStanding) (v : Judged) (s : Status) → IsOpen old
     → ((vs : List Judged) → result_of vs ≡ None → old ≡ standing_at None vs → decides vs v ≡ Some (ended s))
-    → Moves old v (Done s) ended_standing
+    → JoinerMoves old v (Done s) ended_standing
 ends_at old v s is_open decided =
     moves_on old v (Some (ended s)) ended_standing is_open (λ vs e at. (decided vs e at, refl)) ((λ h. absurd (done_more h)), (λ h. absurd h))
   where
     done_more : Done s ≡ More → ⊥
     done_more h = cc
 
-pub ended_moves : (old : Standing) (s : Status) → IsOpen old → Moves old (verdicts.Ended s) (Done s) ended_standing
+pub ended_moves : (old : JoinerStanding) (s : Status) → IsOpen old → JoinerMoves old (verdicts.Ended s) (Done s) ended_standing
 ended_moves old s is_open = ends_at old (verdicts.Ended s) s is_open (λ vs e at. refl)
 
-pub whole_refused : (old : Standing) (r : Response) → IsOpen old
+pub whole_refused : (old : JoinerStanding) (r : Response) → IsOpen old
     → (takes_whole old.stage (head_of r) ≡ false) ⊎ HasNoRoom old r
-    → Moves old (Whole r) (Done InvalidResponse) ended_standing
+    → JoinerMoves old (Whole r) (Done InvalidResponse) ended_standing
 whole_refused old r is_open why =
     ends_at old (Whole r) InvalidResponse is_open (λ vs e at. whole_by_standing vs r e ∙ ap (λ s. whole_decided s r) (sym at) ∙ refused why)
   where
@@ -179,8 +178,8 @@ whole_refused old r is_open why =
     refused (inl no_whole) = rw no_whole refl
     refused (inr too_long) = rw (long old r too_long, or-true) refl
 
-pub whole_taken : (old : Standing) (r : Response) → IsOpen old → takes_whole old.stage (head_of r) ≡ true → HasRoom old r
-    → Moves old (Whole r) (Done Completed) (record { stage = Ended (Some (head_of r)); data_ = old.data_ ++ r.param.items })
+pub whole_taken : (old : JoinerStanding) (r : Response) → IsOpen old → takes_whole old.stage (head_of r) ≡ true → HasRoom old r
+    → JoinerMoves old (Whole r) (Done Completed) (record { stage = Ended (Some (head_of r)); data_ = old.data_ ++ r.param.items })
 whole_taken old r is_open takes fits =
     moves_on old (Whole r) (Some (record { status = Completed; data_ = old.data_ ++ r.param.items; head = Some (head_of r) })) _ is_open
     (λ vs e at. (whole_by_standing vs r e ∙ ap (λ s. whole_decided s r) (sym at) ∙ taken, refl)) ((λ h. absurd (done_more h)), (λ h. absurd h))
@@ -191,9 +190,9 @@ whole_taken old r is_open takes fits =
     taken : whole_decided old r ≡ Some (record { status = Completed; data_ = old.data_ ++ r.param.items; head = Some (head_of r) })
     taken = rw (takes, not_long old r fits) refl
 
-pub part_refused : (old : Standing) (r : Response) → IsOpen old
+pub part_refused : (old : JoinerStanding) (r : Response) → IsOpen old
     → (stage_with_part old.stage (head_of r) ≡ None) ⊎ HasNoRoom old r
-    → Moves old (Part r) (Done InvalidResponse) ended_standing
+    → JoinerMoves old (Part r) (Done InvalidResponse) ended_standing
 part_refused old r is_open why =
     ends_at old (Part r) InvalidResponse is_open (λ vs e at. part_by_standing vs r e ∙ ap (λ s. part_decided s r) (sym at) ∙ refused why)
   where
@@ -201,8 +200,8 @@ part_refused old r is_open why =
     refused (inl no_stage) = rw no_stage refl
     refused (inr too_long) = rw (long old r too_long, or-true) refl
 
-pub part_taken : (old : Standing) (r : Response) (stage : Stage) → IsOpen old → stage_with_part old.stage (head_of r) ≡ Some stage → HasRoom old r
-    → Moves old (Part r) More (record { stage = stage; data_ = old.data_ ++ r.param.items })
+pub part_taken : (old : JoinerStanding) (r : Response) (stage : Stage) → IsOpen old → stage_with_part old.stage (head_of r) ≡ Some stage → HasRoom old r
+    → JoinerMoves old (Part r) More (record { stage = stage; data_ = old.data_ ++ r.param.items })
 part_taken old r stage is_open takes fits =
     moves_on old (Part r) None (record { stage = stage; data_ = old.data_ ++ r.param.items }) is_open
     (λ vs e at. (part_by_standing vs r e ∙ ap (λ s. part_decided s r) (sym at) ∙ taken, stands vs e at)) ((λ h. open_with_part old.stage (head_of r) stage takes), (λ h. refl))

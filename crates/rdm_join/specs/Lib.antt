@@ -1,5 +1,5 @@
 pub mod Statuses
 pub mod Verdict
 pub mod Result
-pub mod Standing
+pub mod JoinerStanding
 pub mod Exchange

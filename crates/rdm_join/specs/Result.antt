@@ -1,13 +1,13 @@
 -- The result of a request, from the verdicts on its exchanges.
-use Rattle.std.specs.Prelude.{◌≡◌, ℕ, ◌+◌, ◌<◌, Bool, false, ◌&&◌, ◌||◌, not, List, [], ◌∷◌, ◌++◌, length, take, Option, Some, None, ◌==◌, nat_lt, if◌then◌else◌, flat_map, slice_get}
-use Rattle.rdm_wire.specs.Packet.{code_of_class, code_of_ack}
+use Rattle.std.specs.Prelude.{◌≡◌, ℕ, ◌+◌, ◌<◌, Bool, false, ◌&&◌, ◌||◌, not, List, [], ◌∷◌, ◌++◌, length, take}
+use Rattle.std.specs.Prelude.{Option, Some, None, ◌==◌, nat_lt, if◌then◌else◌, flat_map, slice_get}
+use Rattle.rdm_wire.specs.Responses.{code_of_class, code_of_ack}
 use Rattle.rdm_wire.specs.declared.response.Response.{Response}
 use Rattle.rdm_join.specs.declared.verdict.Judged.{Judged}
 use Rattle.rdm_join.specs.declared.verdict.Judged.TheVariants.{Whole, Part, Ended}
 use Rattle.rdm_join.specs.declared.status.Status.{Status}
 use Rattle.rdm_join.specs.declared.status.Status.TheVariants.{Completed, InvalidResponse}
 use Rattle.rdm_join.specs.declared.joiner.ReplyHead.{ReplyHead}
-use Rattle.rdm_join.specs.declared.joiner.TheConstants.{MOST_JOINED_BYTES, MOST_PARTS}
 
 -- a status; with status Completed the joined data and the last reply's head, else neither
 pub record Joined : Type 0 where
@@ -30,7 +30,8 @@ head_of r = record { ack = r.ack; class = r.class; pid = r.pid; sub_device = r.s
 
 -- one has another class, PID or sub-device than the other
 abbrev pub differs : ReplyHead → ReplyHead → Bool
-differs p r = not (code_of_class p.class == code_of_class r.class) || not (p.pid == r.pid) || not (p.sub_device == r.sub_device)
+differs p r =
+    not (code_of_class p.class == code_of_class r.class) || not (p.pid == r.pid) || not (p.sub_device == r.sub_device)
 
 -- r has another class, PID or sub-device than the first of the list
 abbrev pub differs_from_first : List Judged → Response → Bool
@@ -39,21 +40,24 @@ differs_from_first (Whole p ∷ vs) r = differs (head_of p) (head_of r)
 differs_from_first (Part p ∷ vs) r = differs (head_of p) (head_of r)
 differs_from_first (Ended s ∷ vs) r = false
 
--- the data up to here is too long
+-- the data up to here is too long: an answer has 65,535 bytes at most
 abbrev pub is_too_long : List Judged → Response → Bool
-is_too_long before r = nat_lt MOST_JOINED_BYTES (length (joined_data before) + length r.param.items)
+is_too_long before r = nat_lt 65535 (length (joined_data before) + length r.param.items)
 
 abbrev pub ended : Status → Joined
 ended s = record { status = s; data_ = []; head = None }
 
--- what a verdict decides behind those before it, if anything
+-- what a verdict decides after those before it, if anything. A part in the 512th place ends the request
 abbrev pub decides : List Judged → Judged → Option Joined
 decides before (Ended s) = Some (ended s)
 decides before (Whole r) =
-    if differs_from_first before r || (nat_lt 0 (length before) && not (code_of_ack r.ack == 0)) || is_too_long before r then Some (ended InvalidResponse)
+    if differs_from_first before r || (nat_lt 0 (length before) && not (code_of_ack r.ack == 0))
+    || is_too_long before r
+    then Some (ended InvalidResponse)
     else Some (record { status = Completed; data_ = joined_data before ++ r.param.items; head = Some (head_of r) })
 decides before (Part r) =
-    if differs_from_first before r || is_too_long before r || (length before + 1) == MOST_PARTS then Some (ended InvalidResponse)
+    if differs_from_first before r || is_too_long before r || (length before + 1) == 512
+    then Some (ended InvalidResponse)
     else None
 
 abbrev pub decides_option : List Judged → Option Judged → Option Joined
@@ -75,11 +79,11 @@ abbrev pub or_if_open : Option Joined → Option Joined → Option Joined
 or_if_open (Some j) later = Some j
 or_if_open None later = later
 
--- what the verdicts behind some others decide, if anything
-abbrev pub result_behind : List Judged → List Judged → Option Joined
-result_behind before [] = None
-result_behind before (v ∷ vs) = or_if_open (decides before v) (result_behind (before ++ v ∷ []) vs)
+-- what the verdicts after some others decide, if anything
+abbrev pub result_after : List Judged → List Judged → Option Joined
+result_after before [] = None
+result_after before (v ∷ vs) = or_if_open (decides before v) (result_after (before ++ v ∷ []) vs)
 
 -- the result as a function: None is open
 abbrev pub result_of : List Judged → Option Joined
-result_of vs = result_behind [] vs
+result_of vs = result_after [] vs

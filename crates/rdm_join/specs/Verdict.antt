@@ -1,16 +1,16 @@
 -- The status of one event: of the tests below, in this order, the first that holds decides.
 use Rattle.std.specs.Prelude.{ℕ, Bool, false, ◌&&◌, ◌||◌, not, List, [], ◌∷◌, Result, Ok, Err, ◌==◌, if◌then◌else◌}
 use Rattle.rdm_wire.specs.Uid.{is_broadcast}
-use Rattle.rdm_wire.specs.Packet.{decoded, fields_at, code_of_class, code_of_request_class}
+use Rattle.rdm_wire.specs.Responses.{decoded, code_of_class}
+use Rattle.rdm_wire.specs.Packet.{fields_at}
+use Rattle.rdm_wire.specs.CommandFrames.{code_of_request_class}
 use Rattle.rdm_wire.specs.declared.response.Response.{Response}
 use Rattle.rdm_wire.specs.declared.response.PacketFault.{PacketFault}
 use Rattle.rdm_wire.specs.declared.request.ReqClass.TheVariants as requests
-use Rattle.rdm_wire.specs.declared.request.TheConstants.{QUEUED_MESSAGE}
 use Rattle.rdm_wire.specs.declared.response.RespClass.{RespClass}
 use Rattle.rdm_wire.specs.declared.response.RespClass.TheVariants as responses
 use Rattle.rdm_wire.specs.declared.response.AckType.{AckType}
 use Rattle.rdm_wire.specs.declared.response.AckType.TheVariants.{Ack, Timer, Nack, Overflow}
-use Rattle.rdm_join.specs.declared.verdict.TheConstants.{ALL_SUB_DEVICES}
 use Rattle.rdm_join.specs.declared.verdict.Sent.{Sent}
 use Rattle.rdm_join.specs.declared.event.LineEvent.{LineEvent}
 use Rattle.rdm_join.specs.declared.event.LineEvent.TheVariants.{Reply, Failed}
@@ -19,12 +19,21 @@ use Rattle.rdm_join.specs.declared.verdict.Judged.TheVariants.{Whole, Part, Ende
 use Rattle.rdm_join.specs.Statuses.{status_of_fault}
 use Rattle.rdm_join.specs.declared.status.Status.TheVariants as status
 
+-- the parameter of a device's queued messages
+abbrev pub queued_message : ℕ
+queued_message = 0x0020
+
+-- the sub-device that addresses all of them
+abbrev pub all_sub_devices : ℕ
+all_sub_devices = 0xffff
+
 -- the class answers the request: a GET of a queued message may be answered as a GET or as a SET
 abbrev pub answers_class : Sent → RespClass → Bool
 answers_class sent responses.Discovery = false
 answers_class sent responses.Get = (code_of_request_class sent.class == 0x20)
 answers_class sent responses.Set =
-    (code_of_request_class sent.class == 0x30) || ((code_of_request_class sent.class == 0x20) && (sent.pid == QUEUED_MESSAGE))
+    (code_of_request_class sent.class == 0x30)
+    || ((code_of_request_class sent.class == 0x20) && (sent.pid == queued_message))
 
 -- by its type: of a GET's response alone more may follow
 abbrev pub verdict_of_type : Response → AckType → Judged
@@ -37,11 +46,13 @@ verdict_of_type r Nack = Whole r
 abbrev pub verdict_of_response : Sent → Response → Judged
 verdict_of_response sent r =
     if not (r.tn == sent.tn) then Ended status.TransactionMismatch
-    else (if not (r.sub_device == sent.sub_device) && not (sent.sub_device == ALL_SUB_DEVICES) && not (sent.pid == QUEUED_MESSAGE) then Ended status.SubDeviceMismatch
+    else (if not (r.sub_device == sent.sub_device) && not (sent.sub_device == all_sub_devices)
+    && not (sent.pid == queued_message)
+    then Ended status.SubDeviceMismatch
     else (if not (r.source == sent.target) then Ended status.SourceMismatch
     else (if not (r.dest == sent.source) then Ended status.DestMismatch
     else (if not (answers_class sent r.class) then Ended status.ClassMismatch
-    else (if not (r.pid == sent.pid) && not (sent.pid == QUEUED_MESSAGE) then Ended status.InvalidResponse
+    else (if not (r.pid == sent.pid) && not (sent.pid == queued_message) then Ended status.InvalidResponse
     else verdict_of_type r r.ack)))))
 
 -- of what bytes decode to
@@ -57,7 +68,8 @@ verdict_of_bytes sent (b ∷ bs) = verdict_of_packet sent (decoded (b ∷ bs))
 -- of an event
 abbrev pub verdict : Sent → LineEvent → Judged
 verdict sent Failed = Ended status.FailedToSend
-verdict sent (Reply bytes) = if is_broadcast sent.target then Ended status.WasBroadcast else verdict_of_bytes sent bytes.items
+verdict sent (Reply bytes) =
+    if is_broadcast sent.target then Ended status.WasBroadcast else verdict_of_bytes sent bytes.items
 
 -- what a request's frame says was sent
 abbrev pub sent_by : List ℕ → Sent

@@ -1,7 +1,8 @@
 //! A request's replies, joined.
 ghost use Rattle.std.specs.Prelude.{◌≡◌, ◌<◌, ◌↔◌, List, [], ◌∷◌, ◌++◌, length, not, IfOk, OnErr};
 ghost use Rattle.rdm_join.specs.Result.{result_of, head_of, differs};
-ghost use Rattle.rdm_join.specs.Standing.{IsOpen, StandsAt, Moves, head_of_standing, step_of, ended_standing, stage_with_part, takes_whole};
+ghost use Rattle.rdm_join.specs.JoinerStanding.{IsOpen, StandsAt, JoinerMoves, head_of_standing, step_of};
+ghost use Rattle.rdm_join.specs.JoinerStanding.{ended_standing, stage_with_part, takes_whole};
 ghost use Rattle.rdm_join.specs.declared.verdict.Judged.{Judged};
 ghost use Rattle.rdm_join.specs.declared.verdict.Judged.TheVariants.{Whole, Part};
 
@@ -11,13 +12,14 @@ use arrayvec::ArrayVec;
 use rdm_wire::{AckType, RespClass, Response};
 use std::alloc::{AllocError, Global};
 use std::marker::Model;
+use std::mem::size_of;
 
-/// How many bytes an answer has, at most, with all its parts together (profile of this project).
-pub const MOST_JOINED_BYTES: usize = 4096;
+/// How many bytes an answer has, at most, with all its parts together: 65,535 (profile of this project).
+pub const MOST_JOINED_BYTES: usize = 65_535;
 
-/// How many replies an answer comes in, at most: a part in the last one's place ends the request (profile of this
-/// project).
-pub const MOST_PARTS: usize = 256;
+/// How many replies an answer comes in, at most: 512. A part in the last one's place ends the request (profile of
+/// this project).
+pub const MOST_PARTS: usize = 512;
 
 /// What the last reply of a completed request says beside its data (E1.20, response packet).
 #[derive(Clone, Copy, Debug, PartialEq, Eq)]
@@ -73,7 +75,7 @@ enum Stage {
 }
 
 impl Stage {
-    // The stage behind one more part, if it goes with the first and isn't in the last place.
+    // The stage after one more part, if it goes with the first and isn't in the last place.
     fn with_part(self, head: ReplyHead) -> Option<Stage>
         ensures { result ≡ stage_with_part self head }
     {
@@ -113,16 +115,20 @@ pub struct Joiner {
     joined: ArrayVec<u8, MOST_JOINED_BYTES>,
 }
 
-impl Model for Joiner {
-    ghost use Rattle.rdm_join.specs.Standing.{Standing};
+// What the docs say of its size.
+const _: () = prove!(size_of::<Joiner>() == 65_560);
 
-    ghost Value = { Standing };
+impl Model for Joiner {
+    ghost use Rattle.rdm_join.specs.JoinerStanding.{JoinerStanding};
+
+    ghost Value = { JoinerStanding };
 
     ghost view = { λ j. record { stage = j.stage; data_ = j.joined.items } };
 }
 
 impl Joiner {
-    /// A joiner to which no verdict was given. It allocates nothing.
+    /// A joiner to which no verdict was given. It allocates nothing. It is 64 KB large and fills all of them, so it
+    /// is best made once and reset for each request.
     pub fn new() -> Joiner
         ensures is_open { IsOpen result }
         ensures stands { StandsAt [] result }
@@ -131,6 +137,15 @@ impl Joiner {
             stage: Stage::Waiting,
             joined: ArrayVec::new(),
         }
+    }
+
+    /// Forgets all verdicts, for another request. It costs no more than the data that there were.
+    pub fn reset(&mut self)
+        ensures is_open { IsOpen self.new }
+        ensures stands { StandsAt [] self.new }
+    {
+        self.joined.clear();
+        self.stage = Stage::Waiting;
     }
 
     /// Gives it the verdict on the next reply. The last one must not have answered `Done`.
@@ -154,7 +169,7 @@ impl Joiner {
 
     fn add_whole(&mut self, whole: &Response) -> Step
         requires { IsOpen self.old }
-        ensures { Moves self.old (Whole whole.now) result self.new }
+        ensures { JoinerMoves self.old (Whole whole.now) result self.new }
     {
         let head = head_of(whole);
         if !self.stage.takes_whole(head)
@@ -168,7 +183,7 @@ impl Joiner {
 
     fn add_part(&mut self, part: &Response) -> Step
         requires { IsOpen self.old }
-        ensures { Moves self.old (Part part.now) result self.new }
+        ensures { JoinerMoves self.old (Part part.now) result self.new }
     {
         let Some(stage) = self.stage.with_part(head_of(part)) else {
             return self.end(Status::InvalidResponse);

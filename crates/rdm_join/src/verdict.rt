@@ -31,7 +31,7 @@ pub struct Sent {
 pub enum Judged {
     /// A response that has all, or the rest, of the answer.
     Whole(Response),
-    /// A response with a part of the answer, behind which there is more to get.
+    /// A response with a part of the answer, after which there is more to get.
     Part(Response),
     /// The request has ended so.
     Ended(Status),

@@ -1,9 +1,9 @@
 //! Replies in parts, and what they are joined to.
-ghost use Rattle.rdm_join.specs.Standing.{IsOpen};
+ghost use Rattle.rdm_join.specs.JoinerStanding.{IsOpen};
 
 use crate::{Joiner, Judged, Status, Step};
 use arrayvec::ArrayVec;
-use rdm_wire::{AckType, MOST_PARAMETER_BYTES, RespClass, Response, Uid};
+use rdm_wire::{AckType, RespClass, Response, Uid};
 use std::process::Abort;
 use std::test::Fail;
 
@@ -48,14 +48,14 @@ fn with_parts(rt: &impl Abort, count: usize, length: usize) -> Joiner
 
 #[test]
 fn joins_parts_in_order(rt: HostRuntime) -> Result<(), Fail> {
-    let mut joiner = with_parts(&rt, 2, MOST_PARAMETER_BYTES);
+    let mut joiner = with_parts(&rt, 2, 231);
     assert!(rt; joiner.head().is_none());
     assert_eq!(rt; joiner.add(whole(&rt, 3, 2)), Step::Done(Status::Completed));
     assert_eq!(rt; joiner.head().map(|head| head.ack), Some(AckType::Ack));
     let data = joiner.take_data(rt.alloc())?;
     assert_eq!(rt; data.len(), 465);
-    let (front, rest) = data.split_at(MOST_PARAMETER_BYTES);
-    let (middle, back) = rest.split_at(MOST_PARAMETER_BYTES);
+    let (front, rest) = data.split_at(231);
+    let (middle, back) = rest.split_at(231);
     assert!(rt; front.iter().all(|byte| *byte == 0));
     assert!(rt; middle.iter().all(|byte| *byte == 1));
     assert!(rt; back.iter().all(|byte| *byte == 2));
@@ -64,14 +64,14 @@ fn joins_parts_in_order(rt: HostRuntime) -> Result<(), Fail> {
 
 #[test]
 fn ends_at_the_last_part(rt: HostRuntime) -> Result<(), Fail> {
-    let mut refused = with_parts(&rt, 255, 0);
+    let mut refused = with_parts(&rt, 511, 0);
     assert_eq!(rt;
         refused.add(part(&rt, 0, 1)),
         Step::Done(Status::InvalidResponse)
     );
     assert!(rt; refused.head().is_none());
 
-    let mut joined = with_parts(&rt, 255, 0);
+    let mut joined = with_parts(&rt, 511, 0);
     assert_eq!(rt; joined.add(whole(&rt, 0, 1)), Step::Done(Status::Completed));
     assert_eq!(rt; joined.take_data(rt.alloc())?.len(), 0);
     Ok(())
@@ -79,19 +79,55 @@ fn ends_at_the_last_part(rt: HostRuntime) -> Result<(), Fail> {
 
 #[test]
 fn joins_no_more_bytes_than_fit(rt: HostRuntime) -> Result<(), Fail> {
-    let mut joined = with_parts(&rt, 17, MOST_PARAMETER_BYTES);
+    let mut joined = with_parts(&rt, 283, 231);
     assert_eq!(rt;
-        joined.add(whole(&rt, 169, 1)),
+        joined.add(whole(&rt, 162, 1)),
         Step::Done(Status::Completed)
     );
-    assert_eq!(rt; joined.take_data(rt.alloc())?.len(), 4096);
+    assert_eq!(rt; joined.take_data(rt.alloc())?.len(), 65_535);
 
-    let mut refused = with_parts(&rt, 17, MOST_PARAMETER_BYTES);
+    let mut refused = with_parts(&rt, 283, 231);
     assert_eq!(rt;
-        refused.add(whole(&rt, 170, 1)),
+        refused.add(whole(&rt, 163, 1)),
         Step::Done(Status::InvalidResponse)
     );
     assert_eq!(rt; refused.take_data(rt.alloc())?.len(), 0);
+    Ok(())
+}
+
+// Each length is joined of parts of 231 bytes and a whole reply with the rest.
+#[test]
+fn joins_answers_of_each_length(rt: HostRuntime) -> Result<(), Fail> {
+    let rows = [
+        (0, 0, 0),
+        (0, 1, 1),
+        (0, 231, 231),
+        (1, 2, 233),
+        (2, 2, 464),
+        (17, 169, 4096),
+        (283, 162, 65_535),
+    ];
+    for (parts, rest, length) in rows {
+        let mut joiner = with_parts(&rt, parts, 231);
+        assert_eq!(rt;
+            joiner.add(whole(&rt, rest, 1)),
+            Step::Done(Status::Completed)
+        );
+        assert_eq!(rt; joiner.take_data(rt.alloc())?.len(), length);
+    }
+    Ok(())
+}
+
+#[test]
+fn joins_again_after_a_reset(rt: HostRuntime) -> Result<(), Fail> {
+    let mut joiner = with_parts(&rt, 1, 231);
+    joiner.reset();
+    assert!(rt; joiner.head().is_none());
+    assert_eq!(rt; joiner.take_data(rt.alloc())?.len(), 0);
+    assert_eq!(rt; joiner.add(whole(&rt, 2, 7)), Step::Done(Status::Completed));
+    assert_eq!(rt; joiner.take_data(rt.alloc())?.as_slice(), [7, 7].as_slice());
+    joiner.reset();
+    assert_eq!(rt; joiner.add(part(&rt, 1, 8)), Step::More);
     Ok(())
 }
 

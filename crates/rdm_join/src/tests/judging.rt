@@ -1,7 +1,7 @@
 //! Replies to a GET of the parameter `0060`, and what they mean.
-use crate::{ALL_SUB_DEVICES, Judged, LineEvent, LineReply, Sent, judge};
+use crate::{Judged, LineEvent, LineReply, Sent, Status, judge};
 use arrayvec::ArrayVec;
-use rdm_wire::{QUEUED_MESSAGE, ReqClass, Uid};
+use rdm_wire::{ReqClass, Uid};
 use std::process::Abort;
 use std::test::Fail;
 
@@ -116,21 +116,18 @@ fn judges_changed_replies(rt: HostRuntime) {
 fn lets_pass_what_a_request_allows(rt: HostRuntime) {
     use offset::*;
     let all = Sent {
-        sub_device: ALL_SUB_DEVICES,
+        sub_device: 0xffff,
         ..get()
     };
     let queued = Sent {
-        pid: QUEUED_MESSAGE,
+        pid: 0x0020,
         ..get()
     };
     let set = Sent {
         class: ReqClass::Set,
         ..get()
     };
-    let set_queued = Sent {
-        pid: QUEUED_MESSAGE,
-        ..set
-    };
+    let set_queued = Sent { pid: 0x0020, ..set };
     let other_sub_device = [SAME, (SUB_DEVICE_LOW, 0x01)];
     let set_overflow = [SAME, (CLASS, 0x31)];
     let set_response = [(CLASS, 0x31), (RESPONSE_TYPE, 0x00)];
@@ -170,4 +167,46 @@ fn gives_the_response(rt: HostRuntime) -> Result<(), Fail> {
     assert_eq!(rt; part.source, Uid::new(0x1234, 1));
     assert_eq!(rt; part.param.as_slice(), [1, 2].as_slice());
     Ok(())
+}
+
+#[test]
+fn copies_events(rt: HostRuntime) -> Result<(), Fail> {
+    let bytes: LineReply = ArrayVec::from([0x5a; 257]);
+    let event = LineEvent::Reply(bytes);
+    let (LineEvent::Reply(copy), LineEvent::Reply(bytes)) = (event.copied(), event) else {
+        return Err("no reply")?;
+    };
+    assert_eq!(rt; copy.len(), 257);
+    assert_eq!(rt; copy, bytes);
+    assert!(rt; matches!(LineEvent::Failed.copied(), LineEvent::Failed));
+    Ok(())
+}
+
+#[test]
+fn numbers_statuses(rt: HostRuntime) {
+    use Status::*;
+    let statuses = [
+        Completed,
+        WasBroadcast,
+        FailedToSend,
+        Timeout,
+        InvalidResponse,
+        TooShort,
+        WrongStart,
+        WrongSubStart,
+        LengthMismatch,
+        ParamLengthMismatch,
+        Checksum,
+        InvalidClass,
+        InvalidResponseType,
+        TransactionMismatch,
+        SubDeviceMismatch,
+        SourceMismatch,
+        DestMismatch,
+        ClassMismatch,
+        NoMemory,
+    ];
+    for (status, number) in statuses.into_iter().zip(0..19) {
+        assert_eq!(rt; status.number(), number);
+    }
 }

@@ -1,4 +1,4 @@
-use Rattle.rdm_join.specs.Standing.{IsOpen}
+use Rattle.rdm_join.specs.JoinerStanding.{IsOpen}
 use Rattle.rdm_join.proofs.tests.joining.with_parts.Given as goal
 
 abbrev pub invariant-loop-number : goal.invariant-loop-number

@@ -1,6 +1,7 @@
 -- What a joiner stands for, and where it stands after a list of verdicts.
-use Rattle.std.specs.Prelude.{◌≡◌, ◌↔◌, ℕ, ◌+◌, Bool, true, false, ◌&&◌, not, List, [], ◌∷◌, ◌++◌, length, Option, Some, None, ◌==◌, nat_lt, if◌then◌else◌}
-use Rattle.rdm_wire.specs.Packet.{code_of_ack}
+use Rattle.std.specs.Prelude.{◌≡◌, ◌↔◌, ℕ, ◌+◌, Bool, true, false, ◌&&◌, not, List, [], ◌∷◌, ◌++◌, length, Option}
+use Rattle.std.specs.Prelude.{Some, None, ◌==◌, nat_lt, if◌then◌else◌}
+use Rattle.rdm_wire.specs.Responses.{code_of_ack}
 use Rattle.rdm_join.specs.declared.verdict.Judged.{Judged}
 use Rattle.rdm_join.specs.declared.verdict.Judged.TheVariants as verdicts
 use Rattle.rdm_join.specs.declared.joiner.ReplyHead.{ReplyHead}
@@ -9,10 +10,9 @@ use Rattle.rdm_join.specs.declared.joiner.Stage.TheVariants.{Waiting, Joining, E
 use Rattle.rdm_join.specs.declared.joiner.Step.{Step}
 use Rattle.rdm_join.specs.declared.joiner.Step.TheVariants.{More, Done}
 use Rattle.rdm_join.specs.Result.{Joined, result_of, joined_data, head_of, differs}
-use Rattle.rdm_join.specs.declared.joiner.TheConstants.{MOST_PARTS}
 
 -- how far the request is, and the data of its parts, or of the whole answer
-pub record Standing : Type 0 where
+pub record JoinerStanding : Type 0 where
   pub stage : Stage
   pub data_ : List ℕ
 
@@ -22,7 +22,7 @@ IsOpenStage Waiting = Unit {0}
 IsOpenStage (Joining first parts) = Unit {0}
 IsOpenStage (Ended head) = ⊥
 
-abbrev pub IsOpen : Standing → Type 0
+abbrev pub IsOpen : JoinerStanding → Type 0
 IsOpen s = IsOpenStage s.stage
 
 -- the stage at which a list of verdicts leaves a request open: they are all parts
@@ -33,12 +33,12 @@ stage_of_parts (verdicts.Whole r ∷ vs) = Waiting
 stage_of_parts (verdicts.Ended s ∷ vs) = Waiting
 
 -- where a joiner stands: at the result of the verdicts, and where they have none, at their parts
-abbrev pub standing_at : Option Joined → List Judged → Standing
+abbrev pub standing_at : Option Joined → List Judged → JoinerStanding
 standing_at (Some j) vs = record { stage = Ended j.head; data_ = j.data_ }
 standing_at None vs = record { stage = stage_of_parts vs; data_ = joined_data vs }
 
 -- a joiner that was given these verdicts, in order, stands at s
-abbrev pub StandsAt : List Judged → Standing → Type 0
+abbrev pub StandsAt : List Judged → JoinerStanding → Type 0
 StandsAt vs s = s ≡ standing_at (result_of vs) vs
 
 -- what the result so far asks of the caller
@@ -52,24 +52,24 @@ head_of_stage Waiting = None
 head_of_stage (Joining first parts) = None
 head_of_stage (Ended head) = head
 
-abbrev pub head_of_standing : Standing → Option ReplyHead
+abbrev pub head_of_standing : JoinerStanding → Option ReplyHead
 head_of_standing s = head_of_stage s.stage
 
--- new is where a joiner stands behind old and the verdict v, and result what it answers
-pub record Moves (old : Standing) (v : Judged) (result : Step) (new : Standing) : Type 0 where
+-- new is where a joiner stands after old and the verdict v, and result what it answers
+pub record JoinerMoves (old : JoinerStanding) (v : Judged) (result : Step) (new : JoinerStanding) : Type 0 where
   pub more : (result ≡ More) ↔ IsOpen new
   pub stands : (vs : List Judged) → StandsAt vs old → StandsAt (vs ++ v ∷ []) new
   pub step : (vs : List Judged) → StandsAt vs old → result ≡ step_of (result_of (vs ++ v ∷ []))
 
 -- where a joiner stands whose request has ended without data
-abbrev pub ended_standing : Standing
+abbrev pub ended_standing : JoinerStanding
 ended_standing = record { stage = Ended None; data_ = [] }
 
--- the stage behind a part with this head, if it joins with those before it
+-- the stage after a part with this head, if it joins with those before it
 abbrev pub stage_with_part : Stage → ReplyHead → Option Stage
 stage_with_part Waiting head = Some (Joining head 1)
 stage_with_part (Joining first parts) head =
-    if not (differs first head) && nat_lt (parts + 1) MOST_PARTS then Some (Joining first (parts + 1)) else None
+    if not (differs first head) && nat_lt (parts + 1) 512 then Some (Joining first (parts + 1)) else None
 stage_with_part (Ended last) head = None
 
 -- whether a whole reply with this head joins with the parts before it
