@@ -8,7 +8,7 @@ use Rattle.rdm_wire.specs.Honest.{Asked, Heard, Seen, LineState, HonestToStep, H
 use Rattle.rdm_wire.specs.Honest.Asked.{Unmute, Branch, Mute, Other}
 use Rattle.rdm_wire.specs.Honest.Heard.{Failed, Silent, One, Acked, Noise}
 use Rattle.rdm_wire.specs.declared.mute_ack.MuteAck.{MuteAck}
-use Rattle.rdm_agent.specs.Run.{ack_of, acked_in, FailureIsLast}
+use Rattle.rdm_agent.specs.Run.{acked_uid, acked_in, FailureIsLast}
 use Rattle.rdm_agent.proofs.Members.{put-has}
 
 none_some : (u : ℕ) → None ≡ Some u → ⊥
@@ -26,7 +26,7 @@ acked-mute present s new u v ack false e step p = absurd (silence step.0)
     silence : Acked ack ≡ Silent → ⊥
     silence h = cc
 
-acked_present : (present : List ℕ) (s new : LineState) (u : ℕ) (a : Asked) (h : Heard) → HonestStep present s a h new → ack_of a h ≡ Some u → has present u ≡ true
+pub acked_present : (present : List ℕ) (s new : LineState) (u : ℕ) (a : Asked) (h : Heard) → HonestStep present s a h new → acked_uid a h ≡ Some u → has present u ≡ true
 acked_present present s new u (Mute v) (Acked ack) step p = acked-mute present s new u v ack (has present v) refl step.1 p
 acked_present present s new u (Mute v) Failed step p = absurd (none_some u p)
 acked_present present s new u (Mute v) Silent step p = absurd (none_some u p)
@@ -37,19 +37,19 @@ acked_present present s new u (Branch lo hi) h step p = absurd (none_some u p)
 acked_present present s new u Other h step p = absurd (none_some u p)
 
 -- a failure acknowledges nothing
-pub failed_none : (a : Asked) (h : Heard) → h ≡ Failed → ack_of a h ≡ None
+pub failed_none : (a : Asked) (h : Heard) → h ≡ Failed → acked_uid a h ≡ None
 failed_none Unmute h failed = refl
 failed_none (Branch lo hi) h failed = refl
-failed_none (Mute u) h failed = ap (ack_of (Mute u)) failed
+failed_none (Mute u) h failed = ap (acked_uid (Mute u)) failed
 failed_none Other h failed = refl
 
--- where nothing stands behind a failure, each acknowledged UID is present: no phantom is reported
+-- where nothing stands after a failure, each acknowledged UID is present: no phantom is reported
 pub present_from : (present : List ℕ) (s : LineState) (x : List Seen) (u : ℕ) → FailureIsLast x → Chain (HonestStep present) s x → has (acked_in x) u ≡ true → has present u ≡ true
 present_from present s [] u ok c h = absurd (true≢false (sym h))
 present_from present s (e ∷ x) u ok c h =
     elim c [
       | inl failed ↦ absurd (true≢false (sym (subst (λ l. has (acked_in (e ∷ l)) u ≡ true) (ok [] x e refl failed) h) ∙ ap (λ o. has (cons_option o []) u) (failed_none e.asked e.heard failed)))
-      | inr step ↦ elim (put-has (ack_of e.asked e.heard) (acked_in x) u h) [
+      | inr step ↦ elim (put-has (acked_uid e.asked e.heard) (acked_in x) u h) [
         | inl here ↦ acked_present present s step.0 u e.asked e.heard step.1 here
         | inr later ↦ present_from present step.0 x u (λ front back d whole failed. ok (e ∷ front) back d (ap (λ l. e ∷ l) whole) failed) step.2 later
       ]
@@ -66,13 +66,13 @@ lost_le test other (p ∷ present) u h a b same here le =
     cond_le false = omega arith
 
     in_rest : other u ≡ true → test p ≡ false → ((u == p) ≡ true) ⊎ (has present u ≡ true) → has present u ≡ true
-    in_rest due behind (inl is) = absurd (true≢false (sym due ∙ sym same ∙ ap test (eqb-true u p is) ∙ behind))
-    in_rest due behind (inr rest) = rest
+    in_rest due after (inl is) = absurd (true≢false (sym due ∙ sym same ∙ ap test (eqb-true u p is) ∙ after))
+    in_rest due after (inr rest) = rest
 
     by_test : (has present u ≡ true → lost_after (filter other (u ∷ [])) h a ≤ lost_after (filter test present) h b) → (other u ≡ true) ⊎ (other u ≡ false) → (test p ≡ true) ⊎ (test p ≡ false) → lost_after (filter other (u ∷ [])) h a ≤ lost_after (filter test (p ∷ present)) h b
     by_test onward (inr no_due) _ = rw no_due (omega arith)
     by_test onward (inl due) (inl front) = rw (due, front) (cond_le (is_silent h))
-    by_test onward (inl due) (inr behind) = rw behind (onward (in_rest due behind (or_cases (u == p) (has present u) here)))
+    by_test onward (inl due) (inr after) = rw after (onward (in_rest due after (or_cases (u == p) (has present u) here)))
 
 -- the counts of a line that is honest to u alone are no higher
 pub record IsBelow (u : ℕ) (t s : LineState) : Type 0 where
@@ -168,7 +168,7 @@ below_mute present u v s t new h false other here under step = at_present (cases
     at_present (inl p) m = of_moves (subst (λ b. MatchBool b (MuteMoves v s h new) ((h ≡ Silent) × KeepsMuted v s new × Counts new 0 0 0)) p m)
     at_present (inr p) m = stays (subst (λ b. MatchBool b (MuteMoves v s h new) ((h ≡ Silent) × KeepsMuted v s new × Counts new 0 0 0)) p m).2
 
-below_step : (present : List ℕ) (u : ℕ) (s t new : LineState) (a : Asked) (h : Heard) → has present u ≡ true → IsBelow u t s → HonestStep present s a h new → Below u t new a h
+pub below_step : (present : List ℕ) (u : ℕ) (s t new : LineState) (a : Asked) (h : Heard) → has present u ≡ true → IsBelow u t s → HonestStep present s a h new → Below u t new a h
 unfolding with_counts
 below_step present u s t new (Branch lo hi) h here under step = below_branch present u lo hi s t new h here under step
 below_step present u s t new (Mute v) h here under step =

@@ -5,10 +5,11 @@ use Rattle.std.proofs.lemmas.Slice.Eq.{bytes_eq-Decides}
 use Rattle.rdm_wire.specs.Span.{Span}
 use Rattle.rdm_wire.specs.BranchText.{ReadsAs}
 use Rattle.rdm_wire.specs.Reading.{text_read, ack_read}
-use Rattle.rdm_wire.specs.Packet.{Fields, fields_at, all_devices, branch_frame, mute_frame, unmute_frame}
+use Rattle.rdm_wire.specs.Packet.{Fields, fields_at}
+use Rattle.rdm_wire.specs.CommandFrames.{all_devices, branch_frame, mute_frame, unmute_frame}
 use Rattle.rdm_wire.specs.Commands.{CanSend, command_fields}
 use Rattle.rdm_wire.specs.Commands.Command.{Unmute, Branch, Mute}
-use Rattle.rdm_wire.specs.Frames.{asked_in, asked_with, heard_in, heard_bytes, one_or_noise, acked_or_noise, seen}
+use Rattle.rdm_wire.specs.Frames.{asked_in, asked_with, heard_in, heard_bytes, one_or_noise, acked_or_noise, seen_exchange}
 use Rattle.rdm_wire.specs.Honest.{Asked, Heard, Seen}
 use Rattle.rdm_wire.specs.Honest.Asked.{Unmute as unmuted, Branch as branched, Mute as muted, Other as nothing}
 use Rattle.rdm_wire.specs.Honest.Heard.{Silent, Acked, Noise}
@@ -20,11 +21,13 @@ use Rattle.rdm_wire.proofs.PacketLemmas.{fields_at-packet}
 use Rattle.rdm_wire.proofs.Text.{text_read-of, of-text_read}
 use Rattle.rdm_wire.proofs.CommandLemmas.{one_command}
 use Rattle.rdm_agent.specs.Machine.{Phase, AgentState, fed, heard_by_phase, wanted}
-use Rattle.rdm_agent.specs.Machine.Phase.{Unmuting, Knowing, Searching, Muting, Over}
-use Rattle.rdm_agent.specs.Run.{heard_by, heard_of_mute, seen_op}
-use Rattle.rdm_agent.specs.Stands.{next_op, op_of}
+use Rattle.rdm_agent.specs.Machine.Phase.{Unmuting, MutingKnown, Searching, MutingRead, Ended}
+use Rattle.rdm_agent.specs.Run.{asked_by, heard_by, heard_of_mute, seen_op}
+use Rattle.rdm_agent.specs.Calls.{next_op, op_of}
+use Rattle.rdm_agent.specs.OpFrames.{op_frame, IsSendable}
 use Rattle.rdm_agent.specs.declared.op.Op.{Op}
 use Rattle.rdm_agent.specs.declared.op.Op.TheVariants as ops
+use Rattle.rdm_agent.specs.declared.op.OpReply.{OpReply}
 use Rattle.rdm_agent.specs.declared.op.OpReply.TheVariants as came
 
 same_bytes : (b c : List ℕ) → b ≡ c → bytes_eq b c ≡ true
@@ -87,12 +90,12 @@ mute_asks u s tn can = ap (asked_with (mute_frame u s tn)) (fields_at-packet (co
     no_branch : mute_frame u s tn ≡ branch_frame 0 0 s tn → ⊥
     no_branch same = let one : Mute u ≡ Branch 0 0 = (one_command (Mute u) (Branch 0 0) s tn s tn can (can_branch s tn can.fits.source can.fits.tn) same).0 in cc
 
--- how bytes are heard behind a frame with these fields that asks this
-heard_behind : (frame : List ℕ) (f : Fields) (asked : Asked) (bytes : List ℕ) → fields_at frame ≡ f → asked_in frame ≡ asked → heard_in frame (Some bytes) ≡ heard_bytes f.source f.tn asked bytes
-heard_behind frame f asked bytes fields asks =
+-- how bytes are heard after a frame with these fields that asks this
+heard_after : (frame : List ℕ) (f : Fields) (asked : Asked) (bytes : List ℕ) → fields_at frame ≡ f → asked_in frame ≡ asked → heard_in frame (Some bytes) ≡ heard_bytes f.source f.tn asked bytes
+heard_after frame f asked bytes fields asks =
     ap (λ (g : Fields). heard_bytes g.source g.tn (asked_in frame) bytes) fields ∙ ap (λ a. heard_bytes f.source f.tn a bytes) asks
 
--- behind a branch
+-- after a branch
 read_heard : (lo hi s tn : ℕ) (bytes : List ℕ) (reply : BranchReply) → ReadsAs bytes reply → heard_bytes s tn (branched lo hi) bytes ≡ heard_by (came.Branch reply)
 read_heard lo hi s tn [] replies.Silent reads = refl
 read_heard lo hi s tn [] (replies.One u) reads = let read : text_read [] ≡ Some u = text_read-of [] u reads in cc
@@ -105,9 +108,9 @@ read_heard lo hi s tn (b ∷ bs) replies.Collision reads = by_option (text_read 
     by_option None is = refl
     by_option (Some u) is = absurd (reads.1 u (of-text_read (b ∷ bs) u is))
 
-pub branch_seen : (r : Span) (s tn : ℕ) (bytes : List ℕ) (reply : BranchReply) → CanSend (Branch r.lo r.hi) s tn → ReadsAs bytes reply → seen (branch_frame r.lo r.hi s tn) (Some bytes) ≡ seen_op (ops.Branch r, came.Branch reply)
+pub branch_seen : (r : Span) (s tn : ℕ) (bytes : List ℕ) (reply : BranchReply) → CanSend (Branch r.lo r.hi) s tn → ReadsAs bytes reply → seen_exchange (branch_frame r.lo r.hi s tn) (Some bytes) ≡ seen_op (ops.Branch r, came.Branch reply)
 branch_seen r s tn bytes reply can reads = both _ _ asks
-    (heard_behind (branch_frame r.lo r.hi s tn) (command_fields (Branch r.lo r.hi) s tn) (branched r.lo r.hi) bytes (fields_at-packet (command_fields (Branch r.lo r.hi) s tn) can.fits) asks
+    (heard_after (branch_frame r.lo r.hi s tn) (command_fields (Branch r.lo r.hi) s tn) (branched r.lo r.hi) bytes (fields_at-packet (command_fields (Branch r.lo r.hi) s tn) can.fits) asks
     ∙ read_heard r.lo r.hi s tn bytes reply reads)
   where
     asks : asked_in (branch_frame r.lo r.hi s tn) ≡ branched r.lo r.hi
@@ -116,9 +119,9 @@ branch_seen r s tn bytes reply can reads = both _ _ asks
     both : (asked : Asked) (heard : Heard) → asked ≡ branched r.lo r.hi → heard ≡ heard_by (came.Branch reply) → ◌≡◌ {A = Seen} (record { asked = asked; heard = heard }) (seen_op (ops.Branch r, came.Branch reply))
     both asked heard is_asked is_heard = rw (is_asked, is_heard) refl
 
--- behind a mute
+-- after a mute
 mute_hears : (u s tn : ℕ) (bytes : List ℕ) → CanSend (Mute u) s tn → heard_in (mute_frame u s tn) (Some bytes) ≡ heard_bytes s tn (muted u) bytes
-mute_hears u s tn bytes can = heard_behind (mute_frame u s tn) (command_fields (Mute u) s tn) (muted u) bytes (fields_at-packet (command_fields (Mute u) s tn) can.fits) (mute_asks u s tn can)
+mute_hears u s tn bytes can = heard_after (mute_frame u s tn) (command_fields (Mute u) s tn) (muted u) bytes (fields_at-packet (command_fields (Mute u) s tn) can.fits) (mute_asks u s tn can)
 
 acked_heard : (u s tn : ℕ) (bytes : List ℕ) (ack : MuteAck) → (heard_bytes s tn (muted u) bytes ≡ Acked ack) ↔ (ack_read u s tn bytes ≡ Some ack)
 acked_heard u s tn [] ack = (λ e. cc, λ e. cc)
@@ -134,10 +137,10 @@ mute_heard u s tn bytes ack can = subst (λ h. (h ≡ Acked ack) ↔ (ack_read u
 -- an agent that doesn't search takes other bytes as silence
 noise_is_silence : (a : AgentState) (phase : Phase) → ((r : Span) → op_of (wanted phase) ≡ ops.Branch r → ⊥) → heard_by_phase a phase Noise ≡ heard_by_phase a phase Silent
 noise_is_silence a (Unmuting more known) other = refl
-noise_is_silence a (Knowing u tries known) other = refl
+noise_is_silence a (MutingKnown u tries known) other = refl
 noise_is_silence a (Searching silences top below) other = absurd (other top refl)
-noise_is_silence a (Muting u tries top below) other = refl
-noise_is_silence a (Over fault) other = refl
+noise_is_silence a (MutingRead u tries top below) other = refl
+noise_is_silence a (Ended fault) other = refl
 
 -- what an agent that goes on wants
 wants : (a : AgentState) (op : Op) → next_op a ≡ op → (op ≡ ops.End → ⊥) → op_of (wanted a.phase) ≡ op
@@ -161,11 +164,64 @@ mute_fed a u s tn bytes next can = ap (fed a) (mute_hears u s tn bytes can) ∙ 
     by_bytes [] = refl
     by_bytes (b ∷ bs) = by_option (ack_read u s tn (b ∷ bs))
 
--- behind an unmute
+-- after an unmute
 pub unmute_fed : (a : AgentState) (s tn : ℕ) (bytes : List ℕ) → next_op a ≡ ops.UnmuteAll → CanSend Unmute s tn → fed a (heard_in (unmute_frame s tn) (Some bytes)) ≡ fed a (heard_by came.Done)
 unmute_fed a s tn bytes next can =
-    ap (fed a) (heard_behind (unmute_frame s tn) (command_fields Unmute s tn) unmuted bytes (fields_at-packet (command_fields Unmute s tn) can.fits) (unmute_asks s tn can)) ∙ by_bytes bytes
+    ap (fed a) (heard_after (unmute_frame s tn) (command_fields Unmute s tn) unmuted bytes (fields_at-packet (command_fields Unmute s tn) can.fits) (unmute_asks s tn can)) ∙ by_bytes bytes
   where
     by_bytes : (l : List ℕ) → fed a (heard_bytes s tn unmuted l) ≡ fed a Silent
     by_bytes [] = refl
     by_bytes (b ∷ bs) = noise_fed a ops.UnmuteAll next (λ e. cc) (λ r e. cc)
+
+-- the frame of each operation
+pub op_asks : (op : Op) (s tn : ℕ) → IsSendable op s tn → (op ≡ ops.End → ⊥) → asked_in (op_frame op s tn) ≡ asked_by op
+op_asks ops.UnmuteAll s tn can goes = unmute_asks s tn can
+op_asks (ops.Mute u) s tn can goes = mute_asks u s tn can
+op_asks (ops.Branch r) s tn can goes = branch_asks r.lo r.hi s tn can
+op_asks ops.End s tn can goes = absurd (goes refl)
+
+-- how a reply is heard, and how the bytes after the operation's frame are
+abbrev Acks : Op → ℕ → ℕ → Option (List ℕ) → OpReply → Type 0
+Acks op s tn answer reply = (ack : MuteAck) → (reply ≡ came.Mute (Some ack)) ↔ (heard_in (op_frame op s tn) answer ≡ Acked ack)
+
+abbrev Feeds : Op → ℕ → ℕ → Option (List ℕ) → OpReply → Type 0
+Feeds op s tn answer reply = (a : AgentState) → next_op a ≡ op → fed a (heard_by reply) ≡ fed a (heard_in (op_frame op s tn) answer)
+
+pub unmute_carried : (op : Op) (s tn : ℕ) (bytes : List ℕ) → IsSendable op s tn → op ≡ ops.UnmuteAll → Acks op s tn (Some bytes) came.Done × Feeds op s tn (Some bytes) came.Done
+unmute_carried op s tn bytes can is = subst (λ o. Acks o s tn (Some bytes) came.Done × Feeds o s tn (Some bytes) came.Done) (sym is) (acks, λ a next. sym (unmute_fed a s tn bytes next own))
+  where
+    own : CanSend Unmute s tn
+    own = subst (λ o. IsSendable o s tn) is can
+
+    silent : (l : List ℕ) (ack : MuteAck) → heard_bytes s tn unmuted l ≡ Acked ack → ⊥
+    silent [] ack h = cc
+    silent (b ∷ bs) ack h = cc
+
+    acks : Acks ops.UnmuteAll s tn (Some bytes) came.Done
+    acks ack = (λ h. cc, λ h. absurd (silent bytes ack (sym (heard_after (unmute_frame s tn) (command_fields Unmute s tn) unmuted bytes (fields_at-packet (command_fields Unmute s tn) own.fits) (unmute_asks s tn own)) ∙ h)))
+
+pub mute_carried : (op : Op) (u s tn : ℕ) (bytes : List ℕ) → IsSendable op s tn → op ≡ ops.Mute u → Acks op s tn (Some bytes) (came.Mute (ack_read u s tn bytes)) × Feeds op s tn (Some bytes) (came.Mute (ack_read u s tn bytes))
+mute_carried op u s tn bytes can is = subst (λ o. Acks o s tn (Some bytes) (came.Mute (ack_read u s tn bytes)) × Feeds o s tn (Some bytes) (came.Mute (ack_read u s tn bytes))) (sym is) (acks, λ a next. sym (mute_fed a u s tn bytes next own))
+  where
+    own : CanSend (Mute u) s tn
+    own = subst (λ o. IsSendable o s tn) is can
+
+    acks : Acks (ops.Mute u) s tn (Some bytes) (came.Mute (ack_read u s tn bytes))
+    acks ack = let read = mute_heard u s tn bytes ack own in (λ h. read.1 (some_mute h), λ h. ap came.Mute (read.0 h))
+      where
+        some_mute : {o : Option MuteAck} → came.Mute o ≡ came.Mute (Some ack) → o ≡ Some ack
+        some_mute h = cc
+
+pub branch_carried : (op : Op) (r : Span) (s tn : ℕ) (bytes : List ℕ) (reply : BranchReply) → IsSendable op s tn → ReadsAs bytes reply → op ≡ ops.Branch r → heard_by (came.Branch reply) ≡ heard_in (op_frame op s tn) (Some bytes)
+branch_carried op r s tn bytes reply can reads is = subst (λ o. heard_by (came.Branch reply) ≡ heard_in (op_frame o s tn) (Some bytes)) (sym is) (sym (ap (λ (e : Seen). e.heard) (branch_seen r s tn bytes reply (subst (λ o. IsSendable o s tn) is can) reads)))
+
+pub branch_acks : (op : Op) (s tn : ℕ) (bytes : List ℕ) (reply : BranchReply) → heard_by (came.Branch reply) ≡ heard_in (op_frame op s tn) (Some bytes) → Acks op s tn (Some bytes) (came.Branch reply)
+branch_acks op s tn bytes reply heard ack = (λ h. cc, λ h. absurd (never reply (heard ∙ h)))
+  where
+    never : (r : BranchReply) → heard_by (came.Branch r) ≡ Acked ack → ⊥
+    never replies.Silent h = cc
+    never (replies.One u) h = cc
+    never replies.Collision h = cc
+
+pub frame_asks : (op : Op) (s tn : ℕ) (frame : List ℕ) → IsSendable op s tn → (op ≡ ops.End → ⊥) → frame ≡ op_frame op s tn → asked_in frame ≡ asked_by op
+frame_asks op s tn frame can goes is = ap asked_in is ∙ op_asks op s tn can goes

@@ -17,7 +17,7 @@ use Rattle.rdm_agent.proofs.Members.{last_part, tails, heads}
 use Rattle.rdm_agent.proofs.OneDevice.{NotFailed}
 use Rattle.rdm_agent.proofs.Pushes.{All-at, All-push, has-front}
 use Rattle.rdm_agent.proofs.FoundLemmas.{IsFound-has}
-use Rattle.rdm_agent.proofs.Standing.{IsFound, WasSpelt}
+use Rattle.rdm_agent.proofs.Invariant.{IsFound, WasSpelt}
 
 -- a UID that may be a new device is one of the range, and isn't found
 pub record IsNewDevice (found : List ℕ) (top : Span) (u : ℕ) : Type 0 where
@@ -64,31 +64,31 @@ corrupt-mutes top u x found sound new spelt one = record {
   heard = One u;
   mutes = spelt.mutes;
   whole = spelt.whole ∙ ap (λ n. spelt.before ++ record { asked = Branch top.lo n; heard = One u } ∷ spelt.mutes) (sym one);
-  cause = inr (ap One is, spelt.many, subst (λ v. AllByRecursion (IsLostMute v) spelt.mutes) is spelt.lost, behind.1);
+  cause = inr (ap One is, spelt.many, subst (λ v. AllByRecursion (IsLostMute v) spelt.mutes) is spelt.lost, after.1);
 }
   where
     is : u ≡ top.lo
     is = let from = new.from in let to = new.to in omega arith
 
-    behind : AllByRecursion NotFailed (record { asked = Branch top.lo top.hi; heard = One u } ∷ spelt.mutes)
-    behind = last_part NotFailed spelt.before (record { asked = Branch top.lo top.hi; heard = One u } ∷ spelt.mutes) (subst (λ l. AllByRecursion NotFailed l) spelt.whole sound)
+    after : AllByRecursion NotFailed (record { asked = Branch top.lo top.hi; heard = One u } ∷ spelt.mutes)
+    after = last_part NotFailed spelt.before (record { asked = Branch top.lo top.hi; heard = One u } ∷ spelt.mutes) (subst (λ l. AllByRecursion NotFailed l) spelt.whole sound)
 
 -- an exchange that branches no range
 abbrev pub NoBranch : Seen → Type 0
 NoBranch e = is_branch e ≡ false
 
--- the last branch of a list: its place, and what stands behind it
-record SameLast (front back : List Seen) (b : Seen) (other behind : List Seen) (c : Seen) : Type 0 where
+-- the last branch of a list: its place, and what stands after it
+record SameLast (front back : List Seen) (b : Seen) (other after : List Seen) (c : Seen) : Type 0 where
   pub fronts : front ≡ other
   pub branches : b ≡ c
-  pub backs : back ≡ behind
+  pub backs : back ≡ after
 
-last_branch : (front back : List Seen) (b : Seen) (other behind : List Seen) (c : Seen) → is_branch b ≡ true → AllByRecursion NoBranch back → is_branch c ≡ true → AllByRecursion NoBranch behind
-    → front ++ b ∷ back ≡ other ++ c ∷ behind → SameLast front back b other behind c
-last_branch [] back b [] behind c p ps q qs same = record { fronts = refl; branches = cc; backs = cc }
-last_branch [] back b (d ∷ other) behind c p ps q qs same = absurd (true≢false (sym q ∙ All-at NoBranch back other behind c ps (tails same)))
-last_branch (d ∷ front) back b [] behind c p ps q qs same = absurd (true≢false (sym p ∙ All-at NoBranch behind front back b qs (tails (sym same))))
-last_branch (d ∷ front) back b (e ∷ other) behind c p ps q qs same = let inner = last_branch front back b other behind c p ps q qs (tails same) in record {
+last_branch : (front back : List Seen) (b : Seen) (other after : List Seen) (c : Seen) → is_branch b ≡ true → AllByRecursion NoBranch back → is_branch c ≡ true → AllByRecursion NoBranch after
+    → front ++ b ∷ back ≡ other ++ c ∷ after → SameLast front back b other after c
+last_branch [] back b [] after c p ps q qs same = record { fronts = refl; branches = cc; backs = cc }
+last_branch [] back b (d ∷ other) after c p ps q qs same = absurd (true≢false (sym q ∙ All-at NoBranch back other after c ps (tails same)))
+last_branch (d ∷ front) back b [] after c p ps q qs same = absurd (true≢false (sym p ∙ All-at NoBranch after front back b qs (tails (sym same))))
+last_branch (d ∷ front) back b (e ∷ other) after c p ps q qs same = let inner = last_branch front back b other after c p ps q qs (tails same) in record {
   fronts = ap₂ (λ x l. x ∷ l) (heads same) inner.fronts;
   branches = inner.branches;
   backs = inner.backs;
@@ -108,11 +108,11 @@ record OfOne (u lo hi : ℕ) (front back : List Seen) (h : Heard) : Type 0 where
 of_one : (u : ℕ) (x front back : List Seen) (lo hi : ℕ) (h : Heard) → x ≡ front ++ record { asked = Branch lo hi; heard = h } ∷ back → AllByRecursion NoBranch back → IsCorrupt u x → OfOne u lo hi front back h
 of_one u x front back lo hi h whole others c = record { from = (bounds (ap (λ e. e.asked) s.branches)).0; to = (bounds (ap (λ e. e.asked) s.branches)).1; cause = cause c.cause }
   where
-    behind : AllByRecursion NoBranch c.mutes
-    behind = elim c.cause [ inl bad ↦ subst (λ l. AllByRecursion NoBranch l) (sym bad.0) tt | inr lost ↦ lost_no_branches u c.mutes lost.2 ]
+    after : AllByRecursion NoBranch c.mutes
+    after = elim c.cause [ inl bad ↦ subst (λ l. AllByRecursion NoBranch l) (sym bad.0) tt | inr lost ↦ lost_no_branches u c.mutes lost.2 ]
 
     s : SameLast front back (record { asked = Branch lo hi; heard = h }) c.before c.mutes (record { asked = Branch u u; heard = c.heard })
-    s = last_branch front back (record { asked = Branch lo hi; heard = h }) c.before c.mutes (record { asked = Branch u u; heard = c.heard }) refl others refl behind (sym whole ∙ c.whole)
+    s = last_branch front back (record { asked = Branch lo hi; heard = h }) c.before c.mutes (record { asked = Branch u u; heard = c.heard }) refl others refl after (sym whole ∙ c.whole)
 
     bounds : Branch lo hi ≡ Branch u u → (lo ≡ u) × (hi ≡ u)
     bounds p = (cc, cc)
@@ -175,7 +175,7 @@ not_corrupt-spelt w u tries top x found is_found end new spelt few c = elim o.ca
 -- or acknowledges
 pub not_corrupt-acked : (w u tries : ℕ) (ack : MuteAck) (top : Span) (x : List Seen) → WasSpelt u tries top x → IsCorrupt w (x ++ record { asked = Mute u; heard = Acked ack } ∷ []) → ⊥
 not_corrupt-acked w u tries ack top x spelt c = elim o.cause [
-  | inl bad ↦ none_behind spelt.mutes bad.0
+  | inl bad ↦ none_after spelt.mutes bad.0
   | inr lost ↦ true≢false (last_part (IsLostMute w) spelt.mutes (e ∷ []) lost.2).0.1
 ]
   where
@@ -186,6 +186,6 @@ not_corrupt-acked w u tries ack top x spelt c = elim o.cause [
     o = of_one w (x ++ e ∷ []) spelt.before (spelt.mutes ++ e ∷ []) top.lo top.hi (One u) (ap (λ l. l ++ e ∷ []) spelt.whole ∙ append_assoc spelt.before (record { asked = Branch top.lo top.hi; heard = One u } ∷ spelt.mutes) (e ∷ []))
         (All-push NoBranch spelt.mutes e (lost_no_branches u spelt.mutes spelt.lost) refl) c
 
-    none_behind : (l : List Seen) → l ++ e ∷ [] ≡ [] → ⊥
-    none_behind [] p = cc
-    none_behind (d ∷ l) p = cc
+    none_after : (l : List Seen) → l ++ e ∷ [] ≡ [] → ⊥
+    none_after [] p = cc
+    none_after (d ∷ l) p = cc

@@ -1,4 +1,4 @@
--- An agent behind a reply to a mute or a branch.
+-- An agent after a reply to a mute or a branch.
 use Rattle.std.proofs.Common.{◌≡◌, Option, Some, None, refl}
 use Rattle.rdm_wire.specs.declared.branch.BranchReply.{BranchReply}
 use Rattle.rdm_wire.specs.declared.branch.BranchReply.TheVariants.{Silent, One, Collision}

@@ -12,7 +12,7 @@ use Rattle.rdm_agent.specs.Run.{acked_by, acked_in, reported}
 use Rattle.rdm_agent.specs.Cause.{IsOneTooMany, AllReported}
 use Rattle.rdm_agent.proofs.Pushes.{read-push_none, read-push_some}
 use Rattle.rdm_agent.proofs.Sets.{has-set_of, set_of-push, set_of-again, set_of-once, once-again, once-new, length-with_uid}
-use Rattle.rdm_agent.proofs.Standing.{IsFound}
+use Rattle.rdm_agent.proofs.Invariant.{IsFound}
 
 -- there is room for all acknowledged UIDs
 pub IsFound-all_reported : (x : List Seen) (found : List ℕ) → IsFound x found → AllReported x
@@ -22,7 +22,7 @@ IsFound-all_reported x found f = let room = f.room in let counted = f.counted in
 pub IsFound-reported : (x : List Seen) (found : List ℕ) → IsFound x found → found ≡ reported x
 IsFound-reported x found f = f.set ∙ sym (ap set_of (take_all MOST_DEVICES (once (acked_in x)) (IsFound-all_reported x found f)) ∙ set_of-once (acked_in x))
 
--- a UID is acknowledged exactly where it is found
+-- a UID is acknowledged exactly when it is found
 pub IsFound-has : (x : List Seen) (found : List ℕ) → IsFound x found → (u : ℕ) → has (acked_in x) u ≡ has found u
 IsFound-has x found f u = sym (has-set_of (acked_in x) u) ∙ ap (λ us. has us u) (sym f.set)
 

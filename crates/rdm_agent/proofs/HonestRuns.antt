@@ -1,18 +1,20 @@
 -- Runs on an honest line.
-use Rattle.std.proofs.Common.{◌≡◌, ℕ, true, List, take, None, sym, ap, ◌∙◌, subst}
+use Rattle.std.proofs.Common.{◌≡◌, ℕ, true, List, [], ◌∷◌, take, None, sym, ap, ◌∙◌, subst}
 use Rattle.std.specs.Prelude.{MatchOption}
-use Rattle.rdm_wire.specs.Uid.{has, IsDeviceSet}
+use Rattle.rdm_wire.specs.Uid.{has, IsDevice, IsDeviceSet}
 use Rattle.rdm_wire.specs.declared.uid_set.TheConstants.{MOST_DEVICES}
 use Rattle.rdm_wire.specs.Lists.{once}
 use Rattle.rdm_wire.specs.Honest.{Seen}
+use Rattle.rdm_wire.specs.HonestOver.{HonestOver}
 use Rattle.rdm_agent.specs.Run.{acked_in}
 use Rattle.rdm_agent.specs.Certificate.{Certificate}
 use Rattle.rdm_agent.specs.Cause.{Cause}
-use Rattle.rdm_agent.specs.Machine.{AgentState, Runs, start, next_of, fault_of}
-use Rattle.rdm_agent.specs.Statements.{FindsAll, FindsEach, FindsNoPhantom}
+use Rattle.rdm_agent.specs.Machine.{AgentState, Runs, start, next_of, fault_of, found_uids}
+use Rattle.rdm_agent.specs.Statements.{FindsAll, FindsEach, FindsNoPhantom, FindsStaying, FindsNoStranger}
 use Rattle.rdm_agent.specs.declared.kind.Kind.{Kind}
 use Rattle.rdm_agent.proofs.OneDevice.{found}
 use Rattle.rdm_agent.proofs.Honest.{devices, no_phantom}
+use Rattle.rdm_agent.proofs.ChangingDevices.{honest_over_to_each, no_stranger, staying_device}
 use Rattle.rdm_agent.proofs.Sets.{has-set_of, has-once, has-take}
 use Rattle.rdm_agent.proofs.Runs.{stands, ends_certified, ends_at_failure}
 
@@ -22,18 +24,34 @@ certificate kind known budget x b set run end fault = subst (λ f. MatchOption f
 
 -- on an honest line that is the devices
 pub finds_all : FindsAll
-finds_all kind known budget x b set run present end fault honest = devices kind known x b.found present (certificate kind known budget x b set run end fault) honest
+finds_all kind known budget x b set run present end fault honest = devices kind known x (found_uids b) present (certificate kind known budget x b set run end fault).search honest
 
 -- and it has each device to which the line was honest
 pub finds_each : FindsEach
-finds_each kind known budget x b set run u end fault device honest = found kind known x b.found u device (certificate kind known budget x b set run end fault) honest
+finds_each kind known budget x b set run u end fault device honest = found kind known x (found_uids b) u device (certificate kind known budget x b set run end fault).search honest
 
--- what is found is acknowledged, and so a device
-pub finds_no_phantom : FindsNoPhantom
-finds_no_phantom kind known budget x b set run present u honest here = no_phantom present x u (ends_at_failure kind known budget x b set run).0 honest acked
+-- what is found is acknowledged
+acked : (kind : Kind) (known : List ℕ) (budget : ℕ) (x : List Seen) (b : AgentState) (u : ℕ) → IsDeviceSet known → Runs (start kind known budget) x b → has (found_uids b) u ≡ true → has (acked_in x) u ≡ true
+acked kind known budget x b u set run here = sym (has-once (acked_in x) u) ∙ has-take MOST_DEVICES (once (acked_in x)) u first
   where
     first : has (take MOST_DEVICES (once (acked_in x))) u ≡ true
     first = sym (has-set_of (take MOST_DEVICES (once (acked_in x))) u) ∙ ap (λ us. has us u) (sym (stands kind known budget x b set run).reports) ∙ here
 
-    acked : has (acked_in x) u ≡ true
-    acked = sym (has-once (acked_in x) u) ∙ has-take MOST_DEVICES (once (acked_in x)) u first
+-- and so a device
+pub finds_no_phantom : FindsNoPhantom
+finds_no_phantom kind known budget x b set run present u honest here =
+    no_phantom present x u (ends_at_failure kind known budget x b set run).0 honest (acked kind known budget x b u set run here)
+
+-- that was present at some exchange
+pub finds_no_stranger : FindsNoStranger
+finds_no_stranger kind known budget x b set run sets u honest here =
+    no_stranger sets x u (ends_at_failure kind known budget x b set run).0 honest (acked kind known budget x b u set run here)
+
+-- a device that stays is found
+pub finds_staying : FindsStaying
+finds_staying kind known budget x b set run sets u end fault honest each =
+    finds_each kind known budget x b set run u end fault (device x (certificate kind known budget x b set run end fault) honest) (honest_over_to_each sets u x each honest)
+  where
+    device : (y : List Seen) → Certificate kind known y b.found → HonestOver sets y → IsDevice u
+    device [] c h = let begun = c.search.unmutes in cc
+    device (e ∷ y) c h = staying_device sets u e y each h

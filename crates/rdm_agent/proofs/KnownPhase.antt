@@ -8,7 +8,7 @@ use Rattle.rdm_wire.specs.Honest.{Heard, Seen, is_acked}
 use Rattle.rdm_wire.specs.Honest.Asked.{Mute}
 use Rattle.rdm_wire.specs.Honest.Heard.{Acked}
 use Rattle.rdm_wire.specs.declared.mute_ack.MuteAck.{MuteAck}
-use Rattle.rdm_agent.specs.Run.{mute_of, muted_by, muted_in, is_branch, InSuccession, IsLostMute}
+use Rattle.rdm_agent.specs.Run.{muted_uid, muted_by, muted_in, is_branch, InSuccession, IsLostMute}
 use Rattle.rdm_agent.specs.Certificate.{known_of}
 use Rattle.rdm_agent.specs.Machine.{search_from}
 use Rattle.rdm_agent.specs.declared.kind.Kind.{Kind}
@@ -19,7 +19,7 @@ use Rattle.rdm_agent.proofs.Stacks.{IsStack-whole}
 use Rattle.rdm_agent.proofs.CorruptLemmas.{not_corrupt-no_branch}
 use Rattle.rdm_agent.proofs.FoundLemmas.{found-same}
 use Rattle.rdm_agent.proofs.UnderWay.{EndsWith-none, named-mute, lost-acks_none, under_way-lost, under_way-acked, under_way-given_up, under_way-taken_up}
-use Rattle.rdm_agent.proofs.Standing.{IsFound, MutesKnown, InPhase}
+use Rattle.rdm_agent.proofs.Invariant.{IsFound, MutesKnown, InPhase}
 
 five_muted : (u : ℕ) (x : List Seen) → InSuccession TRIES (IsLostMute u) x → has (muted_in x) u ≡ true
 five_muted u x s = by_run s.run s.many s.each s.whole
@@ -27,7 +27,7 @@ five_muted u x s = by_run s.run s.many s.each s.whole
     by_run : (run : List Seen) → length run ≡ TRIES → AllByRecursion (IsLostMute u) run → x ≡ s.front ++ run ++ s.back → has (muted_in x) u ≡ true
     by_run [] five each whole = absurd (omega (arith, five))
     by_run (e ∷ run) five each whole =
-        subst (λ l. has (muted_in l) u ≡ true) (sym (whole ∙ append_assoc s.front (e ∷ run) s.back)) (has-at muted_by s.front e (run ++ s.back) u (ap mute_of each.0.0))
+        subst (λ l. has (muted_in l) u ≡ true) (sym (whole ∙ append_assoc s.front (e ∷ run) s.back)) (has-at muted_by s.front e (run ++ s.back) u (ap muted_uid each.0.0))
 
 module _ (known : List ℕ) (u : ℕ) (left : List ℕ) (x : List Seen) (found : List ℕ) (m : MutesKnown known (Some u) (u ∷ left) x found) where
   -- a mute of u is lost

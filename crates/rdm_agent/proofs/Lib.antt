@@ -1,6 +1,6 @@
 pub mod Members
 pub mod FedLemmas
-pub mod StandsLemmas
+pub mod CallLemmas
 pub mod OneDevice
 pub mod AllDevices
 pub mod Sets
@@ -9,7 +9,7 @@ pub mod SampleHonest
 pub mod SampleCertificate
 pub mod Pushes
 pub mod Stacks
-pub mod Standing
+pub mod Invariant
 pub mod CorruptLemmas
 pub mod FoundLemmas
 pub mod UnderWay
@@ -20,3 +20,11 @@ pub mod RunLemmas
 pub mod Runs
 pub mod HonestRuns
 pub mod Carried
+pub mod LeftLemmas
+pub mod CoverLemmas
+pub mod PaidLemmas
+pub mod BoundRuns
+pub mod BoundCalls
+pub mod FirstAcked
+pub mod ChangingDevices
+pub mod SampleLines

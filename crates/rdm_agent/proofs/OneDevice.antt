@@ -7,8 +7,8 @@ use Rattle.rdm_wire.specs.Uid.{has, is_within, IsDevice}
 use Rattle.rdm_wire.specs.Honest.{Asked, Heard, Seen, LineState, HonestToStep, HonestTo, Chain, Counts, due_in, lost_after, KeepsMuted, MuteMoves, is_acked, before_run}
 use Rattle.rdm_wire.specs.Honest.Asked.{Unmute, Branch, Mute, Other}
 use Rattle.rdm_wire.specs.Honest.Heard.{Failed, Silent}
-use Rattle.rdm_agent.specs.Run.{mute_of, muted_by, muted_in, InSuccession, IsSilentBranch, IsLostMute}
-use Rattle.rdm_agent.specs.Certificate.{Certificate, IsTried, IsCleared}
+use Rattle.rdm_agent.specs.Run.{muted_uid, muted_by, muted_in, InSuccession, IsSilentBranch, IsLostMute}
+use Rattle.rdm_agent.specs.Certificate.{SearchShows, IsTried, IsCleared}
 use Rattle.rdm_agent.specs.declared.kind.Kind.{Kind}
 use Rattle.rdm_agent.specs.declared.limits.TheConstants.{TRIES}
 use Rattle.rdm_agent.proofs.Pushes.{has-front}
@@ -17,12 +17,12 @@ use Rattle.rdm_agent.proofs.Members.{heads, tails, has-put, has-first, member, f
 abbrev pub NotFailed : Seen → Type 0
 NotFailed e = e.heard ≢ Failed
 
--- a device that is muted behind a step was so before it, or the step asks it
-moved-mute : (u v : ℕ) (s new : LineState) (h : Heard) (b : Bool) → (u == v) ≡ b → MatchBool b (MuteMoves u s h new) (KeepsMuted u s new × Counts new 0 0 0) → new.muted u ≡ true → (s.muted u ≡ true) ⊎ (mute_of (Mute v) ≡ Some u)
+-- a device that is muted after a step was so before it, or the step asks it
+moved-mute : (u v : ℕ) (s new : LineState) (h : Heard) (b : Bool) → (u == v) ≡ b → MatchBool b (MuteMoves u s h new) (KeepsMuted u s new × Counts new 0 0 0) → new.muted u ≡ true → (s.muted u ≡ true) ⊎ (muted_uid (Mute v) ≡ Some u)
 moved-mute u v s new h true e step m = inr (ap Some (sym (eqb-true u v e)))
 moved-mute u v s new h false e step m = inl (sym step.0 ∙ m)
 
-moved : (u : ℕ) (s new : LineState) (a : Asked) (h : Heard) → HonestToStep u s a h new → new.muted u ≡ true → (s.muted u ≡ true) ⊎ (mute_of a ≡ Some u)
+moved : (u : ℕ) (s new : LineState) (a : Asked) (h : Heard) → HonestToStep u s a h new → new.muted u ≡ true → (s.muted u ≡ true) ⊎ (muted_uid a ≡ Some u)
 moved u s new Unmute h step m = inl (step.0.fewer m)
 moved u s new (Branch lo hi) h step m = inl (sym step.0 ∙ m)
 moved u s new (Mute v) h step m = moved-mute u v s new h (u == v) refl step m
@@ -37,13 +37,13 @@ pub record Reached (u : ℕ) (s : LineState) (front rest : List Seen) : Type 0 w
 onward : (u : ℕ) (s new : LineState) (e : Seen) (front rest : List Seen) → HonestToStep u s e.asked e.heard new → Reached u new front rest → Reached u s (e ∷ front) rest
 onward u s new e front rest step r = record { state = r.state; chain = r.chain; muted = λ m. was (r.muted m) }
   where
-    now : (s.muted u ≡ true) ⊎ (mute_of e.asked ≡ Some u) → (s.muted u ≡ true) ⊎ (has (muted_in (e ∷ front)) u ≡ true)
+    now : (s.muted u ≡ true) ⊎ (muted_uid e.asked ≡ Some u) → (s.muted u ≡ true) ⊎ (has (muted_in (e ∷ front)) u ≡ true)
     now (inl before) = inl before
-    now (inr asked) = inr (has-first (mute_of e.asked) (muted_in front) u asked)
+    now (inr asked) = inr (has-first (muted_uid e.asked) (muted_in front) u asked)
 
     was : (new.muted u ≡ true) ⊎ (has (muted_in front) u ≡ true) → (s.muted u ≡ true) ⊎ (has (muted_in (e ∷ front)) u ≡ true)
     was (inl here) = now (moved u s new e.asked e.heard step here)
-    was (inr later) = inr (has-put (mute_of e.asked) (muted_in front) u later)
+    was (inr later) = inr (has-put (muted_uid e.asked) (muted_in front) u later)
 
 pub reached : (u : ℕ) (s : LineState) (front rest : List Seen) → AllByRecursion NotFailed front → Chain (HonestToStep u) s (front ++ rest) → Reached u s front rest
 reached u s [] rest ok c = record { state = s; chain = c; muted = λ m. inl m }
@@ -114,7 +114,7 @@ mutes u s (e ∷ run) rest each ok c =
     longer a b n more few (inl none) = omega arith
     longer a b n more few (inr rest) = omega arith
 
--- behind three unmutes nobody is muted
+-- after three unmutes nobody is muted
 pub record Begun (u : ℕ) (x rest : List Seen) : Type 0 where
   pub state : LineState
   pub muted : state.muted u ≡ false
@@ -159,7 +159,7 @@ peel lo hi e xs (f ∷ front) run back p each five whole = (front, tails whole)
 
 -- five mutes of the device in succession aren't lost
 pub five_mutes : (u : ℕ) (s : LineState) (x : List Seen) → AllByRecursion NotFailed x → Chain (HonestToStep u) s x → InSuccession TRIES (IsLostMute u) x → ⊥
-five_mutes u s x ok chain five = too_many (mutes u r.state five.run five.back five.each (first_part NotFailed five.run five.back behind) r.chain)
+five_mutes u s x ok chain five = too_many (mutes u r.state five.run five.back five.each (first_part NotFailed five.run five.back after) r.chain)
   where
     whole : x ≡ five.front ++ (five.run ++ five.back)
     whole = five.whole ∙ append_assoc five.front five.run five.back
@@ -167,8 +167,8 @@ five_mutes u s x ok chain five = too_many (mutes u r.state five.run five.back fi
     all : AllByRecursion NotFailed (five.front ++ (five.run ++ five.back))
     all = subst (λ l. AllByRecursion NotFailed l) whole ok
 
-    behind : AllByRecursion NotFailed (five.run ++ five.back)
-    behind = last_part NotFailed five.front (five.run ++ five.back) all
+    after : AllByRecursion NotFailed (five.run ++ five.back)
+    after = last_part NotFailed five.front (five.run ++ five.back) all
 
     r : Reached u s five.front (five.run ++ five.back)
     r = reached u s five.front (five.run ++ five.back) (first_part NotFailed five.front (five.run ++ five.back) all) (subst (λ l. Chain (HonestToStep u) s l) whole chain)
@@ -177,7 +177,7 @@ five_mutes u s x ok chain five = too_many (mutes u r.state five.run five.back fi
     too_many (inl none) = let many = five.many in omega arith
     too_many (inr few) = let many = five.many in omega arith
 
--- a device in a range that was silent five times in succession was muted before, behind the three unmutes
+-- a device in a range that was silent five times in succession was muted before, after the three unmutes
 cleared_muted : (u : ℕ) (x rest : List Seen) → AllByRecursion NotFailed rest → Begun u x rest → (lo hi : ℕ) → is_within lo hi u ≡ true → (front run back : List Seen) → rest ≡ front ++ (run ++ back) → length run ≡ TRIES → AllByRecursion (IsSilentBranch lo hi) run → has (muted_in rest) u ≡ true
 cleared_muted u x rest ok begun lo hi within front run back whole five each = by_muted (cases_Bool (r.state.muted u))
   where
@@ -245,10 +245,10 @@ cleared_found u s m (a ∷ b ∷ c ∷ rest) unmutes ok tried chain cleared =
     in_rest = cleared_muted u (a ∷ b ∷ c ∷ rest) rest ok.1.1.1 (begin u m a b c rest pa pb pc (ok.0, (ok.1.0, (ok.1.1.0, tt))) chain) cleared.lo cleared.hi cleared.within three.0 five.run five.back three.1 five.many five.each
 
     in_all : has (muted_in (a ∷ b ∷ c ∷ rest)) u ≡ true
-    in_all = has-put (mute_of a.asked) (muted_in (b ∷ c ∷ rest)) u (has-put (mute_of b.asked) (muted_in (c ∷ rest)) u (has-put (mute_of c.asked) (muted_in rest) u in_rest))
+    in_all = has-put (muted_uid a.asked) (muted_in (b ∷ c ∷ rest)) u (has-put (muted_uid b.asked) (muted_in (c ∷ rest)) u (has-put (muted_uid c.asked) (muted_in rest) u in_rest))
 
 -- on a line that is honest to a device, a certificate's set has it
-pub found : (kind : Kind) (known : List ℕ) (x : List Seen) (s : List ℕ) (u : ℕ) → IsDevice u → Certificate kind known x s → HonestTo u x → has s u ≡ true
+pub found : (kind : Kind) (known : List ℕ) (x : List Seen) (s : List ℕ) (u : ℕ) → IsDevice u → SearchShows kind known x s → HonestTo u x → has s u ≡ true
 found kind known x s u device c honest =
     elim (c.cleared u device.in_range) [
       | inl h ↦ h

@@ -27,7 +27,7 @@ before_branch-cons e x = by_test (is_branch e) (position_or_len is_branch x)
     by_test false n = rw one-add refl
 
 module _ (f : Seen → Option ℕ) where
-  -- what is read off an exchange is read off a list that has it, and off one that goes on behind it
+  -- what is read off an exchange is read off a list that has it, and off one that goes on after it
   pub has-front : (x y : List Seen) (u : ℕ) → has (filter_map f x) u ≡ true → has (filter_map f (x ++ y)) u ≡ true
   has-front [] y u h = absurd (true≢false (sym h))
   has-front (e ∷ x) y u h =
@@ -60,11 +60,11 @@ module _ (f : Seen → Option ℕ) where
   -- one off which something is read adds that
   pub read-push_some : (x : List Seen) (e : Seen) (u : ℕ) → f e ≡ Some u → filter_map f (x ++ e ∷ []) ≡ filter_map f x ++ u ∷ []
   read-push_some [] e u some = rw some refl
-  read-push_some (d ∷ x) e u some = ap (cons_option (f d)) (read-push_some x e u some) ∙ behind (f d) (filter_map f x) u
+  read-push_some (d ∷ x) e u some = ap (cons_option (f d)) (read-push_some x e u some) ∙ after (f d) (filter_map f x) u
     where
-      behind : (o : Option ℕ) (us : List ℕ) (u : ℕ) → cons_option o (us ++ u ∷ []) ≡ cons_option o us ++ u ∷ []
-      behind None us u = refl
-      behind (Some v) us u = refl
+      after : (o : Option ℕ) (us : List ℕ) (u : ℕ) → cons_option o (us ++ u ∷ []) ≡ cons_option o us ++ u ∷ []
+      after None us u = refl
+      after (Some v) us u = refl
 
   -- what is read before the first branch
   pub has-before_branch : (x y : List Seen) (u : ℕ) → has (filter_map f (before_first is_branch x)) u ≡ true → has (filter_map f (before_first is_branch (x ++ y))) u ≡ true

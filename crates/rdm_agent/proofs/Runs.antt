@@ -9,13 +9,14 @@ use Rattle.rdm_wire.specs.Honest.{Asked, Heard, Seen}
 use Rattle.rdm_wire.specs.Honest.Asked.{Unmute, Branch, Mute}
 use Rattle.rdm_wire.specs.Honest.Heard.{Acked, Failed, Silent, One, Noise}
 use Rattle.rdm_agent.specs.Run.{FailureIsLast}
-use Rattle.rdm_agent.specs.Certificate.{Certificate, known_of}
+use Rattle.rdm_agent.specs.Certificate.{Certificate, SearchShows, known_of}
 use Rattle.rdm_agent.specs.Cause.{Cause, IsCorrupt, EndsFailed, AllReported}
-use Rattle.rdm_agent.specs.Machine.{Phase, AgentState, Runs, start, next_of, wanted, fed, fault_of, heard_by_phase, to_phase, open_ranges}
-use Rattle.rdm_agent.specs.Machine.Phase.{Unmuting, Knowing, Searching, Muting, Over}
+use Rattle.rdm_agent.specs.Machine.{Phase, AgentState, Runs, start, next_of, wanted, fed, fault_of, heard_by_phase, to_phase, open_ranges, found_uids}
+use Rattle.rdm_agent.specs.Machine.Phase.{Unmuting, MutingKnown, Searching, MutingRead, Ended}
 use Rattle.rdm_agent.specs.Statements.{AsksInOrder, EndsAtFailure, EndsAtBudget, FindsAcknowledged, HasFewRanges, EndsCertified, IsInOrder}
 use Rattle.rdm_agent.specs.declared.kind.Kind.{Kind}
 use Rattle.rdm_agent.specs.declared.kind.Kind.TheVariants.{Full, Incremental}
+use Rattle.rdm_agent.specs.declared.fault.AgentFault.{AgentFault}
 use Rattle.rdm_agent.specs.declared.fault.AgentFault.TheVariants.{LineFailed, Exhausted}
 use Rattle.rdm_agent.specs.declared.limits.TheConstants.{UNMUTES}
 use Rattle.rdm_agent.proofs.Members.{heads, tails}
@@ -26,8 +27,8 @@ use Rattle.rdm_agent.proofs.FoundLemmas.{IsFound-all_reported, found-same}
 use Rattle.rdm_agent.proofs.CorruptLemmas.{is_new-device, not_corrupt-no_branch, not_corrupt-spelt}
 use Rattle.rdm_agent.proofs.UnmutePhase.{no_branches}
 use Rattle.rdm_agent.proofs.Stacks.{IsStack-length, IsStack-ends}
-use Rattle.rdm_agent.proofs.RunLemmas.{to_phase-stands, reported-same, unmuting-stands, known-stands, searching-stands, muting-stands, is_muting-device}
-use Rattle.rdm_agent.proofs.Standing.{IsFound, InPhase, IsUnderWay, Stands}
+use Rattle.rdm_agent.proofs.RunLemmas.{to_phase-stands, reported-same, unmuting-stands, known-stands, searching-stands, muting-stands, is_muting_read-device}
+use Rattle.rdm_agent.proofs.Invariant.{IsFound, InPhase, IsUnderWay, RunInvariant}
 
 module _ (kind : Kind) (known : List ℕ) (budget : ℕ) where
   -- while something is wanted, no exchange has failed, there was room for what is found, and nothing is corrupt
@@ -38,53 +39,53 @@ module _ (kind : Kind) (known : List ℕ) (budget : ℕ) where
 
   is_open : (phase : Phase) (x : List Seen) (found : List ℕ) → InPhase kind known budget phase x found → MatchOption (wanted phase) (Unit {0}) (λ asked. IsOpen x found)
   is_open (Unmuting more left) x found p = record { no_failure = p.1.no_failure; is_found = p.1.is_found; not_corrupt = λ u c. not_corrupt-no_branch u x (no_branches x p.1.unmutes) c }
-  is_open (Knowing u tries left) x found p = let w = p.muting.under_way in record { no_failure = w.no_failure; is_found = w.is_found; not_corrupt = λ v c. not_corrupt-no_branch v x p.muting.no_branch c }
+  is_open (MutingKnown u tries left) x found p = let w = p.muting.under_way in record { no_failure = w.no_failure; is_found = w.is_found; not_corrupt = λ v c. not_corrupt-no_branch v x p.muting.no_branch c }
   is_open (Searching silences top below) x found p = let w = p.searches.under_way in record { no_failure = w.no_failure; is_found = w.is_found; not_corrupt = p.not_corrupt }
-  is_open (Muting u tries top below) x found p = let w = p.searches.under_way in record {
+  is_open (MutingRead u tries top below) x found p = let w = p.searches.under_way in record {
     no_failure = w.no_failure;
     is_found = w.is_found;
     not_corrupt = λ v c. not_corrupt-spelt v u tries top x found w.is_found (IsStack-ends top below p.searches.stack).1 (is_new-device found top u p.new) p.spelt p.few c;
   }
-  is_open (Over fault) x found p = tt
+  is_open (Ended fault) x found p = tt
 
-  module _ (x : List Seen) (a : AgentState) (s : Stands kind known budget x a) (goes : nat_lt a.frames a.budget ≡ true) where
-    -- the agent stands behind what is wanted and its reply
-    Behind : AgentState → Heard → Option Asked → Type 0
-    Behind b h o = MatchOption o (Unit {0}) (λ asked. Stands kind known budget (x ++ record { asked = asked; heard = h } ∷ []) b)
+  module _ (x : List Seen) (a : AgentState) (s : RunInvariant kind known budget x a) (goes : nat_lt a.frames a.budget ≡ true) where
+    -- the agent stands after what is wanted and its reply
+    After : AgentState → Heard → Option Asked → Type 0
+    After b h o = MatchOption o (Unit {0}) (λ asked. RunInvariant kind known budget (x ++ record { asked = asked; heard = h } ∷ []) b)
 
-    by_phase : (phase : Phase) (h : Heard) → h ≢ Failed → InPhase kind known budget phase x a.found → Behind (heard_by_phase a phase h) h (wanted phase)
-    unfolding Behind
+    by_phase : (phase : Phase) (h : Heard) → h ≢ Failed → InPhase kind known budget phase x (found_uids a) → After (heard_by_phase a phase h) h (wanted phase)
+    unfolding After
     by_phase (Unmuting more left) h sound p = unmuting-stands kind known budget x a s goes more left h sound p
-    by_phase (Knowing u tries left) h sound p = known-stands kind known budget x a s goes u tries left h sound p
+    by_phase (MutingKnown u tries left) h sound p = known-stands kind known budget x a s goes u tries left h sound p
     by_phase (Searching silences top below) h sound p = searching-stands kind known budget x a s goes silences top below h sound p
-    by_phase (Muting u tries top below) h sound p = muting-stands kind known budget x a s goes u tries top below h sound p
-    by_phase (Over fault) h sound p = tt
+    by_phase (MutingRead u tries top below) h sound p = muting-stands kind known budget x a s goes u tries top below h sound p
+    by_phase (Ended fault) h sound p = tt
 
-    failed-stands : (asked : Asked) → wanted a.phase ≡ Some asked → Stands kind known budget (x ++ record { asked = asked; heard = Failed } ∷ []) (to_phase a (Over (Some LineFailed)))
-    failed-stands asked w = to_phase-stands kind known budget x a s goes e (Over (Some LineFailed)) (reported-same kind known budget x a s goes e (failed_none asked Failed refl)) (record {
+    failed-stands : (asked : Asked) → wanted a.phase ≡ Some asked → RunInvariant kind known budget (x ++ record { asked = asked; heard = Failed } ∷ []) (to_phase a (Ended (Some LineFailed)))
+    failed-stands asked w = to_phase-stands kind known budget x a s goes e (Ended (Some LineFailed)) (reported-same kind known budget x a s goes e (failed_none asked Failed refl)) (record {
       before = x;
       last = e;
       whole = refl;
       no_failure = before.no_failure;
-      certified = (record { before = x; asked = asked; whole = refl }, IsFound-all_reported (x ++ e ∷ []) a.found (found-same x a.found e before.is_found (failed_none asked Failed refl)));
+      certified = (record { before = x; asked = asked; whole = refl }, IsFound-all_reported (x ++ e ∷ []) (found_uids a) (found-same x (found_uids a) e before.is_found (failed_none asked Failed refl)));
     })
       where
-        before : IsOpen x a.found
-        before = subst (λ o. MatchOption o (Unit {0}) (λ q. IsOpen x a.found)) w (is_open a.phase x a.found s.phase)
+        before : IsOpen x (found_uids a)
+        before = subst (λ o. MatchOption o (Unit {0}) (λ q. IsOpen x (found_uids a))) w (is_open a.phase x (found_uids a) s.phase)
 
         e : Seen
         e = record { asked = asked; heard = Failed }
 
-    fed-stands : (asked : Asked) (h : Heard) → wanted a.phase ≡ Some asked → Stands kind known budget (x ++ record { asked = asked; heard = h } ∷ []) (fed a h)
-    unfolding Behind
+    fed-stands : (asked : Asked) (h : Heard) → wanted a.phase ≡ Some asked → RunInvariant kind known budget (x ++ record { asked = asked; heard = h } ∷ []) (fed a h)
+    unfolding After
     fed-stands asked Failed w = failed-stands asked w
-    fed-stands asked Silent w = subst (Behind (heard_by_phase a a.phase Silent) Silent) w (by_phase a.phase Silent (λ q. cc) s.phase)
-    fed-stands asked (One u) w = subst (Behind (heard_by_phase a a.phase (One u)) (One u)) w (by_phase a.phase (One u) (λ q. cc) s.phase)
-    fed-stands asked (Acked ack) w = subst (Behind (heard_by_phase a a.phase (Acked ack)) (Acked ack)) w (by_phase a.phase (Acked ack) (λ q. cc) s.phase)
-    fed-stands asked Noise w = subst (Behind (heard_by_phase a a.phase Noise) Noise) w (by_phase a.phase Noise (λ q. cc) s.phase)
+    fed-stands asked Silent w = subst (After (heard_by_phase a a.phase Silent) Silent) w (by_phase a.phase Silent (λ q. cc) s.phase)
+    fed-stands asked (One u) w = subst (After (heard_by_phase a a.phase (One u)) (One u)) w (by_phase a.phase (One u) (λ q. cc) s.phase)
+    fed-stands asked (Acked ack) w = subst (After (heard_by_phase a a.phase (Acked ack)) (Acked ack)) w (by_phase a.phase (Acked ack) (λ q. cc) s.phase)
+    fed-stands asked Noise w = subst (After (heard_by_phase a a.phase Noise) Noise) w (by_phase a.phase Noise (λ q. cc) s.phase)
 
   -- what is asked next is wanted, within the budget
-  wanted_next : (a : AgentState) (asked : Asked) → next_of a ≡ Some asked → (nat_lt a.frames a.budget ≡ true) × (wanted a.phase ≡ Some asked)
+  pub wanted_next : (a : AgentState) (asked : Asked) → next_of a ≡ Some asked → (nat_lt a.frames a.budget ≡ true) × (wanted a.phase ≡ Some asked)
   wanted_next a asked next = by_test (nat_lt a.frames a.budget) refl next
     where
       by_test : (b : Bool) → nat_lt a.frames a.budget ≡ b → cond b (wanted a.phase) None ≡ Some asked → (nat_lt a.frames a.budget ≡ true) × (wanted a.phase ≡ Some asked)
@@ -94,22 +95,23 @@ module _ (kind : Kind) (known : List ℕ) (budget : ℕ) where
           none_some : None ≡ Some asked → ⊥
           none_some q = cc
 
-  runs-stand : (front x : List Seen) (a b : AgentState) → Stands kind known budget front a → Runs a x b → Stands kind known budget (front ++ x) b
-  runs-stand front [] a b s end = subst (λ l. Stands kind known budget l b) (sym (append-nil front)) (subst (λ c. Stands kind known budget front c) (sym end) s)
+  runs-stand : (front x : List Seen) (a b : AgentState) → RunInvariant kind known budget front a → Runs a x b → RunInvariant kind known budget (front ++ x) b
+  runs-stand front [] a b s end = subst (λ l. RunInvariant kind known budget l b) (sym (append-nil front)) (subst (λ c. RunInvariant kind known budget front c) (sym end) s)
   runs-stand front (e ∷ x) a b s run = let w = wanted_next a e.asked run.0 in
-      subst (λ l. Stands kind known budget l b) (append_assoc front (e ∷ []) x) (runs-stand (front ++ e ∷ []) x (fed a e.heard) b (fed-stands front a s w.0 e.asked e.heard w.1) run.1)
+      subst (λ l. RunInvariant kind known budget l b) (append_assoc front (e ∷ []) x) (runs-stand (front ++ e ∷ []) x (fed a e.heard) b (fed-stands front a s w.0 e.asked e.heard w.1) run.1)
 
 known_devices : (kind : Kind) (known : List ℕ) → IsDeviceSet known → AllByRecursion IsDevice (known_of kind known)
 known_devices Full known set = tt
 known_devices Incremental known set = set.devices
 
--- an agent that ran stands behind its exchanges
-pub stands : (kind : Kind) (known : List ℕ) (budget : ℕ) (x : List Seen) (b : AgentState) → IsDeviceSet known → Runs (start kind known budget) x b → Stands kind known budget x b
+-- an agent that ran stands after its exchanges
+pub stands : (kind : Kind) (known : List ℕ) (budget : ℕ) (x : List Seen) (b : AgentState) → IsDeviceSet known → Runs (start kind known budget) x b → RunInvariant kind known budget x b
 stands kind known budget x b set run = runs-stand kind known budget [] x (start kind known budget) b (record {
   budget_is = refl;
   frames_are = refl;
   within = omega arith;
   reports = refl;
+  first = tt;
   phase = (omega arith, record { unmutes = tt; no_failure = tt; counted = refl; is_found = record { set = refl; counted = refl; room = omega arith }; left_is = refl; devices = known_devices kind known set });
 }) run
 
@@ -133,20 +135,20 @@ wants_in_order kind known budget (Unmuting more left) x found p = ((λ early. re
   where
     too_late : 1 ≤ more → length x + more ≡ UNMUTES → UNMUTES ≤ length x → ⊥
     too_late some counted late = omega arith
-wants_in_order kind known budget (Knowing u tries left) x found p = ((λ early. absurd (too_early (begun-length (known_of kind known) (Some u) x found p.muting.under_way) early)), λ late. p.muting.devices.0)
+wants_in_order kind known budget (MutingKnown u tries left) x found p = ((λ early. absurd (too_early (begun-length (known_of kind known) (Some u) x found p.muting.under_way) early)), λ late. p.muting.devices.0)
 wants_in_order kind known budget (Searching silences top below) x found p = ((λ early. absurd (too_early (begun-length (known_of kind known) None x found p.searches.under_way) early)), λ late. IsStack-ends top below p.searches.stack)
-wants_in_order kind known budget (Muting u tries top below) x found p = ((λ early. absurd (too_early (begun-length (known_of kind known) (Some u) x found p.searches.under_way) early)), λ late. is_muting-device (known_of kind known) u tries top below x found p)
-wants_in_order kind known budget (Over fault) x found p = tt
+wants_in_order kind known budget (MutingRead u tries top below) x found p = ((λ early. absurd (too_early (begun-length (known_of kind known) (Some u) x found p.searches.under_way) early)), λ late. is_muting_read-device (known_of kind known) u tries top below x found p)
+wants_in_order kind known budget (Ended fault) x found p = tt
 
 -- three unmutes, then branches and mutes of devices, counted and within the budget
 pub asks_in_order : AsksInOrder
 asks_in_order kind known budget x b set run = (asked (nat_lt b.frames b.budget), s.frames_are, s.within)
   where
-    s : Stands kind known budget x b
+    s : RunInvariant kind known budget x b
     s = stands kind known budget x b set run
 
     asked : (goes : Bool) → MatchOption (cond goes (wanted b.phase) None) (Unit {0}) (IsInOrder (length x))
-    asked true = wants_in_order kind known budget b.phase x b.found s.phase
+    asked true = wants_in_order kind known budget b.phase x (found_uids b) s.phase
     asked false = tt
 
 -- a run that ended without being over used up its budget
@@ -157,20 +159,27 @@ exhausted kind known budget x found o used = (
 )
 
 ended : (kind : Kind) (known : List ℕ) (budget : ℕ) (phase : Phase) (x : List Seen) (found : List ℕ) (goes : Bool) → InPhase kind known budget phase x found → cond goes (wanted phase) None ≡ None → (goes ≡ false → length x ≡ budget)
-    → MatchOption (fault_of phase) (Certificate kind known x found) (λ f. Cause budget ⊥ f x)
-ended kind known budget (Over fault) x found goes p end used = p.certified
+    → MatchOption (fault_of phase) (SearchShows kind known x found) (λ f. Cause budget ⊥ f x)
+ended kind known budget (Ended fault) x found goes p end used = p.certified
 ended kind known budget (Unmuting more left) x found goes p end used = exhausted kind known budget x found (is_open kind known budget (Unmuting more left) x found p) (used (not_wanted goes Unmute end))
-ended kind known budget (Knowing u tries left) x found goes p end used = exhausted kind known budget x found (is_open kind known budget (Knowing u tries left) x found p) (used (not_wanted goes (Mute u) end))
+ended kind known budget (MutingKnown u tries left) x found goes p end used = exhausted kind known budget x found (is_open kind known budget (MutingKnown u tries left) x found p) (used (not_wanted goes (Mute u) end))
 ended kind known budget (Searching silences top below) x found goes p end used =
     exhausted kind known budget x found (is_open kind known budget (Searching silences top below) x found p) (used (not_wanted goes (Branch top.lo top.hi) end))
-ended kind known budget (Muting u tries top below) x found goes p end used = exhausted kind known budget x found (is_open kind known budget (Muting u tries top below) x found p) (used (not_wanted goes (Mute u) end))
+ended kind known budget (MutingRead u tries top below) x found goes p end used = exhausted kind known budget x found (is_open kind known budget (MutingRead u tries top below) x found p) (used (not_wanted goes (Mute u) end))
 
 -- its certificate, or its fault's cause; and it reports what was acknowledged
 pub ends_certified : EndsCertified
-ends_certified kind known budget x b set run end = (ended kind known budget b.phase x b.found (nat_lt b.frames b.budget) s.phase end used, s.reports)
+ends_certified kind known budget x b set run end = (
+  certified (fault_of b.phase) (ended kind known budget b.phase x (found_uids b) (nat_lt b.frames b.budget) s.phase end used),
+  record { uids = s.reports; first = s.first },
+)
   where
-    s : Stands kind known budget x b
+    s : RunInvariant kind known budget x b
     s = stands kind known budget x b set run
+
+    certified : (f : Option AgentFault) → MatchOption f (SearchShows kind known x (found_uids b)) (λ g. Cause budget ⊥ g x) → MatchOption f (Certificate kind known x b.found) (λ g. Cause budget ⊥ g x)
+    certified None shows = record { search = shows; first = s.first }
+    certified (Some f) cause = cause
 
     used : nat_lt b.frames b.budget ≡ false → length x ≡ budget
     used out = let most : b.budget ≤ b.frames = ltb-false b.frames b.budget out in let same = s.budget_is in let frames = s.frames_are in let within = s.within in omega arith
@@ -179,12 +188,12 @@ ends_certified kind known budget x b set run end = (ended kind known budget b.ph
 pub few_open_ranges : HasFewRanges
 few_open_ranges kind known budget x b set run = few b.phase (stands kind known budget x b set run).phase
   where
-    few : (phase : Phase) → InPhase kind known budget phase x b.found → open_ranges phase ≤ 49
+    few : (phase : Phase) → InPhase kind known budget phase x (found_uids b) → open_ranges phase ≤ 49
     few (Unmuting more left) p = omega arith
-    few (Knowing u tries left) p = omega arith
+    few (MutingKnown u tries left) p = omega arith
     few (Searching silences top below) p = IsStack-length top below p.searches.stack
-    few (Muting u tries top below) p = IsStack-length top below p.searches.stack
-    few (Over fault) p = omega arith
+    few (MutingRead u tries top below) p = IsStack-length top below p.searches.stack
+    few (Ended fault) p = omega arith
 
 -- a failure is the last exchange
 not_before : (before front back : List Seen) (last e : Seen) → AllByRecursion NotFailed before → before ++ last ∷ [] ≡ front ++ e ∷ back → e.heard ≡ Failed → back ≡ []
@@ -204,18 +213,18 @@ none_failed x sound = (
 )
 
 failed_phase : (kind : Kind) (known : List ℕ) (budget : ℕ) (phase : Phase) (x : List Seen) (found : List ℕ) → InPhase kind known budget phase x found → FailureIsLast x × (EndsFailed x → wanted phase ≡ None)
-failed_phase kind known budget (Over fault) x found p = ((λ front back e whole failed. not_before p.before front back p.last e p.no_failure (sym p.whole ∙ whole) failed), λ f. refl)
+failed_phase kind known budget (Ended fault) x found p = ((λ front back e whole failed. not_before p.before front back p.last e p.no_failure (sym p.whole ∙ whole) failed), λ f. refl)
 failed_phase kind known budget (Unmuting more left) x found p = none_failed x (is_open kind known budget (Unmuting more left) x found p).no_failure
-failed_phase kind known budget (Knowing u tries left) x found p = none_failed x (is_open kind known budget (Knowing u tries left) x found p).no_failure
+failed_phase kind known budget (MutingKnown u tries left) x found p = none_failed x (is_open kind known budget (MutingKnown u tries left) x found p).no_failure
 failed_phase kind known budget (Searching silences top below) x found p = none_failed x (is_open kind known budget (Searching silences top below) x found p).no_failure
-failed_phase kind known budget (Muting u tries top below) x found p = none_failed x (is_open kind known budget (Muting u tries top below) x found p).no_failure
+failed_phase kind known budget (MutingRead u tries top below) x found p = none_failed x (is_open kind known budget (MutingRead u tries top below) x found p).no_failure
 
--- an agent asks nothing behind a failure
+-- an agent asks nothing after a failure
 pub ends_at_failure : EndsAtFailure
 ends_at_failure kind known budget x b set run = (f.0, λ failed. nothing (nat_lt b.frames b.budget) (f.1 failed))
   where
     f : FailureIsLast x × (EndsFailed x → wanted b.phase ≡ None)
-    f = failed_phase kind known budget b.phase x b.found (stands kind known budget x b set run).phase
+    f = failed_phase kind known budget b.phase x (found_uids b) (stands kind known budget x b set run).phase
 
     nothing : (goes : Bool) → wanted b.phase ≡ None → cond goes (wanted b.phase) None ≡ None
     nothing true none = none
@@ -223,10 +232,10 @@ ends_at_failure kind known budget x b set run = (f.0, λ failed. nothing (nat_lt
 
 -- an agent that goes on has found all that was acknowledged
 pub all_reported : (kind : Kind) (known : List ℕ) (budget : ℕ) (x : List Seen) (b : AgentState) (asked : Asked) → IsDeviceSet known → Runs (start kind known budget) x b → next_of b ≡ Some asked → AllReported x
-all_reported kind known budget x b asked set run next = IsFound-all_reported x b.found going.is_found
+all_reported kind known budget x b asked set run next = IsFound-all_reported x (found_uids b) going.is_found
   where
-    going : IsOpen kind known budget x b.found
-    going = subst (λ o. MatchOption o (Unit {0}) (λ q. IsOpen kind known budget x b.found)) (wanted_next kind known budget b asked next).1 (is_open kind known budget b.phase x b.found (stands kind known budget x b set run).phase)
+    going : IsOpen kind known budget x (found_uids b)
+    going = subst (λ o. MatchOption o (Unit {0}) (λ q. IsOpen kind known budget x (found_uids b))) (wanted_next kind known budget b asked next).1 (is_open kind known budget b.phase x (found_uids b) (stands kind known budget x b set run).phase)
 
 -- one whose budget is used up asks nothing
 pub ends_at_budget : EndsAtBudget
@@ -235,8 +244,11 @@ ends_at_budget kind known budget x b set run used = let s = stands kind known bu
 
 -- at any moment an agent has found what it reports
 pub finds_acknowledged : FindsAcknowledged
-finds_acknowledged kind known budget x b set run = ((stands kind known budget x b set run).reports, λ goes. by_next goes (next_of b) refl)
+finds_acknowledged kind known budget x b set run = (record { uids = s.reports; first = s.first }, λ goes. by_next goes (next_of b) refl)
   where
+    s : RunInvariant kind known budget x b
+    s = stands kind known budget x b set run
+
     by_next : next_of b ≢ None → (next : Option Asked) → next_of b ≡ next → AllReported x
     by_next goes None end = absurd (goes end)
     by_next goes (Some asked) next = all_reported kind known budget x b asked set run next

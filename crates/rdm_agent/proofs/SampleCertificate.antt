@@ -3,14 +3,14 @@ use Rattle.std.proofs.Common.{◌≡◌, ℕ, true, List, [], ◌∷◌, ◌++�
 use Rattle.std.specs.Prelude.{◌⊎◌, nat_le}
 use Rattle.std.proofs.lemmas.Bool.{le-leb, and_from}
 use Rattle.rdm_wire.specs.Uid.{has}
-use Rattle.rdm_wire.specs.Lists.{EachBehind}
+use Rattle.rdm_wire.specs.Lists.{EachAfter}
 use Rattle.rdm_wire.specs.Honest.{Seen}
 use Rattle.rdm_wire.specs.Honest.Asked.{Unmute, Mute}
 use Rattle.rdm_wire.specs.Honest.Heard.{Silent, One, Acked}
-use Rattle.rdm_wire.proofs.EachBehindLemmas.{EachBehind-push}
+use Rattle.rdm_wire.proofs.EachAfterLemmas.{EachAfter-push}
 use Rattle.rdm_agent.specs.Run.{muted_by, read_in}
-use Rattle.rdm_agent.specs.Certificate.{Certificate}
-use Rattle.rdm_agent.specs.SampleRun.{sample_run, sample_uid, exchange, all_branch}
+use Rattle.rdm_agent.specs.Certificate.{Certificate, SearchShows}
+use Rattle.rdm_agent.specs.SampleRun.{sample_run, sample_uid, sample_ack, sample_device, exchange, all_branch}
 use Rattle.rdm_agent.specs.declared.kind.Kind.TheVariants.{Full}
 
 -- a muted UID was read before
@@ -30,13 +30,13 @@ is_sample u h = inr (subst (λ (v : ℕ). has (sample_uid ∷ []) v ≡ true) (s
     same : Some sample_uid ≡ Some u → sample_uid ≡ u
     same k = cc
 
-first_five : EachBehind WasRead (take 5 sample_run)
+first_five : EachAfter WasRead (take 5 sample_run)
 first_five =
-    EachBehind-push WasRead (take 4 sample_run) (exchange (Mute sample_uid) (Acked (record { control = 0; binding = None })))
-    (EachBehind-push WasRead (take 3 sample_run) (exchange all_branch (One sample_uid))
-    (EachBehind-push WasRead (take 2 sample_run) (exchange Unmute Silent)
-    (EachBehind-push WasRead (take 1 sample_run) (exchange Unmute Silent)
-    (EachBehind-push WasRead [] (exchange Unmute Silent) (λ front back e w. absurd (no_element front back e w)) (λ u m. absurd (no_mute u m)))
+    EachAfter-push WasRead (take 4 sample_run) (exchange (Mute sample_uid) (Acked sample_ack))
+    (EachAfter-push WasRead (take 3 sample_run) (exchange all_branch (One sample_uid))
+    (EachAfter-push WasRead (take 2 sample_run) (exchange Unmute Silent)
+    (EachAfter-push WasRead (take 1 sample_run) (exchange Unmute Silent)
+    (EachAfter-push WasRead [] (exchange Unmute Silent) (λ front back e w. absurd (no_element front back e w)) (λ u m. absurd (no_mute u m)))
     (λ u m. absurd (no_mute u m)))
     (λ u m. absurd (no_mute u m)))
     (λ u m. absurd (no_mute u m)))
@@ -45,21 +45,21 @@ first_five =
 silent_branch : Seen
 silent_branch = exchange all_branch Silent
 
-pub read_before : EachBehind WasRead sample_run
+pub read_before : EachAfter WasRead sample_run
 unfolding silent_branch
 read_before =
-    EachBehind-push WasRead (take 9 sample_run) silent_branch
-    (EachBehind-push WasRead (take 8 sample_run) silent_branch
-    (EachBehind-push WasRead (take 7 sample_run) silent_branch
-    (EachBehind-push WasRead (take 6 sample_run) silent_branch
-    (EachBehind-push WasRead (take 5 sample_run) silent_branch first_five (λ u m. absurd (no_mute u m)))
+    EachAfter-push WasRead (take 9 sample_run) silent_branch
+    (EachAfter-push WasRead (take 8 sample_run) silent_branch
+    (EachAfter-push WasRead (take 7 sample_run) silent_branch
+    (EachAfter-push WasRead (take 6 sample_run) silent_branch
+    (EachAfter-push WasRead (take 5 sample_run) silent_branch first_five (λ u m. absurd (no_mute u m)))
     (λ u m. absurd (no_mute u m)))
     (λ u m. absurd (no_mute u m)))
     (λ u m. absurd (no_mute u m)))
     (λ u m. absurd (no_mute u m))
 
-pub certified : Certificate Full [] sample_run (sample_uid ∷ [])
-certified = record {
+shown : SearchShows Full [] sample_run (sample_uid ∷ [])
+shown = record {
   unmutes = refl;
   no_failure = ((λ h. cc), ((λ h. cc), ((λ h. cc), ((λ h. cc), ((λ h. cc), ((λ h. cc), ((λ h. cc), ((λ h. cc), ((λ h. cc), ((λ h. cc), tt))))))))));
   set = refl;
@@ -80,3 +80,6 @@ certified = record {
   known_first = tt;
   read_first = read_before;
 }
+
+pub certified : Certificate Full [] sample_run (sample_device ∷ [])
+certified = record { search = shown; first = (refl, tt) }

@@ -2,61 +2,64 @@
 use Rattle.std.proofs.Common.{◌≡◌, ℕ, zero, suc, ◌+◌, ◌≤◌, Bool, false, List, [], ◌∷◌, ◌++◌, replicate, length, take, drop, refl, inl, inr, arith}
 use Rattle.std.specs.Prelude.{◌==◌, ◌⊎◌}
 use Rattle.std.specs.List.{AllByRecursion}
-use Rattle.rdm_wire.specs.Honest.{Seen, LineState, HonestStep, HonestTo, HonestTrace, Chain, Counts, before_run}
-use Rattle.rdm_wire.specs.Honest.Asked.{Unmute, Mute}
+use Rattle.rdm_wire.specs.Honest.{Seen, LineState, HonestStep, HonestTo, HonestTrace, Chain, Counts, due_in, before_run}
+use Rattle.rdm_wire.specs.Honest.Asked.{Unmute, Branch, Mute}
 use Rattle.rdm_wire.specs.Honest.Heard.{Silent}
-use Rattle.rdm_agent.specs.SampleRun.{sample_uid, all_branch, exchange, lossy_run}
+use Rattle.rdm_agent.specs.SampleRun.{sample_uid, sample_run, all_branch, exchange, lossy_run}
 use Rattle.rdm_agent.proofs.OneDevice.{NotFailed, Begun, begin, silences, five_mutes}
 use Rattle.rdm_agent.proofs.AllDevices.{honest_to_each}
 
 -- nobody is muted, and the device is
-abbrev none_muted : ℕ → Bool
+abbrev pub none_muted : ℕ → Bool
 none_muted u = false
 
-abbrev one_muted : ℕ → Bool
+abbrev pub one_muted : ℕ → Bool
 one_muted u = sample_uid == u
 
 -- a line that lost so many branch replies and acknowledgements in succession, and was unmuted so often
-abbrev line : (ℕ → Bool) → ℕ → ℕ → ℕ → LineState
+abbrev pub line : (ℕ → Bool) → ℕ → ℕ → ℕ → LineState
 line muted branches mutes unmutes = record { muted = muted; lost_branches = branches; lost_mutes = mutes; unmutes = unmutes }
 
-counts : (muted : ℕ → Bool) (b m n : ℕ) → b ≤ 4 → m ≤ 4 → Counts (line muted b m n) b m n
+pub counts : (muted : ℕ → Bool) (b m n : ℕ) → b ≤ 4 → m ≤ 4 → Counts (line muted b m n) b m n
 counts muted b m n few_branches few_mutes = record { branches = refl; mutes = refl; unmutes = refl; few_branches = few_branches; few_mutes = few_mutes }
 
--- the line may go on so
-abbrev Goes : LineState → List Seen → Type 0
-Goes s x = Chain (HonestStep (sample_uid ∷ [])) s x
+-- a line with these devices may go on so
+abbrev pub Goes : List ℕ → LineState → List Seen → Type 0
+Goes present s x = Chain (HonestStep present) s x
 
--- unmutes, branches whose reply is lost, and mutes whose acknowledgement is
-unmutes : (n left : ℕ) (x : List Seen) → ((m : ℕ) → Goes (line none_muted 0 0 m) x) → Goes (line none_muted 0 0 n) (replicate left (exchange Unmute Silent) ++ x)
-unmutes n zero x onward = onward n
-unmutes n (suc left) x onward =
-    inr (line none_muted 0 0 (n + 1), ((λ u. record { fewer = λ m. m; third = λ h. refl }), counts none_muted 0 0 (n + 1) (omega arith) (omega arith)), unmutes (n + 1) left x onward)
+-- unmutes
+pub unmutes : (present : List ℕ) (n left : ℕ) (x : List Seen) → ((m : ℕ) → Goes present (line none_muted 0 0 m) x) → Goes present (line none_muted 0 0 n) (replicate left (exchange Unmute Silent) ++ x)
+unmutes present n zero x onward = onward n
+unmutes present n (suc left) x onward =
+    inr (line none_muted 0 0 (n + 1), ((λ u. record { fewer = λ m. m; third = λ h. refl }), counts none_muted 0 0 (n + 1) (omega arith) (omega arith)), unmutes present (n + 1) left x onward)
 
-lost_branches : (k n left : ℕ) (x : List Seen) → k + left ≤ 4 → ((j m : ℕ) → Goes (line none_muted j 0 m) x) → Goes (line none_muted k 0 n) (replicate left (exchange all_branch Silent) ++ x)
+-- branches of a range where nobody unmuted is
+pub silent : (present : List ℕ) (muted : ℕ → Bool) (lo hi left : ℕ) (x : List Seen) → due_in present muted lo hi ≡ [] → Goes present (line muted 0 0 0) x → Goes present (line muted 0 0 0) (replicate left (exchange (Branch lo hi) Silent) ++ x)
+silent present muted lo hi zero x nobody onward = onward
+silent present muted lo hi (suc left) x nobody onward =
+    inr (line muted 0 0 0, (rw nobody refl, (λ u. refl), rw nobody (counts muted 0 0 0 (omega arith) (omega arith))), silent present muted lo hi left x nobody onward)
+
+-- branches whose reply is lost, and mutes whose acknowledgement is
+
+lost_branches : (k n left : ℕ) (x : List Seen) → k + left ≤ 4 → ((j m : ℕ) → Goes (sample_uid ∷ []) (line none_muted j 0 m) x) → Goes (sample_uid ∷ []) (line none_muted k 0 n) (replicate left (exchange all_branch Silent) ++ x)
 lost_branches k n zero x few onward = onward k n
 lost_branches k n (suc left) x few onward =
     inr (line none_muted (k + 1) 0 0, (inr refl, (λ u. refl), counts none_muted (k + 1) 0 0 (omega arith) (omega arith)), lost_branches (k + 1) 0 left x (omega arith) onward)
 
-lost_mutes : (k left : ℕ) (x : List Seen) → k + left ≤ 4 → ((j : ℕ) → Goes (line none_muted 0 j 0) x) → Goes (line none_muted 0 k 0) (replicate left (exchange (Mute sample_uid) Silent) ++ x)
+lost_mutes : (k left : ℕ) (x : List Seen) → k + left ≤ 4 → ((j : ℕ) → Goes (sample_uid ∷ []) (line none_muted 0 j 0) x) → Goes (sample_uid ∷ []) (line none_muted 0 k 0) (replicate left (exchange (Mute sample_uid) Silent) ++ x)
 lost_mutes k zero x few onward = onward k
 lost_mutes k (suc left) x few onward =
     inr (line none_muted 0 (k + 1) 0, ((λ v other. refl), inr (refl, inr refl, counts none_muted 0 (k + 1) 0 (omega arith) (omega arith))), lost_mutes (k + 1) left x (omega arith) onward)
-
--- the device is muted, and all is silent
-all_silent : (left : ℕ) → Goes (line one_muted 0 0 0) (replicate left (exchange all_branch Silent))
-all_silent zero = tt
-all_silent (suc left) = inr (line one_muted 0 0 0, (refl, (λ u. refl), counts one_muted 0 0 0 (omega arith) (omega arith)), all_silent left)
 
 -- up to four replies of each kind may be lost in succession
 pub lossy_honest : (branches mutes : ℕ) → branches ≤ 4 → mutes ≤ 4 → HonestTrace (sample_uid ∷ []) (lossy_run branches mutes)
 lossy_honest branches mutes few_branches few_mutes = (
   record { devices = (record { in_range = omega arith; own = refl }, tt); ascending = (tt, tt) },
   none_muted,
-  unmutes 0 3 _ (λ n. lost_branches 0 n branches _ few (λ j m. inr (
+  unmutes (sample_uid ∷ []) 0 3 _ (λ n. lost_branches 0 n branches _ few (λ j m. inr (
     line none_muted 0 0 0,
     (inl refl, (λ u. refl), counts none_muted 0 0 0 (omega arith) (omega arith)),
-    lost_mutes 0 mutes _ none_lost (λ k. inr (line one_muted 0 0 0, ((λ v other. other), inl (refl, refl, counts one_muted 0 0 0 (omega arith) (omega arith))), all_silent 5)),
+    lost_mutes 0 mutes _ none_lost (λ k. inr (line one_muted 0 0 0, ((λ v other. other), inl (refl, refl, counts one_muted 0 0 0 (omega arith) (omega arith))), silent (sample_uid ∷ []) one_muted 0 0xffffffffffff 5 [] refl tt)),
   ))),
 )
   where
@@ -69,6 +72,9 @@ lossy_honest branches mutes few_branches few_mutes = (
 never_failed : (n : ℕ) (e : Seen) (x : List Seen) → NotFailed e → AllByRecursion NotFailed x → AllByRecursion NotFailed (replicate n e ++ x)
 never_failed zero e x one all = all
 never_failed (suc n) e x one all = (one, never_failed n e x one all)
+
+pub sample-not_failed : AllByRecursion NotFailed sample_run
+sample-not_failed = never_failed 3 (exchange Unmute Silent) (drop 3 sample_run) (λ h. cc) ((λ h. cc), ((λ h. cc), never_failed 5 (exchange all_branch Silent) [] (λ h. cc) tt))
 
 -- five of either kind may not
 pub five_branches_lost : HonestTrace (sample_uid ∷ []) (lossy_run 5 0) → ⊥

@@ -10,7 +10,7 @@ use Rattle.rdm_wire.specs.Honest.Asked.{Branch, Mute}
 use Rattle.rdm_wire.specs.Honest.Heard.{Acked}
 use Rattle.rdm_wire.specs.declared.mute_ack.MuteAck.{MuteAck}
 use Rattle.rdm_agent.specs.Run.{muted_by, muted_in, read_in, is_branch, InSuccession, IsSilentBranch, IsLostMute}
-use Rattle.rdm_agent.specs.Certificate.{Certificate, IsTried, IsCleared, known_of}
+use Rattle.rdm_agent.specs.Certificate.{SearchShows, IsTried, IsCleared, known_of}
 use Rattle.rdm_agent.specs.Cause.{IsCorrupt}
 use Rattle.rdm_agent.specs.Machine.{split, search_below}
 use Rattle.rdm_agent.specs.declared.kind.Kind.{Kind}
@@ -22,7 +22,7 @@ use Rattle.rdm_agent.proofs.Sets.{each_member}
 use Rattle.rdm_agent.proofs.Stacks.{IsStack-pop, IsStack-split}
 use Rattle.rdm_agent.proofs.FoundLemmas.{IsFound-all_reported, found-same}
 use Rattle.rdm_agent.proofs.UnderWay.{EndsWith-none, named-mute, lost-acks_none, under_way-branch, under_way-lost, under_way-acked, under_way-given_up}
-use Rattle.rdm_agent.proofs.Standing.{IsFound, IsUnderWay, Searches, InPhase}
+use Rattle.rdm_agent.proofs.Invariant.{IsFound, IsUnderWay, Searches, InPhase}
 
 module _ (known : List ℕ) (top : Span) (below : List Span) (x : List Seen) (found : List ℕ) where
   -- the top range is branched
@@ -85,7 +85,7 @@ module _ (known : List ℕ) (top : Span) (below : List Span) (x : List Seen) (fo
 
 -- all is cleared
 pub all_cleared : (kind : Kind) (known : List ℕ) (x : List Seen) (found : List ℕ) → IsUnderWay (known_of kind known) None x found
-    → ((u : ℕ) → has (known_of kind known) u ≡ true → has (muted_in (before_first is_branch x)) u ≡ true) → ((u : ℕ) → u < 2 ^ 48 → (has found u ≡ true) ⊎ IsCleared x u) → Certificate kind known x found
+    → ((u : ℕ) → has (known_of kind known) u ≡ true → has (muted_in (before_first is_branch x)) u ≡ true) → ((u : ℕ) → u < 2 ^ 48 → (has found u ≡ true) ⊎ IsCleared x u) → SearchShows kind known x found
 all_cleared kind known x found w known_first cleared = record {
   unmutes = w.begun;
   no_failure = w.no_failure;

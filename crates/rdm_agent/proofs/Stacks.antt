@@ -30,7 +30,7 @@ IsStack-length top below s = let few = Ascends-length (top.hi + 1) s.level below
 pub IsStack-whole : IsStack whole []
 IsStack-whole = record { level = 48; height = omega arith; size = refl; rest = refl }
 
--- a range ends behind its begin, and within all UIDs
+-- a range ends after its begin, and within all UIDs
 pub IsStack-ends : (top : Span) (below : List Span) → IsStack top below → (top.lo ≤ top.hi) × (top.hi < 2 ^ 48)
 IsStack-ends top below s = let end = Ascends-below (top.hi + 1) s.level below s.rest in let size = s.size in let some : 0 < 2 ^ s.level = pow_pos s.level in (omega arith, omega arith)
 

@@ -1,4 +1,4 @@
--- What an exchange behind the unmutes keeps.
+-- What an exchange after the unmutes keeps.
 use Rattle.std.proofs.Common.{◌≡◌, ℕ, true, false, List, [], ◌∷◌, ◌++◌, ◌+◌, Option, None, Some, refl, sym, ap, ◌∙◌, subst, inl, inr, true≢false, append_assoc, append-nil}
 use Rattle.std.specs.Prelude.{◌⊎◌}
 use Rattle.std.proofs.lemmas.List.{length_push}
@@ -7,13 +7,13 @@ use Rattle.rdm_wire.specs.Honest.{Heard, Seen, is_acked}
 use Rattle.rdm_wire.specs.Honest.Asked.{Branch, Mute}
 use Rattle.rdm_wire.specs.Honest.Heard.{Acked, Failed, Silent, One, Noise}
 use Rattle.rdm_wire.specs.declared.mute_ack.MuteAck.{MuteAck}
-use Rattle.rdm_wire.proofs.EachBehindLemmas.{EachBehind-push}
-use Rattle.rdm_agent.specs.Run.{ack_of, muted_by, read_in, InSuccession, IsLostMute}
-use Rattle.rdm_agent.specs.Certificate.{IsTried}
+use Rattle.rdm_wire.proofs.EachAfterLemmas.{EachAfter-push}
+use Rattle.rdm_agent.specs.Run.{acked_uid, muted_by, read_in, InSuccession, IsLostMute}
+use Rattle.rdm_agent.specs.Certificate.{IsTried, MutesNamed}
 use Rattle.rdm_agent.specs.declared.limits.TheConstants.{TRIES}
 use Rattle.rdm_agent.proofs.OneDevice.{NotFailed}
 use Rattle.rdm_agent.proofs.Pushes.{All-push, push-has, begun-push, IsTried-push}
-use Rattle.rdm_agent.proofs.Standing.{EndsWith, IsFound, IsUnderWay, WasNamed}
+use Rattle.rdm_agent.proofs.Invariant.{EndsWith, IsFound, IsUnderWay}
 
 -- the last exchanges, as one more comes
 pub EndsWith-none : (P : Seen → Type 0) (x : List Seen) → EndsWith 0 P x
@@ -32,7 +32,7 @@ pub EndsWith-succession : {n : ℕ} {P : Seen → Type 0} {x : List Seen} → En
 EndsWith-succession s = record { front = s.front; run = s.run; back = []; whole = s.whole ∙ sym (append-nil (s.front ++ s.run)); many = s.many; each = s.each }
 
 -- a mute that is lost acknowledges nothing
-pub lost-acks_none : (u : ℕ) (h : Heard) → is_acked h ≡ false → ack_of (Mute u) h ≡ None
+pub lost-acks_none : (u : ℕ) (h : Heard) → is_acked h ≡ false → acked_uid (Mute u) h ≡ None
 lost-acks_none u (Acked ack) lost = absurd (true≢false lost)
 lost-acks_none u Failed lost = refl
 lost-acks_none u Silent lost = refl
@@ -40,16 +40,16 @@ lost-acks_none u (One v) lost = refl
 lost-acks_none u Noise lost = refl
 
 -- a mute of a UID that is known, or was read
-pub named-mute : (known : List ℕ) (x : List Seen) (u : ℕ) (h : Heard) → (has known u ≡ true) ⊎ (has (read_in x) u ≡ true) → WasNamed known x (record { asked = Mute u; heard = h })
+pub named-mute : (known : List ℕ) (x : List Seen) (u : ℕ) (h : Heard) → (has known u ≡ true) ⊎ (has (read_in x) u ≡ true) → MutesNamed known x (record { asked = Mute u; heard = h })
 named-mute known x u h was v p = subst (λ (w : ℕ). (has known w ≡ true) ⊎ (has (read_in x) w ≡ true)) (same p) was
   where
     same : Some u ≡ Some v → u ≡ v
     same q = cc
 
 module _ (known : List ℕ) (x : List Seen) (found : List ℕ) where
-  -- what one more exchange keeps: later and more are what is busy and found behind it
+  -- what one more exchange keeps: later and more are what is busy and found after it
   pushed : (busy later : Option ℕ) (more : List ℕ) (e : Seen) → IsUnderWay known busy x found → NotFailed e → IsFound (x ++ e ∷ []) more → ((u : ℕ) → has found u ≡ true → has more u ≡ true)
-      → ((u : ℕ) → (busy ≡ Some u) ⊎ (muted_by e ≡ Some u) → (later ≡ Some u) ⊎ IsTried more (x ++ e ∷ []) u) → WasNamed known x e → IsUnderWay known later (x ++ e ∷ []) more
+      → ((u : ℕ) → (busy ≡ Some u) ⊎ (muted_by e ≡ Some u) → (later ≡ Some u) ⊎ IsTried more (x ++ e ∷ []) u) → MutesNamed known x e → IsUnderWay known later (x ++ e ∷ []) more
   pushed busy later more e w sound is_found grows moved named = record {
     begun = begun-push x (e ∷ []) w.begun;
     no_failure = All-push NotFailed x e w.no_failure sound;
@@ -61,7 +61,7 @@ module _ (known : List ℕ) (x : List Seen) (found : List ℕ) where
       ]
       | inr last ↦ moved u (inr last)
     ];
-    named = EachBehind-push (WasNamed known) x e w.named named;
+    named = EachAfter-push (MutesNamed known) x e w.named named;
   }
 
   -- a branch
@@ -79,12 +79,12 @@ module _ (known : List ℕ) (x : List Seen) (found : List ℕ) where
 
   -- a mute that is lost
   pub under_way-lost : (u : ℕ) (h : Heard) → IsUnderWay known (Some u) x found → NotFailed (record { asked = Mute u; heard = h }) → IsFound (x ++ record { asked = Mute u; heard = h } ∷ []) found
-      → WasNamed known x (record { asked = Mute u; heard = h }) → IsUnderWay known (Some u) (x ++ record { asked = Mute u; heard = h } ∷ []) found
+      → MutesNamed known x (record { asked = Mute u; heard = h }) → IsUnderWay known (Some u) (x ++ record { asked = Mute u; heard = h } ∷ []) found
   under_way-lost u h w sound is_found named = pushed (Some u) (Some u) found (record { asked = Mute u; heard = h }) w sound is_found (λ v here. here) (λ v was. inl (elim was [ inl p ↦ p | inr p ↦ p ])) named
 
   -- one that is acknowledged
   pub under_way-acked : (u : ℕ) (ack : MuteAck) (more : List ℕ) → IsDevice u → IsUnderWay known (Some u) x found → IsFound (x ++ record { asked = Mute u; heard = Acked ack } ∷ []) more
-      → ((v : ℕ) → has found v ≡ true → has more v ≡ true) → has more u ≡ true → WasNamed known x (record { asked = Mute u; heard = Acked ack }) → IsUnderWay known None (x ++ record { asked = Mute u; heard = Acked ack } ∷ []) more
+      → ((v : ℕ) → has found v ≡ true → has more v ≡ true) → has more u ≡ true → MutesNamed known x (record { asked = Mute u; heard = Acked ack }) → IsUnderWay known None (x ++ record { asked = Mute u; heard = Acked ack } ∷ []) more
   under_way-acked u ack more device w is_found grows here named =
       pushed (Some u) None more (record { asked = Mute u; heard = Acked ack }) w sound is_found grows (λ v was. inr (tried v (elim was [ inl p ↦ p | inr p ↦ p ]))) named
     where

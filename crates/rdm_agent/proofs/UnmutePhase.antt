@@ -6,13 +6,13 @@ use Rattle.std.proofs.lemmas.List.{length_push}
 use Rattle.rdm_wire.specs.Uid.{has, IsDevice}
 use Rattle.rdm_wire.specs.Honest.{Heard, Seen}
 use Rattle.rdm_wire.specs.Honest.Asked.{Unmute}
-use Rattle.rdm_agent.specs.Run.{mute_of, asks_range, muted_by, is_branch}
+use Rattle.rdm_agent.specs.Run.{muted_uid, asks_range, muted_by, is_branch}
 use Rattle.rdm_agent.specs.declared.limits.TheConstants.{UNMUTES}
 use Rattle.rdm_agent.proofs.OneDevice.{NotFailed}
 use Rattle.rdm_agent.proofs.Pushes.{All-push, All-at}
 use Rattle.rdm_agent.proofs.Sets.{each_member}
 use Rattle.rdm_agent.proofs.FoundLemmas.{found-same}
-use Rattle.rdm_agent.proofs.Standing.{IsUnmuting, MutesKnown}
+use Rattle.rdm_agent.proofs.Invariant.{IsUnmuting, MutesKnown}
 
 -- an exchange that unmutes
 abbrev pub IsUnmute : Seen → Type 0
@@ -42,13 +42,13 @@ none_read f none [] all = refl
 none_read f none (e ∷ x) all = rw (none e all.0) (none_read f none x all.1)
 
 mutes_none : (e : Seen) → IsUnmute e → muted_by e ≡ None
-mutes_none e is = ap mute_of is
+mutes_none e is = ap muted_uid is
 
 pub no_branches : (x : List Seen) → AllByRecursion IsUnmute x → AllByRecursion (λ e. is_branch e ≡ false) x
 no_branches [] all = tt
 no_branches (e ∷ x) all = (ap asks_range all.0, no_branches x all.1)
 
--- behind the third unmute the known UIDs are left
+-- after the third unmute the known UIDs are left
 pub unmuted : (known left : List ℕ) (x : List Seen) (found : List ℕ) → IsUnmuting known 0 left x found → MutesKnown known None left x found
 unmuted known left x found s = record {
   under_way = record {

@@ -19,14 +19,15 @@ pub record IsCorruptReply (u : ℕ) (before : List Seen) (heard : Heard) : Type 
   pub not_found : heard ≡ One u → IsDevice u → has (acked_in before) u ≡ true
 
 -- the last branch is of the range of u alone. Its reply is the last one, and corrupt; or it is u, and the
--- exchanges behind it, the last ones, are TRIES mutes of u without an acknowledgement, none failed
+-- exchanges after it, the last ones, are TRIES mutes of u without an acknowledgement, none failed
 pub record IsCorrupt (u : ℕ) (x : List Seen) : Type 0 where
   pub before : List Seen
   pub heard : Heard
   pub mutes : List Seen
   pub whole : x ≡ before ++ record { asked = Branch u u; heard = heard } ∷ mutes
   pub cause : ((mutes ≡ []) × IsCorruptReply u before heard)
-      ⊎ ((heard ≡ One u) × (length mutes ≡ TRIES) × AllByRecursion (IsLostMute u) mutes × AllByRecursion (λ e. e.heard ≢ Failed) mutes)
+      ⊎ ((heard ≡ One u) × (length mutes ≡ TRIES)
+      × AllByRecursion (IsLostMute u) mutes × AllByRecursion (λ e. e.heard ≢ Failed) mutes)
 
 -- as many UIDs were acknowledged as a set has room for, and the last exchange acknowledges another
 pub record IsOneTooMany (x : List Seen) : Type 0 where

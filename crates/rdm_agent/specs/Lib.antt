@@ -5,6 +5,9 @@ pub mod Fault
 pub mod Machine
 pub mod SampleRun
 pub mod Statements
-pub mod Stands
+pub mod Calls
 pub mod Sound
 pub mod View
+pub mod Potential
+pub mod Bound
+pub mod OpFrames

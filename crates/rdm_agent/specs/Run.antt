@@ -1,7 +1,10 @@
 -- Words on a run's exchanges.
-use Rattle.std.specs.Prelude.{◌≡◌, ℕ, Bool, true, false, List, [], ◌∷◌, ◌++◌, length, take, Option, Some, None, filter_map}
+use Rattle.std.specs.Prelude.{◌≡◌, ℕ, Bool, true, false, List, [], ◌∷◌, ◌++◌, length, take, Option, Some, None}
+use Rattle.std.specs.Prelude.{filter_map}
 use Rattle.std.specs.List.{AllByRecursion}
 use Rattle.rdm_wire.specs.Uid.{set_of}
+use Rattle.rdm_wire.specs.Devices.{uids_of, device_with}
+use Rattle.rdm_wire.specs.declared.device.Device.{Device}
 use Rattle.rdm_wire.specs.declared.uid_set.TheConstants.{MOST_DEVICES}
 use Rattle.rdm_wire.specs.Lists.{once}
 use Rattle.rdm_wire.specs.declared.branch.BranchReply.{BranchReply}
@@ -43,30 +46,30 @@ abbrev pub seen_op : Op × OpReply → Seen
 seen_op e = record { asked = asked_by e.0; heard = heard_by e.1 }
 
 -- the UID that an exchange mutes, whose mute it finds acknowledged, and that it reads
-abbrev pub mute_of : Asked → Option ℕ
-mute_of (Mute u) = Some u
-mute_of _ = None
+abbrev pub muted_uid : Asked → Option ℕ
+muted_uid (Mute u) = Some u
+muted_uid _ = None
 
-abbrev pub ack_of : Asked → Heard → Option ℕ
-ack_of (Mute u) (Acked ack) = Some u
-ack_of _ _ = None
+abbrev pub acked_uid : Asked → Heard → Option ℕ
+acked_uid (Mute u) (Acked ack) = Some u
+acked_uid _ _ = None
 
-abbrev pub text_of : Asked → Heard → Option ℕ
-text_of (Branch lo hi) (One u) = Some u
-text_of _ _ = None
+abbrev pub spelt_uid : Asked → Heard → Option ℕ
+spelt_uid (Branch lo hi) (One u) = Some u
+spelt_uid _ _ = None
 
 abbrev pub asks_range : Asked → Bool
 asks_range (Branch lo hi) = true
 asks_range _ = false
 
 abbrev pub muted_by : Seen → Option ℕ
-muted_by x = mute_of x.asked
+muted_by x = muted_uid x.asked
 
 abbrev pub acked_by : Seen → Option ℕ
-acked_by x = ack_of x.asked x.heard
+acked_by x = acked_uid x.asked x.heard
 
 abbrev pub read_by : Seen → Option ℕ
-read_by x = text_of x.asked x.heard
+read_by x = spelt_uid x.asked x.heard
 
 abbrev pub is_branch : Seen → Bool
 is_branch x = asks_range x.asked
@@ -81,15 +84,41 @@ acked_in x = filter_map acked_by x
 abbrev pub read_in : List Seen → List ℕ
 read_in x = filter_map read_by x
 
--- the set that is reported: the acknowledged UIDs, of more than a set has room for the first ones
+-- the device that acknowledges the mute of u so
+abbrev pub device_from : ℕ → MuteAck → Device
+device_from u ack = record { uid = u; control = ack.control; binding = ack.binding }
+
+-- the device whose mute an exchange finds acknowledged, as it says it
+abbrev pub acked_device : Asked → Heard → Option Device
+acked_device (Mute u) (Acked ack) = Some (device_from u ack)
+acked_device _ _ = None
+
+abbrev pub device_by : Seen → Option Device
+device_by x = acked_device x.asked x.heard
+
+-- in order, what each acknowledgement says
+abbrev pub devices_in : List Seen → List Device
+devices_in x = filter_map device_by x
+
+-- the UIDs that are reported: the acknowledged ones, of more than a set has room for the first ones
 abbrev pub reported : List Seen → List ℕ
 reported x = set_of (take MOST_DEVICES (once (acked_in x)))
 
--- nothing stands behind a failure
-abbrev pub FailureIsLast : List Seen → Type 0
-FailureIsLast x = (front back : List Seen) (e : Seen) → x ≡ front ++ e ∷ back → e.heard ≡ Failed → back ≡ []
+-- each device as the first acknowledgement of its mute says it
+abbrev pub AsFirstAcked : List Seen → List Device → Type 0
+AsFirstAcked x s = AllByRecursion (λ d. device_with (devices_in x) d.uid ≡ Some d) s
 
--- n exchanges of the list, one behind the other, have P
+-- the devices that are reported
+pub record IsReport (x : List Seen) (s : List Device) : Type 0 where
+  pub uids : uids_of s ≡ reported x
+  pub first : AsFirstAcked x s
+
+-- nothing stands after a failure
+abbrev pub FailureIsLast : List Seen → Type 0
+FailureIsLast x =
+    (front back : List Seen) (e : Seen) → x ≡ front ++ e ∷ back → e.heard ≡ Failed → back ≡ []
+
+-- n exchanges of the list, one after the other, have P
 pub record InSuccession (n : ℕ) (P : Seen → Type 0) (x : List Seen) : Type 0 where
   pub front : List Seen
   pub run : List Seen

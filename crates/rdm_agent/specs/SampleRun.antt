@@ -1,8 +1,10 @@
--- A run on a line with one device: ten exchanges.
-use Rattle.std.specs.Prelude.{ℕ, List, [], ◌∷◌, ◌++◌, replicate, None}
+-- Runs on small lines.
+use Rattle.std.specs.Prelude.{ℕ, List, [], ◌∷◌, ◌++◌, replicate, Some, None}
 use Rattle.rdm_wire.specs.Honest.{Seen, Asked, Heard}
 use Rattle.rdm_wire.specs.Honest.Asked.{Unmute, Branch, Mute}
-use Rattle.rdm_wire.specs.Honest.Heard.{Silent, One, Acked}
+use Rattle.rdm_wire.specs.Honest.Heard.{Failed, Silent, One, Acked, Noise}
+use Rattle.rdm_wire.specs.declared.device.Device.{Device}
+use Rattle.rdm_wire.specs.declared.mute_ack.MuteAck.{MuteAck}
 
 abbrev pub exchange : Asked → Heard → Seen
 exchange asked heard = record { asked = asked; heard = heard }
@@ -10,17 +12,55 @@ exchange asked heard = record { asked = asked; heard = heard }
 abbrev pub sample_uid : ℕ
 sample_uid = 0x123400000001
 
+abbrev pub sample_ack : MuteAck
+sample_ack = record { control = 0x0002; binding = Some 0x123400000005 }
+
+abbrev pub sample_device : Device
+sample_device = record { uid = 0x123400000001; control = 0x0002; binding = Some 0x123400000005 }
+
 abbrev pub all_branch : Asked
 all_branch = Branch 0 0xffffffffffff
 
+-- a line with one device: ten exchanges
 abbrev pub sample_run : List Seen
 sample_run =
     exchange Unmute Silent ∷ exchange Unmute Silent ∷ exchange Unmute Silent ∷ exchange all_branch (One sample_uid)
-    ∷ exchange (Mute sample_uid) (Acked (record { control = 0; binding = None }))
-    ∷ exchange all_branch Silent ∷ exchange all_branch Silent ∷ exchange all_branch Silent ∷ exchange all_branch Silent ∷ exchange all_branch Silent ∷ []
+    ∷ exchange (Mute sample_uid) (Acked sample_ack)
+    ∷ exchange all_branch Silent ∷ exchange all_branch Silent ∷ exchange all_branch Silent
+    ∷ exchange all_branch Silent ∷ exchange all_branch Silent ∷ []
 
 -- the same, where so many branches and then so many mutes are lost
 abbrev pub lossy_run : ℕ → ℕ → List Seen
 lossy_run branches mutes =
-    replicate 3 (exchange Unmute Silent) ++ (replicate branches (exchange all_branch Silent) ++ (exchange all_branch (One sample_uid)
-    ∷ (replicate mutes (exchange (Mute sample_uid) Silent) ++ (exchange (Mute sample_uid) (Acked (record { control = 0; binding = None })) ∷ replicate 5 (exchange all_branch Silent)))))
+    replicate 3 (exchange Unmute Silent) ++ (replicate branches (exchange all_branch Silent)
+    ++ (exchange all_branch (One sample_uid) ∷ (replicate mutes (exchange (Mute sample_uid) Silent)
+    ++ (exchange (Mute sample_uid) (Acked sample_ack) ∷ replicate 5 (exchange all_branch Silent)))))
+
+-- a line with another device too, and all branches of the whole range collide
+abbrev pub other_uid : ℕ
+other_uid = 0x9abc00000002
+
+abbrev pub other_device : Device
+other_device = record { uid = other_uid; control = 0; binding = None }
+
+abbrev pub lower_branch : Asked
+lower_branch = Branch 0 0x7fffffffffff
+
+abbrev pub upper_branch : Asked
+upper_branch = Branch 0x800000000000 0xffffffffffff
+
+abbrev pub colliding_run : List Seen
+colliding_run =
+    replicate 3 (exchange Unmute Silent) ++ (exchange all_branch Noise ∷ exchange lower_branch (One sample_uid)
+    ∷ exchange (Mute sample_uid) (Acked sample_ack) ∷ (replicate 5 (exchange lower_branch Silent)
+    ++ (exchange upper_branch (One other_uid)
+    ∷ exchange (Mute other_uid) (Acked (record { control = 0; binding = None }))
+    ∷ replicate 5 (exchange upper_branch Silent))))
+
+-- the line fails at the first branch
+abbrev pub failed_run : List Seen
+failed_run = replicate 3 (exchange Unmute Silent) ++ exchange all_branch Failed ∷ []
+
+-- a mute of another UID is answered by bytes that acknowledge nothing
+abbrev pub garbled_run : List Seen
+garbled_run = exchange (Mute other_uid) Noise ∷ []

@@ -4,13 +4,14 @@ use Rattle.std.specs.List.{AllByRecursion}
 use Rattle.rdm_wire.specs.Uid.{IsDevice}
 use Rattle.rdm_wire.specs.Span.{Span}
 use Rattle.rdm_agent.specs.Machine.{Phase}
-use Rattle.rdm_agent.specs.Machine.Phase.{Unmuting, Knowing, Searching, Muting, Over}
+use Rattle.rdm_agent.specs.Machine.Phase.{Unmuting, MutingKnown, Searching, MutingRead, Ended}
 use Rattle.rdm_agent.specs.declared.limits.TheConstants.{TRIES}
 
 -- ranges that cover the UIDs from one on, each of 2^l UIDs where l is at least the level, and rises
 abbrev pub Ascends : ℕ → ℕ → List Span → Type 0
 Ascends from level [] = from ≡ 2 ^ 48
-Ascends from level (r ∷ rs) = (l : ℕ) × (level ≤ l) × (l ≤ 47) × (r.lo ≡ from) × (r.hi + 1 ≡ from + 2 ^ l) × Ascends (r.hi + 1) (suc l) rs
+Ascends from level (r ∷ rs) =
+    (l : ℕ) × (level ≤ l) × (l ≤ 47) × (r.lo ≡ from) × (r.hi + 1 ≡ from + 2 ^ l) × Ascends (r.hi + 1) (suc l) rs
 
 -- open ranges, halves of halves of the whole: the top one has 2^level UIDs, and those below cover the rest
 pub record IsStack (top : Span) (below : List Span) : Type 0 where
@@ -22,13 +23,13 @@ pub record IsStack (top : Span) (below : List Span) : Type 0 where
 -- a phase's UIDs are devices', its counts below TRIES, its ranges halves of halves
 abbrev pub IsSound : Phase → Type 0
 IsSound (Unmuting more known) = AllByRecursion IsDevice known
-IsSound (Knowing u tries known) = IsDevice u × (tries < TRIES) × AllByRecursion IsDevice known
+IsSound (MutingKnown u tries known) = IsDevice u × (tries < TRIES) × AllByRecursion IsDevice known
 IsSound (Searching silences top below) = (silences < TRIES) × IsStack top below
-IsSound (Muting u tries top below) = IsDevice u × (tries < TRIES) × IsStack top below
-IsSound (Over fault) = Unit {0}
+IsSound (MutingRead u tries top below) = IsDevice u × (tries < TRIES) × IsStack top below
+IsSound (Ended fault) = Unit {0}
 
 -- no range waits before the search
 abbrev pub IsFresh : Phase → List Span → Type 0
 IsFresh (Unmuting more known) below = below ≡ []
-IsFresh (Knowing u tries known) below = below ≡ []
+IsFresh (MutingKnown u tries known) below = below ≡ []
 IsFresh _ below = Unit {0}

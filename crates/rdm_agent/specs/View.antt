@@ -2,7 +2,8 @@
 use Rattle.std.specs.Prelude.{◌≡◌, ◌+◌, ℕ, List}
 use Rattle.rdm_wire.specs.Span.{Span}
 use Rattle.rdm_agent.specs.Machine as machine
-use Rattle.rdm_agent.specs.Machine.Phase.{Unmuting as unmuting, Knowing as knowing, Searching as searching, Muting as muting, Over as over}
+use Rattle.rdm_agent.specs.Machine.Phase.{Unmuting as unmuting, MutingKnown as muting_known, Searching as searching}
+use Rattle.rdm_agent.specs.Machine.Phase.{MutingRead as muting_read, Ended as ended}
 use Rattle.rdm_agent.specs.declared.phase.Phase.{Phase}
 use Rattle.rdm_agent.specs.declared.phase.Phase.TheVariants.{Unmuting, MutingKnown, Searching, MutingRead, Ended}
 use Rattle.rdm_agent.specs.declared.progress.Progress.{Progress}
@@ -10,10 +11,10 @@ use Rattle.rdm_agent.specs.declared.progress.Progress.{Progress}
 -- the machine's phase, with the known UIDs that are left and the ranges below the top one
 abbrev pub phase_of : Phase → List ℕ → List Span → machine.Phase
 phase_of (Unmuting more) known below = unmuting more known
-phase_of (MutingKnown uid tries) known below = knowing uid tries known
+phase_of (MutingKnown uid tries) known below = muting_known uid tries known
 phase_of (Searching top silences) known below = searching silences top below
-phase_of (MutingRead uid tries top) known below = muting uid tries top below
-phase_of (Ended fault) known below = over fault
+phase_of (MutingRead uid tries top) known below = muting_read uid tries top below
+phase_of (Ended fault) known below = ended fault
 
 -- the same of all that a run keeps
 abbrev pub seen_phase : Phase → Progress → machine.Phase
@@ -21,8 +22,14 @@ seen_phase phase p = phase_of phase p.known p.below
 
 -- the machine's state
 abbrev pub state_of : ℕ → ℕ → Phase → Progress → machine.AgentState
-state_of budget frames phase p = record { budget = budget; frames = frames; found = p.found; phase = seen_phase phase p }
+state_of budget frames phase p = record {
+  budget = budget;
+  frames = frames;
+  found = p.found;
+  phase = seen_phase phase p;
+}
 
 -- the new phase and progress are what the step makes of the old ones, and count one exchange more
 abbrev pub Steps : (machine.AgentState → machine.AgentState) → Phase → Progress → Phase → Progress → Type 0
-Steps step phase old result new = (budget frames : ℕ) → state_of budget (frames + 1) result new ≡ step (state_of budget frames phase old)
+Steps step phase old result new =
+    (budget frames : ℕ) → state_of budget (frames + 1) result new ≡ step (state_of budget frames phase old)

@@ -1,13 +1,16 @@
 //! The agent of a discovery run.
-ghost use Rattle.std.specs.Prelude.{◌≡◌, ◌≢◌, ◌≤◌, ◌++◌, ◌∷◌, [], ℕ, List, true, false, length, IfOk, IfErr};
+ghost use Rattle.std.specs.Prelude.{◌≡◌, ◌≢◌, ◌≤◌, ◌++◌, ◌∷◌, [], ℕ, List, true, false, length, IfOk, IfErr, IsOkAnd};
 ghost use Rattle.rdm_wire.specs.Uid.{has, IsDevice};
+ghost use Rattle.rdm_wire.specs.Devices.{uids_of};
 ghost use Rattle.rdm_wire.specs.Honest.{HonestTrace, HonestTo};
+ghost use Rattle.rdm_wire.specs.HonestOver.{HonestOver};
 ghost use Rattle.rdm_agent.specs.Machine.{start, fed, fault_of, open_ranges};
-ghost use Rattle.rdm_agent.specs.Run.{asked_by, heard_by, seen_op, reported};
-ghost use Rattle.rdm_agent.specs.Stands.{fits, next_op, answer_of, ended_by_abort, StandsAfter, AfterEach};
+ghost use Rattle.rdm_agent.specs.Run.{asked_by, heard_by, seen_op, IsReport};
+ghost use Rattle.rdm_agent.specs.Calls.{fits, next_op, run_result, ended_by_abort, HasRun, AfterEach};
 ghost use Rattle.rdm_agent.specs.Certificate.{Certificate};
 ghost use Rattle.rdm_agent.specs.Cause.{Cause, EndsFailed};
-ghost use Rattle.rdm_agent.specs.Statements.{IsInOrder};
+ghost use Rattle.rdm_agent.specs.Statements.{IsInOrder, IsInEach, IsInOne};
+ghost use Rattle.rdm_agent.specs.Bound.{IsUndisturbed, StaysInBound, enough_for, with_exchange};
 ghost use Rattle.rdm_agent.specs.declared.op.Op.TheVariants.{End};
 
 use crate::fault::AgentFault;
@@ -18,13 +21,13 @@ use crate::op::{Op, OpReply};
 use crate::phase::Phase;
 use crate::progress::Progress;
 use crate::ranges::RangesBelow;
-use rdm_wire::UidSet;
+use rdm_wire::{DeviceSet, UidSet};
 use std::marker::Model;
 use std::mem::size_of;
 
 /// One discovery run, between an exchange and the next (profile of this project, over E1.20's discovery commands).
 ///
-/// It is a plain value of 4,952 bytes, allocates nothing and keeps no exchanges. Contracts see the state of the
+/// It is a plain value of 41,816 bytes, allocates nothing and keeps no exchanges. Contracts see the state of the
 /// machine that a run is: its budget, how many exchanges it has made, the devices found, and its phase.
 #[derive(Debug, Drop)]
 pub struct Agent {
@@ -35,7 +38,7 @@ pub struct Agent {
 }
 
 // What the docs say of its size.
-const _: () = prove!(size_of::<Agent>() == 4952);
+const _: () = prove!(size_of::<Agent>() == 41_816);
 
 impl Model for Agent {
     ghost use Rattle.rdm_agent.specs.Machine.{AgentState};
@@ -46,14 +49,15 @@ impl Model for Agent {
 
     ghost view = { λ a. state_of a.budget a.frames a.phase a.progress };
 
-    ghost invariant = { λ a. IsSound (seen_phase a.phase a.progress) × IsFresh (seen_phase a.phase a.progress) a.progress.below };
+    ghost invariant = { λ a.
+        IsSound (seen_phase a.phase a.progress) × IsFresh (seen_phase a.phase a.progress) a.progress.below };
 }
 
 impl Agent {
     /// Begins a run that may make `budget` exchanges. An incremental one mutes the devices of `known` first.
     pub fn start(kind: Kind, known: &UidSet, budget: u64) -> Agent
         ensures state { result ≡ start kind known.now budget }
-        ensures stands { StandsAfter kind known.now budget false [] result }
+        ensures has_run { HasRun kind known.now budget false [] result }
     {
         Agent {
             budget,
@@ -61,14 +65,14 @@ impl Agent {
             phase: Phase::Unmuting { more: UNMUTES },
             progress: Progress {
                 known: KnownLeft::new(kind, known),
-                found: UidSet::new(),
+                found: DeviceSet::new(),
                 below: RangesBelow::new(),
             },
         }
     }
 
     /// What it asks of the line next: three unmutes, then branches and mutes of devices. [`Op::End`]: the run has
-    /// ended, as it has where its budget is used up, behind a failure of the line, and where it was aborted.
+    /// ended, as it has where its budget is used up, after a failure of the line, and where it was aborted.
     pub fn next(&self) -> Op
         ensures value { result ≡ next_op self.now }
         ensures device { (u : ℕ) → result ≡ Op.Mute u → IsDevice u }
@@ -77,6 +81,10 @@ impl Agent {
         ensures in_budget { AfterEach self.now (λ run. length run.exchanges ≡ run.budget → result ≡ End) }
         ensures failed { AfterEach self.now (λ run. EndsFailed run.exchanges → result ≡ End) }
         ensures aborted { AfterEach self.now (λ run. run.aborted ≡ true → result ≡ End) }
+
+        // On an honest line the run has ended once it made as many exchanges as suffice for the devices.
+        ensures in_bound { AfterEach self.now (λ run. (present : List ℕ) → IsUndisturbed present run
+            → length run.exchanges ≡ enough_for present run.kind run.known → result ≡ End) }
     {
         if self.frames < self.budget {
             self.phase.op()
@@ -85,23 +93,43 @@ impl Agent {
         }
     }
 
-    /// The agent behind the reply to what it asks next, which the reply must fit ([`OpReply::fits`]).
-    pub fn feed(mut self, reply: OpReply) -> Agent
-        requires { fits reply (next_op self) ≡ true }
-        ensures state { result ≡ fed self (heard_by reply) }
-        ensures stands { AfterEach self (λ run. let exchanges = run.exchanges ++ seen_op (next_op self, reply) ∷ [] in
-            StandsAfter run.kind run.known run.budget false exchanges result) }
+    /// Hears the reply to what it asks next, which the reply must fit ([`OpReply::fits`]).
+    pub fn hear(&mut self, reply: OpReply)
+        requires { fits reply (next_op self.old) ≡ true }
+        ensures state { self.new ≡ fed self.old (heard_by reply) }
+        ensures has_run { AfterEach self.old (λ run.
+            let exchanges = run.exchanges ++ seen_op (next_op self.old, reply) ∷ [] in
+            HasRun run.kind run.known run.budget false exchanges self.new) }
+
+        // On an honest line: no more exchanges than suffice for the devices, and then the run has ended.
+        ensures in_bound { AfterEach self.old (λ run.
+            StaysInBound self.new (with_exchange run (seen_op (next_op self.old, reply)))) }
     {
         self.frames += 1;
         self.phase = self.progress.heard(self.phase, reply);
+    }
+
+    /// The agent after the reply to what it asks next, as [`Agent::hear`] makes it; the whole agent is moved.
+    pub fn feed(mut self, reply: OpReply) -> Agent
+        requires { fits reply (next_op self) ≡ true }
+        ensures state { result ≡ fed self (heard_by reply) }
+        ensures has_run { AfterEach self (λ run.
+            let exchanges = run.exchanges ++ seen_op (next_op self, reply) ∷ [] in
+            HasRun run.kind run.known run.budget false exchanges result) }
+
+        // On an honest line: no more exchanges than suffice for the devices, and then the run has ended.
+        ensures in_bound { AfterEach self (λ run.
+            StaysInBound result (with_exchange run (seen_op (next_op self, reply)))) }
+    {
+        self.hear(reply);
         self
     }
 
     /// Ends the run with [`AgentFault::Aborted`]; a run that has ended is unchanged.
     pub fn abort(mut self) -> Agent
         ensures state { next_op self ≢ End → result ≡ ended_by_abort self }
-        ensures stands { AfterEach self (λ run.
-            next_op self ≢ End → StandsAfter run.kind run.known run.budget true run.exchanges result) }
+        ensures has_run { AfterEach self (λ run.
+            next_op self ≢ End → HasRun run.kind run.known run.budget true run.exchanges result) }
         ensures unchanged { next_op self ≡ End → result ≡ self }
     {
         if self.next() != Op::End {
@@ -110,35 +138,49 @@ impl Agent {
         self
     }
 
-    /// What the run found; it must have ended (`next` is [`Op::End`]). `Ok`: the devices found, with the
-    /// certificate that each other UID was silent. `Err`: why it ended, and the devices found until then, of more than
-    /// a set has room for the first ones.
-    pub fn end(self) -> Result<UidSet, (AgentFault, UidSet)>
+    /// What the run found; it must have ended (`next` is [`Op::End`]). `Ok`: the devices found, with the certificate
+    /// that each other UID was silent. `Err`: why it ended, and the devices found until then, of more than a set has
+    /// room for the first ones. Each device has the control field and the binding UID of its first acknowledgement in
+    /// the run.
+    pub fn end(self) -> Result<DeviceSet, (AgentFault, DeviceSet)>
         requires { next_op self ≡ End }
-        ensures value { result ≡ answer_of (fault_of self.phase) self.found }
-        ensures certified { AfterEach self (λ run.
-            IfOk result (λ s. Certificate run.kind run.known run.exchanges s × (s ≡ reported run.exchanges))) }
-        ensures caused { AfterEach self (λ run.
-            IfErr result (λ e. Cause run.budget (run.aborted ≡ true) e.0 run.exchanges × (e.1 ≡ reported run.exchanges))) }
+        ensures value { result ≡ run_result (fault_of self.phase) self.found }
+        ensures certified { AfterEach self (λ run. IfOk result (λ s.
+            Certificate run.kind run.known run.exchanges s × IsReport run.exchanges s)) }
+        ensures caused { AfterEach self (λ run. IfErr result (λ e.
+            Cause run.budget (run.aborted ≡ true) e.0 run.exchanges × IsReport run.exchanges e.1)) }
 
         // On an honest line the devices are found, and nothing else is; a device to which the line is honest is
         // found whatever others do.
         ensures finds_all { AfterEach self (λ run.
-            (present : List ℕ) → HonestTrace present run.exchanges → IfOk result (λ s. s ≡ present)) }
+            (present : List ℕ) → HonestTrace present run.exchanges → IfOk result (λ s. uids_of s ≡ present)) }
         ensures finds_each { AfterEach self (λ run.
-            (u : ℕ) → IsDevice u → HonestTo u run.exchanges → IfOk result (λ s. has s u ≡ true)) }
+            (u : ℕ) → IsDevice u → HonestTo u run.exchanges → IfOk result (λ s. has (uids_of s) u ≡ true)) }
         ensures no_phantom { AfterEach self (λ run. (present : List ℕ) (u : ℕ) → HonestTrace present run.exchanges
-            → IfErr result (λ e. has e.1 u ≡ true → has present u ≡ true)) }
+            → IfErr result (λ e. has (uids_of e.1) u ≡ true → has present u ≡ true)) }
+
+        // On an honest line whose devices come and leave, each that was always present is found, and none that never
+        // was; with a fault too, none that never was.
+        ensures finds_staying { AfterEach self (λ run. (sets : List (List ℕ)) (u : ℕ) →
+            HonestOver sets run.exchanges → IsInEach u sets → IfOk result (λ s. has (uids_of s) u ≡ true)) }
+        ensures no_stranger { AfterEach self (λ run. (sets : List (List ℕ)) (u : ℕ) →
+            HonestOver sets run.exchanges → IfOk result (λ s. has (uids_of s) u ≡ true → IsInOne u sets)) }
+        ensures no_stranger_in_fault { AfterEach self (λ run. (sets : List (List ℕ)) (u : ℕ) →
+            HonestOver sets run.exchanges → IfErr result (λ e. has (uids_of e.1) u ≡ true → IsInOne u sets)) }
+
+        // Where no exchange failed and the budget suffices for the devices, it has no fault.
+        ensures no_fault { AfterEach self (λ run. (present : List ℕ) →
+            IsUndisturbed present run → IsOkAnd result (λ s. uids_of s ≡ present)) }
     {
-        let found = self.progress.found;
+        // Each arm makes its own copy: one set that both arms move is split by LLVM into thousands of pieces.
         match self.phase.fault() {
-            None => Ok(found),
-            Some(fault) => Err((fault, found)),
+            None => Ok(self.progress.found.copied()),
+            Some(fault) => Err((fault, self.progress.found.copied())),
         }
     }
 
-    /// How many ranges are still open: 1 from the start, [`MOST_RANGES`] at most. 0 at the end of the search, behind a
-    /// failure and behind an abort; where the budget ended in the midst of the search, those that it left open.
+    /// How many ranges are still open: 1 from the start, [`MOST_RANGES`] at most. 0 at the end of the search, after a
+    /// failure and after an abort; where the budget ended in the midst of the search, those that it left open.
     pub fn open_ranges(&self) -> usize
         ensures value { result ≡ open_ranges self.now.phase }
         ensures at_most { result ≤ MOST_RANGES }
@@ -154,6 +196,12 @@ impl Agent {
     pub fn frames(&self) -> u64
         ensures value { result ≡ self.now.frames }
         ensures counted { AfterEach self.now (λ run. (result ≡ length run.exchanges) × (result ≤ run.budget)) }
+
+        // On an honest line: no more than suffice for the devices, and then the run has ended.
+        ensures in_bound { AfterEach self.now (λ run. (present : List ℕ) → IsUndisturbed present run
+            → result ≤ enough_for present run.kind run.known) }
+        ensures ended { AfterEach self.now (λ run. (present : List ℕ) → IsUndisturbed present run
+            → result ≡ enough_for present run.kind run.known → next_op self.now ≡ End) }
     {
         self.frames
     }

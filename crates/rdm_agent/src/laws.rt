@@ -1,35 +1,35 @@
 //! Laws of whole runs, each the contract of a function that does nothing: what a run asks, how it ends, and what it
 //! finds on an honest line. [`OpReply`](crate::OpReply) says what is heard; the definitions stand in `specs`.
-ghost use Rattle.std.specs.Prelude.{◌≡◌, ◌≤◌, ◌++◌, ◌↔◌, ℕ, List, [], ◌∷◌, map, true, replicate, Some, None};
+ghost use Rattle.std.specs.Prelude.{◌≡◌, ◌≢◌, ◌≤◌, ◌++◌, ℕ, List, [], ◌∷◌, map, length, true, false, replicate};
+ghost use Rattle.std.specs.Prelude.{Option, Some, None};
 ghost use Rattle.rdm_wire.specs.Uid.{has, IsDevice};
+ghost use Rattle.rdm_wire.specs.Devices.{uids_of};
+ghost use Rattle.rdm_wire.specs.declared.device.Device.{Device};
 ghost use Rattle.rdm_wire.specs.Honest.{Seen, HonestTo, HonestTrace};
-ghost use Rattle.rdm_wire.specs.Honest.Heard.{Silent, Acked, Noise};
-ghost use Rattle.rdm_wire.specs.Span.{Span};
-ghost use Rattle.rdm_wire.specs.BranchText.{ReadsAs};
-ghost use Rattle.rdm_wire.specs.Reading.{ack_read};
-ghost use Rattle.rdm_wire.specs.Packet.{branch_frame, mute_frame, unmute_frame};
-ghost use Rattle.rdm_wire.specs.Commands.{CanSend};
-ghost use Rattle.rdm_wire.specs.Commands.Command.{Unmute, Branch, Mute};
-ghost use Rattle.rdm_wire.specs.Frames.{asked_in, heard_in, seen};
-ghost use Rattle.rdm_wire.specs.declared.branch.BranchReply.{BranchReply};
-ghost use Rattle.rdm_wire.specs.declared.mute_ack.MuteAck.{MuteAck};
-ghost use Rattle.rdm_agent.specs.SampleRun.{sample_uid, sample_run, lossy_run};
+ghost use Rattle.rdm_wire.specs.Honest.Heard.{Silent, Noise};
+ghost use Rattle.rdm_wire.specs.Frames.{asked_in, seen_exchange};
+ghost use Rattle.rdm_agent.specs.SampleRun.{sample_uid, sample_device, sample_run, lossy_run};
+ghost use Rattle.rdm_agent.specs.SampleRun.{other_uid, other_device, colliding_run, failed_run, garbled_run};
 ghost use Rattle.rdm_agent.specs.Machine.{AgentState, fed, fed_all, start, next_of, open_ranges, Runs};
-ghost use Rattle.rdm_agent.specs.Machine.Phase.{Over};
+ghost use Rattle.rdm_agent.specs.Machine.Phase.{Ended};
 ghost use Rattle.rdm_agent.specs.Statements.{AsksInOrder, EndsAtFailure, EndsAtBudget, FindsAcknowledged};
 ghost use Rattle.rdm_agent.specs.Statements.{HasFewRanges, EndsCertified, FindsAll, FindsEach, FindsNoPhantom};
-ghost use Rattle.rdm_agent.specs.declared.limits.TheConstants.{DEFAULT_BUDGET, MOST_RANGES};
+ghost use Rattle.rdm_agent.specs.Statements.{FindsStaying, FindsNoStranger};
+ghost use Rattle.rdm_agent.specs.declared.limits.TheConstants.{DEFAULT_BUDGET, MOST_RANGES, TRIES, UNMUTES};
+ghost use Rattle.rdm_agent.specs.declared.kind.Kind.{Kind};
 ghost use Rattle.rdm_agent.specs.declared.kind.Kind.TheVariants.{Full};
 ghost use Rattle.rdm_agent.specs.declared.fault.AgentFault.{AgentFault};
-ghost use Rattle.rdm_agent.specs.Run.{acked_in, asked_by, heard_by, seen_op, FailureIsLast};
-ghost use Rattle.rdm_agent.specs.Stands.{next_op};
+ghost use Rattle.rdm_agent.specs.declared.fault.AgentFault.TheVariants.{LineFailed};
+ghost use Rattle.rdm_agent.specs.Run.{acked_in, asked_by, FailureIsLast};
+ghost use Rattle.rdm_agent.specs.Calls.{next_op, HasRun, AfterEach};
+ghost use Rattle.rdm_agent.specs.OpFrames.{op_frame, IsSendable};
+ghost use Rattle.rdm_agent.specs.Bound.{most_frames, enough_for, IsUndisturbed, EndsInBound, EndsByDefault};
 ghost use Rattle.rdm_agent.specs.declared.op.Op.{Op};
-ghost use Rattle.rdm_agent.specs.declared.op.OpReply.{OpReply};
+ghost use Rattle.rdm_agent.specs.declared.op.Op.TheVariants.{End};
 ghost use Rattle.rdm_agent.specs.Certificate.{Certificate};
-ghost use Rattle.rdm_agent.specs.declared.kind.Kind.{Kind};
 
 /// A run unmutes three times, and then asks for branches and for mutes of devices. It counts its exchanges, asks
-/// nothing behind a failure nor where its budget is used up, has found what was acknowledged, and keeps at most
+/// nothing after a failure nor where its budget is used up, has found what was acknowledged, and keeps at most
 /// [`MOST_RANGES`](crate::MOST_RANGES) ranges open. This holds of full and of incremental runs, for every known set
 /// and budget, at any moment, and whatever the line replies.
 pub fn run_asks_in_order()
@@ -55,19 +55,41 @@ pub fn honest_run_finds_all()
     ensures each { FindsEach }
 {}
 
+/// On an honest line whose devices come and leave, a run that ends without fault finds each device that was present at
+/// every exchange; and no run finds one that was present at none, not when it has ended with a fault and not before.
+/// That a device which came during the run is found isn't promised.
+pub fn changing_devices()
+    ensures staying { FindsStaying }
+    ensures no_stranger { FindsNoStranger }
+{}
+
 /// On an honest line no UID is found that isn't a device's: not when a run has ended with a fault, and not before.
 pub fn no_phantom()
     ensures { FindsNoPhantom }
+{}
+
+/// On an honest line with `n` devices, at most 1,024, a run with `k` known UIDs (0 in a full one) makes at most
+/// `8 + 370 n + 5 k` exchanges, where no exchange failed and its budget is no less. Once it made as many it has ended,
+/// and at its end it has no fault, whatever bytes colliding replies make.
+pub fn honest_run_ends()
+    ensures { EndsInBound }
+{}
+
+/// The budget by default suffices for each such run, with up to 1,024 devices and as many known UIDs.
+pub fn default_budget_suffices()
+    ensures most { (present known : List ℕ) (kind : Kind) →
+        length present ≤ 1024 → length known ≤ 1024 → enough_for present kind known ≤ DEFAULT_BUDGET }
+    ensures ends { EndsByDefault }
 {}
 
 /// The same of a list of exchanges, whoever asked: on an honest line a certificate's set is that of the devices, and
 /// no phantom is acknowledged.
 pub fn honest_certificate()
     // A device to which the line was honest is found, whatever others do.
-    ensures found { (kind : Kind) (known : List ℕ) (x : List Seen) (s : List ℕ) (u : ℕ) →
-        IsDevice u → Certificate kind known x s → HonestTo u x → has s u ≡ true }
-    ensures devices { (kind : Kind) (known : List ℕ) (x : List Seen) (s present : List ℕ) →
-        Certificate kind known x s → HonestTrace present x → s ≡ present }
+    ensures found { (kind : Kind) (known : List ℕ) (x : List Seen) (s : List Device) (u : ℕ) →
+        IsDevice u → Certificate kind known x s → HonestTo u x → has (uids_of s) u ≡ true }
+    ensures devices { (kind : Kind) (known : List ℕ) (x : List Seen) (s : List Device) (present : List ℕ) →
+        Certificate kind known x s → HonestTrace present x → uids_of s ≡ present }
     ensures no_phantom { (present : List ℕ) (x : List Seen) (u : ℕ) →
         FailureIsLast x → HonestTrace present x → has (acked_in x) u ≡ true → has present u ≡ true }
 {}
@@ -75,24 +97,35 @@ pub fn honest_certificate()
 /// Whole runs: an empty line; a line that answers each branch by a byte; budgets of 8, 7 and 0.
 pub fn worked_runs()
     ensures empty { fed_all (start Full [] DEFAULT_BUDGET) (replicate 8 Silent)
-        ≡ record { budget = DEFAULT_BUDGET; frames = 8; found = []; phase = Over None } }
+        ≡ record { budget = DEFAULT_BUDGET; frames = 8; found = []; phase = Ended None } }
     ensures corrupt { fed_all (start Full [] DEFAULT_BUDGET) (replicate 3 Silent ++ replicate 49 Noise)
-        ≡ record { budget = DEFAULT_BUDGET; frames = 52; found = []; phase = Over (Some (AgentFault.Corrupt 0)) } }
-    ensures in_budget { (fed_all (start Full [] 8) (replicate 8 Silent)).phase ≡ Over None }
+        ≡ record { budget = DEFAULT_BUDGET; frames = 52; found = []; phase = Ended (Some (AgentFault.Corrupt 0)) } }
+    ensures in_budget { (fed_all (start Full [] 8) (replicate 8 Silent)).phase ≡ Ended None }
     ensures exhausted { next_of (fed_all (start Full [] 7) (replicate 7 Silent)) ≡ None }
     ensures none { next_of (start Full [] 0) ≡ None }
     ensures whole_first { open_ranges (start Full [] DEFAULT_BUDGET).phase ≡ 1 }
     ensures deepest { open_ranges
-        (fed_all (start Full [] DEFAULT_BUDGET) (replicate 3 Silent ++ replicate 48 Noise)).phase ≡ MOST_RANGES }
+        (fed_all (start Full [] DEFAULT_BUDGET) (replicate 3 Silent ++ replicate 48 Noise)).phase ≡ 49 }
 {}
 
 /// Ten exchanges with one device are an honest line's and have the certificate of its set, and a run makes them and
 /// ends.
 pub fn honest_run()
     ensures honest { HonestTrace (sample_uid ∷ []) sample_run }
-    ensures certified { Certificate Full [] sample_run (sample_uid ∷ []) }
+    ensures certified { Certificate Full [] sample_run (sample_device ∷ []) }
     ensures ends { Runs (start Full [] DEFAULT_BUDGET) sample_run
-        (record { budget = DEFAULT_BUDGET; frames = 10; found = sample_uid ∷ []; phase = Over None }) }
+        (record { budget = DEFAULT_BUDGET; frames = 10; found = sample_device ∷ []; phase = Ended None }) }
+{}
+
+/// The ten exchanges of [`honest_run`] are such a run's: the bound speaks of runs that there are. With one device it is
+/// 378 exchanges, and with 1,024 devices 378,888.
+pub fn undisturbed_run()
+    ensures undisturbed { IsUndisturbed (sample_uid ∷ [])
+        (record { kind = Full; known = []; budget = 378; aborted = false; exchanges = sample_run }) }
+    ensures ends { Runs (start Full [] 378) sample_run
+        (record { budget = 378; frames = 10; found = sample_device ∷ []; phase = Ended None }) }
+    ensures one_device { most_frames 1 0 ≡ 378 }
+    ensures most_devices { most_frames 1024 0 ≡ 378888 }
 {}
 
 /// An honest line loses up to four replies in succession, of branches and of mutes, and the device is found; a line
@@ -101,27 +134,47 @@ pub fn honest_losses()
     ensures up_to_four { (branches mutes : ℕ) →
         branches ≤ 4 → mutes ≤ 4 → HonestTrace (sample_uid ∷ []) (lossy_run branches mutes) }
     ensures found { fed_all (start Full [] DEFAULT_BUDGET) (map (λ e. e.heard) (lossy_run 4 4))
-        ≡ record { budget = DEFAULT_BUDGET; frames = 18; found = sample_uid ∷ []; phase = Over None } }
+        ≡ record { budget = DEFAULT_BUDGET; frames = 18; found = sample_device ∷ []; phase = Ended None } }
     ensures five_branches { ¬ HonestTrace (sample_uid ∷ []) (lossy_run 5 0) }
     ensures five_mutes { ¬ HonestTrace (sample_uid ∷ []) (lossy_run 0 5) }
 {}
 
-/// A frame that an encoder writes for an operation asks what the operation asks, and the bytes behind it are heard as
-/// the reply that is read from them. So an agent that is fed what frames and bytes show goes on as one that is fed the
-/// replies; silence and bytes that acknowledge nothing are alike to it behind a mute, and any bytes behind an unmute.
+/// Two devices that collide on an honest line are found; a line that fails is honest up to its failure; and a line may
+/// be honest to one device alone.
+pub fn honest_lines()
+    ensures colliding { HonestTrace (sample_uid ∷ other_uid ∷ []) colliding_run }
+    ensures both_found { Runs (start Full [] DEFAULT_BUDGET) colliding_run (record {
+      budget = DEFAULT_BUDGET;
+      frames = 18;
+      found = sample_device ∷ other_device ∷ [];
+      phase = Ended None;
+    }) }
+    ensures failing { HonestTrace (sample_uid ∷ []) failed_run }
+    ensures failed { Runs (start Full [] DEFAULT_BUDGET) failed_run (record {
+      budget = DEFAULT_BUDGET;
+      frames = 4;
+      found = [];
+      phase = Ended (Some LineFailed);
+    }) }
+    ensures to_one { HonestTo sample_uid garbled_run }
+    ensures to_no_set { (present : List ℕ) → ¬ HonestTrace present garbled_run }
+{}
+
+/// The numbers of the profile.
+pub fn limits_are()
+    ensures unmutes { UNMUTES ≡ 3 }
+    ensures tries { TRIES ≡ 5 }
+    ensures ranges { MOST_RANGES ≡ 49 }
+    ensures budget { DEFAULT_BUDGET ≡ 384008 }
+{}
+
+/// The frame of an operation asks what the operation asks. An agent that hears what a frame and its answer show goes
+/// on, and its run has made that exchange; so what holds of runs holds of the frames and bytes of a log. By
+/// [`Op::read_reply`](crate::Op::read_reply) the agent is told the same.
 pub fn frames_carry_operations()
-    ensures branch { (r : Span) (s tn : ℕ) (bytes : List ℕ) (reply : BranchReply) →
-        CanSend (Branch r.lo r.hi) s tn → ReadsAs bytes reply →
-        seen (branch_frame r.lo r.hi s tn) (Some bytes) ≡ seen_op (Op.Branch r, OpReply.Branch reply) }
-    ensures mute_asked { (u s tn : ℕ) → CanSend (Mute u) s tn → asked_in (mute_frame u s tn) ≡ asked_by (Op.Mute u) }
-    ensures mute_heard { (u s tn : ℕ) (bytes : List ℕ) (ack : MuteAck) → CanSend (Mute u) s tn →
-        (heard_in (mute_frame u s tn) (Some bytes) ≡ Acked ack) ↔ (ack_read u s tn bytes ≡ Some ack) }
-    ensures mute_fed { (a : AgentState) (u s tn : ℕ) (bytes : List ℕ) →
-        next_op a ≡ Op.Mute u → CanSend (Mute u) s tn →
-        fed a (heard_in (mute_frame u s tn) (Some bytes)) ≡ fed a (heard_by (OpReply.Mute (ack_read u s tn bytes))) }
-    ensures unmute_asked { (s tn : ℕ) → CanSend Unmute s tn → asked_in (unmute_frame s tn) ≡ asked_by Op.UnmuteAll }
-    ensures unmute_fed { (a : AgentState) (s tn : ℕ) (bytes : List ℕ) →
-        next_op a ≡ Op.UnmuteAll → CanSend Unmute s tn →
-        fed a (heard_in (unmute_frame s tn) (Some bytes)) ≡ fed a (heard_by OpReply.Done) }
-    ensures failed { (frame : List ℕ) → heard_in frame None ≡ heard_by OpReply.Failed }
+    ensures asked { (op : Op) (s tn : ℕ) → op ≢ End → IsSendable op s tn → asked_in (op_frame op s tn) ≡ asked_by op }
+    ensures goes_on { (a : AgentState) (s tn : ℕ) (answer : Option (List ℕ)) →
+        next_op a ≢ End → IsSendable (next_op a) s tn → AfterEach a (λ run.
+        let exchange = seen_exchange (op_frame (next_op a) s tn) answer in
+        HasRun run.kind run.known run.budget false (run.exchanges ++ exchange ∷ []) (fed a exchange.heard)) }
 {}

@@ -5,7 +5,7 @@ mod agent;
 mod fault;
 mod kind;
 mod known;
-mod laws;
+pub mod laws;
 mod limits;
 mod op;
 mod phase;
@@ -17,9 +17,5 @@ mod tests;
 pub use agent::Agent;
 pub use fault::AgentFault;
 pub use kind::Kind;
-pub use laws::{
-    frames_carry_operations, honest_certificate, honest_losses, honest_run, honest_run_finds_all,
-    no_phantom, run_asks_in_order, run_has_certificate, worked_runs,
-};
 pub use limits::{DEFAULT_BUDGET, MOST_RANGES, TRIES, UNMUTES};
 pub use op::{Op, OpReply};

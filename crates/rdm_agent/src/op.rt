@@ -1,8 +1,19 @@
 //! What a run asks of the line, and what the line replies.
-ghost use Rattle.std.specs.Prelude.{◌≡◌};
-ghost use Rattle.rdm_agent.specs.Stands.{fits};
+ghost use Rattle.std.specs.Prelude.{◌≡◌, ◌≢◌, ◌↔◌, ℕ, true, Some, None, option_copied};
+ghost use Rattle.rdm_wire.specs.Uid.{IsDevice};
+ghost use Rattle.rdm_wire.specs.Span.{Span};
+ghost use Rattle.rdm_wire.specs.Frames.{asked_in, heard_in};
+ghost use Rattle.rdm_wire.specs.Honest.Heard.{Acked};
+ghost use Rattle.rdm_wire.specs.declared.mute_ack.MuteAck.{MuteAck};
+ghost use Rattle.rdm_agent.specs.Calls.{fits, next_op};
+ghost use Rattle.rdm_agent.specs.OpFrames.{op_frame, IsSendable};
+ghost use Rattle.rdm_agent.specs.Run.{asked_by, heard_by};
+ghost use Rattle.rdm_agent.specs.Machine.{AgentState, fed};
 
-use rdm_wire::{BranchReply, MuteAck, Uid, UidRange};
+use rdm_wire::{
+    BranchReply, Frame, MuteAck, Uid, UidRange, encode_branch, encode_mute, encode_unmute,
+    read_branch_reply, reads_mute_ack,
+};
 
 /// What a run wants next (E1.20, discovery commands).
 #[derive(Clone, Copy, Debug, PartialEq, Eq)]
@@ -24,10 +35,87 @@ pub enum OpReply {
     Done,
     /// The acknowledgement of a mute, if one came.
     Mute(Option<MuteAck>),
-    /// What the bytes behind a branch say.
+    /// What the bytes after a branch say.
     Branch(BranchReply),
     /// The line failed.
     Failed,
+}
+
+impl Op {
+    /// The packet that asks it of the line, from the controller `source`, with the transaction number `tn`. A mute must
+    /// be of a device, as [`Agent::next`](crate::Agent::next)'s is, and [`Op::End`] has no packet.
+    pub fn frame(&self, source: Uid, tn: u8) -> Frame
+        requires goes_on { self.now ≢ Op.End }
+        requires device { (u : ℕ) → self.now ≡ Op.Mute u → IsDevice u }
+        ensures frame { result.items ≡ op_frame self.now source tn }
+        ensures asks { asked_in result.items ≡ asked_by self.now }
+    {
+        self.is_sendable(source, tn);
+        match self {
+            Op::UnmuteAll => encode_unmute(source, tn),
+            Op::Mute(uid) => encode_mute(*uid, source, tn),
+            Op::Branch(range) => encode_branch(*range, source, tn),
+            Op::End => unreachable!(),
+        }
+    }
+
+    /// The reply that came after its packet of this source and transaction number: what the bytes of `answer` say, and
+    /// [`OpReply::Failed`] for `None`, where the line failed. [`Op::End`] has no reply.
+    pub fn read_reply(&self, source: Uid, tn: u8, answer: Option<&[u8]>) -> OpReply
+        requires goes_on { self.now ≢ Op.End }
+        ensures fits { fits result self.now ≡ true }
+        ensures failed { (result ≡ OpReply.Failed) ↔ (option_copied answer.entry ≡ None) }
+        ensures branch { (r : Span) → self.now ≡ Op.Branch r →
+            heard_by result ≡ heard_in (op_frame self.now source tn) (option_copied answer.entry) }
+        ensures acked { (ack : MuteAck) → (result ≡ OpReply.Mute (Some ack))
+            ↔ (heard_in (op_frame self.now source tn) (option_copied answer.entry) ≡ Acked ack) }
+        // An agent goes on by the reply as by the bytes: after a mute, bytes that acknowledge nothing are as silence
+        // to it, and after an unmute any bytes are.
+        ensures fed { (a : AgentState) → next_op a ≡ self.now → fed a (heard_by result)
+            ≡ fed a (heard_in (op_frame self.now source tn) (option_copied answer.entry)) }
+    {
+        match answer {
+            None => OpReply::Failed,
+            Some(bytes) => self.read_bytes(source, tn, bytes),
+        }
+    }
+
+    // The reply that these bytes are.
+    fn read_bytes(&self, source: Uid, tn: u8, bytes: &[u8]) -> OpReply
+        requires goes_on { self.now ≢ Op.End }
+        ensures fits { fits result self.now ≡ true }
+        ensures came { result ≢ OpReply.Failed }
+        ensures branch { (r : Span) → self.now ≡ Op.Branch r →
+            heard_by result ≡ heard_in (op_frame self.now source tn) (Some bytes.now) }
+        ensures acked { (ack : MuteAck) → (result ≡ OpReply.Mute (Some ack))
+            ↔ (heard_in (op_frame self.now source tn) (Some bytes.now) ≡ Acked ack) }
+        ensures fed { (a : AgentState) → next_op a ≡ self.now → fed a (heard_by result)
+            ≡ fed a (heard_in (op_frame self.now source tn) (Some bytes.now)) }
+    {
+        self.is_sendable(source, tn);
+        match self {
+            Op::UnmuteAll => OpReply::Done,
+            Op::Mute(uid) => OpReply::Mute(reads_mute_ack(*uid, source, tn, bytes)),
+            Op::Branch(_) => OpReply::Branch(read_branch_reply(bytes)),
+            Op::End => unreachable!(),
+        }
+    }
+
+    // For the proof alone: its packet can be sent, since a UID's number is below 2^48.
+    fn is_sendable(&self, source: Uid, tn: u8)
+        ensures { IsSendable self.now source tn }
+    {
+        let _source = source.number();
+        match self {
+            Op::Mute(uid) => {
+                let _uid = uid.number();
+            }
+            Op::Branch(range) => {
+                let _bounds = (range.lo.number(), range.hi.number());
+            }
+            Op::UnmuteAll | Op::End => {}
+        }
+    }
 }
 
 impl OpReply {

@@ -2,7 +2,7 @@
 ghost use Rattle.std.specs.Prelude.{◌≡◌, ℕ, List};
 ghost use Rattle.rdm_wire.specs.Span.{Span};
 ghost use Rattle.rdm_agent.specs.Machine.{wanted, fault_of};
-ghost use Rattle.rdm_agent.specs.Stands.{op_of};
+ghost use Rattle.rdm_agent.specs.Calls.{op_of};
 
 use crate::fault::AgentFault;
 use crate::op::Op;

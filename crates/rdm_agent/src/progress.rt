@@ -1,12 +1,14 @@
-//! How a run goes on behind a reply.
+//! How a run goes on after a reply.
 ghost use Rattle.std.specs.Prelude.{◌≡◌, ◌<◌, ◌+◌, ◌-◌, ◌⊎◌, Some, [], true, false, if◌then◌else◌, nat_lt};
 ghost use Rattle.std.specs.List.{AllByRecursion};
 ghost use Rattle.rdm_wire.specs.Span.{Span};
 ghost use Rattle.rdm_wire.specs.Uid.{is_broadcast, IsDevice};
-ghost use Rattle.rdm_agent.specs.Machine.{fed, wanted, to_found, split, search_from, search_below, is_new, known_heard, branch_heard, mute_heard};
+ghost use Rattle.rdm_wire.specs.Devices.{uids_of};
+ghost use Rattle.rdm_agent.specs.Machine.{fed, wanted, to_found, split, search_from, search_below, is_new};
+ghost use Rattle.rdm_agent.specs.Machine.{known_heard, branch_heard, mute_heard};
 ghost use Rattle.rdm_agent.specs.Machine.Phase.{Unmuting as unmuting};
-ghost use Rattle.rdm_agent.specs.Run.{heard_by, heard_of_mute, heard_of_branch};
-ghost use Rattle.rdm_agent.specs.Stands.{fits, op_of};
+ghost use Rattle.rdm_agent.specs.Run.{heard_by, heard_of_mute, heard_of_branch, device_from};
+ghost use Rattle.rdm_agent.specs.Calls.{fits, op_of};
 ghost use Rattle.rdm_agent.specs.Sound.{IsSound, IsFresh, IsStack};
 ghost use Rattle.rdm_agent.specs.declared.fault.AgentFault.TheVariants.{TooMany};
 ghost use Rattle.rdm_agent.specs.View.{seen_phase, Steps};
@@ -17,21 +19,21 @@ use crate::limits::TRIES;
 use crate::op::OpReply;
 use crate::phase::Phase;
 use crate::ranges::RangesBelow;
-use rdm_wire::{BranchReply, MuteAck, SetFull, Uid, UidRange, UidSet};
+use rdm_wire::{BranchReply, Device, DeviceSet, MuteAck, SetFull, Uid, UidRange};
 
 /// What a run has found, and what it hasn't looked at yet.
 #[derive(Debug, Drop)]
 pub(crate) struct Progress {
     /// The known UIDs that weren't muted yet.
     pub(crate) known: KnownLeft,
-    /// The devices whose mute was acknowledged.
-    pub(crate) found: UidSet,
+    /// The devices whose mute was acknowledged, each as its first acknowledgement says it.
+    pub(crate) found: DeviceSet,
     /// The open ranges but the top one.
     pub(crate) below: RangesBelow,
 }
 
 impl Progress {
-    /// The phase behind a reply that fits what the phase before it asks.
+    /// The phase after a reply that fits what the phase before it asks.
     pub(crate) fn heard(&mut self, phase: Phase, reply: OpReply) -> Phase
         requires fits { fits reply (op_of (wanted (seen_phase phase self.old))) ≡ true }
         requires sound { IsSound (seen_phase phase self.old) }
@@ -56,7 +58,7 @@ impl Progress {
         }
     }
 
-    // Behind an unmute.
+    // After an unmute.
     fn unmuted(&mut self, more: u8) -> Phase
         requires devices { AllByRecursion IsDevice self.old.known }
         requires fresh { self.old.below ≡ [] }
@@ -91,7 +93,7 @@ impl Progress {
         }
     }
 
-    // Behind the mute of a known UID.
+    // After the mute of a known UID.
     fn known_muted(&mut self, uid: Uid, tries: u8, ack: Option<MuteAck>) -> Phase
         requires device { IsDevice uid }
         requires tries { tries < TRIES }
@@ -102,9 +104,9 @@ impl Progress {
         ensures sound { IsSound (seen_phase result self.new) }
         ensures fresh { self.new.below ≡ [] }
     {
-        if ack.is_some() {
+        if let Some(ack) = ack {
             let onward = self.next_known();
-            return self.find(uid, onward);
+            return self.find(device_from(uid, ack), onward);
         }
         match tries + 1 {
             TRIES => self.next_known(),
@@ -112,7 +114,7 @@ impl Progress {
         }
     }
 
-    // Behind a branch of the top range.
+    // After a branch of the top range.
     fn branched(&mut self, top: UidRange, silences: u8, reply: BranchReply) -> Phase
         requires silences { silences < TRIES }
         requires ranges { IsStack top self.old.below }
@@ -135,7 +137,7 @@ impl Progress {
         }
     }
 
-    // Behind the mute of a UID that a branch of the top range spelt.
+    // After the mute of a UID that a branch of the top range spelt.
     fn read_muted(&mut self, uid: Uid, tries: u8, top: UidRange, ack: Option<MuteAck>) -> Phase
         requires device { IsDevice uid }
         requires tries { tries < TRIES }
@@ -145,8 +147,8 @@ impl Progress {
         ensures sound { IsSound (seen_phase result self.new) }
         ensures fresh { IsFresh (seen_phase result self.new) self.new.below }
     {
-        if ack.is_some() {
-            return self.find(uid, Phase::Searching { top, silences: 0 });
+        if let Some(ack) = ack {
+            return self.find(device_from(uid, ack), Phase::Searching { top, silences: 0 });
         }
         match tries + 1 {
             TRIES => self.split(top),
@@ -155,14 +157,14 @@ impl Progress {
     }
 
     // A device is found, and the run goes on; where there is no room for it the run ends.
-    fn find(&mut self, uid: Uid, onward: Phase) -> Phase
-        requires { is_broadcast uid ≡ false }
-        ensures state { Steps (λ a. to_found a uid (seen_phase onward self.old)) onward self.old result self.new }
+    fn find(&mut self, device: Device, onward: Phase) -> Phase
+        requires { is_broadcast device.uid ≡ false }
+        ensures state { Steps (λ a. to_found a device (seen_phase onward self.old)) onward self.old result self.new }
         ensures known { self.new.known ≡ self.old.known }
         ensures below { self.new.below ≡ self.old.below }
         ensures onward { (result ≡ onward) ⊎ (result ≡ Phase.Ended (Some TooMany)) }
     {
-        match self.found.insert(uid) {
+        match self.found.insert(device) {
             Ok(_) => onward,
             Err(SetFull) => Phase::Ended(Some(AgentFault::TooMany)),
         }
@@ -204,8 +206,19 @@ impl Progress {
 
     // Whether a UID may be that of a device of the range that wasn't found yet.
     fn is_new(&self, uid: Uid, top: UidRange) -> bool
-        ensures { result ≡ is_new self.now.found top uid }
+        ensures { result ≡ is_new (uids_of self.now.found) top uid }
     {
         !uid.is_broadcast() && top.contains(uid) && !self.found.contains(uid)
+    }
+}
+
+// The device that acknowledges its mute so.
+fn device_from(uid: Uid, ack: MuteAck) -> Device
+    ensures { result ≡ device_from uid ack }
+{
+    Device {
+        uid,
+        control: ack.control,
+        binding: ack.binding,
     }
 }

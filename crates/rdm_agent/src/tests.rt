@@ -1,4 +1,6 @@
-//! Whole runs over a line in memory, and by replies made by hand.
+//! Whole runs over a line in memory, by replies made by hand, and operations as bytes.
+mod bound;
 mod by_hand;
+mod bytes;
 mod line;
 mod runs;

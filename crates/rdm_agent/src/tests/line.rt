@@ -1,19 +1,51 @@
 //! A line in memory, and a run over it.
 use crate::{Agent, AgentFault, Op, OpReply};
-use rdm_wire::{BranchReply, MuteAck, Uid, UidRange, UidSet};
+use rdm_wire::{BranchReply, Device, DeviceSet, MuteAck, Uid, UidRange, UidSet};
 use std::process::Abort;
 
-/// The acknowledgement that each device gives.
-pub(crate) const ACK: MuteAck = MuteAck {
-    control: 0,
-    binding: None,
-};
+/// A device that says nothing of itself.
+pub(crate) fn plain(uid: Uid) -> Device {
+    Device {
+        uid,
+        control: 0,
+        binding: None,
+    }
+}
+
+/// How a device acknowledges a mute.
+pub(crate) fn ack_of(device: Device) -> MuteAck {
+    MuteAck {
+        control: device.control,
+        binding: device.binding,
+    }
+}
+
+/// A device of a line, and the exchanges at which it is present: from one number on, from 0, and up to another.
+#[derive(Clone, Copy)]
+pub(crate) struct OnLine {
+    device: Device,
+    from: u64,
+    until: u64,
+}
+
+/// A device that is always present.
+pub(crate) fn always(device: Device) -> OnLine {
+    between(device, 0, u64::MAX)
+}
+
+/// A device that is present from one exchange on and up to another.
+pub(crate) fn between(device: Device, from: u64, until: u64) -> OnLine {
+    OnLine {
+        device,
+        from,
+        until,
+    }
+}
 
 /// Devices on a line, which answer each exchange but the lost ones.
 #[derive(Drop)]
 pub(crate) struct TestLine<'a> {
-    /// The devices.
-    pub(crate) present: &'a [Uid],
+    devices: &'a [OnLine],
     /// What the first collision spells, if anything; the others are noise.
     pub(crate) spelt: Option<Uid>,
     /// The number of the exchange whose reply is lost, from 0.
@@ -24,9 +56,9 @@ pub(crate) struct TestLine<'a> {
 
 impl<'a> TestLine<'a> {
     /// A line with these devices.
-    pub(crate) fn new(present: &'a [Uid]) -> TestLine<'a> {
+    pub(crate) fn new(devices: &'a [OnLine]) -> TestLine<'a> {
         TestLine {
-            present,
+            devices,
             spelt: None,
             lost: None,
             muted: UidSet::new(),
@@ -34,11 +66,10 @@ impl<'a> TestLine<'a> {
         }
     }
 
-    /// What comes behind an operation.
+    /// What comes after an operation.
     fn answer(&mut self, op: Op) -> OpReply {
         let lost = self.lost == Some(self.exchanges);
-        self.exchanges = self.exchanges.wrapping_add(1);
-        match op {
+        let reply = match op {
             Op::UnmuteAll => {
                 self.muted = UidSet::new();
                 OpReply::Done
@@ -50,23 +81,27 @@ impl<'a> TestLine<'a> {
                 self.branched(range)
             }),
             Op::End => OpReply::Failed,
-        }
+        };
+        self.exchanges = self.exchanges.wrapping_add(1);
+        reply
     }
 
     // What a device replies that is muted.
     fn muted(&mut self, uid: Uid) -> Option<MuteAck> {
-        if uid.is_broadcast() || !self.present.contains(&uid) {
+        let found = self.devices.iter().find(|d| d.device.uid == uid)?;
+        if uid.is_broadcast() || !self.is_present(found) {
             return None;
         }
         let _ = self.muted.insert(uid);
-        Some(ACK)
+        Some(ack_of(found.device))
     }
 
     // What the unmuted devices of a range reply together.
     fn branched(&mut self, range: UidRange) -> BranchReply {
         let mut reply = BranchReply::Silent;
-        for uid in self.present {
-            if !range.contains(*uid) || self.muted.contains(*uid) {
+        for found in self.devices {
+            let uid = found.device.uid;
+            if !range.contains(uid) || self.muted.contains(uid) || !self.is_present(found) {
                 continue;
             }
             if reply != BranchReply::Silent {
@@ -75,29 +110,32 @@ impl<'a> TestLine<'a> {
                     .take()
                     .map_or(BranchReply::Collision, BranchReply::One);
             }
-            reply = BranchReply::One(*uid);
+            reply = BranchReply::One(uid);
         }
         reply
     }
 
-    /// The agent at its end.
-    pub(crate) fn run(&mut self, rt: &impl Abort, agent: Agent) -> Agent {
-        let mut agent = agent;
-        for _ in 0..1000 {
+    // Whether a device is present at this exchange.
+    fn is_present(&self, found: &OnLine) -> bool {
+        found.from <= self.exchanges && self.exchanges < found.until
+    }
+
+    /// Runs the agent to its end.
+    pub(crate) fn run(&mut self, rt: &impl Abort, agent: &mut Agent) {
+        for _ in 0..10_000 {
             let op = agent.next();
             if op == Op::End {
                 break;
             }
             let reply = self.answer(op);
             assert!(rt; reply.fits(&op));
-            agent = agent.feed(reply);
+            agent.hear(reply);
         }
-        agent
     }
 }
 
 /// What an agent that has ended answers.
-pub(crate) fn ended(rt: &impl Abort, agent: Agent) -> Result<UidSet, (AgentFault, UidSet)> {
+pub(crate) fn ended(rt: &impl Abort, agent: Agent) -> Result<DeviceSet, (AgentFault, DeviceSet)> {
     let Op::End = agent.next() else {
         panic!(rt; "it goes on")
     };
@@ -105,11 +143,11 @@ pub(crate) fn ended(rt: &impl Abort, agent: Agent) -> Result<UidSet, (AgentFault
 }
 
 /// The set of these devices.
-pub(crate) fn set_of(rt: &impl Abort, uids: &[Uid]) -> UidSet {
-    let mut set = UidSet::new();
-    for uid in uids {
-        assert!(rt; !uid.is_broadcast());
-        assert!(rt; set.insert(*uid).is_ok());
+pub(crate) fn set_of(rt: &impl Abort, devices: &[Device]) -> DeviceSet {
+    let mut set = DeviceSet::new();
+    for device in devices {
+        assert!(rt; !device.uid.is_broadcast());
+        assert!(rt; set.insert(*device).is_ok());
     }
     set
 }

@@ -1,6 +1,12 @@
-use Rattle.std.proofs.Common.{refl}
-use Rattle.rdm_agent.proofs.Carried.{branch_seen, mute_asks, mute_heard, mute_fed, unmute_asks, unmute_fed}
+use Rattle.std.proofs.Common.{Some, refl, sym, ap, ◌∙◌}
+use Rattle.rdm_agent.proofs.Carried.{op_asks}
+use Rattle.rdm_agent.specs.Calls.{next_op}
+use Rattle.rdm_agent.proofs.CallLemmas.{hears-has_run, next_asked}
 use Rattle.rdm_agent.proofs.laws.frames_carry_operations.Goals as goal
 
 pub returns : goal.returns
-returns c = record { branch = branch_seen; mute_asked = mute_asks; mute_heard = mute_heard; mute_fed = mute_fed; unmute_asked = unmute_asks; unmute_fed = unmute_fed; failed = λ frame. refl }
+returns c = record {
+  asked = λ op s tn goes can. op_asks op s tn can goes;
+  goes_on = λ a s tn answer goes can run stands.
+      hears-has_run a _ _ (next_asked a goes ∙ ap Some (sym (op_asks (next_op a) s tn can goes))) refl run.kind run.known run.budget run.aborted run.exchanges stands;
+}

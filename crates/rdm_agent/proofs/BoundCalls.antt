@@ -1,0 +1,41 @@
+-- The bound, call by call.
+use Rattle.std.proofs.Common.{◌≡◌, ℕ, ◌≤◌, false, List, length, Some, None, sym, ◌∙◌, subst}
+use Rattle.rdm_agent.specs.Machine.{AgentState, fault_of, found_uids}
+use Rattle.rdm_agent.specs.Calls.{next_op, HasRun, RunSoFar}
+use Rattle.rdm_agent.specs.Bound.{enough_for, IsUndisturbed, StaysInBound, EndsWithin}
+use Rattle.rdm_agent.specs.declared.fault.AgentFault.{AgentFault}
+use Rattle.rdm_agent.specs.declared.op.Op.TheVariants.{End}
+use Rattle.rdm_agent.proofs.BoundRuns.{ends_in_bound}
+use Rattle.rdm_agent.proofs.CallLemmas.{runs-own, none_ends, next_none, frames-counted, end-finds_all}
+
+module _ (a : AgentState) (run : RunSoFar) (stands : HasRun run.kind run.known run.budget run.aborted run.exchanges a) (present : List ℕ) (calm : IsUndisturbed present run) where
+  not_aborted : HasRun run.kind run.known run.budget false run.exchanges a
+  not_aborted = subst (λ b. HasRun run.kind run.known run.budget b run.exchanges a) calm.not_aborted stands
+
+  within : EndsWithin (enough_for present run.kind run.known) a
+  within = ends_in_bound run.kind run.known run.budget run.exchanges a not_aborted.devices (runs-own run.kind run.known run.budget run.exchanges a not_aborted) present calm.calm calm.budgeted
+
+  pub frames-in_bound : a.frames ≤ enough_for present run.kind run.known
+  frames-in_bound = within.at_most
+
+  pub frames-ended : a.frames ≡ enough_for present run.kind run.known → next_op a ≡ End
+  frames-ended all = none_ends a (within.ends all)
+
+  pub next-in_bound : length run.exchanges ≡ enough_for present run.kind run.known → next_op a ≡ End
+  next-in_bound all = frames-ended ((frames-counted a run.kind run.known run.budget run.aborted run.exchanges stands).0 ∙ all)
+
+  module _ (end : next_op a ≡ End) where
+    no_fault : fault_of a.phase ≡ None
+    no_fault = within.no_fault (next_none a end)
+
+    pub end-no_fault : (fault : AgentFault) → fault_of a.phase ≡ Some fault → ⊥
+    end-no_fault fault is = some_none (sym is ∙ no_fault)
+      where
+        some_none : Some fault ≡ None → ⊥
+        some_none p = cc
+
+    pub end-finds : found_uids a ≡ present
+    end-finds = end-finds_all a end no_fault run.kind run.known run.budget run.aborted run.exchanges stands present calm.calm.honest
+
+pub stays_in_bound : (a : AgentState) (run : RunSoFar) → HasRun run.kind run.known run.budget run.aborted run.exchanges a → StaysInBound a run
+stays_in_bound a run stands present calm = (frames-in_bound a run stands present calm, frames-ended a run stands present calm)

@@ -1,0 +1,335 @@
+-- What an exchange on an honest line pays.
+use Rattle.std.proofs.Common.{◌≡◌, ℕ, ◌+◌, ◌-◌, ◌*◌, ◌<◌, ◌≤◌, Bool, true, false, ◌&&◌, not, cond, List, [], ◌∷◌, length, Some, refl, sym, ap, ◌∙◌, subst, inl, inr, true≢false, arith}
+use Rattle.std.specs.Prelude.{filter, nat_lt, ◌==◌, ◌⊎◌, ◌≢◌, MatchBool}
+use Rattle.std.proofs.lemmas.Bool.{and_parts, and_from, cases_Bool, cond_both, or_cases, or_right, or_left, eqb-true, eqb-false, eq-eqb, ltb-true, ltb-false}
+use Rattle.rdm_wire.specs.Uid.{has, is_within, is_broadcast, with_uid, IsAscending, IsDevice, IsDeviceSet}
+use Rattle.rdm_wire.specs.Devices.{uids_of, with_device}
+use Rattle.rdm_wire.specs.declared.uid_set.TheConstants.{MOST_DEVICES}
+use Rattle.rdm_wire.proofs.DeviceLemmas.{uids_of-with_device}
+use Rattle.rdm_agent.specs.Run.{device_from}
+use Rattle.rdm_wire.specs.Span.{Span, whole}
+use Rattle.rdm_wire.specs.Honest.{Heard, LineState, HonestStep, MayReply, MuteMoves, KeepsMuted, Counts, due_in, is_acked}
+use Rattle.rdm_wire.specs.Honest.Asked.{Branch, Mute}
+use Rattle.rdm_wire.specs.Honest.Heard.{Failed, Silent, One, Acked, Noise}
+use Rattle.rdm_wire.specs.declared.mute_ack.MuteAck.{MuteAck}
+use Rattle.rdm_agent.specs.Machine.{Phase, AgentState, to_phase, to_found, split, search_from, search_below, is_new, found_uids, branch_heard, known_heard, mute_heard, heard_by_phase}
+use Rattle.rdm_agent.specs.Machine.Phase.{Unmuting, MutingKnown, Searching, MutingRead, Ended}
+use Rattle.rdm_agent.specs.Potential.{unfound, is_left, left_in, Covers, Costs, CostsKnown, CostsSearching, CostsRead, Finds, Affords}
+use Rattle.rdm_agent.specs.declared.limits.TheConstants.{TRIES}
+use Rattle.rdm_agent.specs.declared.fault.AgentFault.TheVariants.{TooMany}
+use Rattle.rdm_agent.proofs.Members.{member}
+use Rattle.rdm_agent.proofs.Sets.{has-with_uid, length-with_uid}
+use Rattle.rdm_agent.proofs.LeftLemmas.{no_more, one_fewer, first_passes}
+use Rattle.rdm_agent.proofs.CoverLemmas.{Covers-some, Covers-left, Covers-found, Covers-device, Covers-split}
+
+-- a phase that costs an exchange less
+pub record Cheaper (present : List ℕ) (line : LineState) (found : List ℕ) (cost : ℕ) (phase : Phase) : Type 0 where
+  pub left : ℕ
+  pub saves : left + 2 ≤ cost
+  pub costs : Costs present line found phase left
+
+-- the known UIDs that are left are muted, and then the search begins
+search_from-costs : (present found : List ℕ) (line : LineState) (cost : ℕ) (known : List ℕ) (n : ℕ) → 10 * length known + n + 2 ≤ cost → Covers present found (whole ∷ []) n → Cheaper present line found cost (search_from known)
+search_from-costs present found line cost [] n enough covered =
+    record { left = n; saves = omega arith; costs = record { ranges = n; few = omega arith; covered = covered; cost_is = omega arith } }
+search_from-costs present found line cost (u ∷ known) n enough covered =
+    record { left = 10 + 10 * length known + n; saves = omega arith; costs = record { ranges = n; few = omega arith; covered = covered; cost_is = omega arith } }
+
+-- the next range is searched, or none is left
+search_below-costs : (present found : List ℕ) (line : LineState) (cost : ℕ) (below : List Span) (n : ℕ) → n + 2 ≤ cost → Covers present found below n → Cheaper present line found cost (search_below below)
+search_below-costs present found line cost [] n enough covered = record { left = 0; saves = omega arith; costs = refl }
+search_below-costs present found line cost (r ∷ rs) n enough covered = record { left = n; saves = enough; costs = record { ranges = n; few = omega arith; covered = covered; cost_is = omega arith } }
+
+-- a range in which two devices are left is split, and pays for five branches and five mutes
+split-costs : (present found : List ℕ) (line : LineState) (cost : ℕ) (top : Span) (below : List Span) (n : ℕ) → IsAscending present → 2 ≤ left_in present found top → n ≤ cost + 18 → Covers present found (top ∷ below) n
+    → Cheaper present line found cost (split top below)
+split-costs present found line cost top below n ascending two enough covered =
+    let halved = Covers-split present found top below n ascending two covered in let pays = halved.2 in
+    cond_both (top.lo == top.hi) _ _ (Cheaper present line found cost) (λ one. absurd (halved.0 (eqb-true top.lo top.hi one)))
+    (λ several. record { left = halved.1; saves = omega arith; costs = record { ranges = halved.1; few = omega arith; covered = halved.3; cost_is = omega arith } })
+
+-- a mute unmutes nobody
+mute-keeps : (present : List ℕ) (s new : LineState) (u : ℕ) (h : Heard) → HonestStep present s (Mute u) h new → (v : ℕ) → s.muted v ≡ true → new.muted v ≡ true
+mute-keeps present s new u h step v muted = elim (cases_Bool (u == v)) [
+  | inl is ↦ of_same (eqb-true u v is)
+  | inr other ↦ step.0 v other ∙ muted
+]
+  where
+    at_own : s.muted u ≡ true → (b : Bool) → MatchBool b (MuteMoves u s h new) ((h ≡ Silent) × KeepsMuted u s new × Counts new 0 0 0) → new.muted u ≡ true
+    at_own before true (inl acked) = acked.1
+    at_own before true (inr (silent, inl now, counts)) = now
+    at_own before true (inr (silent, inr kept, counts)) = kept ∙ before
+    at_own before false absent = absent.1 ∙ before
+
+    of_same : u ≡ v → new.muted v ≡ true
+    of_same is = subst (λ (w : ℕ). new.muted w ≡ true) is (at_own (subst (λ (w : ℕ). s.muted w ≡ true) (sym is) muted) (has present u) step.1)
+
+-- who acknowledges is present, and muted
+acked-mute : (present : List ℕ) (s new : LineState) (u : ℕ) (ack : MuteAck) → HonestStep present s (Mute u) (Acked ack) new → (has present u ≡ true) × (new.muted u ≡ true)
+acked-mute present s new u ack step = by_presence (has present u) step.1
+  where
+    loud : Acked ack ≡ Silent → ⊥
+    loud p = cc
+
+    by_presence : (b : Bool) → MatchBool b (MuteMoves u s (Acked ack) new) ((Acked ack ≡ Silent) × KeepsMuted u s new × Counts new 0 0 0) → (b ≡ true) × (new.muted u ≡ true)
+    by_presence true (inl acked) = (refl, acked.1)
+    by_presence true (inr silent) = absurd (loud silent.0)
+    by_presence false absent = absurd (loud absent.0)
+
+-- a device's mute that is lost is one more in succession, and no more than four
+lost-mute : (present : List ℕ) (s new : LineState) (u : ℕ) (h : Heard) → is_acked h ≡ false → HonestStep present s (Mute u) h new → has present u ≡ true → (new.lost_mutes ≡ s.lost_mutes + 1) × (s.lost_mutes + 1 ≤ 4)
+lost-mute present s new u h lost step here = of_moves (subst (λ b. MatchBool b (MuteMoves u s h new) ((h ≡ Silent) × KeepsMuted u s new × Counts new 0 0 0)) here step.1)
+  where
+    of_moves : MuteMoves u s h new → (new.lost_mutes ≡ s.lost_mutes + 1) × (s.lost_mutes + 1 ≤ 4)
+    of_moves (inl acked) = absurd (true≢false (sym acked.0 ∙ lost))
+    of_moves (inr silent) = (silent.2.mutes, silent.2.few_mutes)
+
+-- what is found stays so while no device is unmuted
+Finds-keeps : (present found : List ℕ) (s new : LineState) → ((u : ℕ) → s.muted u ≡ true → new.muted u ≡ true) → Finds present s found → Finds present new found
+Finds-keeps present found s new keeps f = record { devices = f.devices; muted = λ u here. keeps u (f.muted u here); counted = f.counted }
+
+-- what may be a new device of a range is left there, and a device that is left may be new
+new-left : (found : List ℕ) (r : Span) (u : ℕ) → is_new found r u ≡ true → is_left found r u ≡ true
+new-left found r u new = let parts = and_parts (not (is_broadcast u) && is_within r.lo r.hi u) (not (has found u)) new in
+    and_from (is_within r.lo r.hi u) (not (has found u)) (and_parts (not (is_broadcast u)) (is_within r.lo r.hi u) parts.0).1 parts.1
+
+left-new : (found : List ℕ) (r : Span) (u : ℕ) → IsDevice u → is_left found r u ≡ true → is_new found r u ≡ true
+left-new found r u device left = let parts = and_parts (is_within r.lo r.hi u) (not (has found u)) left in
+    and_from (not (is_broadcast u) && is_within r.lo r.hi u) (not (has found u)) (and_from (not (is_broadcast u)) (is_within r.lo r.hi u) (ap not device.own) parts.0) parts.1
+
+-- what came spells a device that isn't found yet
+record SpellsNew (present found : List ℕ) (top : Span) (h : Heard) : Type 0 where
+  pub uid : ℕ
+  pub heard : h ≡ One uid
+  pub here : has present uid ≡ true
+  pub new : is_new found top uid ≡ true
+
+-- whether a device of the range is to answer a branch
+abbrev is_due : LineState → Span → ℕ → Bool
+is_due s top u = is_within top.lo top.hi u && not (s.muted u)
+
+-- what comes after a branch spells a new device, or two devices are left
+answered : (present found : List ℕ) (s : LineState) (top : Span) (h : Heard) → IsDeviceSet present → h ≢ Silent → Finds present s found → MayReply (due_in present s.muted top.lo top.hi) h → SpellsNew present found top h ⊎ (2 ≤ left_in present found top)
+answered present found s top h set loud f reply = by_due (due_in present s.muted top.lo top.hi) refl reply
+  where
+    -- a device that is found is muted, and so not due
+    absent : (u : ℕ) (b : Bool) → has found u ≡ b → not (s.muted u) ≡ true → not b ≡ true
+    absent u false new due = refl
+    absent u true there due = absurd (true≢false (sym due ∙ ap not (f.muted u there)))
+
+    due_left : (u : ℕ) → is_due s top u ≡ true → is_left found top u ≡ true
+    due_left u due = let parts = and_parts (is_within top.lo top.hi u) (not (s.muted u)) due in and_from (is_within top.lo top.hi u) (not (has found u)) parts.0 (absent u (has found u) refl parts.1)
+
+    by_due : (due : List ℕ) → filter (is_due s top) present ≡ due → MayReply due h → SpellsNew present found top h ⊎ (2 ≤ left_in present found top)
+    by_due [] is silent = absurd (loud silent)
+    by_due (u ∷ []) is (inl heard) = let first = first_passes (is_due s top) present [] u is in inl (record {
+      uid = u;
+      heard = heard;
+      here = first.1;
+      new = left-new found top u (member IsDevice present u set.devices first.1) (due_left u first.0);
+    })
+    by_due (u ∷ []) is (inr silent) = absurd (loud silent)
+    by_due (u ∷ v ∷ us) is any = let two : 2 ≤ length (filter (is_due s top) present) = rw is (omega arith) in let fewer = no_more (is_left found top) (is_due s top) present due_left in inr (omega arith)
+
+module _ (present found : List ℕ) (u : ℕ) (here : has present u ≡ true) (absent : has found u ≡ false) where
+  -- where one more is found, one fewer isn't
+  unfound-fewer : length (unfound present (with_uid u found)) + 1 ≤ length (unfound present found)
+  unfound-fewer = one_fewer (λ v. not (has found v)) (λ v. not (has (with_uid u found) v)) present u stricter (ap not absent) (ap not (has-with_uid u found u ∙ or_left (u == u) (has found u) (eq-eqb u u refl))) here
+    where
+      by_found : (v : ℕ) (b : Bool) → has found v ≡ b → not (has (with_uid u found) v) ≡ true → not b ≡ true
+      by_found v false out still = refl
+      by_found v true in_it still = absurd (true≢false (sym still ∙ ap not (has-with_uid u found v ∙ or_right (v == u) (has found v) in_it)))
+
+      stricter : (v : ℕ) → not (has (with_uid u found) v) ≡ true → not (has found v) ≡ true
+      stricter v still = by_found v (has found v) refl still
+
+  -- and there is room for it
+  has_room : (s : LineState) → length present ≤ MOST_DEVICES → Finds present s found → length found < MOST_DEVICES
+  has_room s few f = let counted = f.counted in let fewer = unfound-fewer in omega arith
+
+  Finds-more : (s new : LineState) → new.muted u ≡ true → ((v : ℕ) → s.muted v ≡ true → new.muted v ≡ true) → Finds present s found → Finds present new (with_uid u found)
+  Finds-more s new muted keeps f = record {
+    devices = λ v there. of_either (λ (w : ℕ). has present w ≡ true) v here (λ old. f.devices v old) there;
+    muted = λ v there. of_either (λ (w : ℕ). new.muted w ≡ true) v muted (λ old. keeps v (f.muted v old)) there;
+    counted = let counted = f.counted in let fewer = unfound-fewer in let longer = length-with_uid u found absent in omega arith;
+  }
+    where
+      of_either : (P : ℕ → Type 0) (v : ℕ) → P u → (has found v ≡ true → P v) → has (with_uid u found) v ≡ true → P v
+      of_either P v at old there = elim (or_cases (v == u) (has found v) (sym (has-with_uid u found v) ∙ there)) [
+        | inl is ↦ subst P (sym (eqb-true v u is)) at
+        | inr before ↦ old before
+      ]
+
+-- while a UID that was spelt is muted, a device is left
+pub read-some : (present : List ℕ) (s : LineState) (found : List ℕ) (u tries : ℕ) (top : Span) (below : List Span) (cost : ℕ) → (c : CostsRead present s found u tries top below cost) → 30 ≤ c.ranges
+read-some present s found u tries top below cost c = Covers-left present found top below c.ranges (some_left c.spelt) c.covered
+  where
+    some_left : (has present u ≡ true) ⊎ (2 ≤ left_in present found top) → 1 ≤ left_in present found top
+    some_left (inl here) = let fewer = one_fewer (is_left found top) (λ v. false) present u (λ v never. absurd (true≢false (sym never))) (new-left found top u c.new) refl here in omega arith
+    some_left (inr two) = omega arith
+
+module _ (present : List ℕ) (set : IsDeviceSet present) (few : length present ≤ MOST_DEVICES) (total cost : ℕ) (s new : LineState) (a : AgentState) (within : 2 * a.frames + cost ≤ total) where
+  -- the phase goes on
+  to_phase-affords : (phase : Phase) → Finds present new (found_uids a) → Cheaper present new (found_uids a) cost phase → Affords present total new (to_phase a phase)
+  to_phase-affords phase f cheaper = let saves = cheaper.saves in record { cost = cheaper.left; costs = cheaper.costs; within = omega arith; finds = f }
+
+  -- a device is found
+  to_found-affords : (u : ℕ) (ack : MuteAck) (phase : Phase) → has present u ≡ true → new.muted u ≡ true → ((v : ℕ) → s.muted v ≡ true → new.muted v ≡ true) → Finds present s (found_uids a)
+      → ((more : List ℕ) → ((v : ℕ) → has (found_uids a) v ≡ true → has more v ≡ true) → has more u ≡ true → Cheaper present new more cost phase) → Affords present total new (to_found a (device_from u ack) phase)
+  to_found-affords u ack phase here muted keeps f onward = cond_both (has (found_uids a) u) _ _ P at_old (λ absent. cond_both (nat_lt (length (found_uids a)) MOST_DEVICES) _ _ P (at_new absent) (at_full absent))
+    where
+      P : AgentState → Type 0
+      P b = Affords present total new b
+
+      at_old : has (found_uids a) u ≡ true → P (to_phase a phase)
+      at_old old = to_phase-affords phase (Finds-keeps present (found_uids a) s new keeps f) (onward (found_uids a) (λ v there. there) old)
+
+      grown : uids_of (with_device (device_from u ack) a.found) ≡ with_uid u (found_uids a)
+      grown = uids_of-with_device (device_from u ack) a.found
+
+      at_new : has (found_uids a) u ≡ false → nat_lt (length (found_uids a)) MOST_DEVICES ≡ true
+          → P (record { budget = a.budget; frames = a.frames + 1; found = with_device (device_from u ack) a.found; phase = phase })
+      at_new absent room =
+          let cheaper = onward (with_uid u (found_uids a)) (λ v there. has-with_uid u (found_uids a) v ∙ or_right (v == u) (has (found_uids a) v) there) (has-with_uid u (found_uids a) u ∙ or_left (u == u) (has (found_uids a) u) (eq-eqb u u refl)) in
+          let saves = cheaper.saves in record {
+            cost = cheaper.left;
+            costs = subst (λ us. Costs present new us phase cheaper.left) (sym grown) cheaper.costs;
+            within = omega arith;
+            finds = subst (Finds present new) (sym grown) (Finds-more present (found_uids a) u here absent s new muted keeps f);
+          }
+
+      at_full : has (found_uids a) u ≡ false → nat_lt (length (found_uids a)) MOST_DEVICES ≡ false → P (to_phase a (Ended (Some TooMany)))
+      at_full absent full = let room = has_room present (found_uids a) u here absent s few f in let none = ltb-false (length (found_uids a)) MOST_DEVICES full in absurd (omega arith)
+
+  -- an unmute
+  pub unmuting-affords : (more : ℕ) (known : List ℕ) (h : Heard) → Finds present s (found_uids a) → Costs present s (found_uids a) (Unmuting more known) cost → Affords present total new (heard_by_phase a (Unmuting more known) h)
+  unmuting-affords more known h f costs = to_phase-affords (cond (nat_lt 1 more) (Unmuting (more - 1) known) (search_from known)) finds (cond_both (nat_lt 1 more) _ _ (Cheaper present new (found_uids a) cost) goes_on ends)
+    where
+      finds : Finds present new (found_uids a)
+      finds = record { devices = f.devices; muted = λ u there. absurd (true≢false (sym there ∙ ap (λ us. has us u) costs.none_found)); counted = f.counted }
+
+      goes_on : nat_lt 1 more ≡ true → Cheaper present new (found_uids a) cost (Unmuting (more - 1) known)
+      goes_on two = let above : 1 < more = ltb-true 1 more two in let is = costs.cost_is in
+          record { left = cost - 2; saves = omega arith; costs = record { ranges = costs.ranges; some = omega arith; none_found = costs.none_found; covered = costs.covered; cost_is = omega arith } }
+
+      ends : nat_lt 1 more ≡ false → Cheaper present new (found_uids a) cost (search_from known)
+      ends one = let some = costs.some in let is = costs.cost_is in search_from-costs present (found_uids a) new cost known costs.ranges (omega arith) costs.covered
+
+  -- a mute of a known UID that is lost
+  known_lost-affords : (u tries : ℕ) (known : List ℕ) (h : Heard) → Finds present s (found_uids a) → HonestStep present s (Mute u) h new → CostsKnown present (found_uids a) tries known cost
+      → Affords present total new (to_phase a (cond ((tries + 1) == TRIES) (search_from known) (MutingKnown u (tries + 1) known)))
+  known_lost-affords u tries known h f step costs =
+      let few = costs.few in let is = costs.cost_is in
+      to_phase-affords (cond ((tries + 1) == TRIES) (search_from known) (MutingKnown u (tries + 1) known)) (Finds-keeps present (found_uids a) s new (mute-keeps present s new u h step) f)
+      (cond_both ((tries + 1) == TRIES) _ _ (Cheaper present new (found_uids a) cost) (λ five. search_from-costs present (found_uids a) new cost known costs.ranges (omega arith) costs.covered)
+      (λ fewer. let other : tries + 1 ≡ TRIES → ⊥ = eqb-false (tries + 1) TRIES fewer in let less : tries + 1 ≤ 4 = grind arith in
+      record { left = cost - 2; saves = omega arith; costs = record { ranges = costs.ranges; few = less; covered = costs.covered; cost_is = omega arith } }))
+
+  -- a mute of a known UID
+  pub known-affords : (u tries : ℕ) (known : List ℕ) (h : Heard) → h ≢ Failed → Finds present s (found_uids a) → HonestStep present s (Mute u) h new → CostsKnown present (found_uids a) tries known cost → Affords present total new (known_heard a u tries known h)
+  known-affords u tries known (Acked ack) sound f step costs =
+      let acked = acked-mute present s new u ack step in let few = costs.few in let is = costs.cost_is in
+      to_found-affords u ack (search_from known) acked.0 acked.1 (mute-keeps present s new u (Acked ack) step) f
+      (λ more grows now. search_from-costs present more new cost known costs.ranges (omega arith) (Covers-found present (found_uids a) more grows (whole ∷ []) costs.ranges costs.covered))
+  known-affords u tries known Failed sound f step costs = absurd (sound refl)
+  known-affords u tries known Silent sound f step costs = known_lost-affords u tries known Silent f step costs
+  known-affords u tries known (One v) sound f step costs = known_lost-affords u tries known (One v) f step costs
+  known-affords u tries known Noise sound f step costs = known_lost-affords u tries known Noise f step costs
+
+  -- the top range is branched, and it is split
+  split-affords : (silences : ℕ) (top : Span) (below : List Span) → Finds present new (found_uids a) → CostsSearching present (found_uids a) silences (top ∷ below) cost → 2 ≤ left_in present (found_uids a) top → Affords present total new (to_phase a (split top below))
+  split-affords silences top below f costs two = let few = costs.few in let is = costs.cost_is in
+      to_phase-affords (split top below) f (split-costs present (found_uids a) new cost top below costs.ranges set.ascending two (omega arith) costs.covered)
+
+  -- it is silent
+  silent-affords : (silences : ℕ) (top : Span) (below : List Span) → Finds present new (found_uids a) → CostsSearching present (found_uids a) silences (top ∷ below) cost
+      → Affords present total new (to_phase a (cond ((silences + 1) == TRIES) (search_below below) (Searching (silences + 1) top below)))
+  silent-affords silences top below f costs =
+      let few = costs.few in let is = costs.cost_is in let some : 10 ≤ costs.ranges = Covers-some present (found_uids a) top below costs.ranges costs.covered in
+      to_phase-affords (cond ((silences + 1) == TRIES) (search_below below) (Searching (silences + 1) top below)) f
+      (cond_both ((silences + 1) == TRIES) _ _ (Cheaper present new (found_uids a) cost)
+      (λ five. let fits = costs.covered.3 in search_below-costs present (found_uids a) new cost below costs.covered.1 (omega arith) costs.covered.4)
+      (λ fewer. let other : silences + 1 ≡ TRIES → ⊥ = eqb-false (silences + 1) TRIES fewer in let less : silences + 1 ≤ 4 = grind arith in
+      record { left = cost - 2; saves = omega arith; costs = record { ranges = costs.ranges; few = less; covered = costs.covered; cost_is = omega arith } }))
+
+  -- it spells a UID
+  spelt-affords : (silences : ℕ) (top : Span) (below : List Span) (u : ℕ) → Finds present new (found_uids a) → CostsSearching present (found_uids a) silences (top ∷ below) cost
+      → SpellsNew present (found_uids a) top (One u) ⊎ (2 ≤ left_in present (found_uids a) top)
+      → Affords present total new (to_phase a (cond (is_new (found_uids a) top u) (MutingRead u 0 top below) (split top below)))
+  spelt-affords silences top below u f costs answer = cond_both (is_new (found_uids a) top u) _ _ (λ p. Affords present total new (to_phase a p)) muted (λ old. split-affords silences top below f costs (several old answer))
+    where
+      same : (v : ℕ) → One u ≡ One v → u ≡ v
+      same v p = cc
+
+      several : is_new (found_uids a) top u ≡ false → SpellsNew present (found_uids a) top (One u) ⊎ (2 ≤ left_in present (found_uids a) top) → 2 ≤ left_in present (found_uids a) top
+      several old (inl one) = absurd (true≢false (sym one.new ∙ ap (is_new (found_uids a) top) (sym (same one.uid one.heard)) ∙ old))
+      several old (inr two) = two
+
+      spelt : SpellsNew present (found_uids a) top (One u) ⊎ (2 ≤ left_in present (found_uids a) top) → (has present u ≡ true) ⊎ (2 ≤ left_in present (found_uids a) top)
+      spelt (inl one) = inl (ap (has present) (same one.uid one.heard) ∙ one.here)
+      spelt (inr two) = inr two
+
+      muted : is_new (found_uids a) top u ≡ true → Affords present total new (to_phase a (MutingRead u 0 top below))
+      muted fresh =
+          let few = costs.few in let is = costs.cost_is in let some : 10 ≤ costs.ranges = Covers-some present (found_uids a) top below costs.ranges costs.covered in
+          to_phase-affords (MutingRead u 0 top below) f (record {
+            left = costs.ranges - 10;
+            saves = omega arith;
+            costs = record { ranges = costs.ranges; few = omega arith; new = fresh; lost = λ here. omega arith; spelt = spelt answer; covered = costs.covered; cost_is = omega arith };
+          })
+
+  -- a branch of the top range
+  pub searching-affords : (silences : ℕ) (top : Span) (below : List Span) (h : Heard) → h ≢ Failed → Finds present s (found_uids a) → HonestStep present s (Branch top.lo top.hi) h new → CostsSearching present (found_uids a) silences (top ∷ below) cost
+      → Affords present total new (branch_heard a silences top below h)
+  searching-affords silences top below h sound f step costs = of_heard h sound step.0
+    where
+      finds : Finds present new (found_uids a)
+      finds = Finds-keeps present (found_uids a) s new (λ u muted. step.1 u ∙ muted) f
+
+      collided : (h : Heard) → h ≢ Silent → ((u : ℕ) → h ≡ One u → ⊥) → MayReply (due_in present s.muted top.lo top.hi) h → 2 ≤ left_in present (found_uids a) top
+      collided h loud noise reply = of_answer (answered present (found_uids a) s top h set loud f reply)
+        where
+          of_answer : SpellsNew present (found_uids a) top h ⊎ (2 ≤ left_in present (found_uids a) top) → 2 ≤ left_in present (found_uids a) top
+          of_answer (inl one) = absurd (noise one.uid one.heard)
+          of_answer (inr two) = two
+
+      of_heard : (h : Heard) → h ≢ Failed → MayReply (due_in present s.muted top.lo top.hi) h → Affords present total new (branch_heard a silences top below h)
+      of_heard Silent sound reply = silent-affords silences top below finds costs
+      of_heard (One u) sound reply = spelt-affords silences top below u finds costs (answered present (found_uids a) s top (One u) set (λ p. cc) f reply)
+      of_heard Failed sound reply = absurd (sound refl)
+      of_heard (Acked ack) sound reply = split-affords silences top below finds costs (collided (Acked ack) (λ p. cc) (λ u p. cc) reply)
+      of_heard Noise sound reply = split-affords silences top below finds costs (collided Noise (λ p. cc) (λ u p. cc) reply)
+
+  -- a mute of what the top range spelt is lost
+  read_lost-affords : (u tries : ℕ) (top : Span) (below : List Span) (h : Heard) → is_acked h ≡ false → Finds present s (found_uids a) → HonestStep present s (Mute u) h new → CostsRead present s (found_uids a) u tries top below cost
+      → Affords present total new (to_phase a (cond ((tries + 1) == TRIES) (split top below) (MutingRead u (tries + 1) top below)))
+  read_lost-affords u tries top below h lost f step costs =
+      let few = costs.few in let is = costs.cost_is in let some = read-some present s (found_uids a) u tries top below cost costs in
+      to_phase-affords (cond ((tries + 1) == TRIES) (split top below) (MutingRead u (tries + 1) top below)) (Finds-keeps present (found_uids a) s new (mute-keeps present s new u h step) f)
+      (cond_both ((tries + 1) == TRIES) _ _ (Cheaper present new (found_uids a) cost)
+      (λ five. split-costs present (found_uids a) new cost top below costs.ranges set.ascending (two (eqb-true (tries + 1) TRIES five) costs.spelt) (omega arith) costs.covered)
+      (λ fewer. let other : tries + 1 ≡ TRIES → ⊥ = eqb-false (tries + 1) TRIES fewer in let less : tries + 1 ≤ 4 = grind arith in record {
+        left = cost - 2;
+        saves = omega arith;
+        costs = record { ranges = costs.ranges; few = less; new = costs.new; lost = more_lost; spelt = costs.spelt; covered = costs.covered; cost_is = omega arith };
+      }))
+    where
+      two : tries + 1 ≡ TRIES → (has present u ≡ true) ⊎ (2 ≤ left_in present (found_uids a) top) → 2 ≤ left_in present (found_uids a) top
+      two five (inl here) = let few = (lost-mute present s new u h lost step here).1 in let so_far = costs.lost here in absurd (omega arith)
+      two five (inr several) = several
+
+      more_lost : has present u ≡ true → tries + 1 ≤ new.lost_mutes
+      more_lost here = let one_more = (lost-mute present s new u h lost step here).0 in let so_far = costs.lost here in omega arith
+
+  -- a mute of what the top range spelt
+  pub read-affords : (u tries : ℕ) (top : Span) (below : List Span) (h : Heard) → h ≢ Failed → Finds present s (found_uids a) → HonestStep present s (Mute u) h new → CostsRead present s (found_uids a) u tries top below cost → Affords present total new (mute_heard a u tries top below h)
+  read-affords u tries top below (Acked ack) sound f step costs =
+      let acked = acked-mute present s new u ack step in let few = costs.few in let is = costs.cost_is in
+      to_found-affords u ack (Searching 0 top below) acked.0 acked.1 (mute-keeps present s new u (Acked ack) step) f
+      (λ more grows now.
+      let paid = Covers-device present (found_uids a) more grows u top below costs.ranges acked.0 (new-left (found_uids a) top u costs.new) now costs.covered in let fewer = paid.1 in
+      record { left = paid.0; saves = omega arith; costs = record { ranges = paid.0; few = omega arith; covered = paid.2; cost_is = omega arith } })
+  read-affords u tries top below Failed sound f step costs = absurd (sound refl)
+  read-affords u tries top below Silent sound f step costs = read_lost-affords u tries top below Silent refl f step costs
+  read-affords u tries top below (One v) sound f step costs = read_lost-affords u tries top below (One v) refl f step costs
+  read-affords u tries top below Noise sound f step costs = read_lost-affords u tries top below Noise refl f step costs

@@ -1,0 +1,5 @@
+use Rattle.rdm_agent.proofs.BoundRuns.{default_suffices, ends_by_default}
+use Rattle.rdm_agent.proofs.laws.default_budget_suffices.Goals as goal
+
+pub returns : goal.returns
+returns c = record { most = default_suffices; ends = ends_by_default }

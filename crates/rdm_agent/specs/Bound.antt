@@ -1,0 +1,64 @@
+-- How many exchanges a run on an honest line makes at most, and that it ends without fault.
+use Rattle.std.specs.Prelude.{◌≡◌, ◌≢◌, ℕ, ◌+◌, ◌*◌, ◌≤◌, false, List, [], ◌∷◌, ◌++◌, length, None}
+use Rattle.std.specs.List.{AllByRecursion}
+use Rattle.rdm_wire.specs.Honest.{Seen, HonestTrace}
+use Rattle.rdm_wire.specs.Honest.Heard.{Failed}
+use Rattle.rdm_agent.specs.Certificate.{known_of}
+use Rattle.rdm_agent.specs.Machine.{AgentState, next_of, fault_of}
+use Rattle.rdm_agent.specs.Calls.{RunSoFar, next_op}
+use Rattle.rdm_agent.specs.Statements.{OfEachRun}
+use Rattle.rdm_agent.specs.declared.kind.Kind.{Kind}
+use Rattle.rdm_agent.specs.declared.op.Op.TheVariants.{End}
+use Rattle.rdm_agent.specs.declared.limits.TheConstants.{DEFAULT_BUDGET}
+
+-- the exchanges that suffice for so many devices and so many known UIDs
+abbrev pub most_frames : ℕ → ℕ → ℕ
+most_frames devices known = 8 + 370 * devices + 5 * known
+
+-- the same for a run of this kind; a full one mutes no known UIDs
+abbrev pub enough_for : List ℕ → Kind → List ℕ → ℕ
+enough_for present kind known = most_frames (length present) (length (known_of kind known))
+
+-- an honest line with these devices, of which a run can report all, and no failure
+pub record IsCalm (present : List ℕ) (x : List Seen) : Type 0 where
+  pub honest : HonestTrace present x
+  pub few : length present ≤ 1024
+  pub no_failure : AllByRecursion (λ e. e.heard ≢ Failed) x
+
+-- a run on such a line that wasn't aborted, and has the budget that suffices
+pub record IsUndisturbed (present : List ℕ) (run : RunSoFar) : Type 0 where
+  pub calm : IsCalm present run.exchanges
+  pub not_aborted : run.aborted ≡ false
+  pub budgeted : enough_for present run.kind run.known ≤ run.budget
+
+-- a run after one exchange more, as one makes that wasn't aborted
+abbrev pub with_exchange : RunSoFar → Seen → RunSoFar
+with_exchange run e = record {
+  kind = run.kind;
+  known = run.known;
+  budget = run.budget;
+  aborted = false;
+  exchanges = run.exchanges ++ e ∷ [];
+}
+
+-- after such a run an agent made no more exchanges than suffice, and has ended once it made as many
+abbrev pub StaysInBound : AgentState → RunSoFar → Type 0
+StaysInBound a run = (present : List ℕ) → IsUndisturbed present run
+    → (a.frames ≤ enough_for present run.kind run.known)
+    × (a.frames ≡ enough_for present run.kind run.known → next_op a ≡ End)
+
+-- no more exchanges than suffice are made, the run has ended once they are made, and it ends without fault
+pub record EndsWithin (most : ℕ) (b : AgentState) : Type 0 where
+  pub at_most : b.frames ≤ most
+  pub ends : b.frames ≡ most → next_of b ≡ None
+  pub no_fault : next_of b ≡ None → fault_of b.phase ≡ None
+
+-- so does each run on a calm line with the budget that suffices
+abbrev pub EndsInBound : Type 0
+EndsInBound = OfEachRun (λ kind known budget x b. (present : List ℕ)
+    → IsCalm present x → enough_for present kind known ≤ budget → EndsWithin (enough_for present kind known) b)
+
+-- and each with the budget by default, where a set has room for the known UIDs
+abbrev pub EndsByDefault : Type 0
+EndsByDefault = OfEachRun (λ kind known budget x b. (present : List ℕ)
+    → IsCalm present x → length known ≤ 1024 → budget ≡ DEFAULT_BUDGET → EndsWithin (enough_for present kind known) b)

@@ -1,0 +1,65 @@
+-- An agent's calls, and which agents a run comes to.
+use Rattle.std.specs.Prelude.{◌≡◌, ◌≢◌, ℕ, Bool, true, false, List, Option, Some, None, Result, Ok, Err, MatchBool}
+use Rattle.rdm_wire.specs.Uid.{IsDeviceSet}
+use Rattle.rdm_wire.specs.declared.device.Device.{Device}
+use Rattle.rdm_wire.specs.Honest.{Asked, Seen}
+use Rattle.rdm_wire.specs.Honest.Asked.{Unmute, Branch, Mute, Other}
+use Rattle.rdm_agent.specs.Machine.{AgentState, Runs, start, next_of}
+use Rattle.rdm_agent.specs.Machine.Phase.{Ended}
+use Rattle.rdm_agent.specs.declared.kind.Kind.{Kind}
+use Rattle.rdm_agent.specs.declared.fault.AgentFault.{AgentFault}
+use Rattle.rdm_agent.specs.declared.fault.AgentFault.TheVariants.{Aborted}
+use Rattle.rdm_agent.specs.declared.op.Op.{Op}
+use Rattle.rdm_agent.specs.declared.op.Op.TheVariants as ops
+use Rattle.rdm_agent.specs.declared.op.OpReply.{OpReply}
+use Rattle.rdm_agent.specs.declared.op.OpReply.TheVariants as came
+
+-- the operation that asks this; nothing asked is the end
+abbrev pub op_of : Option Asked → Op
+op_of None = ops.End
+op_of (Some Unmute) = ops.UnmuteAll
+op_of (Some (Branch lo hi)) = ops.Branch (record { lo = lo; hi = hi })
+op_of (Some (Mute u)) = ops.Mute u
+op_of (Some Other) = ops.End
+
+abbrev pub next_op : AgentState → Op
+next_op a = op_of (next_of a)
+
+-- whether a reply may answer an operation
+abbrev pub fits : OpReply → Op → Bool
+fits came.Done ops.UnmuteAll = true
+fits (came.Mute ack) (ops.Mute u) = true
+fits (came.Branch reply) (ops.Branch r) = true
+fits came.Failed ops.UnmuteAll = true
+fits came.Failed (ops.Mute u) = true
+fits came.Failed (ops.Branch r) = true
+fits _ _ = false
+
+-- the agent, ended before its own end
+abbrev pub ended_by_abort : AgentState → AgentState
+ended_by_abort a = record { budget = a.budget; frames = a.frames; found = a.found; phase = Ended (Some Aborted) }
+
+-- what a run answers: the set, and its fault before it
+abbrev pub run_result : Option AgentFault → List Device → Result (List Device) (AgentFault × List Device)
+run_result None found = Ok found
+run_result (Some fault) found = Err (fault, found)
+
+-- the agent was started so, and has made these exchanges; and was then aborted, or wasn't
+pub record HasRun (kind : Kind) (known : List ℕ) (budget : ℕ) (aborted : Bool) (x : List Seen) (a : AgentState)
+    : Type 0 where
+  pub devices : IsDeviceSet known
+  pub before : AgentState
+  pub runs : Runs (start kind known budget) x before
+  pub is : MatchBool aborted ((next_op before ≢ ops.End) × (a ≡ ended_by_abort before)) (a ≡ before)
+
+-- how a run was started, what it has exchanged, and whether it was then aborted
+pub record RunSoFar : Type 0 where
+  pub kind : Kind
+  pub known : List ℕ
+  pub budget : ℕ
+  pub aborted : Bool
+  pub exchanges : List Seen
+
+-- P holds of each run that the agent may stand after
+abbrev pub AfterEach : AgentState → (RunSoFar → Type 0) → Type 0
+AfterEach a P = (run : RunSoFar) → HasRun run.kind run.known run.budget run.aborted run.exchanges a → P run

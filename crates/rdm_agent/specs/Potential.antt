@@ -1,0 +1,85 @@
+-- What a run on an honest line still costs at most, in half exchanges: half of one is the least that a level adds.
+use Rattle.std.specs.Prelude.{◌≡◌, ◌⊎◌, ℕ, ◌+◌, ◌*◌, ◌^◌, ◌≤◌, Bool}
+use Rattle.std.specs.Prelude.{true, ◌&&◌, not, List, [], ◌∷◌, length, filter, None}
+use Rattle.rdm_wire.specs.Uid.{has, is_within}
+use Rattle.rdm_wire.specs.Span.{Span, whole}
+use Rattle.rdm_wire.specs.Honest.{LineState}
+use Rattle.rdm_agent.specs.Machine.{Phase, AgentState, found_uids, is_new}
+use Rattle.rdm_agent.specs.Machine.Phase.{Unmuting, MutingKnown, Searching, MutingRead, Ended}
+
+-- the present devices that aren't found, and those of them in a range
+abbrev pub unfound : List ℕ → List ℕ → List ℕ
+unfound present found = filter (λ u. not (has found u)) present
+
+abbrev pub is_left : List ℕ → Span → ℕ → Bool
+is_left found r u = is_within r.lo r.hi u && not (has found u)
+
+abbrev pub left_in : List ℕ → List ℕ → Span → ℕ
+left_in present found r = length (filter (is_left found r) present)
+
+-- a range of 2^level UIDs with so many devices left: five silences, and for each device five branches and five mutes,
+-- and seven exchanges and a half at each level
+abbrev pub worth : ℕ → ℕ → ℕ
+worth level devices = 10 + devices * (20 + 15 * level)
+
+-- n half exchanges cover the open ranges
+abbrev pub Covers : List ℕ → List ℕ → List Span → ℕ → Type 0
+Covers present found [] n = Unit {0}
+Covers present found (r ∷ rs) n =
+    (level : ℕ) × (rest : ℕ) × (r.hi + 1 ≡ r.lo + 2 ^ level)
+    × (worth level (left_in present found r) + rest ≤ n) × Covers present found rs rest
+
+-- two half exchanges for each unmute, ten for each known UID, and what covers all UIDs
+pub record CostsUnmuting (present found : List ℕ) (more : ℕ) (known : List ℕ) (cost : ℕ) : Type 0 where
+  pub ranges : ℕ
+  pub some : 1 ≤ more
+  pub none_found : found ≡ []
+  pub covered : Covers present found (whole ∷ []) ranges
+  pub cost_is : cost ≡ 2 * more + 10 * length known + ranges
+
+-- ten for each known UID without the tries made, and what covers all UIDs
+pub record CostsKnown (present found : List ℕ) (tries : ℕ) (known : List ℕ) (cost : ℕ) : Type 0 where
+  pub ranges : ℕ
+  pub few : tries ≤ 4
+  pub covered : Covers present found (whole ∷ []) ranges
+  pub cost_is : cost + 2 * tries ≡ 10 + 10 * length known + ranges
+
+-- what covers the open ranges, without the silences
+pub record CostsSearching (present found : List ℕ) (silences : ℕ) (stack : List Span) (cost : ℕ) : Type 0 where
+  pub ranges : ℕ
+  pub few : silences ≤ 4
+  pub covered : Covers present found stack ranges
+  pub cost_is : cost + 2 * silences ≡ ranges
+
+-- what covers the open ranges, without five branches and the tries made. What the top range spelt is a device, of which
+-- few mutes were lost, or two devices spelt it together
+pub record CostsRead (present : List ℕ) (line : LineState) (found : List ℕ)
+    (u tries : ℕ) (top : Span) (below : List Span) (cost : ℕ) : Type 0 where
+  pub ranges : ℕ
+  pub few : tries ≤ 4
+  pub new : is_new found top u ≡ true
+  pub lost : has present u ≡ true → tries ≤ line.lost_mutes
+  pub spelt : (has present u ≡ true) ⊎ (2 ≤ left_in present found top)
+  pub covered : Covers present found (top ∷ below) ranges
+  pub cost_is : cost + 10 + 2 * tries ≡ ranges
+
+-- a phase still costs so many half exchanges at most; a run that has ended costs nothing, and has no fault
+abbrev pub Costs : List ℕ → LineState → List ℕ → Phase → ℕ → Type 0
+Costs present line found (Unmuting more known) cost = CostsUnmuting present found more known cost
+Costs present line found (MutingKnown u tries known) cost = CostsKnown present found tries known cost
+Costs present line found (Searching silences top below) cost = CostsSearching present found silences (top ∷ below) cost
+Costs present line found (MutingRead u tries top below) cost = CostsRead present line found u tries top below cost
+Costs present line found (Ended fault) cost = fault ≡ None
+
+-- the found UIDs are muted devices, and there are no more than devices
+pub record Finds (present : List ℕ) (line : LineState) (found : List ℕ) : Type 0 where
+  pub devices : (u : ℕ) → has found u ≡ true → has present u ≡ true
+  pub muted : (u : ℕ) → has found u ≡ true → line.muted u ≡ true
+  pub counted : length found + length (unfound present found) ≤ length present
+
+-- the exchanges so far and what is still to come make no more than total half exchanges
+pub record Affords (present : List ℕ) (total : ℕ) (line : LineState) (a : AgentState) : Type 0 where
+  pub cost : ℕ
+  pub costs : Costs present line (found_uids a) a.phase cost
+  pub within : 2 * a.frames + cost ≤ total
+  pub finds : Finds present line (found_uids a)
