@@ -1,9 +1,9 @@
 //! The queue of requests on one RDM line.
 use crate::config::Config;
-use crate::entry::{ClientId, Owner};
+use crate::entry::{ClientId, Entry, Owner};
 use crate::fault::{JoinFault, NoMemory, NotAsked, SubmitFault};
 use crate::outcome::Outcome;
-use crate::queue::{Queue, Settled};
+use crate::queue::Queue;
 use rdm_join::LineEvent;
 use rdm_wire::{Frame, Request};
 use std::alloc::Global;
@@ -20,32 +20,30 @@ pub struct Controller {
 }
 
 impl Model for Controller {
-    ghost use Rattle.rdm_queue.specs.Standing.{Standing};
+    ghost use Rattle.rdm_queue.specs.body.State.{QueueState};
 
-    ghost Value = { Standing };
+    ghost Value = { QueueState };
 
     ghost view = { λ c. c.queue };
 }
 
 impl Controller {
-    ghost use Rattle.std.specs.Prelude.{◌≡◌, ◌++◌, ◌∷◌, [], List, Bool, true, false, length, drop, map, IfOk, IfErr, IfSome, IfNone, OnOk, OnErr, Some, None, is_some, option_map, slice_get};
-    ghost use Rattle.rdm_queue.specs.declared.entry.Owner.{Owner};
+    ghost use Rattle.std.specs.Prelude.{◌≡◌, ◌++◌, ◌∷◌, ◌<◌, [], List, true, false, length, IfOk, IfErr, IfSome};
+    ghost use Rattle.std.specs.Prelude.{IfNone, OnErr, OnSome};
     ghost use Rattle.rdm_queue.specs.declared.entry.Opening.{Opening};
     ghost use Rattle.rdm_queue.specs.declared.entry.Entry.{Entry};
-    ghost use Rattle.rdm_queue.specs.declared.entry.Entry.TheVariants.{Join, Accept, Send, Came, Collect, Pause, Resume, Close};
-    ghost use Rattle.rdm_queue.specs.History.{awaited, is_paused, is_closed, can_pause, can_resume, next_client, next_request, is_idle};
-    ghost use Rattle.rdm_queue.specs.Clients.{uncollected};
-    ghost use Rattle.rdm_queue.specs.Refusals.{join_fault, submit_fault};
-    ghost use Rattle.rdm_queue.specs.MaySend.{MaySend, NoSend};
-    ghost use Rattle.rdm_queue.specs.Blocks.{RefusesJoin, join_refused, submit_refused, switch_block, AllResults, IsOldest};
-    ghost use Rattle.rdm_queue.specs.Kept.{opened};
-    ghost use Rattle.rdm_queue.specs.Records.{owed_is};
-    ghost use Rattle.rdm_queue.specs.Config.{IsConfig};
-    ghost use Rattle.rdm_queue.specs.Standing.{Owed, finish_of, IsGiven};
-    ghost use Rattle.rdm_queue.specs.Stands.{StandsAfter, ForEachLog, GoesOn};
+    ghost use Rattle.rdm_queue.specs.declared.entry.Entry.TheVariants.{Send, Came, Close};
+    ghost use Rattle.rdm_queue.specs.log.History.{awaited, is_paused, is_closed, can_pause, can_resume, is_idle};
+    ghost use Rattle.rdm_queue.specs.log.MaySend.{MaySend, NoSend};
+    ghost use Rattle.rdm_queue.specs.log.Config.{IsConfig};
+    ghost use Rattle.rdm_queue.specs.log.LogState.{opened};
+    ghost use Rattle.rdm_queue.specs.promises.Blocks.{JoinAdds, SubmitAdds, PauseAdds, ResumeAdds, CloseAdds};
+    ghost use Rattle.rdm_queue.specs.promises.Blocks.{TakeAdds, DeliverAdds, CollectAdds, is_result, AllResults};
+    ghost use Rattle.rdm_queue.specs.body.Agrees.{StandsAfter, StandsAmid, ForEachLog, ForEachBlock, AddsToEach};
+    ghost use Rattle.rdm_queue.specs.body.Agrees.{FinishesAll};
 
-    /// A controller without clients, neither paused nor closed, whose numbers begin at 0. Its UID isn't broadcast, there
-    /// are at most [`MOST_PLACES`](crate::MOST_PLACES) places, and the budget is at least 1.
+    /// A controller without clients, neither paused nor closed, whose numbers begin at 0. Its UID isn't broadcast,
+    /// there are at most [`MOST_PLACES`](crate::MOST_PLACES) places, and the budget is at least 1.
     /// Err: there was no memory.
     pub fn new(alloc: Global, config: Config) -> Result<Controller, NoMemory>
         requires { IsConfig config }
@@ -60,10 +58,7 @@ impl Controller {
     /// until their outcomes are collected. The memory for them is reserved here.
     /// Err: the first fault that stands; nothing has changed.
     pub fn join_client(&mut self, _alloc: Global, places: u8) -> Result<ClientId, JoinFault>
-        ensures joined { IfOk result (λ c. ForEachLog self.old (λ o h. (join_fault o h places ≡ None) × (c.0 ≡ next_client o h)
-            × StandsAfter o (h ++ Join c places ∷ []) self.new)) }
-        ensures refused { IfErr result (λ fault. ForEachLog self.old (λ o h. RefusesJoin (join_fault o h places) fault
-            × StandsAfter o (h ++ join_refused places fault) self.new)) }
+        ensures adds { AddsToEach self.old (λ o h. JoinAdds o h places result) self.new }
         ensures unchanged { OnErr result (self.new ≡ self.old) }
     {
         self.queue.join_client(places)
@@ -76,10 +71,7 @@ impl Controller {
         client: ClientId,
         request: Request,
     ) -> Result<u64, (SubmitFault, Request)>
-        ensures accepted { IfOk result (λ n. ForEachLog self.old (λ o h. (submit_fault o h client.0 ≡ None) × (n ≡ next_request o h)
-            × StandsAfter o (h ++ Accept client n request ∷ []) self.new)) }
-        ensures refused { IfErr result (λ e. ForEachLog self.old (λ o h. (submit_fault o h client.0 ≡ Some e.0)
-            × StandsAfter o (h ++ submit_refused client request e.0) self.new)) }
+        ensures adds { AddsToEach self.old (λ o h. SubmitAdds o h client request result) self.new }
         ensures unchanged { IfErr result (λ e. (e.1 ≡ request) × (self.new ≡ self.old)) }
     {
         self.queue.submit(client, request)
@@ -88,7 +80,7 @@ impl Controller {
     /// Sends nothing more until `resume`; a reply that is awaited is still taken. Without effect where it is paused
     /// or closed.
     pub fn pause(&mut self)
-        ensures paused { ForEachLog self.old (λ o h. StandsAfter o (h ++ switch_block (can_pause o h) Pause) self.new) }
+        ensures adds { AddsToEach self.old PauseAdds self.new }
         ensures unchanged { ForEachLog self.old (λ o h. can_pause o h ≡ false → self.new ≡ self.old) }
     {
         if self.can_pause() {
@@ -98,7 +90,7 @@ impl Controller {
 
     /// Sends again. Without effect where it isn't paused, or is closed.
     pub fn resume(&mut self)
-        ensures resumed { ForEachLog self.old (λ o h. StandsAfter o (h ++ switch_block (can_resume o h) Resume) self.new) }
+        ensures adds { AddsToEach self.old ResumeAdds self.new }
         ensures unchanged { ForEachLog self.old (λ o h. can_resume o h ≡ false → self.new ≡ self.old) }
     {
         if self.can_resume() {
@@ -110,12 +102,12 @@ impl Controller {
     /// finished at once, in order, with status FailedToSend; else `deliver` does so. Without effect where it is
     /// closed.
     pub fn close(&mut self)
-        ensures closes { ForEachLog self.old (λ o h. is_closed o h ≡ false
-            → (results : List Entry) × AllResults results × StandsAfter o (h ++ Close ∷ results) self.new) }
+        ensures adds { AddsToEach self.old CloseAdds self.new }
         ensures unchanged { ForEachLog self.old (λ o h. is_closed o h ≡ true → self.new ≡ self.old) }
     {
         if !self.queue.is_closed() {
             self.shut();
+            self.finish_due();
         }
     }
 
@@ -123,37 +115,34 @@ impl Controller {
     /// modulo 256, and port id 1. None while a reply is awaited, where it is paused or closed, and where nothing
     /// waits.
     pub fn take(&mut self) -> Option<Frame>
-        ensures frame { IfSome result (λ frame. ForEachLog self.old (λ o h. (owner : Owner) × MaySend o h owner frame
-            × StandsAfter o (h ++ Send owner frame ∷ []) self.new)) }
-        ensures none { IfNone result (ForEachLog self.old (λ o h. NoSend o h) × (self.new ≡ self.old)) }
+        ensures adds { AddsToEach self.old (λ o h. TakeAdds o h result) self.new }
+        ensures unchanged { IfNone result (self.new ≡ self.old) }
     {
         let (_, frame) = self.give()?;
         Some(frame)
     }
 
     /// Takes what the line answered to the last frame. The request is finished where that decides its result; where
-    /// its joined data find no memory, with status NoMemory. Behind a close, all others are then finished too, in
+    /// its joined data find no memory, with status NoMemory. After a close, all others are then finished too, in
     /// order, with status FailedToSend.
     /// Err: no reply is awaited; nothing has changed, and the event comes back.
     pub fn deliver(&mut self, alloc: Global, event: LineEvent) -> Result<(), (NotAsked, LineEvent)>
-        ensures delivered { OnOk result (ForEachLog self.old (λ o h. (awaited h ≡ true)
-            × ((results : List Entry) × AllResults results × StandsAfter o (h ++ Came event ∷ results) self.new))) }
-        ensures refused { OnErr result (ForEachLog self.old (λ o h. awaited h ≡ false)) }
+        ensures adds { AddsToEach self.old (λ o h. DeliverAdds h event result) self.new }
         ensures unchanged { IfErr result (λ e. (e.1 ≡ event) × (self.new ≡ self.old)) }
     {
         if !self.awaits() {
             return Err((NotAsked, event));
         }
         self.hear(alloc, &event);
+        self.finish_due();
         Ok(())
     }
 
     /// A client's oldest outcome that it hasn't collected, whose place is free again. None where there is none, or
     /// no such client.
     pub fn next_outcome(&mut self, client: ClientId) -> Option<Outcome>
-        ensures outcome { IfSome result (λ outcome. ForEachLog self.old (λ o h. IsOldest o h client.0 outcome
-            × StandsAfter o (h ++ Collect client ∷ []) self.new)) }
-        ensures none { IfNone result (ForEachLog self.old (λ o h. uncollected o client.0 h ≡ []) × (self.new ≡ self.old)) }
+        ensures adds { AddsToEach self.old (λ o h. CollectAdds o h client result) self.new }
+        ensures unchanged { IfNone result (self.new ≡ self.old) }
     {
         self.queue.next_outcome(client)
     }
@@ -209,24 +198,36 @@ impl Controller {
         self.queue.take()
     }
 
-    /// Closes. It isn't closed.
+    /// Closes, where it isn't closed. What is then due is still to be finished.
     pub(crate) fn shut(&mut self)
-        ensures { ForEachLog self.old (λ o h. is_closed o h ≡ false → GoesOn o h Close self.old self.new) }
+        ensures { ForEachLog self.old (λ o h. is_closed o h ≡ false → StandsAmid o (h ++ Close ∷ []) self.new) }
     {
         self.queue.set_closed();
-        if !self.queue.awaits() {
-            self.queue.finish_all();
-        }
     }
 
-    /// Takes what the line answered. A reply is awaited.
+    /// Takes what the line answered, where a reply is awaited. What is then due is still to be finished.
     pub(crate) fn hear(&mut self, alloc: Global, event: &LineEvent)
-        ensures { ForEachLog self.old (λ o h. awaited h ≡ true → GoesOn o h (Came event.now) self.old self.new) }
+        ensures { ForEachLog self.old (λ o h. awaited h ≡ true → StandsAmid o (h ++ Came event.now ∷ []) self.new) }
     {
         self.queue.hear(alloc, event);
-        if self.queue.is_closed() {
-            self.queue.finish_all();
-        }
+    }
+
+    /// Finishes what is due next, and gives its entry. None where nothing is due.
+    pub(crate) fn finish_next(&mut self) -> Option<Entry>
+        ensures finished { IfSome result (λ entry. (is_result entry ≡ true)
+            × ForEachBlock self.old (λ o h. StandsAmid o (h ++ entry ∷ []) self.new)) }
+        ensures fewer { OnSome result (length self.new.waiting < length self.old.waiting) }
+        ensures settled { IfNone result (ForEachBlock self.old (λ o h. StandsAfter o h self.old)
+            × (self.new ≡ self.old)) }
+    {
+        self.queue.finish_next()
+    }
+
+    // Finishes all that is due.
+    fn finish_due(&mut self)
+        ensures { ForEachBlock self.old (λ o h. FinishesAll o h self.new) }
+    {
+        while self.finish_next().is_some() {}
     }
 
     /// How many requests aren't finished.
@@ -236,10 +237,10 @@ impl Controller {
         self.queue.waiting()
     }
 
-    /// The outcomes that aren't collected, oldest first.
-    pub(crate) fn outcomes(&self) -> &[Settled]
-        ensures { map owed_is result.now ≡ self.now.outcomes }
+    /// How many outcomes aren't collected.
+    pub(crate) fn uncollected(&self) -> usize
+        ensures { result ≡ length self.now.outcomes }
     {
-        self.queue.outcomes()
+        self.queue.uncollected()
     }
 }

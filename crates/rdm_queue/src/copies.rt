@@ -14,7 +14,7 @@ pub(crate) fn copy_of_request(request: &Request) -> Request
         sub_device: request.sub_device,
         class: request.class,
         pid: request.pid,
-        param: request.param.clone().unwrap(),
+        param: copy_of_bytes(&request.param),
     }
 }
 
@@ -22,7 +22,7 @@ pub(crate) fn copy_of_request(request: &Request) -> Request
 pub(crate) fn copy_of_frame(frame: &Frame) -> Frame
     ensures { result ≡ frame.now }
 {
-    frame.clone().unwrap()
+    copy_of_bytes(frame)
 }
 
 /// The same event of the line again.
@@ -30,7 +30,16 @@ pub(crate) fn copy_of_event(event: &LineEvent) -> LineEvent
     ensures { result ≡ event.now }
 {
     match event {
-        LineEvent::Reply(bytes) => LineEvent::Reply(bytes.clone().unwrap()),
+        LineEvent::Reply(bytes) => LineEvent::Reply(copy_of_bytes(bytes)),
         LineEvent::Failed => LineEvent::Failed,
     }
+}
+
+// The same bytes again, all at once.
+fn copy_of_bytes<const N: usize>(bytes: &ArrayVec<u8, N>) -> ArrayVec<u8, N>
+    ensures { result ≡ bytes.now }
+{
+    let mut copy = ArrayVec::new();
+    let _ = copy.try_extend_from_slice(bytes);
+    copy
 }

@@ -75,7 +75,7 @@ pub enum Entry {
         /// What came.
         event: LineEvent,
     },
-    /// A request was finished. With status Completed its data are those of the replies to its frames, one behind
+    /// A request was finished. With status Completed its data are those of the replies to its frames, one after
     /// the other.
     Finish {
         /// The request's number.
@@ -98,7 +98,7 @@ pub enum Entry {
     Close,
 }
 
-/// What a log stands behind: how the queue stood before its first entry. A number that is "next" is the one that will
+/// What a log stands after: how the queue stood before its first entry. A number that is "next" is the one that will
 /// be given next (profile of this project).
 #[derive(Debug, Drop)]
 pub struct Opening {

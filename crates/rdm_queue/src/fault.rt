@@ -55,7 +55,7 @@ pub enum SubmitFault {
 
 impl JoinFault {
     ghost use Rattle.std.specs.Prelude.{◌≡◌};
-    ghost use Rattle.rdm_queue.specs.Refusals.{number_of_join_fault};
+    ghost use Rattle.rdm_queue.specs.log.Refusals.{number_of_join_fault};
 
     /// The fault's number, as an entry of the log has it; LogFull's stands in none.
     pub fn number(self) -> u8
@@ -73,7 +73,7 @@ impl JoinFault {
 
 impl SubmitFault {
     ghost use Rattle.std.specs.Prelude.{◌≡◌};
-    ghost use Rattle.rdm_queue.specs.Refusals.{number_of_submit_fault};
+    ghost use Rattle.rdm_queue.specs.log.Refusals.{number_of_submit_fault};
 
     /// The fault's number, as an entry of the log has it; LogFull's stands in none.
     pub fn number(self) -> u8

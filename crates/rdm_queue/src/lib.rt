@@ -6,48 +6,35 @@
 //! for all clients together.
 //!
 //! - `submit` and `next_outcome` look through those lists for the client: linear in the requests outstanding.
-//! - `deliver` and `next_outcome` move up what stands behind an element taken from such a list: linear in them too.
-//!   A close, and the reply behind it, finish all that wait in one pass.
+//! - `deliver` and `next_outcome` move up what stands after an element taken from such a list: linear in them too.
+//!   A close, and the reply after it, finish all that wait in one pass.
 //! - `join_client` adds up the places of the clients, 16 at most, and reserves the memory for all of them.
 //! - The other calls take constant time. So does each entry of a [`Log`], whose memory is reserved when it is made.
-//! - A [`Session`] copies each request and each frame once, into its log; `answer` and `run`, which are lent their events,
-//!   copy each request and each event once more. The joined data of a request are copied once,
+//! - A [`Session`] copies each request and each frame once, into its log; `answer` and `run`, which are lent their
+//!   events, copy each request and each event once more. The joined data of a request are copied once,
 //!   into its outcome.
 //!
 //! Lists for each client will make all of these constant in what others have outstanding.
 #![tactic(auto)]
 
-mod broken;
 mod config;
 mod controller;
 mod copies;
 mod entry;
 mod event;
-mod explained;
 mod fault;
-mod headline;
-mod laws;
+pub mod laws;
 mod log;
 mod outcome;
 mod queue;
 mod run;
 mod session;
 
-pub use broken::{
-    wrong_answers, wrong_behind_a_close, wrong_collector, wrong_frames, wrong_order, wrong_parts,
-    wrong_refusals, wrong_results,
-};
 pub use config::{Config, MOST_PLACES};
 pub use controller::Controller;
 pub use entry::{Call, Cause, ClientId, Entry, MOST_CLIENTS, NEVER_GIVEN, Opening, Owner};
 pub use event::{Answer, Event};
-pub use explained::{each_event_is_answered, not_explained, parts_are_joined, sample_is_explained};
 pub use fault::{JoinFault, LogFull, NoMemory, NotAsked, SubmitFault};
-pub use headline::{
-    answers_keep_promises, exactly_one_result, first_in_first_out, full_queue_refuses,
-    joined_answer, legal_keeps_promises, nothing_after_close,
-};
-pub use laws::{counts_of_a_log, faults_in_order, log_grows, rooms, sample_is_legal};
 pub use log::{LEAST_FREE, Log, MOST_FREE_ENTRIES};
 pub use outcome::{Completion, Outcome};
 pub use session::Session;

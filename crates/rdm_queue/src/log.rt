@@ -1,7 +1,6 @@
 //! The log of a session.
 use crate::entry::{Entry, Opening};
 use crate::fault::NoMemory;
-use crate::queue::Settled;
 use arrayvec::ArrayVec;
 use rdm_wire::Uid;
 use std::alloc::Global;
@@ -13,7 +12,7 @@ pub const MOST_FREE_ENTRIES: usize = 1_000_000;
 /// How many entries have to be free for each call that a full log refuses (profile of this project).
 pub const LEAST_FREE: usize = 3;
 
-/// The entries of a session, oldest first, and what they stand behind (profile of this project). Its memory is
+/// The entries of a session, oldest first, and what they stand after (profile of this project). Its memory is
 /// reserved when it is made.
 #[derive(Debug, Drop)]
 pub struct Log {
@@ -24,23 +23,20 @@ pub struct Log {
 
 impl Model for Log {
     ghost use Rattle.std.specs.Prelude.{◌≤◌, vec_len, vec_capacity};
-    ghost use Rattle.rdm_queue.specs.Kept.{Kept};
+    ghost use Rattle.rdm_queue.specs.log.LogState.{LogState};
 
-    ghost Value = { Kept };
+    ghost Value = { LogState };
 
-    ghost use Rattle.rdm_queue.specs.Stored.{IsStored};
+    ghost use Rattle.rdm_queue.specs.body.LogInvariant.{LogInvariant};
 
     ghost view = { λ l. record { opening = l.opening; entries = l.entries.items; room = l.room } };
 
-    ghost invariant = { λ l. IsStored l.room (vec_len l.entries) (vec_capacity l.entries) };
+    ghost invariant = { λ l. LogInvariant l.room (vec_len l.entries) (vec_capacity l.entries) };
 }
 
 impl Log {
-    ghost use Rattle.std.specs.Prelude.{◌≡◌, ◌+◌, ◌<◌, ◌≤◌, List, [], ◌∷◌, IfOk, length, map};
-    ghost use Rattle.rdm_queue.specs.Kept.{grown, blank_opening};
-    ghost use Rattle.rdm_queue.specs.Records.{owed_is};
-    ghost use Rattle.rdm_queue.specs.Standing.{finish_of};
-    ghost use Rattle.rdm_queue.specs.declared.entry.Opening.{Opening};
+    ghost use Rattle.std.specs.Prelude.{◌≡◌, ◌+◌, ◌<◌, ◌≤◌, [], ◌∷◌, IfOk, length};
+    ghost use Rattle.rdm_queue.specs.log.LogState.{grown, blank_opening};
 
     /// A log without entries, with room for so many, 0 to 1,000,000, and one more for a close. Its opening has 0
     /// everywhere and no places, is neither paused nor closed, and is written when a session begins.
@@ -83,8 +79,8 @@ impl Log {
         self.room
     }
 
-    /// The same log behind another opening.
-    pub(crate) fn behind(self, opening: Opening) -> Log
+    /// The same log after another opening.
+    pub(crate) fn after(self, opening: Opening) -> Log
         ensures log { result ≡ record self { opening = opening } }
         ensures some { 1 ≤ self.room }
     {
@@ -106,16 +102,6 @@ impl Log {
         ensures { self.new ≡ grown self.old (entry ∷ []) }
     {
         self.entries.push_reserved(entry);
-    }
-
-    /// Puts the ends of requests at the end.
-    pub(crate) fn append_ends(&mut self, settled: &[Settled])
-        requires { length self.old.entries + length settled.now ≤ self.old.room }
-        ensures { self.new ≡ grown self.old (map finish_of (map owed_is settled.now)) }
-    {
-        for one in settled {
-            self.append(one.entry());
-        }
     }
 
     // The opening that a new log has.

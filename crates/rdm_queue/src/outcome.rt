@@ -8,7 +8,7 @@ pub struct Completion {
     pub status: Status,
     /// The head of the last reply; it is there for status Completed alone.
     pub reply: Option<ReplyHead>,
-    /// The parameter data of all replies, one behind the other; none for each status but Completed.
+    /// The parameter data of all replies, one after the other; none for each status but Completed.
     pub bytes: Vec<u8>,
 }
 

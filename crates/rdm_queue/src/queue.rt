@@ -1,11 +1,9 @@
 //! The requests that wait, and the outcomes that wait for their clients.
-ghost use Rattle.std.specs.Prelude.{◌≡◌, ◌⊎◌, ◌<◌, ◌≤◌, ◌+◌, ◌++◌, ◌==◌, length, map, count_by, position, vec_len, vec_capacity, OnOk};
+ghost use Rattle.std.specs.Prelude.{◌≡◌, ◌⊎◌, ◌<◌, ◌≤◌, ◌==◌, length, count_by, position, vec_len, vec_capacity, OnOk};
 ghost use Rattle.rdm_join.specs.Result.{ended};
-ghost use Rattle.rdm_join.specs.Standing.{head_of_standing};
-ghost use Rattle.rdm_join.specs.declared.status.Status.TheVariants.{FailedToSend, NoMemory as NoMemoryLeft};
-ghost use Rattle.rdm_queue.specs.Records.{accepted_is, owed_is};
-ghost use Rattle.rdm_queue.specs.Standing.{owed_for};
-ghost use Rattle.rdm_queue.specs.Told.{seen_completion};
+ghost use Rattle.rdm_join.specs.JoinerStanding.{head_of_standing};
+ghost use Rattle.rdm_join.specs.declared.status.Status.TheVariants.{NoMemory as NoMemoryLeft};
+ghost use Rattle.rdm_queue.specs.promises.Outcomes.{completion_value};
 
 use crate::config::Config;
 use crate::entry::{ClientId, Entry, MOST_CLIENTS, NEVER_GIVEN, Owner};
@@ -27,19 +25,19 @@ struct Waiting {
 
 /// An outcome that its client hasn't collected.
 #[derive(Debug, Drop)]
-pub(crate) struct Settled {
+struct Owed {
     client: ClientId,
     number: u64,
     done: Completion,
 }
 
-impl Settled {
+impl Owed {
     ghost use Rattle.std.specs.Prelude.{◌≡◌};
-    ghost use Rattle.rdm_queue.specs.Records.{owed_is};
-    ghost use Rattle.rdm_queue.specs.Standing.{finish_of};
+    ghost use Rattle.rdm_queue.specs.body.Fields.{owed_is};
+    ghost use Rattle.rdm_queue.specs.body.State.{finish_of};
 
-    /// The entry of its request's end.
-    pub(crate) fn entry(&self) -> Entry
+    // The entry of its request's end.
+    fn entry(&self) -> Entry
         ensures { result ≡ finish_of (owed_is self.now) }
     {
         Entry::Finish {
@@ -67,41 +65,48 @@ pub(crate) struct Queue {
     awaited: Option<Sent>,
     /// The replies of the oldest of those that wait.
     joiner: Joiner,
+    /// How the oldest has ended, until it is finished.
+    decided: Option<Completion>,
     /// The outcomes that aren't collected, oldest first.
-    outcomes: Vec<Settled>,
+    outcomes: Vec<Owed>,
 }
 
 impl Model for Queue {
     ghost use Rattle.std.specs.Prelude.{vec_capacity};
-    ghost use Rattle.rdm_queue.specs.Standing.{Standing};
+    ghost use Rattle.rdm_queue.specs.body.State.{QueueState};
 
-    ghost Value = { Standing };
+    ghost Value = { QueueState };
 
-    ghost use Rattle.rdm_queue.specs.Held.{standing_of};
-    ghost use Rattle.rdm_queue.specs.Room.{IsHeld};
+    ghost use Rattle.rdm_queue.specs.body.Fields.{state_of};
+    ghost use Rattle.rdm_queue.specs.body.QueueInvariant.{QueueInvariant};
 
-    ghost view = { standing_of };
+    ghost view = { state_of };
 
-    ghost invariant = { λ c. IsHeld (standing_of c) (vec_capacity c.waiting) (vec_capacity c.outcomes) };
+    ghost invariant = { λ c. QueueInvariant (state_of c) (vec_capacity c.waiting) (vec_capacity c.outcomes) };
 }
 
 impl Queue {
-    ghost use Rattle.std.specs.Prelude.{◌≡◌, ◌<◌, ◌+◌, ◌++◌, ◌∷◌, [], ℕ, Bool, ◌==◌, ◌&&◌, false, true, List, length, drop, sum, map, IfOk, IfErr, IfSome, IfNone, OnOk, OnErr, OnSome, Some, None, is_some, option_map, slice_get, if◌then◌else◌};
-    ghost use Rattle.rdm_join.specs.Result.{result_of, ended};
-    ghost use Rattle.rdm_join.specs.Standing.{StandsAt};
+    ghost use Rattle.std.specs.Prelude.{◌≡◌, ◌<◌, ◌+◌, ◌++◌, ◌∷◌, [], ℕ, Bool, ◌==◌, ◌&&◌, false, true, List, length};
+    ghost use Rattle.std.specs.Prelude.{drop, sum, map, IfOk, IfErr, IfSome, IfNone, OnOk, OnErr, OnSome, Some, None};
+    ghost use Rattle.std.specs.Prelude.{is_some, option_map, slice_get, if◌then◌else◌};
+    ghost use Rattle.rdm_join.specs.JoinerStanding.{StandsAt};
     ghost use Rattle.rdm_join.specs.Verdict.{verdict};
     ghost use Rattle.rdm_join.specs.declared.verdict.Judged.{Judged};
     ghost use Rattle.rdm_join.specs.declared.verdict.Sent.{Sent};
-    ghost use Rattle.rdm_queue.specs.Told.{seen, seen_completion};
-    ghost use Rattle.rdm_queue.specs.Blocks.{RefusesJoin};
-    ghost use Rattle.rdm_queue.specs.Records.{owed_is};
-    ghost use Rattle.rdm_queue.specs.Config.{IsConfig};
-    ghost use Rattle.rdm_queue.specs.Standing.{Standing, first_standing, first_join_fault, first_submit_fault, outstanding, finishes_oldest, finishes_all, accepts_request, next_to_send, IsGiven, Heard, without_first, owed_to, seen_owed};
+    ghost use Rattle.rdm_queue.specs.promises.Outcomes.{outcome_value, completion_value};
+    ghost use Rattle.rdm_queue.specs.promises.Blocks.{RefusesJoin};
+    ghost use Rattle.rdm_queue.specs.body.Fields.{owed_is};
+    ghost use Rattle.rdm_queue.specs.log.Config.{IsConfig};
+    ghost use Rattle.rdm_queue.specs.log.Entries.{Accepted};
+    ghost use Rattle.rdm_queue.specs.body.State.{QueueState, first_state, first_join_fault, first_submit_fault};
+    ghost use Rattle.rdm_queue.specs.body.State.{outstanding, end_of_oldest, due, IsFinished, owed_for, finish_of};
+    ghost use Rattle.rdm_queue.specs.body.State.{finishes_oldest, accepts_request, next_to_send, IsGiven, Hears};
+    ghost use Rattle.rdm_queue.specs.body.State.{without_first, owed_to, owed_value};
 
     /// A queue without clients, neither paused nor closed, whose numbers begin at 0.
     pub(crate) fn new(alloc: Global, config: Config) -> Queue
         requires { IsConfig config }
-        ensures { result ≡ first_standing config }
+        ensures { result ≡ first_state config }
     {
         Queue {
             config,
@@ -113,6 +118,7 @@ impl Queue {
             waiting: Vec::new(alloc),
             awaited: None,
             joiner: Joiner::new(),
+            decided: None,
             outcomes: Vec::new(alloc),
         }
     }
@@ -181,7 +187,7 @@ impl Queue {
     fn outstanding(&self, client: ClientId) -> usize
         ensures { result ≡ outstanding client.0 self.now }
     {
-        waiting_by(client, &self.waiting) + settled_by(client, &self.outcomes)
+        waiting_by(client, &self.waiting) + owed_by(client, &self.outcomes)
     }
 
     /// Accepts a request, and gives its number.
@@ -246,57 +252,83 @@ impl Queue {
         Some((owner, frame))
     }
 
-    /// Takes what the line answered to the last frame. Where that decides the oldest request, it is finished.
+    /// Takes what the line answered to the last frame. The oldest request, which it is of, hasn't ended before.
     pub(crate) fn hear(&mut self, alloc: Global, event: &LineEvent)
         ensures free { self.new.awaited ≡ None }
-        ensures heard { (sent : Sent) (vs : List Judged) → self.old.awaited ≡ Some sent → StandsAt vs self.old.joiner
-            → Heard (result_of (vs ++ verdict sent event.now ∷ [])) (vs ++ verdict sent event.now ∷ []) self.old self.new }
+        ensures heard { (sent : Sent) (vs : List Judged) → self.old.awaited ≡ Some sent → self.old.decided ≡ None
+            → StandsAt vs self.old.joiner → Hears (vs ++ verdict sent event.now ∷ []) self.old self.new }
     {
         let Some(sent) = self.awaited.take() else {
             return;
         };
         if let Step::Done(status) = self.joiner.add(judge(&sent, event)) {
             let done = completion_of(&self.joiner, alloc, status);
-            self.joiner = Joiner::new();
-            self.finish(done);
+            self.decided = Some(done);
+            self.joiner.reset();
         }
     }
 
-    // Finishes the oldest request so.
-    fn finish(&mut self, done: Completion)
+    /// Finishes the oldest request, where it has ended, or where the queue is closed and awaits no reply. Gives the
+    /// entry of its end; None where there is no such request.
+    pub(crate) fn finish_next(&mut self) -> Option<Entry>
+        ensures finished { IfSome result (λ entry. IsFinished self.old entry self.new) }
+        ensures none { IfNone result ((due self.old ≡ None) × (self.new ≡ self.old)) }
+    {
+        if self.waiting.is_empty() {
+            return None;
+        }
+        let done = self.end_of_oldest()?;
+        Some(self.finish(done))
+    }
+
+    // How the oldest request has ended, which is then no longer kept here.
+    fn end_of_oldest(&mut self) -> Option<Completion>
+        ensures end { option_map completion_value result ≡ end_of_oldest self.old }
+        ensures taken { OnSome result (self.new ≡ record self.old { decided = None }) }
+        ensures none { IfNone result (self.new ≡ self.old) }
+    {
+        if let Some(done) = self.decided.take() {
+            return Some(done);
+        }
+        if self.closed && !self.awaits() {
+            return Some(failed(*self.outcomes.allocator(), Status::FailedToSend));
+        }
+        None
+    }
+
+    // Finishes the oldest request so, and gives the entry of its end.
+    fn finish(&mut self, done: Completion) -> Entry
         requires some { 0 < length self.old.waiting }
-        requires not_awaited { self.old.awaited ≡ None }
-        ensures { self.new ≡ finishes_oldest self.old (seen_completion done) }
+        requires taken { self.old.decided ≡ None }
+        ensures finished { (accepted : Accepted) × (slice_get self.old.waiting 0 ≡ Some accepted)
+            × (result ≡ finish_of (owed_for (completion_value done) accepted))
+            × (self.new ≡ finishes_oldest self.old (owed_for (completion_value done) accepted)) }
     {
         let oldest = self.waiting.remove(0);
-        self.outcomes.push_reserved(Settled {
+        let owed = Owed {
             client: oldest.client,
             number: oldest.number,
             done,
-        });
-    }
-
-    /// Finishes all that wait, since the queue is closed.
-    pub(crate) fn finish_all(&mut self)
-        requires { self.old.awaited ≡ None }
-        ensures { self.new ≡ finishes_all self.old }
-    {
-        self.joiner = Joiner::new();
-        end_unsent(&self.waiting, &mut self.outcomes);
-        self.waiting.clear();
+        };
+        let entry = owed.entry();
+        self.joiner.reset();
+        self.outcomes.push_reserved(owed);
+        entry
     }
 
     /// Takes a client's oldest outcome out, which frees its place.
     pub(crate) fn next_outcome(&mut self, client: ClientId) -> Option<Outcome>
-        ensures outcome { option_map seen result ≡ option_map seen_owed (slice_get (owed_to client.0 self.old) 0) }
-        ensures taken { OnSome result (self.new ≡ record self.old { outcomes = without_first client.0 self.old.outcomes }) }
+        ensures outcome { option_map outcome_value result
+            ≡ option_map owed_value (slice_get (owed_to client.0 self.old) 0) }
+        ensures taken { OnSome result
+            (self.new ≡ record self.old { outcomes = without_first client.0 self.old.outcomes }) }
         ensures none { IfNone result (self.new ≡ self.old) }
     {
         let at = first_of(client, &self.outcomes)?;
-        let settled = self.outcomes.remove(at);
+        let owed = self.outcomes.remove(at);
         Some(Outcome::Request {
-            number: Some(settled.number),
-            done: settled.done,
+            number: Some(owed.number),
+            done: owed.done,
         })
     }
 
@@ -307,11 +339,11 @@ impl Queue {
         self.waiting.len()
     }
 
-    /// The outcomes that aren't collected, oldest first.
-    pub(crate) fn outcomes(&self) -> &[Settled]
-        ensures { map owed_is result.now ≡ self.now.outcomes }
+    /// How many outcomes aren't collected.
+    pub(crate) fn uncollected(&self) -> usize
+        ensures { result ≡ length self.now.outcomes }
     {
-        self.outcomes.as_slice()
+        self.outcomes.len()
     }
 
     pub(crate) fn is_idle(&self) -> bool
@@ -351,7 +383,7 @@ fn waiting_by(client: ClientId, waiting: &[Waiting]) -> usize
 }
 
 // How many of these outcomes are the client's.
-fn settled_by(client: ClientId, outcomes: &[Settled]) -> usize
+fn owed_by(client: ClientId, outcomes: &[Owed]) -> usize
     ensures { result ≡ count_by (λ d. client.0 == d.client.0) outcomes.now }
 {
     outcomes
@@ -360,24 +392,8 @@ fn settled_by(client: ClientId, outcomes: &[Settled]) -> usize
         .count()
 }
 
-// Puts the outcomes of requests that a close ends behind the others.
-fn end_unsent(waiting: &[Waiting], outcomes: &mut Vec<Settled>)
-    requires { length waiting.now + vec_len outcomes.old ≤ vec_capacity outcomes.old }
-    ensures ended { map owed_is outcomes.new.items ≡ map owed_is outcomes.old.items ++ map (owed_for (ended FailedToSend)) (map accepted_is waiting.now) }
-    ensures same { vec_capacity outcomes.new ≡ vec_capacity outcomes.old }
-{
-    for request in waiting {
-        let done = failed(*outcomes.allocator(), Status::FailedToSend);
-        outcomes.push_reserved(Settled {
-            client: request.client,
-            number: request.number,
-            done,
-        });
-    }
-}
-
 // Where the client's first outcome stands.
-fn first_of(client: ClientId, outcomes: &[Settled]) -> Option<usize>
+fn first_of(client: ClientId, outcomes: &[Owed]) -> Option<usize>
     ensures { result ≡ position (λ d. client.0 == d.client.0) outcomes.now }
 {
     outcomes
@@ -397,7 +413,7 @@ fn reserve_up_to<T>(items: &mut Vec<T>, room: usize) -> Result<(), AllocError>
 
 // A completion without an answer, which takes no memory.
 fn failed(alloc: Global, status: Status) -> Completion
-    ensures { seen_completion result ≡ ended status }
+    ensures { completion_value result ≡ ended status }
 {
     Completion {
         status,
@@ -408,8 +424,9 @@ fn failed(alloc: Global, status: Status) -> Completion
 
 // The completion of a request that has ended so, with its joined data, or with NoMemory where they find none.
 fn completion_of(joiner: &Joiner, alloc: Global, status: Status) -> Completion
-    ensures { (seen_completion result ≡ record { status = status; data_ = joiner.now.data_; head = head_of_standing joiner.now })
-        ⊎ ((seen_completion result ≡ ended NoMemoryLeft) × (0 < length joiner.now.data_)) }
+    ensures { (completion_value result
+        ≡ record { status = status; data_ = joiner.now.data_; head = head_of_standing joiner.now })
+        ⊎ ((completion_value result ≡ ended NoMemoryLeft) × (0 < length joiner.now.data_)) }
 {
     let Ok(bytes) = joiner.take_data(alloc) else {
         return failed(alloc, Status::NoMemory);

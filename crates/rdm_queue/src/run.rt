@@ -7,9 +7,9 @@ use std::alloc::Global;
 
 impl Session {
     ghost use Rattle.std.specs.Prelude.{◌≡◌, List, IfOk, OnErr};
-    ghost use Rattle.rdm_queue.specs.Legal.{Legal};
-    ghost use Rattle.rdm_queue.specs.Explains.{IsAnswered, Explains};
-    ghost use Rattle.rdm_queue.specs.EventsHeadline.{EventsPromised};
+    ghost use Rattle.rdm_queue.specs.log.Legal.{Legal};
+    ghost use Rattle.rdm_queue.specs.promises.Explains.{IsAnswered, Explains};
+    ghost use Rattle.rdm_queue.specs.promises.EventsHeadline.{EventsPromised};
 
     /// Makes the call of an event, and gives its answer. What the call refuses comes back in the answer.
     pub fn answer(&mut self, alloc: Global, event: &Event) -> Answer

@@ -1,6 +1,7 @@
 //! A controller that keeps a log of all that it does.
 ghost use Rattle.std.specs.Prelude.{◌≡◌, if◌then◌else◌};
-ghost use Rattle.rdm_queue.specs.Kept.{opened};
+ghost use Rattle.rdm_queue.specs.log.LogState.{opened};
+ghost use Rattle.rdm_queue.specs.body.SessionInvariant.{SessionAmid, FinishesDue};
 
 use crate::config::Config;
 use crate::controller::Controller;
@@ -24,30 +25,26 @@ pub struct Session {
 }
 
 impl Model for Session {
-    ghost use Rattle.rdm_queue.specs.Kept.{Kept};
+    ghost use Rattle.rdm_queue.specs.log.LogState.{LogState};
 
-    ghost Value = { Kept };
+    ghost Value = { LogState };
 
-    ghost use Rattle.rdm_queue.specs.Recorded.{IsRecorded};
+    ghost use Rattle.rdm_queue.specs.body.SessionInvariant.{SessionInvariant};
 
     ghost view = { λ s. s.log };
 
-    ghost invariant = { λ s. IsRecorded s.controller s.log };
+    ghost invariant = { λ s. SessionInvariant s.controller s.log };
 }
 
 impl Session {
-    ghost use Rattle.std.specs.Prelude.{◌≡◌, ◌↔◌, ◌++◌, ◌∷◌, [], List, Bool, true, false, IsTrue, IsErr, length, ◌+◌, IfOk, IfErr, IfSome, IfNone, OnOk, OnErr, Some, None};
-    ghost use Rattle.rdm_queue.specs.declared.entry.Owner.{Owner};
-    ghost use Rattle.rdm_queue.specs.declared.entry.Entry.{Entry};
-    ghost use Rattle.rdm_queue.specs.declared.entry.Entry.TheVariants.{Join, Accept, Send, Came, Collect, Pause, Resume, Close};
-    ghost use Rattle.rdm_queue.specs.History.{awaited, is_paused, is_closed, can_pause, can_resume, next_client, next_request, is_idle, reserved};
-    ghost use Rattle.rdm_queue.specs.Clients.{uncollected};
-    ghost use Rattle.rdm_queue.specs.MaySend.{MaySend, NoSend};
-    ghost use Rattle.rdm_queue.specs.Legal.{Legal};
-    ghost use Rattle.rdm_queue.specs.Blocks.{is_full_log, join_refusal, submit_refusal, RefusesJoin, join_refused, submit_refused, switch_block, AllResults, IsOldest};
-    ghost use Rattle.rdm_queue.specs.Kept.{Kept, grown, free_entries, opened};
-    ghost use Rattle.rdm_queue.specs.Config.{IsConfig};
-    ghost use Rattle.rdm_queue.specs.Stands.{StandsAfter};
+    ghost use Rattle.std.specs.Prelude.{◌≡◌, [], length, ◌+◌, IfOk, IfErr, OnErr, IfNone};
+    ghost use Rattle.rdm_queue.specs.log.History.{awaited, is_paused, is_closed, is_idle, reserved};
+    ghost use Rattle.rdm_queue.specs.log.Legal.{Legal};
+    ghost use Rattle.rdm_queue.specs.log.Config.{IsConfig};
+    ghost use Rattle.rdm_queue.specs.log.LogState.{free_entries, is_full_log, opened};
+    ghost use Rattle.rdm_queue.specs.promises.Blocks.{JoinLogs, SubmitLogs, PauseLogs, ResumeLogs, TakeLogs};
+    ghost use Rattle.rdm_queue.specs.promises.Blocks.{CloseAdds, DeliverAdds, CollectAdds, GrowsBy};
+    ghost use Rattle.rdm_queue.specs.body.Agrees.{StandsAfter};
 
     /// A session without clients, neither paused nor closed, whose numbers begin at 0. It writes the log's opening. The
     /// controller's UID isn't broadcast, there are at most [`MOST_PLACES`](crate::MOST_PLACES) places, the budget is at
@@ -65,17 +62,14 @@ impl Session {
         };
         Ok(Session {
             controller,
-            log: log.behind(opening),
+            log: log.after(opening),
         })
     }
 
     /// Lets a client join, as [`Controller::join_client`] does. A refusal but LogFull is an entry.
     /// Err: LogFull, or else the first other fault that stands; nothing changes but the log.
     pub fn join_client(&mut self, alloc: Global, places: u8) -> Result<ClientId, JoinFault>
-        ensures joined { IfOk result (λ c. (join_refusal self.old places ≡ None) × (c.0 ≡ next_client self.old.opening self.old.entries)
-            × (self.new ≡ grown self.old (Join c places ∷ []))) }
-        ensures refused { IfErr result (λ fault. RefusesJoin (join_refusal self.old places) fault
-            × (self.new ≡ grown self.old (join_refused places fault))) }
+        ensures adds { GrowsBy self.old (JoinLogs self.old places result) self.new }
         ensures legal { Legal self.new.opening self.new.entries }
     {
         if self.is_full() {
@@ -98,17 +92,14 @@ impl Session {
     }
 
     /// Accepts a client's request, as [`Controller::submit`] does. A refusal but LogFull is an entry.
-    /// Err: LogFull, or else the first other fault that stands; nothing changes but the log, and the request comes back.
+    /// Err: LogFull, or else the first other fault that stands; nothing changes but the log, and the request comes
+    /// back.
     pub fn submit(
         &mut self,
         client: ClientId,
         request: Request,
     ) -> Result<u64, (SubmitFault, Request)>
-        ensures accepted { IfOk result (λ n. (submit_refusal self.old client.0 ≡ None) × (n ≡ next_request self.old.opening self.old.entries)
-            × (self.new ≡ grown self.old (Accept client n request ∷ []))) }
-        ensures refused { IfErr result (λ e. (submit_refusal self.old client.0 ≡ Some e.0)
-            × (self.new ≡ grown self.old (submit_refused client request e.0))) }
-        ensures back { IfErr result (λ e. e.1 ≡ request) }
+        ensures adds { GrowsBy self.old (SubmitLogs self.old client request result) self.new }
         ensures legal { Legal self.new.opening self.new.entries }
     {
         if self.is_full() {
@@ -138,9 +129,7 @@ impl Session {
     /// Pauses, as [`Controller::pause`] does; an entry where that has an effect.
     /// Err: the log is full; nothing has changed.
     pub fn pause(&mut self) -> Result<(), LogFull>
-        ensures log_full { IsErr result ↔ IsTrue (is_full_log self.old) }
-        ensures paused { OnOk result (self.new ≡ grown self.old (switch_block (can_pause self.old.opening self.old.entries) Pause)) }
-        ensures refused { OnErr result (self.new ≡ self.old) }
+        ensures adds { GrowsBy self.old (PauseLogs self.old result) self.new }
         ensures legal { Legal self.new.opening self.new.entries }
     {
         if self.is_full() {
@@ -157,9 +146,7 @@ impl Session {
     /// Resumes, as [`Controller::resume`] does; an entry where that has an effect.
     /// Err: the log is full; nothing has changed.
     pub fn resume(&mut self) -> Result<(), LogFull>
-        ensures log_full { IsErr result ↔ IsTrue (is_full_log self.old) }
-        ensures resumed { OnOk result (self.new ≡ grown self.old (switch_block (can_resume self.old.opening self.old.entries) Resume)) }
-        ensures refused { OnErr result (self.new ≡ self.old) }
+        ensures adds { GrowsBy self.old (ResumeLogs self.old result) self.new }
         ensures legal { Legal self.new.opening self.new.entries }
     {
         if self.is_full() {
@@ -173,31 +160,24 @@ impl Session {
         Ok(())
     }
 
-    /// Closes, as [`Controller::close`] does; an entry where that has an effect, and behind it those of the requests
+    /// Closes, as [`Controller::close`] does; an entry where that has an effect, and after it those of the requests
     /// that it finishes. There is always room for them.
     pub fn close(&mut self)
-        ensures closes { is_closed self.old.opening self.old.entries ≡ false
-            → (results : List Entry) × AllResults results × (self.new ≡ grown self.old (Close ∷ results)) }
-        ensures closed { is_closed self.old.opening self.old.entries ≡ true → self.new ≡ self.old }
+        ensures adds { GrowsBy self.old (CloseAdds self.old.opening self.old.entries) self.new }
         ensures legal { Legal self.new.opening self.new.entries }
     {
         if self.controller.is_closed() {
             return;
         }
-        let before = self.controller.outcomes().len();
         self.controller.shut();
         self.log.append(Entry::Close);
-        self.log.append_ends(&self.controller.outcomes()[before..]);
+        finish_due(&mut self.controller, &mut self.log);
     }
 
     /// The next frame for the line, as [`Controller::take`] gives it; an entry where there is one.
     /// Err: the log is full; nothing has changed.
     pub fn take(&mut self) -> Result<Option<Frame>, LogFull>
-        ensures log_full { IsErr result ↔ IsTrue (is_full_log self.old) }
-        ensures frame { IfOk result (λ taken. IfSome taken (λ frame. (owner : Owner) × MaySend self.old.opening self.old.entries owner frame
-            × (self.new ≡ grown self.old (Send owner frame ∷ [])))) }
-        ensures none { IfOk result (λ taken. IfNone taken (NoSend self.old.opening self.old.entries × (self.new ≡ self.old))) }
-        ensures refused { OnErr result (self.new ≡ self.old) }
+        ensures adds { GrowsBy self.old (TakeLogs self.old result) self.new }
         ensures legal { Legal self.new.opening self.new.entries }
     {
         if self.is_full() {
@@ -211,31 +191,26 @@ impl Session {
         Ok(Some(frame))
     }
 
-    /// Takes what the line answered, as [`Controller::deliver`] does; an entry, and behind it those of the requests
+    /// Takes what the line answered, as [`Controller::deliver`] does; an entry, and after it those of the requests
     /// that it finishes. There is always room for them.
     /// Err: no reply is awaited; nothing has changed, and the event comes back.
     pub fn deliver(&mut self, alloc: Global, event: LineEvent) -> Result<(), (NotAsked, LineEvent)>
-        ensures not_asked { IsErr result ↔ (awaited self.old.entries ≡ false) }
-        ensures delivered { OnOk result ((results : List Entry) × AllResults results × (self.new ≡ grown self.old (Came event ∷ results))) }
-        ensures refused { IfErr result (λ e. (e.1 ≡ event) × (self.new ≡ self.old)) }
+        ensures adds { GrowsBy self.old (DeliverAdds self.old.entries event result) self.new }
         ensures legal { Legal self.new.opening self.new.entries }
     {
         if !self.controller.awaits() {
             return Err((NotAsked, event));
         }
-        let before = self.controller.outcomes().len();
         self.controller.hear(alloc, &event);
         self.log.append(Entry::Came { event });
-        self.log.append_ends(&self.controller.outcomes()[before..]);
+        finish_due(&mut self.controller, &mut self.log);
         Ok(())
     }
 
-    /// A client's oldest outcome, as [`Controller::next_outcome`] gives it; an entry where there is one. There is always
-    /// room for it.
+    /// A client's oldest outcome, as [`Controller::next_outcome`] gives it; an entry where there is one. There is
+    /// always room for it.
     pub fn next_outcome(&mut self, client: ClientId) -> Option<Outcome>
-        ensures outcome { IfSome result (λ outcome. IsOldest self.old.opening self.old.entries client.0 outcome
-            × (self.new ≡ grown self.old (Collect client ∷ []))) }
-        ensures none { IfNone result ((uncollected self.old.opening client.0 self.old.entries ≡ []) × (self.new ≡ self.old)) }
+        ensures adds { GrowsBy self.old (CollectAdds self.old.opening self.old.entries client result) self.new }
         ensures legal { Legal self.new.opening self.new.entries }
     {
         let outcome = self.controller.next_outcome(client)?;
@@ -254,7 +229,7 @@ impl Session {
         let close = one_if(!self.controller.is_closed());
         let reply = one_if(self.controller.awaits());
         let unfinished = self.controller.waiting();
-        let uncollected = self.controller.outcomes().len();
+        let uncollected = self.controller.uncollected();
         room - self.log.entries().len() - (close + reply + 2 * unfinished + uncollected)
     }
 
@@ -311,7 +286,7 @@ impl Session {
     }
 }
 
-// What a session that is set up so stands behind.
+// What a session that is set up so stands after.
 fn opening_of(config: &Config) -> Opening
     ensures { result ≡ opened config.now }
 {
@@ -324,6 +299,16 @@ fn opening_of(config: &Config) -> Opening
         closed: false,
         next_request: 0,
         next_tn: 0,
+    }
+}
+
+// Finishes all that is due, with an entry for each.
+fn finish_due(controller: &mut Controller, log: &mut Log)
+    requires { SessionAmid controller.old log.old }
+    ensures { FinishesDue log.old controller.new log.new }
+{
+    while let Some(entry) = controller.finish_next() {
+        log.append(entry);
     }
 }
 

@@ -2,6 +2,8 @@
 
 mod closing;
 mod controller;
+mod faults;
+mod limits;
 mod packets;
 mod parts;
 mod places;

@@ -1,5 +1,4 @@
 //! Requests, and replies in bytes.
-use crate::config::MOST_PLACES;
 use crate::{ClientId, Completion, Config, Log, Outcome, Session};
 use arrayvec::ArrayVec;
 use rdm_join::{LineEvent, LineReply};
@@ -17,17 +16,17 @@ pub const ACK: u8 = 0x00;
 /// A reply with a part of the answer.
 pub const ACK_OVERFLOW: u8 = 0x03;
 
-/// A log with so many free entries is large enough.
+/// A log with so many free entries is large enough for most tests.
 pub const AMPLE: usize = 2000;
 
 /// A session of `7a70:00000100` with so many places, and a log with so many free entries.
 pub fn session(alloc: Global, places: u16, free: usize) -> Result<Session, Fail> {
     let config = Config {
         source: Uid::new(0x7a70, 0x100),
-        places: places.min(MOST_PLACES),
+        places: places.min(4080),
         budget: 1,
     };
-    let log = Log::new(alloc, free.min(AMPLE))?;
+    let log = Log::new(alloc, free.min(1_000_000))?;
     let made = Session::new(alloc, config, log);
     Ok(made.map_err(|(fault, _)| fault)?)
 }

@@ -30,7 +30,11 @@ fn a_whole_exchange(rt: HostRuntime) -> Result<(), Fail> {
     );
     assert!(rt; matches!(&answers[3], Answer::Deliver(Ok(()))));
     assert!(rt;
-        matches!(&answers[4], Answer::Collect(Some(Outcome::Request { number: Some(0), done })) if done.status == Status::Timeout)
+        matches!(
+            &answers[4],
+            Answer::Collect(Some(Outcome::Request { number: Some(0), done }))
+                if done.status == Status::Timeout
+        )
     );
     assert!(rt; matches!(&answers[5], Answer::Close));
     assert!(rt; session.is_closed() && session.is_idle());
@@ -63,5 +67,34 @@ fn no_events(rt: HostRuntime) -> Result<(), Fail> {
     let answers = session.run(rt.alloc(), Vec::new(rt.alloc()).as_slice())?;
     assert!(rt; answers.is_empty());
     assert!(rt; session.log().entries().is_empty());
+    Ok(())
+}
+
+#[test]
+fn hundreds_of_events(rt: HostRuntime) -> Result<(), Fail> {
+    let mut session = session(rt.alloc(), 255, AMPLE)?;
+    let mut events = Vec::new(rt.alloc());
+    events.push(Event::Join(255))?;
+    for _ in 0..200 {
+        events.push(Event::Submit(CLIENT, get()))?;
+        events.push(Event::Take)?;
+        events.push(Event::Deliver(silence()))?;
+        events.push(Event::Collect(CLIENT))?;
+    }
+    let answers = session.run(rt.alloc(), events.as_slice())?;
+    assert_eq!(rt; answers.len(), 801);
+    let frames = answers
+        .iter()
+        .filter(|answer| matches!(**answer, Answer::Take(Ok(Some(_)))))
+        .count();
+    assert_eq!(rt; frames, 200);
+    let outcomes = answers
+        .iter()
+        .filter(|answer| matches!(**answer, Answer::Collect(Some(_))))
+        .count();
+    assert_eq!(rt; outcomes, 200);
+    assert!(rt; matches!(&answers[797], Answer::Submit(Ok(199))));
+    assert_eq!(rt; session.log().entries().len(), 1001);
+    assert!(rt; session.is_idle());
     Ok(())
 }

@@ -1,4 +1,4 @@
-use Rattle.rdm_queue.proofs.CallLemmas.{given_each}
+use Rattle.rdm_queue.proofs.BodyLemmas.CallLemmas.{given_each}
 use Rattle.rdm_queue.proofs.controller.Controller.give.Goals as goal
 
 pub returns-clause-frame : goal.returns-clause-frame

@@ -1,4 +1,4 @@
-use Rattle.rdm_queue.proofs.AfterLemmas.{first_after}
+use Rattle.rdm_queue.proofs.BodyLemmas.AfterLemmas.{first_after}
 use Rattle.rdm_queue.proofs.controller.Controller.new.Goals as goal
 
 pub returns : goal.returns

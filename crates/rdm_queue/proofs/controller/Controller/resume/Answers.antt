@@ -1,8 +1,9 @@
-use Rattle.std.proofs.Common.{◌∙◌, sym}
-use Rattle.rdm_queue.proofs.AfterLemmas.{resume_after}
+use Rattle.std.proofs.Common.{◌≡◌, true, false, ◌∷◌, [], refl, sym, ◌∙◌}
+use Rattle.rdm_queue.specs.declared.entry.Entry.TheVariants.{Resume}
+use Rattle.rdm_queue.proofs.BodyLemmas.AfterLemmas.{resume_after}
 use Rattle.rdm_queue.proofs.controller.Controller.resume.Goals as goal
 
-pub returns-then-can_resume-clause-resumed : goal.returns-then-can_resume-clause-resumed
-returns-then-can_resume-clause-resumed c = λ o h after.
+pub returns-then-can_resume-clause-adds : goal.returns-then-can_resume-clause-adds
+returns-then-can_resume-clause-adds c = λ o h after.
     let can = sym (c.can_resume.ensures o h after) ∙ c.if-can_resume.true in
-    rw (can, c.set_paused.ensures, c.self.view_is) (resume_after o h c.args.self.now can after)
+    record { block = Resume ∷ []; adds = rw can refl; after = rw (c.set_paused.ensures, c.self.view_is) (resume_after o h c.args.self.now can after) }

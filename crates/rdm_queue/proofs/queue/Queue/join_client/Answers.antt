@@ -1,5 +1,5 @@
 use Rattle.std.proofs.Common.{arith}
-use Rattle.rdm_queue.proofs.HeldLemmas.{vectors-le}
+use Rattle.rdm_queue.proofs.BodyLemmas.FieldLemmas.{vectors-le}
 use Rattle.rdm_queue.proofs.queue.Queue.join_client.Goals as goal
 
 pub reserve_up_to-requires : goal.reserve_up_to-requires

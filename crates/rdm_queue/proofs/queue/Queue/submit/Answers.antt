@@ -1,5 +1,5 @@
 use Rattle.std.proofs.Common.{sym, ◌∙◌}
-use Rattle.rdm_queue.proofs.HeldLemmas.{waiting-lt}
+use Rattle.rdm_queue.proofs.BodyLemmas.FieldLemmas.{waiting-lt}
 use Rattle.rdm_queue.proofs.queue.Queue.submit.Goals as goal
 
 pub push_reserved-requires : goal.push_reserved-requires

@@ -1,6 +1,6 @@
 use Rattle.std.proofs.Common.{◌∷◌, [], sym, ◌∙◌, arith}
 use Rattle.rdm_queue.specs.declared.entry.Entry.TheVariants.{Pause}
-use Rattle.rdm_queue.proofs.RecordedLemmas.{free_of, recorded_grown}
+use Rattle.rdm_queue.proofs.BodyLemmas.SessionLemmas.{free_of, session_grown}
 use Rattle.rdm_queue.proofs.session.Session.pause.Goals as goal
 
 pub invariant_of-self : goal.invariant_of-self
@@ -9,4 +9,5 @@ invariant_of-self c =
     let free = (rw (← c.self.view_is) at (free_of c.args.self.now (sym c.is_full.ensures ∙ c.if-is_full.false))) in
     let after = c.self.invariant.after in
     let can = sym (c.can_pause.ensures k.opening k.entries after) ∙ c.if-not-can_pause.false in
-    rw c.append.ensures (recorded_grown c.self.inside.controller c.pause.new.self k (Pause ∷ []) c.self.invariant (rw can at (c.pause.ensures.paused k.opening k.entries after)) (omega arith))
+    let stands = c.pause.ensures.adds k.opening k.entries after in
+    rw c.append.ensures (session_grown c.self.inside.controller c.pause.new.self k (Pause ∷ []) c.self.invariant (rw (stands.adds, can) at stands.after) (omega arith))

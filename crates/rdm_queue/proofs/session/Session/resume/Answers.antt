@@ -1,6 +1,6 @@
 use Rattle.std.proofs.Common.{◌∷◌, [], sym, ◌∙◌, arith}
 use Rattle.rdm_queue.specs.declared.entry.Entry.TheVariants.{Resume}
-use Rattle.rdm_queue.proofs.RecordedLemmas.{free_of, recorded_grown}
+use Rattle.rdm_queue.proofs.BodyLemmas.SessionLemmas.{free_of, session_grown}
 use Rattle.rdm_queue.proofs.session.Session.resume.Goals as goal
 
 pub invariant_of-self : goal.invariant_of-self
@@ -9,4 +9,5 @@ invariant_of-self c =
     let free = (rw (← c.self.view_is) at (free_of c.args.self.now (sym c.is_full.ensures ∙ c.if-is_full.false))) in
     let after = c.self.invariant.after in
     let can = sym (c.can_resume.ensures k.opening k.entries after) ∙ c.if-not-can_resume.false in
-    rw c.append.ensures (recorded_grown c.self.inside.controller c.resume.new.self k (Resume ∷ []) c.self.invariant (rw can at (c.resume.ensures.resumed k.opening k.entries after)) (omega arith))
+    let stands = c.resume.ensures.adds k.opening k.entries after in
+    rw c.append.ensures (session_grown c.self.inside.controller c.resume.new.self k (Resume ∷ []) c.self.invariant (rw (stands.adds, can) at stands.after) (omega arith))

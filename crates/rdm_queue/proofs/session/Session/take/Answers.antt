@@ -1,10 +1,10 @@
 use Rattle.std.proofs.Common.{◌∷◌, [], sym, ◌∙◌, arith}
 use Rattle.rdm_queue.specs.declared.entry.Entry.TheVariants.{Send}
-use Rattle.rdm_queue.proofs.RecordedLemmas.{free_of, recorded_grown}
+use Rattle.rdm_queue.proofs.BodyLemmas.SessionLemmas.{free_of, session_grown}
 use Rattle.rdm_queue.proofs.session.Session.take.Goals as goal
 
 pub invariant_of-self-2 : goal.invariant_of-self-2
 invariant_of-self-2 c =
     let k = c.self.inside.log in
     let free = (rw (← c.self.view_is) at (free_of c.args.self.now (sym c.is_full.ensures ∙ c.if-is_full.false))) in
-    rw (c.append.ensures, c.copy_of_frame-copy.ensures) (recorded_grown c.self.inside.controller c.give.new.self k (Send c.in-Some.owner c.in-Some.frame ∷ []) c.self.invariant (c.in-Some.ensures.frame k.opening k.entries c.self.invariant.after).1 (omega arith))
+    rw (c.append.ensures, c.copy_of_frame-copy.ensures) (session_grown c.self.inside.controller c.give.new.self k (Send c.in-Some.owner c.in-Some.frame ∷ []) c.self.invariant (c.in-Some.ensures.frame k.opening k.entries c.self.invariant.after).1 (omega arith))

@@ -1,0 +1,76 @@
+-- What a queue's calls say for each log that it stands after.
+use Rattle.std.proofs.Common.{◌≡◌, ℕ, ◌∙◌, ◌<◌, Bool, true, false, List, [], ◌∷◌, ◌++◌, length, Option, Some, None, Result, Ok, Err, refl, sym, ap, append-nil, append_assoc}
+use Rattle.std.specs.Prelude.{IfOk, IfErr, IfSome, IfNone, OnErr, OnSome, option_map, slice_get}
+use Rattle.arrayvec.specs.ArrayVec.{ArrayVec}
+use Rattle.rdm_wire.specs.declared.request.Request.{Request}
+use Rattle.rdm_queue.specs.declared.entry.ClientId.{ClientId}
+use Rattle.rdm_queue.specs.declared.entry.Owner.{Owner}
+use Rattle.rdm_queue.specs.declared.entry.Opening.{Opening}
+use Rattle.rdm_queue.specs.declared.entry.Entry.{Entry}
+use Rattle.rdm_queue.specs.declared.entry.Entry.TheVariants.{Join, Accept, Send, Collect}
+use Rattle.rdm_queue.specs.declared.fault.JoinFault.{JoinFault}
+use Rattle.rdm_queue.specs.declared.fault.SubmitFault.{SubmitFault}
+use Rattle.rdm_queue.specs.declared.outcome.Outcome.{Outcome}
+use Rattle.rdm_queue.specs.log.MaySend.{MaySend, NoSend}
+use Rattle.rdm_queue.specs.log.Refusals.{join_fault, submit_fault}
+use Rattle.rdm_queue.specs.promises.Outcomes.{outcome_value}
+use Rattle.rdm_queue.specs.promises.Blocks.{RefusesJoin, join_refused, submit_refused, JoinAdds, SubmitAdds, SwitchAdds, TakeAdds, CollectAdds, IsWithResults, is_result}
+use Rattle.rdm_queue.specs.body.State.{QueueState, first_join_fault, first_submit_fault, accepts_request, IsGiven, owed_to, owed_value, without_first, due, IsFinished}
+use Rattle.rdm_queue.specs.body.Agrees.{StandsAfter, StandsAmid, StandsWith, ForEachLog, ForEachBlock, AddsToEach, FinishesAll}
+use Rattle.rdm_queue.proofs.BodyLemmas.AfterLemmas.{join_fault_is, join_after, join_refused_after, submit_fault_is, submit_after, submit_refused_after, take_after, oldest_after, collect_after, none_owed_after}
+use Rattle.rdm_queue.proofs.BodyLemmas.AfterFinish.{finish_amid, settled_after, fewer_wait}
+
+-- a call that adds nothing
+pub adds_nothing : (o : Opening) (h : List Entry) (Adds : List Entry → Type 0) (s : QueueState) → Adds [] → StandsAfter o h s → StandsWith o h Adds s
+adds_nothing o h Adds s none after = record { block = []; adds = none; after = rw append-nil after }
+
+pub join_adds : (r : Result ClientId JoinFault) (s new : QueueState) (n : ℕ) → IfOk r (λ c. (first_join_fault s n ≡ None) × (c.0 ≡ length s.places) × (new ≡ record s { places = s.places ++ n ∷ [] }))
+    → IfErr r (λ fault. RefusesJoin (first_join_fault s n) fault) → OnErr r (new ≡ s) → AddsToEach s (λ o h. JoinAdds o h n r) new
+join_adds (Ok c) s new n joined refused same = λ o h after.
+    let passes = sym (join_fault_is o h s n after.stands) ∙ joined.0 in
+    record { block = Join c n ∷ []; adds = (passes, joined.1 ∙ ap length after.stands.places_are, refl); after = rw joined.2 (join_after o h s c n passes joined.1 after) }
+join_adds (Err fault) s new n joined refused same = λ o h after.
+    let refuses : RefusesJoin (join_fault o h n) fault = rw (join_fault_is o h s n after.stands) at refused in
+    record { block = join_refused n fault ∷ []; adds = (refuses, refl); after = rw same (join_refused_after o h s n fault refuses after) }
+
+pub submit_adds : (r : Result ℕ (SubmitFault × Request)) (s new : QueueState) (c : ClientId) (request : Request) → IfOk r (λ n. (first_submit_fault s c.0 ≡ None) × (n ≡ s.next_request) × (new ≡ accepts_request s c.0 request))
+    → IfErr r (λ e. (first_submit_fault s c.0 ≡ Some e.0) × (e.1 ≡ request)) → OnErr r (new ≡ s) → AddsToEach s (λ o h. SubmitAdds o h c request r) new
+submit_adds (Ok n) s new c request accepted refused same = λ o h after.
+    let passes = sym (submit_fault_is o h s c.0 after) ∙ accepted.0 in
+    record { block = Accept c n request ∷ []; adds = (passes, accepted.1 ∙ after.stands.next_request_is, refl); after = rw accepted.2 (submit_after o h s c n request passes accepted.1 after) }
+submit_adds (Err e) s new c request accepted refused same = λ o h after.
+    let refuses = sym (submit_fault_is o h s c.0 after) ∙ refused.0 in
+    record { block = submit_refused c request e.0 ∷ []; adds = (refuses, refused.1, refl); after = rw same (submit_refused_after o h s c request e.0 refuses after) }
+
+pub given_each : (r : Option (Owner × ArrayVec ℕ)) (s new : QueueState) → IfSome r (λ given. IsGiven s given.0 given.1 new)
+    → IfSome r (λ given. ForEachLog s (λ o h. MaySend o h given.0 given.1 × StandsAfter o (h ++ Send given.0 given.1 ∷ []) new))
+given_each None s new given = tt
+given_each (Some g) s new given = λ o h after. let sent = take_after o h s g.0 g.1 new given after in (sent.may, sent.after)
+
+-- a switch
+pub switch_adds : (o : Opening) (h : List Entry) (e : Entry) (b : Bool) (s new : QueueState) → (b ≡ true → StandsAfter o (h ++ e ∷ []) new) → (b ≡ false → StandsAfter o h new) → StandsWith o h (SwitchAdds b e) new
+switch_adds o h e true s new turned stays = record { block = e ∷ []; adds = refl; after = turned refl }
+switch_adds o h e false s new turned stays = adds_nothing o h (SwitchAdds false e) new refl (stays refl)
+
+-- a collect
+pub collect_adds : (r : Option Outcome) (s new : QueueState) (c : ClientId) → option_map outcome_value r ≡ option_map owed_value (slice_get (owed_to c.0 s) 0) → OnSome r (new ≡ record s { outcomes = without_first c.0 s.outcomes })
+    → IfNone r (new ≡ s) → AddsToEach s (λ o h. CollectAdds o h c r) new
+collect_adds None s new c told taken same = λ o h after. record { block = []; adds = (none_owed_after o h s c.0 told after, refl); after = rw (same, append-nil) after }
+collect_adds (Some outcome) s new c told taken same = λ o h after. record { block = Collect c ∷ []; adds = (oldest_after o h s c outcome told after, refl); after = rw taken (collect_after o h s c outcome told after) }
+
+-- what is due
+pub finished_each : (r : Option Entry) (s new : QueueState) → IfSome r (λ entry. IsFinished s entry new) → IfSome r (λ entry. (is_result entry ≡ true) × ForEachBlock s (λ o h. StandsAmid o (h ++ entry ∷ []) new))
+finished_each None s new is = tt
+finished_each (Some entry) s new is = (rw is.entry_is refl, λ o h amid. rw (is.entry_is, is.new_is) (finish_amid o h s is.owed is.was_due amid))
+
+pub finished_fewer : (r : Option Entry) (s new : QueueState) → IfSome r (λ entry. IsFinished s entry new) → OnSome r (length new.waiting < length s.waiting)
+finished_fewer None s new is = tt
+finished_fewer (Some entry) s new is = rw is.new_is (fewer_wait s is.owed is.was_due)
+
+pub settled_each : (r : Option Entry) (s new : QueueState) → IfNone r ((due s ≡ None) × (new ≡ s)) → IfNone r (ForEachBlock s (λ o h. StandsAfter o h s) × (new ≡ s))
+settled_each (Some entry) s new is = tt
+settled_each None s new is = ((λ o h amid. settled_after o h s is.0 amid), is.1)
+
+-- an entry and the Finishes that are due then
+pub with_results : (o : Opening) (h : List Entry) (e : Entry) (new : QueueState) → FinishesAll o (h ++ e ∷ []) new → StandsWith o h (IsWithResults e) new
+with_results o h e new all = record { block = e ∷ all.results; adds = record { results = all.results; whole = refl; each = all.each }; after = rw (append_assoc h (e ∷ []) all.results) at all.after }

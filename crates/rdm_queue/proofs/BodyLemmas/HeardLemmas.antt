@@ -1,0 +1,44 @@
+-- What a reply makes of the oldest request.
+use Rattle.std.proofs.Common.{◌≡◌, ◌<◌, List, length, Option, Some, None, refl, sym, ◌∙◌, inl, inr}
+use Rattle.std.specs.Prelude.{◌⊎◌}
+use Rattle.rdm_join.specs.declared.verdict.Judged.{Judged}
+use Rattle.rdm_join.specs.declared.status.Status.{Status}
+use Rattle.rdm_join.specs.declared.status.Status.TheVariants.{NoMemory}
+use Rattle.rdm_join.specs.declared.joiner.Step.TheVariants.{More, Done}
+use Rattle.rdm_join.specs.Result.{Joined, result_of, ended}
+use Rattle.rdm_join.specs.JoinerStanding.{JoinerStanding, StandsAt, standing_at, step_of, head_of_standing}
+use Rattle.rdm_queue.specs.body.State.{fresh_joiner, GivesResult, ProgressAt, IsProgress}
+
+-- the completion of a joiner that stands at a result
+abbrev pub CompletesAs : Status → JoinerStanding → Joined → Type 0
+CompletesAs status s done =
+    (done ≡ record { status = status; data_ = s.data_; head = head_of_standing s }) ⊎ ((done ≡ ended NoMemory) × (0 < length s.data_))
+
+gives : (status : Status) (j done : Joined) (s : JoinerStanding) (vs : List Judged) → status ≡ j.status → s ≡ standing_at (Some j) vs → CompletesAs status s done → GivesResult j done
+gives status j done s vs same at (inl own) = inl (own ∙ rw (same, at) refl)
+gives status j done s vs same at (inr wanted) = inr (wanted.0, rw at at wanted.1)
+
+-- decided, with this completion
+pub heard_done : (vs : List Judged) (status : Status) (s : JoinerStanding) (done : Joined) → Done status ≡ step_of (result_of vs) → StandsAt vs s → CompletesAs status s done → IsProgress vs (Some done) fresh_joiner
+heard_done vs status s done step at completes = by_result (result_of vs) step at
+  where
+    by_result : (o : Option Joined) → Done status ≡ step_of o → s ≡ standing_at o vs → ProgressAt o vs (Some done) fresh_joiner
+    by_result None h p = absurd (no h)
+      where
+        no : Done status ≡ More → ⊥
+        no h = cc
+    by_result (Some j) h p = (done, gives status j done s vs (of_done h) p completes, refl, refl)
+      where
+        of_done : Done status ≡ Done j.status → status ≡ j.status
+        of_done h = cc
+
+-- still open
+pub heard_more : (vs : List Judged) (s : JoinerStanding) → More ≡ step_of (result_of vs) → StandsAt vs s → IsProgress vs None s
+heard_more vs s step at = by_result (result_of vs) refl step
+  where
+    by_result : (o : Option Joined) → result_of vs ≡ o → More ≡ step_of o → ProgressAt o vs None s
+    by_result None is h = (refl, at)
+    by_result (Some j) is h = absurd (no h)
+      where
+        no : More ≡ Done j.status → ⊥
+        no h = cc

@@ -1,0 +1,79 @@
+-- A session's log keeps its room, and its controller stands after it.
+use Rattle.std.proofs.Common.{◌≡◌, ℕ, ◌+◌, ◌≤◌, Bool, true, false, List, [], ◌∷◌, ◌++◌, length, append_assoc, append-nil, length-append, refl, sym, ap, ◌∙◌, arith}
+use Rattle.std.proofs.lemmas.Bool.{ltb-false}
+use Rattle.rdm_queue.specs.declared.config.Config.{Config}
+use Rattle.rdm_queue.specs.declared.entry.Opening.{Opening}
+use Rattle.rdm_queue.specs.declared.entry.Entry.{Entry}
+use Rattle.rdm_queue.specs.declared.entry.Entry.TheVariants.{Finish}
+use Rattle.rdm_queue.specs.log.Entries.{accepts, finishes, collectors}
+use Rattle.rdm_queue.specs.log.History.{is_closed, awaited, reserved}
+use Rattle.rdm_queue.specs.log.LogState.{LogState, grown, free_entries, is_full_log, opened}
+use Rattle.rdm_queue.specs.promises.Blocks.{UnlessFull, is_result, AllResults}
+use Rattle.rdm_queue.specs.body.State.{QueueState}
+use Rattle.rdm_queue.specs.body.Agrees.{StandsAfter, StandsAmid}
+use Rattle.rdm_queue.specs.body.SessionInvariant.{HasRoom, SessionInvariant, SessionAmid, FinishesDue}
+use Rattle.rdm_wire.specs.Lists.{EachAfter}
+use Rattle.rdm_queue.specs.log.Legal.{MayFollow}
+use Rattle.rdm_queue.proofs.LogLemmas.RoomLemmas.{added, added_by, taken_block}
+
+-- a block within the free entries
+room_grown : (k : LogState) (block : List Entry) → HasRoom k → EachAfter (MayFollow k.opening) (k.entries ++ block) → added_by block ≤ free_entries k → HasRoom (grown k block)
+room_grown k block room each free = within (taken_block k.opening k.entries block each) room
+  where
+    within : {n : ℕ} → n ≡ length k.entries + reserved k.opening k.entries + added_by block → length k.entries + reserved k.opening k.entries ≤ k.room → n ≤ k.room
+    within e r = omega arith
+
+pub session_grown : (s new : QueueState) (k : LogState) (block : List Entry) → SessionInvariant s k → StandsAfter k.opening (k.entries ++ block) new → added_by block ≤ free_entries k → SessionInvariant new (grown k block)
+session_grown s new k block kept after free = record { after = after; room = room_grown k block kept.room after.legal.each free }
+
+pub amid_grown : (s new : QueueState) (k : LogState) (e : Entry) → SessionAmid s k → StandsAmid k.opening (k.entries ++ e ∷ []) new → added e ≡ 0 → SessionAmid new (grown k (e ∷ []))
+amid_grown s new k e before amid none = record { amid = amid; room = room_grown k (e ∷ []) before.room amid.each (omega (arith, none)) }
+
+pub amid_begun : (s new : QueueState) (k : LogState) (e : Entry) → SessionInvariant s k → StandsAmid k.opening (k.entries ++ e ∷ []) new → added e ≡ 0 → SessionAmid new (grown k (e ∷ []))
+amid_begun s new k e kept amid none = record { amid = amid; room = room_grown k (e ∷ []) kept.room amid.each (omega (arith, none)) }
+
+-- what stands has its room
+pub room_for : (k : LogState) (e : Entry) → HasRoom (grown k (e ∷ [])) → length k.entries + 1 ≤ k.room
+room_for k e room = omega (arith, room, length-append k.entries (e ∷ []))
+
+pub free_of : (k : LogState) → is_full_log k ≡ false → 3 ≤ free_entries k
+free_of k free = ltb-false (free_entries k) 3 free
+
+-- a Finish takes nothing
+pub result_added : (e : Entry) → is_result e ≡ true → added e ≡ 0
+result_added (Finish n status len) is = refl
+result_added e is = absurd (no is)
+  where
+    no : false ≡ true → ⊥
+    no h = cc
+
+-- a call that the log has room for, and one that it hasn't
+pub not_full : (A B : Type 0) (full : Bool) → full ≡ false → B → UnlessFull full A B
+not_full A B true is adds = absurd (no is)
+  where
+    no : true ≡ false → ⊥
+    no h = cc
+not_full A B false is adds = adds
+
+pub full : (A B : Type 0) (full : Bool) → full ≡ true → A → UnlessFull full A B
+full A B true is refused = refused
+full A B false is refused = absurd (no is)
+  where
+    no : false ≡ true → ⊥
+    no h = cc
+
+-- a log that grew by nothing
+pub grown_none : (k : LogState) → k ≡ grown k []
+grown_none k = ap (λ (l : List Entry). record k { entries = l }) (sym (append-nil k.entries))
+
+pub grown_twice : (k : LogState) (a b : List Entry) → grown (grown k a) b ≡ grown k (a ++ b)
+grown_twice k a b = ap (λ (l : List Entry). record k { entries = l }) (append_assoc k.entries a b)
+
+pub all_results_more : (block : List Entry) (e : Entry) → AllResults block → is_result e ≡ true → AllResults (block ++ e ∷ [])
+all_results_more [] e all is = (is, tt)
+all_results_more (x ∷ block) e all is = (all.0, all_results_more block e all.1 is)
+
+-- a session that begins
+pub session_first : (s : QueueState) (config : Config) (room : ℕ) → 1 ≤ room → StandsAfter (opened config) [] s → SessionInvariant s (record { opening = opened config; entries = []; room = room })
+unfolding accepts finishes collectors awaited is_closed
+session_first s config room some after = record { after = after; room = omega (arith, some) }

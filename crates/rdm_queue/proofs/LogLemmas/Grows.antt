@@ -1,0 +1,25 @@
+-- A log that grows.
+use Rattle.std.proofs.Common.{◌≡◌, List, [], ◌∷◌, ◌++◌, refl}
+use Rattle.rdm_wire.specs.Lists.{EachAfter}
+use Rattle.rdm_wire.proofs.EachAfterLemmas.{EachAfter-push, EachAfter-front}
+use Rattle.rdm_queue.specs.declared.entry.Opening.{Opening}
+use Rattle.rdm_queue.specs.declared.entry.Entry.{Entry}
+use Rattle.rdm_queue.specs.log.Entries.{accepts, finishes}
+use Rattle.rdm_queue.specs.log.Legal.{MayFollow, Legal}
+
+pub pushed : (o : Opening) (h : List Entry) (e : Entry) → EachAfter (MayFollow o) h → MayFollow o h e → EachAfter (MayFollow o) (h ++ e ∷ [])
+pushed o h e all last = EachAfter-push (MayFollow o) h e all last
+
+pub front : (o : Opening) (h more : List Entry) → EachAfter (MayFollow o) (h ++ more) → EachAfter (MayFollow o) h
+front o h more all = EachAfter-front (MayFollow o) h more all
+
+no_element : (front back : List Entry) (e : Entry) → [] ≡ front ++ e ∷ back → ⊥
+no_element [] back e w = cc
+no_element (f ∷ front) back e w = cc
+
+pub empty : (o : Opening) → Legal o []
+unfolding accepts finishes
+empty o = record {
+  each = λ before back e w. absurd (no_element before back e w);
+  settled = record { results_open = tt; all_closed = λ closed waits. refl };
+}

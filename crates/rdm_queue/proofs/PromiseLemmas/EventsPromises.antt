@@ -1,0 +1,168 @@
+-- What is promised of a list of events.
+use Rattle.std.proofs.Common.{◌≡◌, ℕ, ◌+◌, ◌-◌, ◌<◌, true, false, List, [], ◌∷◌, ◌++◌, length, map, Option, Some, None, slice_get, refl, sym, ap, ◌∙◌, append_assoc, arith}
+use Rattle.std.specs.Prelude.{Ok, Err, option_map}
+use Rattle.std.specs.List.{Contains}
+use Rattle.std.proofs.lemmas.List.Elements.{Contains-append_left, Contains-append_right}
+use Rattle.std.proofs.lemmas.List.{length-map}
+use Rattle.std.proofs.lemmas.Bool.{false≢true, eqb-true}
+use Rattle.std.proofs.lemmas.Option.{none-some, slice_get_within, get_or_from_slice_get, slice_get-get_or, slice_get-map, same_Some}
+use Rattle.rdm_wire.specs.Lists.{EachAfter}
+use Rattle.rdm_wire.specs.declared.request.Request.{Request}
+use Rattle.rdm_queue.specs.declared.entry.ClientId.{ClientId}
+use Rattle.rdm_queue.specs.declared.entry.Opening.{Opening}
+use Rattle.rdm_queue.specs.declared.entry.Entry.{Entry}
+use Rattle.rdm_queue.specs.declared.entry.Entry.TheVariants.{Accept, Finish}
+use Rattle.rdm_queue.specs.declared.entry.Call.TheVariants as calls
+use Rattle.rdm_queue.specs.declared.fault.SubmitFault.TheVariants.{Full}
+use Rattle.rdm_queue.specs.declared.outcome.Outcome.{Outcome}
+use Rattle.rdm_queue.specs.declared.event.Event.{Event}
+use Rattle.rdm_queue.specs.declared.event.Event.TheVariants as events
+use Rattle.rdm_queue.specs.declared.event.Answer.{Answer}
+use Rattle.rdm_queue.specs.declared.event.Answer.TheVariants as answers
+use Rattle.rdm_queue.specs.log.Entries.{Accepted, accepted_of, accepts, result}
+use Rattle.rdm_queue.specs.log.Clients.{client_of_request, is_just, is_answer_to, answers_to, collects_by, uncollected}
+use Rattle.rdm_queue.specs.log.Refusals.{submit_fault}
+use Rattle.rdm_queue.specs.promises.Outcomes.{outcome_of, completion_of, outcome_value}
+use Rattle.rdm_queue.specs.promises.Outcomes.OutcomeValue.{RequestValue}
+use Rattle.rdm_queue.specs.log.Legal.{MayFollow, Legal}
+use Rattle.rdm_queue.specs.log.LogState.{LogState, grown, is_full_log}
+use Rattle.rdm_queue.specs.promises.Blocks.{submit_refused, SubmitAdds, IsOldest}
+use Rattle.rdm_queue.proofs.PromiseLemmas.BlockLemmas.{submit_ok, submit_full}
+use Rattle.rdm_queue.specs.promises.Explains.{Adds, Explains}
+use Rattle.rdm_queue.specs.promises.Headline.{IsFull, numbers_accepted}
+use Rattle.rdm_queue.specs.promises.EventsHeadline.{AnsweredAt, FullExactly, refuses_full, IsOwnOutcome, EventsPromised}
+use Rattle.rdm_queue.proofs.LogLemmas.Grows.{front}
+use Rattle.rdm_queue.proofs.LogLemmas.LegalFacts.{legal_facts}
+use Rattle.rdm_queue.proofs.LogLemmas.Places.{slice_get-drop, filter_map_has}
+use Rattle.rdm_queue.proofs.LogLemmas.ClientLemmas.{client_stays}
+use Rattle.rdm_queue.proofs.PromiseLemmas.StableResults.{filter_has, IsFinish, uncollected_finish}
+use Rattle.rdm_queue.proofs.PromiseLemmas.OwnAnswers.{finished_stays}
+use Rattle.rdm_queue.proofs.PromiseLemmas.OneResult.{one_result}
+use Rattle.rdm_queue.proofs.PromiseLemmas.FullRefuses.{full_is_fault, fault_is_full, refusal_changes_nothing}
+use Rattle.rdm_queue.proofs.PromiseLemmas.Promises.{promised}
+use Rattle.rdm_queue.proofs.PromiseLemmas.CollectedEvents.{collected_once}
+use Rattle.rdm_queue.proofs.PromiseLemmas.ClosedEvents.{closes, nothing_after, nothing_closed}
+use Rattle.rdm_queue.proofs.PromiseLemmas.QuietEvents.{idle_after}
+use Rattle.rdm_queue.proofs.PromiseLemmas.RisingNumbers.{numbers_rise}
+use Rattle.rdm_queue.proofs.PromiseLemmas.ExplainsLemmas.{IsPlaced, placed, one_answer_each, explained_grows, answered_at}
+
+contains_from_get : {X : Type 0} (xs : List X) (i : ℕ) (x : X) → slice_get xs i ≡ Some x → Contains xs x
+contains_from_get xs i x at = (i, slice_get_within xs i x at, get_or_from_slice_get xs i x x at)
+
+contains_last : {X : Type 0} (xs : List X) (x : X) → Contains (xs ++ x ∷ []) x
+contains_last xs x = Contains-append_right xs (x ∷ []) x (0, omega arith, refl)
+
+-- a block stands in the new log, and each of its entries may follow what stands before it
+block_contained : (new before : LogState) (block : List Entry) (e : Entry) → IsPlaced new before block → block ≡ e ∷ [] → Contains new.entries e
+block_contained new before block e place is = rw (place.whole, is) (Contains-append_left (before.entries ++ e ∷ []) place.back e (contains_last before.entries e))
+
+block_follows : (new before : LogState) (block : List Entry) (entries : List Entry) → IsPlaced new before block → block ≡ entries → EachAfter (MayFollow new.opening) new.entries → EachAfter (MayFollow new.opening) (before.entries ++ entries)
+block_follows new before block entries place is each = front new.opening (before.entries ++ entries) place.back (rw (place.whole, is) at each)
+
+-- a request that was accepted stands in the log
+accepted : (old : LogState) (es : List Event) (rs : List Answer) (new : LogState) → Explains old es rs new → (i : ℕ) (c : ClientId) (n : ℕ) (request : Request) → slice_get es i ≡ Some (events.Submit c request) → slice_get rs i ≡ Some (answers.Submit (Ok n)) → Contains new.entries (Accept c n request)
+accepted old es rs new explains i c n request at_e at_r =
+    let at = answered_at old es rs new explains i (events.Submit c request) (answers.Submit (Ok n)) at_e at_r in
+    block_contained new at.before at.here.block (Accept c n request) (placed old es rs new i (events.Submit c request) (answers.Submit (Ok n)) at) (submit_ok at.before c request n at.here.block at.here.adds).2
+
+number_contained : (h : List Entry) (c : ClientId) (n : ℕ) (request : Request) → Contains h (Accept c n request) → Contains (numbers_accepted (accepts h)) n
+unfolding accepts
+number_contained h c n request has =
+    let e : Entry = Accept c n request in
+    let a : Accepted = record { client = c.0; number = n; request = request } in
+    let found = filter_map_has accepted_of h has.0 e a (slice_get-get_or h has.0 e has.1 ∙ ap (λ x. Some x) has.2) refl in
+    contains_from_get (numbers_accepted (accepts h)) found.0 n (slice_get-map (λ b. b.number) (accepts h) found.0 ∙ ap (option_map (λ b. b.number)) found.1)
+
+-- a submit where the log isn't full
+full_answered : (k : LogState) (c : ClientId) (request : Request) (answer : Answer) (block : List Entry) → Adds k (events.Submit c request) answer block → is_full_log k ≡ false → answer ≡ refuses_full request → IsFull k.opening k.entries c.0
+full_answered k c request answer block adds room is = full_is_fault k.opening k.entries c.0 (submit_full k c request block (rw is at adds)).0
+
+answered_full : (k : LogState) (c : ClientId) (request : Request) (answer : Answer) (block : List Entry) → Adds k (events.Submit c request) answer block → is_full_log k ≡ false → submit_fault k.opening k.entries c.0 ≡ Some Full → answer ≡ refuses_full request
+answered_full k c request (answers.Submit (Ok n)) block adds room fault = absurd (none-some Full (sym (submit_ok k c request n block adds).0 ∙ fault))
+answered_full k c request (answers.Submit (Err e)) block adds room fault =
+    let own : SubmitAdds k.opening k.entries c request (Err e) block = rw room at adds in
+    rw (own.1, same_Some e.0 Full (sym own.0 ∙ fault)) refl
+answered_full k c request _ block adds room fault = absurd adds
+
+refused_block : (k : LogState) (c : ClientId) (request : Request) (answer : Answer) (block : List Entry) → Adds k (events.Submit c request) answer block → answer ≡ refuses_full request → block ≡ submit_refused c request Full ∷ []
+refused_block k c request answer block adds is = (submit_full k c request block (rw is at adds)).2
+
+full : (old : LogState) (es : List Event) (rs : List Answer) (new : LogState) → Explains old es rs new → Legal new.opening new.entries → (i : ℕ) (c : ClientId) (request : Request) (answer : Answer) → slice_get es i ≡ Some (events.Submit c request) → slice_get rs i ≡ Some answer → FullExactly old es rs new i c request answer
+full old es rs new explains legal i c request answer at_e at_r = record {
+  at = at;
+  exactly = λ room. (full_answered at.before c request answer at.here.block at.here.adds room, λ is. answered_full at.before c request answer at.here.block at.here.adds room (fault_is_full at.before.opening at.before.entries c.0 is));
+  refused = refused;
+  unchanged = λ is. rw (refused is) (refusal_changes_nothing new.opening at.before.entries (Some c) (calls.Submit request) (record { 0 = 3 }) (each is));
+}
+  where
+    at : AnsweredAt old es rs new i (events.Submit c request) answer
+    at = answered_at old es rs new explains i (events.Submit c request) answer at_e at_r
+
+    refused : answer ≡ refuses_full request → at.after ≡ grown at.before (submit_refused c request Full ∷ [])
+    refused is = at.here.grows ∙ ap (grown at.before) (refused_block at.before c request answer at.here.block at.here.adds is)
+
+    each : answer ≡ refuses_full request → EachAfter (MayFollow new.opening) (at.before.entries ++ submit_refused c request Full ∷ [])
+    each is =
+        block_follows new at.before at.here.block (submit_refused c request Full ∷ []) (placed old es rs new i (events.Submit c request) answer at) (refused_block at.before c request answer at.here.block at.here.adds is) legal.each
+
+answer_found : (o : Opening) (h : List Entry) (c : ℕ) (x : Entry) → slice_get (uncollected o c h) 0 ≡ Some x → (j : ℕ) × (slice_get h j ≡ Some x) × (is_answer_to o c h x ≡ true)
+unfolding answers_to
+answer_found o h c x oldest = filter_has (is_answer_to o c h) h (length (collects_by c h) + 0) x (sym (slice_get-drop (length (collects_by c h)) (answers_to o c h) 0) ∙ oldest)
+
+-- a client's oldest uncollected Finish, and its outcome in a later log
+just_is : (c : ℕ) (client : Option ℕ) → is_just c client ≡ true → client ≡ Some c
+just_is c None is = absurd (false≢true is)
+just_is c (Some d) is = ap (λ x. Some x) (sym (eqb-true c d is))
+
+own_outcome : (o : Opening) (h more : List Entry) (c : ℕ) (outcome : Outcome) → EachAfter (MayFollow o) (h ++ more) → IsOldest o h c outcome → IsOwnOutcome o (h ++ more) c outcome
+own_outcome o h more c outcome each is = record {
+  number = f.number;
+  status = f.status;
+  len = f.len;
+  finished = Contains-append_left h more (Finish f.number f.status f.len) (contains_from_get h found.0 (Finish f.number f.status f.len) (found.1 ∙ ap (λ x. Some x) f.is));
+  client = client_stays o h more f.number within ∙ client;
+  told = rw (finished_stays o h more f.number each f.finished) (sym (same_Some (RequestValue (Some f.number) (completion_of f.status (result f.number h))) (outcome_value outcome) told));
+}
+  where
+    f : IsFinish o h is.entry
+    f = uncollected_finish o h (legal_facts o h (front o h more each)) c 0 is.entry is.oldest
+
+    found : (j : ℕ) × (slice_get h j ≡ Some is.entry) × (is_answer_to o c h is.entry ≡ true)
+    found = answer_found o h c is.entry is.oldest
+
+    client : client_of_request o h f.number ≡ Some c
+    client = just_is c (client_of_request o h f.number) (rw f.is at found.2)
+
+    within : f.number - o.next_request < length (accepts h)
+    within = omega (arith, slice_get_within (map (λ (a : Accepted). a.client) (accepts h)) (f.number - o.next_request) c client, length-map (accepts h) (λ (a : Accepted). a.client))
+
+    told : outcome_of h (Finish f.number f.status f.len) ≡ Some (outcome_value outcome)
+    told = rw f.is at is.told
+
+collected : (old : LogState) (es : List Event) (rs : List Answer) (new : LogState) → Explains old es rs new → Legal new.opening new.entries → (i : ℕ) (c : ClientId) (outcome : Outcome) → slice_get es i ≡ Some (events.Collect c) → slice_get rs i ≡ Some (answers.Collect (Some outcome)) → IsOwnOutcome new.opening new.entries c.0 outcome
+collected old es rs new explains legal i c outcome at_e at_r = rw whole (own_outcome new.opening at.before.entries (at.here.block ++ place.back) c.0 outcome (rw whole at legal.each) (rw (← place.same_opening) at at.here.adds.0))
+  where
+    at : AnsweredAt old es rs new i (events.Collect c) (answers.Collect (Some outcome))
+    at = answered_at old es rs new explains i (events.Collect c) (answers.Collect (Some outcome)) at_e at_r
+
+    place : IsPlaced new at.before at.here.block
+    place = placed old es rs new i (events.Collect c) (answers.Collect (Some outcome)) at
+
+    whole : new.entries ≡ at.before.entries ++ (at.here.block ++ place.back)
+    whole = place.whole ∙ append_assoc at.before.entries at.here.block place.back
+
+pub events_promised : (old : LogState) (es : List Event) (rs : List Answer) (new : LogState) → Explains old es rs new → Legal new.opening new.entries → EventsPromised old es rs new
+events_promised old es rs new explains legal = record {
+  all_answered = one_answer_each old es rs new explains;
+  only_grows = explained_grows old es rs new explains;
+  log = promised new.opening new.entries legal;
+  accepted = accepted old es rs new explains;
+  finished = λ i j m c n request event at_e at_r before at_close at_deliver. (one_result new.opening new.entries legal).exactly_one (closes old es rs new explains j at_close) (idle_after old es rs new explains j m event before at_close at_deliver) n (number_contained new.entries c n request (accepted old es rs new explains i c n request at_e at_r));
+  numbers_rise = numbers_rise old es rs new explains;
+  closed = closes old es rs new explains;
+  nothing_after = nothing_after old es rs new explains;
+  nothing_closed = λ closed. nothing_closed old es rs new explains closed;
+  full = full old es rs new explains legal;
+  collected = collected old es rs new explains legal;
+  collected_once = collected_once old es rs new explains legal.each;
+}

@@ -1,0 +1,22 @@
+-- All that is promised of a legal log.
+use Rattle.std.specs.Prelude.{List}
+use Rattle.rdm_queue.specs.declared.entry.Opening.{Opening}
+use Rattle.rdm_queue.specs.declared.entry.Entry.{Entry}
+use Rattle.rdm_queue.specs.log.Legal.{Legal}
+use Rattle.rdm_queue.specs.promises.Headline.{Promised}
+use Rattle.rdm_queue.proofs.PromiseLemmas.OneResult.{one_result}
+use Rattle.rdm_queue.proofs.PromiseLemmas.OwnRequests.{own_requests}
+use Rattle.rdm_queue.proofs.PromiseLemmas.OwnAnswers.{own_answers}
+use Rattle.rdm_queue.proofs.PromiseLemmas.InOrder.{in_order}
+use Rattle.rdm_queue.proofs.PromiseLemmas.FullRefuses.{full_refuses}
+use Rattle.rdm_queue.proofs.PromiseLemmas.NothingAfterClose.{after_close}
+
+pub promised : (o : Opening) (h : List Entry) → Legal o h → Promised o h
+promised o h legal = record {
+  one_result = one_result o h legal;
+  own_requests = own_requests o h legal;
+  own_answers = own_answers o h legal;
+  in_order = in_order o h legal;
+  full_refuses = full_refuses o h legal;
+  nothing_after_close = after_close o h legal;
+}

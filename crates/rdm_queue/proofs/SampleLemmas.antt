@@ -1,0 +1,3 @@
+-- The sample logs are legal.
+pub mod SampleLegal
+pub mod PartsLegal

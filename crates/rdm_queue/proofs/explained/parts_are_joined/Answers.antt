@@ -1,9 +1,0 @@
-use Rattle.rdm_queue.specs.Entries.{joins, accepts, sends, cames, finishes, collectors, traded, of_request, verdicts, result}
-use Rattle.rdm_queue.specs.History.{awaited, is_paused, is_closed}
-use Rattle.rdm_queue.specs.Clients.{answers_to}
-use Rattle.rdm_queue.proofs.SampleParts.{joined_legal, joined}
-use Rattle.rdm_queue.proofs.explained.parts_are_joined.Goals as goal
-
-pub returns : goal.returns
-unfolding joins accepts finishes collectors sends cames traded of_request verdicts result awaited is_paused is_closed answers_to
-returns c = record { legal = joined_legal; joined = joined }

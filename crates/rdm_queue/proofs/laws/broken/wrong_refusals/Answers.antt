@@ -1,0 +1,17 @@
+use Rattle.std.proofs.Common.{refl}
+use Rattle.std.proofs.lemmas.Option.{none-some}
+use Rattle.rdm_queue.specs.log.Entries.{joins, accepts, sends, cames, finishes, collectors, traded, of_request, verdicts, result}
+use Rattle.rdm_queue.specs.log.History.{awaited, is_closed}
+use Rattle.rdm_queue.specs.log.Clients.{answers_to}
+use Rattle.rdm_queue.proofs.SampleLemmas.SampleLegal.{due_accept, due_closed}
+use Rattle.rdm_queue.proofs.laws.broken.wrong_refusals.Goals as goal
+
+pub returns : goal.returns
+unfolding joins accepts finishes collectors sends cames traded of_request verdicts result awaited is_closed answers_to
+returns c = record {
+  accepted = λ may. let none = may.1 in cc;
+  refused = (due_accept, refl);
+  first_fault = (due_closed, refl);
+  second_fault = λ may. let number = may.1 in cc;
+  free = λ may. none-some 3 may.1;
+}

@@ -1,9 +1,0 @@
-use Rattle.std.proofs.Common.{refl}
-use Rattle.rdm_queue.specs.Entries.{accepts, sends, cames, finishes, collectors, traded, of_request, verdicts, result}
-use Rattle.rdm_queue.specs.History.{awaited}
-use Rattle.rdm_queue.specs.Clients.{answers_to}
-use Rattle.rdm_queue.proofs.laws.counts_of_a_log.Goals as goal
-
-pub returns : goal.returns
-unfolding accepts sends cames finishes collectors traded of_request verdicts result awaited answers_to
-returns c = record { waits = refl; collected = refl; outstanding = refl; settled = refl; told = refl }

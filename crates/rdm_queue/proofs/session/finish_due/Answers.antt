@@ -1,0 +1,14 @@
+use Rattle.std.proofs.Common.{◌++◌, ◌∷◌, [], ap, ◌∙◌, arith}
+use Rattle.rdm_queue.specs.log.LogState.{grown}
+use Rattle.rdm_queue.proofs.BodyLemmas.SessionLemmas.{amid_grown, result_added, grown_twice, all_results_more}
+use Rattle.rdm_queue.proofs.session.finish_due.Goals as goal
+
+pub loop-entry-preserved : goal.loop-entry-preserved
+loop-entry-preserved c =
+    let amid = c.loop-entry.invariant.amid in
+    let so_far = c.loop-entry.invariant.grows in
+    let e = c.in-Some.entry in
+    record {
+      amid = rw c.append.ensures (amid_grown c.loop-entry.controller c.finish_next.new.self c.loop-entry.log e amid (c.in-Some.ensures.finished.1 c.loop-entry.log.opening c.loop-entry.log.entries amid.amid) (result_added e c.in-Some.ensures.finished.0));
+      grows = (so_far.0 ++ e ∷ [], all_results_more so_far.0 e so_far.1 c.in-Some.ensures.finished.0, c.append.ensures ∙ ap (λ k. grown k (e ∷ [])) so_far.2 ∙ grown_twice c.args.log.now so_far.0 (e ∷ []));
+    }

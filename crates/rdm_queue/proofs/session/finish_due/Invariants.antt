@@ -1,0 +1,17 @@
+use Rattle.std.proofs.Common.{◌≡◌, List, length}
+use Rattle.rdm_queue.specs.declared.entry.Entry.{Entry}
+use Rattle.rdm_queue.specs.log.LogState.{grown}
+use Rattle.rdm_queue.specs.promises.Blocks.{AllResults}
+use Rattle.rdm_queue.specs.body.SessionInvariant.{SessionAmid}
+use Rattle.rdm_queue.specs.body.State.{QueueState}
+use Rattle.rdm_queue.proofs.session.finish_due.Given as goal
+
+-- the entries so far are Finishes
+abbrev pub invariant-loop-entry : goal.invariant-loop-entry
+invariant-loop-entry l = record {
+  amid : SessionAmid l.controller l.log;
+  grows : (results : List Entry) × AllResults results × (l.log ≡ grown l.fn.log results);
+}
+
+abbrev pub decreases-loop-entry : goal.decreases-loop-entry
+decreases-loop-entry l = length l.controller.waiting

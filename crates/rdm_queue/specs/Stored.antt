@@ -1,8 +1,0 @@
--- The memory of a log.
-use Rattle.std.specs.Prelude.{ℕ, ◌≤◌}
-
--- so many entries stand in a room for at least one, for all of which there is memory
-pub record IsStored (room len capacity : ℕ) : Type 0 where
-  pub some : 1 ≤ room
-  pub within : len ≤ room
-  pub reserved : room ≤ capacity

@@ -1,0 +1,29 @@
+-- What a session keeps of its controller and its log.
+use Rattle.std.specs.Prelude.{◌≡◌, ◌+◌, ◌≤◌, List, length}
+use Rattle.rdm_queue.specs.declared.entry.Entry.{Entry}
+use Rattle.rdm_queue.specs.log.History.{reserved}
+use Rattle.rdm_queue.specs.log.LogState.{LogState, grown}
+use Rattle.rdm_queue.specs.promises.Blocks.{AllResults}
+use Rattle.rdm_queue.specs.body.State.{QueueState}
+use Rattle.rdm_queue.specs.body.Agrees.{StandsAmid, StandsAfter}
+
+-- there is room for what stands and for what is reserved
+abbrev pub HasRoom : LogState → Type 0
+HasRoom k = length k.entries + reserved k.opening k.entries ≤ k.room
+
+-- the controller stands after the log, which is legal and has its room
+pub record SessionInvariant (s : QueueState) (k : LogState) : Type 0 where
+  pub after : StandsAfter k.opening k.entries s
+  pub room : HasRoom k
+
+-- the same amid a block of entries, where Finishes may still be due
+pub record SessionAmid (s : QueueState) (k : LogState) : Type 0 where
+  pub amid : StandsAmid k.opening k.entries s
+  pub room : HasRoom k
+
+-- what was due is finished: the log has a Finish more for each, and the session is whole again
+pub record FinishesDue (old : LogState) (s : QueueState) (new : LogState) : Type 0 where
+  pub results : List Entry
+  pub each : AllResults results
+  pub grows : new ≡ grown old results
+  pub kept : SessionInvariant s new

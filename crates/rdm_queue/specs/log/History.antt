@@ -1,0 +1,79 @@
+-- What a log says so far: its flags, the next numbers, what is unfinished, and its room.
+use Rattle.std.specs.Prelude.{ℕ, ◌+◌, ◌-◌, ◌*◌, ◌%◌, Bool, true, false, ◌&&◌, ◌||◌, not, List, ◌++◌, length, drop}
+use Rattle.std.specs.Prelude.{fold, ◌==◌, if◌then◌else◌}
+use Rattle.rdm_queue.specs.declared.entry.Opening.{Opening}
+use Rattle.rdm_queue.specs.declared.entry.Entry.{Entry}
+use Rattle.rdm_queue.specs.declared.entry.Entry.TheVariants.{Send, Came, Pause, Resume, Close}
+use Rattle.rdm_queue.specs.log.Entries.{Accepted, joins, accepts, sends, finishes, collectors}
+
+-- an entry turns a flag on, off, or leaves it
+abbrev pub awaits_after : Bool → Entry → Bool
+awaits_after b (Send owner frame) = true
+awaits_after b (Came event) = false
+awaits_after b _ = b
+
+abbrev pub paused_after : Bool → Entry → Bool
+paused_after b Pause = true
+paused_after b Resume = false
+paused_after b _ = b
+
+abbrev pub closed_after : Bool → Entry → Bool
+closed_after b Close = true
+closed_after b _ = b
+
+-- the last Send has no Came after it
+unfoldable pub awaited : List Entry → Bool
+awaited h = fold awaits_after false h
+
+-- by the last Pause or Resume, and by a Close, else by the opening
+unfoldable pub is_paused : Opening → List Entry → Bool
+is_paused o h = fold paused_after o.paused h
+
+unfoldable pub is_closed : Opening → List Entry → Bool
+is_closed o h = fold closed_after o.closed h
+
+-- pause and resume have an effect only where they change something, and none after a close
+abbrev pub can_pause : Opening → List Entry → Bool
+can_pause o h = not (is_paused o h || is_closed o h)
+
+abbrev pub can_resume : Opening → List Entry → Bool
+can_resume o h = is_paused o h && not (is_closed o h)
+
+-- each client's places, in order, and the next client
+abbrev pub places : Opening → List Entry → List ℕ
+places o h = o.places.items ++ joins h
+
+abbrev pub next_client : Opening → List Entry → ℕ
+next_client o h = length (places o h)
+
+-- the next numbers
+abbrev pub next_request : Opening → List Entry → ℕ
+next_request o h = o.next_request + length (accepts h)
+
+abbrev pub frames_sent : Opening → List Entry → ℕ
+frames_sent o h = o.next_tn + length (sends h)
+
+abbrev pub next_tn : Opening → List Entry → ℕ
+next_tn o h = frames_sent o h % 256
+
+-- the Accepts without a Finish: first in, first out
+abbrev pub unfinished : List Entry → List Accepted
+unfinished h = drop (length (finishes h)) (accepts h)
+
+-- how many Finishes aren't collected
+abbrev pub uncollected_count : List Entry → ℕ
+uncollected_count h = length (finishes h) - length (collectors h)
+
+-- nothing waits, is under way or is uncollected
+abbrev pub is_idle : List Entry → Bool
+is_idle h = (length (unfinished h) == 0) && (uncollected_count h == 0)
+
+-- the entries that are reserved: one for a close, one for a reply, two for each request that isn't finished, one for
+-- each that is finished and not collected
+abbrev pub reserved : Opening → List Entry → ℕ
+reserved o h =
+    (if is_closed o h then 0 else 1) + (if awaited h then 1 else 0) + 2 * length (unfinished h) + uncollected_count h
+
+-- the entries that are free
+abbrev pub free_room : ℕ → Opening → List Entry → ℕ
+free_room room o h = room - length h - reserved o h

@@ -1,0 +1,41 @@
+-- What a log and a session are seen as.
+use Rattle.std.specs.Prelude.{ℕ, Bool, false, List, [], ◌++◌, nat_lt}
+use Rattle.rdm_queue.specs.declared.config.Config.{Config}
+use Rattle.rdm_queue.specs.declared.log.TheConstants.{LEAST_FREE}
+use Rattle.rdm_queue.specs.declared.entry.Opening.{Opening}
+use Rattle.rdm_queue.specs.declared.entry.Entry.{Entry}
+use Rattle.rdm_queue.specs.log.History.{free_room}
+
+-- the opening, the entries after it, and the entries that there is room for
+pub record LogState : Type 0 where
+  pub opening : Opening
+  pub entries : List Entry
+  pub room : ℕ
+
+-- the log with these entries at its end
+abbrev pub grown : LogState → List Entry → LogState
+grown k block = record k { entries = k.entries ++ block }
+
+abbrev pub free_entries : LogState → ℕ
+free_entries k = free_room k.room k.opening k.entries
+
+-- so many entries have to be free for each call that a full log refuses
+abbrev pub is_full_log : LogState → Bool
+is_full_log k = nat_lt (free_entries k) LEAST_FREE
+
+-- what a new log stands after
+abbrev pub blank_opening : Opening
+blank_opening = record {
+  source = 0;
+  greatest = 0;
+  budget = 0;
+  places = record { items = [] };
+  paused = false;
+  closed = false;
+  next_request = 0;
+  next_tn = 0;
+}
+
+-- what a session stands after that is set up so
+abbrev pub opened : Config → Opening
+opened config = record blank_opening { source = config.source; greatest = config.places; budget = config.budget }

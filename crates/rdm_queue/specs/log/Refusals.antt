@@ -1,0 +1,61 @@
+-- Why a join or a submit is refused: of the faults that a log shows, the first that stands. That memory is wanted or
+-- the log is full it doesn't show.
+use Rattle.std.specs.Prelude.{◌≡◌, ℕ, ◌+◌, Bool, ◌||◌, List, length, sum, Option, Some, None, option_map, unwrap_or}
+use Rattle.std.specs.Prelude.{nat_lt, nat_le, if◌then◌else◌, slice_index}
+use Rattle.rdm_queue.specs.declared.entry.TheConstants.{MOST_CLIENTS, NEVER_GIVEN}
+use Rattle.rdm_queue.specs.declared.entry.ClientId.{ClientId}
+use Rattle.rdm_queue.specs.declared.entry.Call.{Call}
+use Rattle.rdm_queue.specs.declared.entry.Call.TheVariants as calls
+use Rattle.rdm_queue.specs.declared.entry.Opening.{Opening}
+use Rattle.rdm_queue.specs.declared.entry.Entry.{Entry}
+use Rattle.rdm_queue.specs.declared.fault.JoinFault.{JoinFault}
+use Rattle.rdm_queue.specs.declared.fault.JoinFault.TheVariants as join_faults
+use Rattle.rdm_queue.specs.declared.fault.SubmitFault.{SubmitFault}
+use Rattle.rdm_queue.specs.declared.fault.SubmitFault.TheVariants as submit_faults
+use Rattle.rdm_queue.specs.log.History.{is_closed, places, next_request}
+use Rattle.rdm_queue.specs.log.Clients.{outstanding_requests}
+
+-- of a join with n places, where the clients have these places, of so many
+abbrev pub join_fault_at : Bool → List ℕ → ℕ → ℕ → Option JoinFault
+join_fault_at closed places greatest n =
+    if closed then Some join_faults.Closed
+    else (if nat_le MOST_CLIENTS (length places) then Some join_faults.TooManyClients
+    else (if nat_lt greatest (sum places + n) then Some join_faults.NoPlaces else None))
+
+abbrev pub join_fault : Opening → List Entry → ℕ → Option JoinFault
+join_fault o h n = join_fault_at (is_closed o h) (places o h) o.greatest n
+
+-- of a submit by client c, which has so many requests outstanding: its places are taken, or the numbers have run out
+abbrev pub submit_fault_at : Bool → List ℕ → ℕ → ℕ → ℕ → Option SubmitFault
+submit_fault_at closed places outstanding next c =
+    if closed then Some submit_faults.Closed
+    else (if nat_le (length places) c then Some submit_faults.UnknownClient
+    else (if nat_le (slice_index places c) outstanding || nat_le NEVER_GIVEN next then Some submit_faults.Full
+    else None))
+
+abbrev pub submit_fault : Opening → List Entry → ℕ → Option SubmitFault
+submit_fault o h c = submit_fault_at (is_closed o h) (places o h) (outstanding_requests o c h) (next_request o h) c
+
+-- the faults' numbers
+abbrev pub number_of_join_fault : JoinFault → ℕ
+number_of_join_fault join_faults.Closed = 1
+number_of_join_fault join_faults.TooManyClients = 2
+number_of_join_fault join_faults.NoPlaces = 3
+number_of_join_fault join_faults.NoMemory = 4
+number_of_join_fault join_faults.LogFull = 5
+
+abbrev pub number_of_submit_fault : SubmitFault → ℕ
+number_of_submit_fault submit_faults.Closed = 1
+number_of_submit_fault submit_faults.UnknownClient = 2
+number_of_submit_fault submit_faults.Full = 3
+number_of_submit_fault submit_faults.LogFull = 4
+
+-- this call of this client is refused with this number: the first fault's; a join's for want of memory only
+-- where no other stands
+abbrev pub IsRefused : Opening → List Entry → Option ClientId → Call → ℕ → Type 0
+IsRefused o h None (calls.Join n) cause =
+    cause ≡ number_of_join_fault (unwrap_or (join_fault o h n) join_faults.NoMemory)
+IsRefused o h (Some c) (calls.Submit request) cause =
+    option_map number_of_submit_fault (submit_fault o h c.0) ≡ Some cause
+-- a client makes no join, and each other call is a client's
+IsRefused o h _ _ cause = ⊥

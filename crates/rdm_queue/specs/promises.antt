@@ -1,0 +1,6 @@
+-- What each call adds to a log, how a log explains answers, and what clients are promised.
+pub mod Outcomes
+pub mod Blocks
+pub mod Explains
+pub mod Headline
+pub mod EventsHeadline

@@ -1,0 +1,115 @@
+-- What clients are promised, said of a list of events and its answers.
+use Rattle.std.specs.Prelude.{◌≡◌, ◌↔◌, ℕ, ◌+◌, ◌<◌, Bool, true, false, List, [], ◌∷◌, ◌++◌, length, take, drop, zip}
+use Rattle.std.specs.Prelude.{filter_map, Option, Some, None, Ok, Err, ◌==◌, if◌then◌else◌, slice_get}
+use Rattle.std.specs.List.{Contains}
+use Rattle.rdm_wire.specs.declared.request.Request.{Request}
+use Rattle.rdm_join.specs.declared.event.LineEvent.{LineEvent}
+use Rattle.rdm_join.specs.declared.status.Status.{Status}
+use Rattle.rdm_queue.specs.declared.entry.ClientId.{ClientId}
+use Rattle.rdm_queue.specs.declared.entry.Opening.{Opening}
+use Rattle.rdm_queue.specs.declared.entry.Entry.{Entry}
+use Rattle.rdm_queue.specs.declared.entry.Entry.TheVariants.{Accept, Finish}
+use Rattle.rdm_queue.specs.declared.fault.SubmitFault.TheVariants.{Full}
+use Rattle.rdm_queue.specs.declared.outcome.Outcome.{Outcome}
+use Rattle.rdm_queue.specs.declared.event.Event.{Event}
+use Rattle.rdm_queue.specs.declared.event.Event.TheVariants as events
+use Rattle.rdm_queue.specs.declared.event.Answer.{Answer}
+use Rattle.rdm_queue.specs.declared.event.Answer.TheVariants as answers
+use Rattle.rdm_queue.specs.log.Entries.{result}
+use Rattle.rdm_queue.specs.log.History.{is_closed}
+use Rattle.rdm_queue.specs.log.Clients.{client_of_request, collected}
+use Rattle.rdm_queue.specs.promises.Outcomes.{OutcomeValue, outcome_value, outcome_of, completion_of}
+use Rattle.rdm_queue.specs.promises.Outcomes.OutcomeValue.{RequestValue}
+use Rattle.rdm_queue.specs.log.LogState.{LogState, grown, is_full_log}
+use Rattle.rdm_queue.specs.promises.Blocks.{submit_refused}
+use Rattle.rdm_queue.specs.promises.Explains.{IsAnswered, Explains}
+use Rattle.rdm_queue.specs.promises.Headline.{IsFull, SameQueue, result_count, Promised}
+
+-- event i was answered so: the log stood at before, and then at after
+pub record AnsweredAt (old : LogState) (es : List Event) (rs : List Answer) (new : LogState) (i : ℕ) (event : Event)
+    (answer : Answer) : Type 0 where
+  pub before : LogState
+  pub after : LogState
+  pub earlier : Explains old (take i es) (take i rs) before
+  pub here : IsAnswered before event answer after
+  pub later : Explains after (drop (i + 1) es) (drop (i + 1) rs) new
+
+-- the answer to a submit of a client whose queue is full, and to no other
+abbrev pub refuses_full : Request → Answer
+refuses_full request = answers.Submit (Err (Full, request))
+
+-- a submit is answered Full exactly when the client's queue is full, if the log isn't; that changes the log alone
+pub record FullExactly (old : LogState) (es : List Event) (rs : List Answer) (new : LogState) (i : ℕ) (c : ClientId)
+    (request : Request) (answer : Answer) : Type 0 where
+  pub at : AnsweredAt old es rs new i (events.Submit c request) answer
+  pub exactly : is_full_log at.before ≡ false
+      → (answer ≡ refuses_full request) ↔ IsFull at.before.opening at.before.entries c.0
+  pub refused : answer ≡ refuses_full request → at.after ≡ grown at.before (submit_refused c request Full ∷ [])
+  pub unchanged : answer ≡ refuses_full request → SameQueue new.opening at.before.entries at.after.entries
+
+-- an answer that starts something: a client joined, a request was accepted, or a frame was given
+abbrev pub starts : Answer → Bool
+starts (answers.Join (Ok c)) = true
+starts (answers.Submit (Ok n)) = true
+starts (answers.Take (Ok (Some frame))) = true
+starts _ = false
+
+-- the outcome of a finished request of the client: the joined answer of the request's own exchanges
+pub record IsOwnOutcome (o : Opening) (h : List Entry) (c : ℕ) (outcome : Outcome) : Type 0 where
+  pub number : ℕ
+  pub status : Status
+  pub len : ℕ
+  pub finished : Contains h (Finish number status len)
+  pub client : client_of_request o h number ≡ Some c
+  pub told : outcome_value outcome ≡ RequestValue (Some number) (completion_of status (result number h))
+
+-- the outcome that an event gave to the client, and all outcomes that events gave it, in order
+abbrev pub outcome_given : ℕ → Event → Answer → Option OutcomeValue
+outcome_given c (events.Collect d) (answers.Collect (Some outcome)) =
+    if c == d.0 then Some (outcome_value outcome) else None
+outcome_given c _ _ = None
+
+abbrev pub given_to : ℕ → List Event → List Answer → List OutcomeValue
+given_to c es rs = filter_map (λ p. outcome_given c p.0 p.1) (zip es rs)
+
+-- the outcomes that the client's collected Finishes of h have in a log
+abbrev pub collected_outcomes : Opening → ℕ → List Entry → List Entry → List OutcomeValue
+collected_outcomes o c h log = filter_map (outcome_of log) (collected o c h)
+
+-- For every list of events.
+pub record EventsPromised (old : LogState) (es : List Event) (rs : List Answer) (new : LogState) : Type 0 where
+  -- each event has one answer
+  pub all_answered : length rs ≡ length es
+  -- the log only grows
+  pub only_grows : (block : List Entry) × (new ≡ grown old block)
+  -- and keeps all that is promised of a log
+  pub log : Promised new.opening new.entries
+  -- a request that was accepted stands there under its number
+  pub accepted : (i : ℕ) (c : ClientId) (n : ℕ) (request : Request) → slice_get es i ≡ Some (events.Submit c request)
+      → slice_get rs i ≡ Some (answers.Submit (Ok n)) → Contains new.entries (Accept c n request)
+  -- and has exactly one result after a Close and then a Deliver, of the reply that the close found awaited, if any
+  pub finished : (i j m : ℕ) (c : ClientId) (n : ℕ) (request : Request) (event : LineEvent)
+      → slice_get es i ≡ Some (events.Submit c request) → slice_get rs i ≡ Some (answers.Submit (Ok n)) → j < m
+      → slice_get es j ≡ Some events.Close → slice_get es m ≡ Some (events.Deliver event)
+      → result_count n new.entries ≡ 1
+  -- accepted requests have numbers that rise, so no two share one
+  pub numbers_rise : (i j n m : ℕ) → i < j → slice_get rs i ≡ Some (answers.Submit (Ok n))
+      → slice_get rs j ≡ Some (answers.Submit (Ok m)) → n < m
+  -- a close closes
+  pub closed : (i : ℕ) → slice_get es i ≡ Some events.Close → is_closed new.opening new.entries ≡ true
+  -- and nothing starts after it, nor where the queue was closed before
+  pub nothing_after : (i j : ℕ) (answer : Answer) → i < j → slice_get es i ≡ Some events.Close
+      → slice_get rs j ≡ Some answer → starts answer ≡ false
+  pub nothing_closed : is_closed old.opening old.entries ≡ true → (j : ℕ) (answer : Answer)
+      → slice_get rs j ≡ Some answer → starts answer ≡ false
+  -- a full queue refuses, and changes nothing but the log
+  pub full : (i : ℕ) (c : ClientId) (request : Request) (answer : Answer)
+      → slice_get es i ≡ Some (events.Submit c request) → slice_get rs i ≡ Some answer
+      → FullExactly old es rs new i c request answer
+  -- a client collects the joined answers of its own requests
+  pub collected : (i : ℕ) (c : ClientId) (outcome : Outcome) → slice_get es i ≡ Some (events.Collect c)
+      → slice_get rs i ≡ Some (answers.Collect (Some outcome)) → IsOwnOutcome new.opening new.entries c.0 outcome
+  -- and is given each of them once, in order
+  pub collected_once : (c : ℕ)
+      → collected_outcomes new.opening c new.entries new.entries
+      ≡ collected_outcomes new.opening c old.entries new.entries ++ given_to c es rs

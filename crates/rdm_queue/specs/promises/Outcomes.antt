@@ -1,0 +1,57 @@
+-- What one client called, and what it is told.
+use Rattle.std.specs.Prelude.{ℕ, Bool, false, ◌&&◌, ◌||◌, List, filter, Option, Some, None, ◌==◌}
+use Rattle.rdm_join.specs.declared.status.Status.{Status}
+use Rattle.rdm_join.specs.declared.status.Status.TheVariants.{Completed, FailedToSend}
+use Rattle.rdm_join.specs.Result.{Joined, ended}
+use Rattle.rdm_queue.specs.declared.entry.ClientId.{ClientId}
+use Rattle.rdm_queue.specs.declared.entry.Call.{Call}
+use Rattle.rdm_queue.specs.declared.entry.Call.TheVariants as calls
+use Rattle.rdm_queue.specs.declared.entry.Opening.{Opening}
+use Rattle.rdm_queue.specs.declared.entry.Entry.{Entry}
+use Rattle.rdm_queue.specs.declared.entry.Entry.TheVariants.{Refuse, Finish}
+use Rattle.rdm_queue.specs.declared.outcome.Completion.{Completion}
+use Rattle.rdm_queue.specs.declared.outcome.Outcome.{Outcome}
+use Rattle.rdm_queue.specs.declared.outcome.Outcome.TheVariants as outcomes
+use Rattle.rdm_queue.specs.log.Entries.{result}
+use Rattle.rdm_queue.specs.log.Clients.{is_answer_to}
+use Rattle.rdm_queue.specs.log.Refusals.{number_of_submit_fault}
+use Rattle.rdm_queue.specs.declared.fault.SubmitFault.TheVariants as submit_faults
+
+abbrev pub is_client : ℕ → Option ClientId → Bool
+is_client c None = false
+is_client c (Some d) = c == d.0
+
+-- a Refuse of the client's call, since the queue is closed
+abbrev pub is_closed_refusal : ℕ → Entry → Bool
+is_closed_refusal c (Refuse d call cause) = (cause.0 == number_of_submit_fault submit_faults.Closed) && is_client c d
+is_closed_refusal c _ = false
+
+-- what a client is told of, in order: its Finishes and refusals by a close
+abbrev pub told : Opening → ℕ → List Entry → List Entry
+told o c h = filter (λ e. is_answer_to o c h e || is_closed_refusal c e) h
+
+-- an outcome as its client sees it: vectors with the same bytes are one
+pub data OutcomeValue : Type 0 where
+  RequestValue : Option ℕ → Joined → OutcomeValue
+
+abbrev pub completion_value : Completion → Joined
+completion_value done = record { status = done.status; data_ = done.bytes.items; head = done.reply }
+
+abbrev pub outcome_value : Outcome → OutcomeValue
+outcome_value (outcomes.Request number done) = RequestValue number (completion_value done)
+
+-- the completion of a status: with status Completed the joined data and the last reply's head
+abbrev pub completion_of : Status → Option Joined → Joined
+completion_of Completed (Some j) = record { status = Completed; data_ = j.data_; head = j.head }
+completion_of status _ = ended status
+
+-- the outcome of a call that a close refused; a join has none
+abbrev pub refused_outcome : Call → Option OutcomeValue
+refused_outcome (calls.Submit request) = Some (RequestValue None (completion_of FailedToSend None))
+refused_outcome (calls.Join places) = None
+
+-- the outcome of a Finish or a refusal
+abbrev pub outcome_of : List Entry → Entry → Option OutcomeValue
+outcome_of h (Finish n status len) = Some (RequestValue (Some n) (completion_of status (result n h)))
+outcome_of h (Refuse c call cause) = refused_outcome call
+outcome_of h _ = None

@@ -1,0 +1,3 @@
+-- Logs by hand, to compute with.
+pub mod Sample
+pub mod SampleParts

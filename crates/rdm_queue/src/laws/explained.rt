@@ -1,0 +1,59 @@
+//! Answers that a log explains, and answers that none does.
+ghost use Rattle.std.specs.Prelude.{◌≡◌, ℕ, List, [], ◌∷◌, Ok, Err, Some, None, slice_get};
+ghost use Rattle.std.specs.Global.{Vec};
+ghost use Rattle.rdm_queue.specs.declared.fault.LogFull.{LogFull};
+ghost use Rattle.rdm_queue.specs.declared.fault.SubmitFault.TheVariants as faults;
+ghost use Rattle.rdm_queue.specs.declared.event.Event.{Event};
+ghost use Rattle.rdm_queue.specs.declared.event.Event.TheVariants as events;
+ghost use Rattle.rdm_queue.specs.declared.event.Answer.{Answer};
+ghost use Rattle.rdm_queue.specs.declared.event.Answer.TheVariants as answers;
+ghost use Rattle.rdm_queue.specs.log.LogState.{LogState};
+ghost use Rattle.rdm_queue.specs.promises.Explains.{Explains};
+ghost use Rattle.rdm_queue.specs.promises.EventsHeadline.{AnsweredAt};
+ghost use Rattle.rdm_join.specs.Result.{result_of};
+ghost use Rattle.rdm_queue.specs.log.Entries.{verdicts};
+ghost use Rattle.rdm_queue.specs.log.Legal.{Legal};
+ghost use Rattle.rdm_queue.specs.samples.SampleParts.{wide_opening, joined_log, joined_parts};
+ghost use Rattle.rdm_queue.specs.samples.Sample.{sample_request, join_only, accepted_one, closed_log, logged_with};
+ghost use Rattle.rdm_queue.specs.samples.Sample.{sample_events, sample_answers};
+
+/// A whole log explains the answers to its events: a join, a submit, a take, a deliver, a collect, a close.
+pub fn sample_is_explained()
+    ensures { (none : Vec ℕ) → none.items ≡ []
+        → Explains (logged_with []) sample_events (sample_answers none) (logged_with closed_log) }
+{}
+
+/// Where a log explains the answers to a list of events, it explains each of them where it stands.
+pub fn each_event_is_answered()
+    ensures { (old : LogState) (es : List Event) (rs : List Answer) (new : LogState) → Explains old es rs new
+        → (i : ℕ) (event : Event) (answer : Answer) → slice_get es i ≡ Some event → slice_get rs i ≡ Some answer
+        → AnsweredAt old es rs new i event answer }
+{}
+
+/// No log explains these answers.
+pub fn not_explained()
+    // A submit is refused as full while the client's place is free, or for a full log that isn't.
+    ensures full { (new : LogState) → Explains (logged_with join_only)
+        (events.Submit (record { 0 = 0 }) sample_request ∷ [])
+        (answers.Submit (Err (faults.Full, sample_request)) ∷ []) new → ⊥ }
+    ensures log_full { (new : LogState) → Explains (logged_with join_only)
+        (events.Submit (record { 0 = 0 }) sample_request ∷ [])
+        (answers.Submit (Err (faults.LogFull, sample_request)) ∷ []) new → ⊥ }
+    // A request waits, and no frame is given for it, or the log is said to be full.
+    ensures no_frame { (new : LogState)
+        → Explains (logged_with accepted_one) (events.Take ∷ []) (answers.Take (Ok None) ∷ []) new → ⊥ }
+    ensures no_room { (new : LogState)
+        → Explains (logged_with accepted_one) (events.Take ∷ []) (answers.Take (Err (record {})) ∷ []) new → ⊥ }
+    // An event without an answer, an answer without its entry, and answers in another order.
+    ensures left_out { (new : LogState)
+        → Explains (logged_with []) (events.Pause ∷ events.Resume ∷ []) (answers.Pause (Ok tt) ∷ []) new → ⊥ }
+    ensures no_entry { Explains (logged_with []) (events.Pause ∷ []) (answers.Pause (Ok tt) ∷ []) (logged_with []) → ⊥ }
+    ensures exchanged { (new : LogState) → Explains (logged_with [])
+        (events.Pause ∷ events.Close ∷ []) (answers.Close ∷ answers.Pause (Ok tt) ∷ []) new → ⊥ }
+{}
+
+/// A whole log whose request is answered in two parts is legal, and joins them.
+pub fn parts_are_joined()
+    ensures legal { Legal wide_opening joined_log }
+    ensures joined { result_of (verdicts 0 joined_log) ≡ Some joined_parts }
+{}
