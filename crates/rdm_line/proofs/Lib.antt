@@ -1,0 +1,12 @@
+pub mod OverlayLemmas
+pub mod ParameterLemmas
+pub mod SceneLemmas
+pub mod AmongLemmas
+pub mod SoundLemmas
+pub mod CollisionLemmas
+pub mod StepLemmas
+pub mod AnsweringLemmas
+pub mod PresenceLemmas
+pub mod HonestSteps
+pub mod HonestRuns
+pub mod LossLemmas

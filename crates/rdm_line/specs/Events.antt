@@ -1,0 +1,20 @@
+-- Exchanges of a frame and an event, and how a line's failures count.
+use Rattle.std.specs.Prelude.{◌≡◌, ℕ, ◌+◌, Result, Ok, Err}
+use Rattle.arrayvec.specs.ArrayVec.{ArrayVec}
+use Rattle.rdm_join.specs.declared.event.LineEvent.{LineEvent}
+use Rattle.rdm_join.specs.declared.event.LineEvent.TheVariants.{Reply, Failed}
+use Rattle.rdm_line.specs.declared.line.LineFault.{LineFault}
+
+-- a frame and what came after it
+abbrev pub Exchange : Type 0
+Exchange = ArrayVec ℕ × LineEvent
+
+-- what an exchange's result says that came
+abbrev pub event_of : Result (ArrayVec ℕ) LineFault → LineEvent
+event_of (Ok reply) = Reply reply
+event_of (Err fault) = Failed
+
+-- a failure counts, and nothing else does
+abbrev pub CountsFailure : LineEvent → ℕ → ℕ → Type 0
+CountsFailure Failed old new = new ≡ old + 1
+CountsFailure (Reply reply) old new = new ≡ old

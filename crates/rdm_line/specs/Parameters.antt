@@ -1,0 +1,44 @@
+-- A parameter of a simulated device.
+use Rattle.std.specs.Prelude.{not, ◌≡◌, true, is_some, IfSome, ℕ, ◌+◌, Bool, List, [], ◌∷◌, length, Option, Some, None, ◌==◌, nat_lt, slice_index_or, if◌then◌else◌}
+use Rattle.std.specs.List.{prefix_len}
+use Rattle.arrayvec.specs.ArrayVec.{ArrayVec}
+use Rattle.rdm_wire.specs.declared.response.AckType.{AckType}
+use Rattle.rdm_wire.specs.declared.response.AckType.TheVariants.{Ack, Overflow}
+
+-- a parameter: the parts of its data, and which of them the next GET is answered with
+pub record ParameterState : Type 0 where
+  pub pid : ℕ
+  pub parts : List (ArrayVec ℕ)
+  pub next : ℕ
+
+-- the first parameter with this PID
+abbrev pub parameter_of : ℕ → List ParameterState → Option ParameterState
+parameter_of pid [] = None
+parameter_of pid (p ∷ ps) = if p.pid == pid then Some p else parameter_of pid ps
+
+-- the part that the next GET is answered with; each but the last says that there is more
+abbrev pub part_of : ParameterState → List ℕ
+part_of p = (slice_index_or p.parts p.next (record { items = [] })).items
+
+abbrev pub has_more : ParameterState → Bool
+has_more p = nat_lt (p.next + 1) (length p.parts)
+
+abbrev pub ack_of_part : ParameterState → AckType
+ack_of_part p = if has_more p then Overflow else Ack
+
+-- after a part the next one is to be sent, and after the last one the first again
+abbrev pub part_sent : ParameterState → ParameterState
+part_sent p = record p { next = if has_more p then p.next + 1 else 0 }
+
+abbrev pub sent_of : ℕ → List ParameterState → List ParameterState
+sent_of pid [] = []
+sent_of pid (p ∷ ps) = if p.pid == pid then part_sent p ∷ ps else p ∷ sent_of pid ps
+
+-- a part that is sent is that of the parameter, if there is one
+abbrev pub AnswersPart : Option ParameterState → Option (ArrayVec ℕ × AckType) → Type 0
+AnswersPart None answer = answer ≡ None
+AnswersPart (Some p) answer = IfSome answer (λ a. (a.0.items ≡ part_of p) × (a.1 ≡ ack_of_part p)) × (is_some answer ≡ true)
+
+-- how many parameters stand before the first one with this PID
+abbrev pub place_of : ℕ → List ParameterState → ℕ
+place_of pid ps = prefix_len (λ p. not (p.pid == pid)) ps

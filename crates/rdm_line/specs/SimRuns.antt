@@ -1,0 +1,63 @@
+-- Runs of exchanges on the simulated line.
+use Rattle.std.specs.Prelude.{◌≡◌, ◌≢◌, ℕ, ◌+◌, ◌<◌, List, [], ◌∷◌, ◌++◌, length, Some, None, true}
+use Rattle.std.specs.List.{AllByRecursion}
+use Rattle.rdm_wire.specs.Uid.{has}
+use Rattle.rdm_wire.specs.Span.{Span}
+use Rattle.rdm_wire.specs.Commands.{command_read}
+use Rattle.rdm_wire.specs.declared.command.Command.TheVariants.{Branch, Mute}
+use Rattle.rdm_wire.specs.Honest.{Seen}
+use Rattle.rdm_join.specs.Exchange.{seen_event}
+use Rattle.rdm_line.specs.Events.{Exchange}
+use Rattle.rdm_line.specs.Scenes.{present_at, device_at}
+use Rattle.rdm_line.specs.Sim.{SimState, SimStep, is_among, answering}
+
+-- an exchange, and the line's state before it
+pub record Step : Type 0 where
+  pub before : SimState
+  pub exchange : Exchange
+
+-- steps one after another
+abbrev pub IsRun : SimState → List Step → SimState → Type 0
+IsRun s [] new = new ≡ s
+IsRun s (x ∷ xs) new = (x.before ≡ s) × (next : SimState) × SimStep x.before x.exchange next × IsRun next xs new
+
+-- the devices that are present at an exchange, and how it is seen
+abbrev pub present_in : Step → List ℕ
+present_in x = present_at x.before.devices x.before.exchanges
+
+abbrev pub seen_in : Step → Seen
+seen_in x = seen_event x.exchange
+
+abbrev pub is_lost : Step → Type 0
+is_lost x = is_among x.before.exchanges x.before.losses ≡ true
+
+-- a branch that a device is due to answer is lost
+pub record LosesBranch (x : Step) : Type 0 where
+  pub range : Span
+  pub source : ℕ
+  pub tn : ℕ
+  pub asks : command_read x.exchange.0.items ≡ Some (Branch range, source, tn)
+  pub due : answering x.before.exchanges x.before range ≢ []
+  pub lost : is_lost x
+
+-- a mute of a present device is lost
+pub record LosesMute (x : Step) : Type 0 where
+  pub u : ℕ
+  pub source : ℕ
+  pub tn : ℕ
+  pub asks : command_read x.exchange.0.items ≡ Some (Mute u, source, tn)
+  pub due : device_at x.before.exchanges x.before.devices u ≢ None
+  pub lost : is_lost x
+
+-- there aren't five such steps in succession
+abbrev pub NeverFive : (Step → Type 0) → List Step → Type 0
+NeverFive P xs = (front five back : List Step) → xs ≡ front ++ five ++ back → length five ≡ 5 → AllByRecursion P five → ⊥
+
+-- what is demanded of a scene's losses
+pub record LosesFew (xs : List Step) : Type 0 where
+  pub branches : NeverFive LosesBranch xs
+  pub mutes : NeverFive LosesMute xs
+
+-- no five numbers of losses are successive
+abbrev pub NoFiveSuccessive : List ℕ → Type 0
+NoFiveSuccessive losses = (i : ℕ) → ((j : ℕ) → j < 5 → has losses (i + j) ≡ true) → ⊥

@@ -1,0 +1,23 @@
+//! A line of devices: what it owes, a tape that replays events, and a simulation of devices from a description.
+#![tactic(auto)]
+
+mod collision;
+mod laws;
+mod line;
+mod overlay;
+mod parameter;
+mod scene;
+mod scene_devices;
+mod sim;
+mod tape;
+#[cfg(test)]
+mod tests;
+
+pub use collision::{Collision, CollisionBytes};
+pub use laws::{devices_may_stay, few_losses_suffice, simulated_line_is_honest};
+pub use line::{Line, LineFault};
+pub use parameter::{Parameter, ParameterPart, Parameters};
+pub use scene::{NoMemory, Scene, SceneDevice};
+pub use scene_devices::{AddFault, SceneDevices};
+pub use sim::SimLine;
+pub use tape::TapeLine;

@@ -1,0 +1,33 @@
+//! What a line owes.
+ghost use Rattle.std.specs.Prelude.{◌≡◌, ℕ};
+ghost use Rattle.rdm_line.specs.Events.{Exchange, event_of, CountsFailure};
+
+use rdm_join::LineReply;
+use rdm_wire::Frame;
+use thiserror::Error;
+
+/// The line failed, and what the devices saw isn't known.
+#[derive(Clone, Copy, Debug, PartialEq, Eq, Error)]
+#[error("the line failed")]
+pub struct LineFault;
+
+/// A line on which frames are sent and replies come (profile of this project). Each line names its step: the relation
+/// between its value before an exchange, the frame with what came after it, and its value afterwards.
+pub trait Line {
+    /// The line's step.
+    ghost step: { Self → Exchange → Self → Type 0 };
+
+    /// How many exchanges have failed.
+    ghost failures_of: { Self → ℕ };
+
+    /// Sends a frame, and gives the bytes that came after it; no bytes are silence. [`LineFault`]: the line failed.
+    /// It fails exactly when [`failures`](Line::failures) rises by one. That count ends at `u64::MAX`, where an
+    /// exchange that would fail gives silence.
+    fn exchange(&mut self, frame: &Frame) -> Result<LineReply, LineFault>
+        ensures step { step self.old (frame.now, event_of result) self.new }
+        ensures failures { CountsFailure (event_of result) (failures_of self.old) (failures_of self.new) };
+
+    /// How many exchanges have failed: 0 to `u64::MAX`.
+    fn failures(&self) -> u64
+        ensures { result ≡ failures_of self.now };
+}

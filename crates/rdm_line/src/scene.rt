@@ -1,0 +1,65 @@
+//! A line to be simulated: its devices, and what goes wrong on it.
+ghost use Rattle.std.specs.Prelude.{◌≡◌};
+ghost use Rattle.rdm_line.specs.Scenes.{is_present};
+
+use crate::collision::Collision;
+use crate::parameter::Parameters;
+use crate::scene_devices::SceneDevices;
+use rdm_wire::{Device, Uid};
+use thiserror::Error;
+
+/// Memory was refused.
+#[derive(Clone, Copy, Debug, PartialEq, Eq, Error)]
+#[error("out of memory")]
+pub struct NoMemory;
+
+/// A line to be simulated (profile of this project). Exchanges are numbered from 0.
+#[derive(Debug, Drop)]
+pub struct Scene {
+    /// The controller on the line.
+    pub source: Uid,
+    /// The devices.
+    pub devices: SceneDevices,
+    /// What comes of replies to a branch that collide, one after another; the last one stays in force, and where there
+    /// is none it is [`Collision::Or`].
+    pub collisions: Vec<Collision>,
+    /// The exchanges whose reply is lost, in any order.
+    pub losses: Vec<u64>,
+    /// The exchanges at which the line fails, in any order.
+    pub fails: Vec<u64>,
+}
+
+/// A device to be simulated.
+#[derive(Debug, Drop)]
+pub struct SceneDevice {
+    /// Its own UID, and the control field and binding UID that it acknowledges a mute with.
+    pub device: Device,
+    /// How many preamble bytes its reply to a branch has: 0 to 7.
+    pub preamble: u8,
+    /// The parameters that it has.
+    pub params: Parameters,
+    /// The exchange at which it comes: 0 to 1,000,000,000.
+    pub from: u64,
+    /// The exchange at which it has left, if it ever leaves.
+    pub until: Option<u64>,
+}
+
+impl SceneDevice {
+    // Its own UID.
+    pub(crate) fn uid(&self) -> Uid
+        ensures { result ≡ self.now.device.uid }
+    {
+        self.device.uid
+    }
+
+    // Whether it is on the line at this exchange.
+    pub(crate) fn is_present(&self, exchange: u64) -> bool
+        ensures { result ≡ is_present exchange self.now }
+    {
+        let gone = match self.until {
+            Some(end) => end <= exchange,
+            None => false,
+        };
+        self.from <= exchange && !gone
+    }
+}

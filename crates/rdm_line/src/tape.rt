@@ -1,0 +1,73 @@
+//! A line that replays events.
+ghost use Rattle.std.specs.Prelude.{◌≡◌};
+ghost use Rattle.rdm_line.specs.Tape.{TapeStep, front_event, later_events};
+
+use crate::line::{Line, LineFault};
+use arrayvec::ArrayVec;
+use rdm_join::{LineEvent, LineReply};
+use rdm_wire::Frame;
+use std::marker::Model;
+
+/// A line that gives these events in order, whatever the frames are, and then fails at each exchange (profile of this
+/// project). Contracts see the events to come and the count of failures.
+#[derive(Debug, Drop)]
+pub struct TapeLine {
+    events: Vec<LineEvent>,
+    next: usize,
+    failures: u64,
+}
+
+impl Model for TapeLine {
+    ghost use Rattle.std.specs.Prelude.{drop};
+    ghost use Rattle.rdm_line.specs.Tape.{TapeState};
+
+    ghost Value = { TapeState };
+
+    ghost view = { λ t. record { left = drop t.next t.events.items; failures = t.failures } };
+}
+
+impl TapeLine {
+    /// A line that gives these events.
+    pub fn new(events: Vec<LineEvent>) -> TapeLine
+        ensures { result ≡ record { left = events.items; failures = 0 } }
+    {
+        TapeLine {
+            events,
+            next: 0,
+            failures: 0,
+        }
+    }
+
+    // The event to come, off the tape; past the end the line fails.
+    fn next_event(&mut self) -> LineEvent
+        ensures event { result ≡ front_event self.old.left }
+        ensures rest { self.new ≡ record self.old { left = later_events self.old.left } }
+    {
+        let Some(event) = self.events.get(self.next) else {
+            return LineEvent::Failed;
+        };
+        self.next += 1;
+        event.copied()
+    }
+}
+
+impl Line for TapeLine {
+    ghost step = { TapeStep };
+
+    ghost failures_of = { λ t. t.failures };
+
+    fn exchange(&mut self, _frame: &Frame) -> Result<LineReply, LineFault> {
+        match self.next_event() {
+            LineEvent::Reply(reply) => Ok(reply),
+            LineEvent::Failed if self.failures == u64::MAX => Ok(ArrayVec::new()),
+            LineEvent::Failed => {
+                self.failures += 1;
+                Err(LineFault)
+            }
+        }
+    }
+
+    fn failures(&self) -> u64 {
+        self.failures
+    }
+}
