@@ -1,0 +1,39 @@
+-- What the words of a command line ask for.
+use Rattle.std.specs.Prelude.{◌≡◌, ◌≤◌, ◌<◌, ◌^◌, ℕ, List, [], ◌∷◌, codes}
+use Rattle.std.specs.Str.Parse.{IsNumeral, digits_value, without_leading_plus}
+use Rattle.rdm_bench.specs.declared.job.Subject.{Subject}
+use Rattle.rdm_bench.specs.declared.job.Subject.TheVariants.{Agent, Calls, Queue, Log, All}
+use Rattle.rdm_bench.specs.declared.job.Job.{Job}
+use Rattle.rdm_bench.specs.declared.job.Job.TheVariants.{Sizes, Time}
+
+-- the word that names a subject
+abbrev pub name_of : Subject → List ℕ
+name_of Agent = codes "agent"
+name_of Calls = codes "calls"
+name_of Queue = codes "queue"
+name_of Log = codes "log"
+name_of All = codes "all"
+
+-- a subject may have this size
+abbrev pub Takes : Subject → ℕ → Type 0
+Takes Agent size = (1 ≤ size) × (size ≤ 1024)
+Takes Calls size = size ≤ 231
+Takes Queue size = (1 ≤ size) × (size ≤ 4080)
+Takes Log size = (1 ≤ size) × (size ≤ 100000)
+Takes All size = (1 ≤ size) × (size ≤ 231)
+
+-- the text is that number in decimal digits, of which a plus may stand in front
+abbrev pub Spells : List ℕ → ℕ → Type 0
+Spells text n =
+    IsNumeral 10 (without_leading_plus text) × (digits_value 10 (without_leading_plus text) ≡ n) × (n < 2 ^ 64)
+
+-- the words ask for the job
+abbrev pub Asks : List (List ℕ) → Job → Type 0
+Asks words Sizes = words ≡ codes "sizes" ∷ []
+Asks words (Time subject size rounds) =
+    (first second : List ℕ) × (words ≡ name_of subject ∷ first ∷ second ∷ []) × Spells first size × Spells second rounds
+    × Takes subject size × (1 ≤ rounds) × (rounds ≤ 1000)
+
+-- the words ask for no job
+abbrev pub AsksNothing : List (List ℕ) → Type 0
+AsksNothing words = (job : Job) → Asks words job → ⊥

@@ -1,0 +1,112 @@
+//! What the words of a command line ask for.
+ghost use Rattle.std.specs.Prelude.{◌≡◌, ℕ, ◌∷◌, [], ◌↔◌, IfSome, IfNone, IsTrue, MatchOption, map, string_bytes};
+ghost use Rattle.rdm_bench.specs.Words.{Asks, AsksNothing, Spells};
+
+use rdm_queue::MOST_PLACES;
+use rdm_wire::{MOST_DEVICES, MOST_PARAMETER_BYTES};
+
+/// What is timed.
+#[derive(Clone, Copy, Debug, PartialEq, Eq)]
+pub enum Subject {
+    /// Discovery runs.
+    Agent,
+    /// Single calls.
+    Calls,
+    /// The queue of requests.
+    Queue,
+    /// The log of a session.
+    Log,
+    /// Each of these, and the sizes of the values.
+    All,
+}
+
+/// What the words ask for.
+#[derive(Clone, Copy, Debug, PartialEq, Eq)]
+pub enum Job {
+    /// Print the sizes of the values.
+    Sizes,
+    /// Time a subject.
+    Time {
+        /// The subject.
+        subject: Subject,
+        /// Of what each subject says: devices, bytes, requests.
+        size: usize,
+        /// How often each sample repeats its work, 1 to 1,000.
+        rounds: usize,
+    },
+}
+
+/// How many requests a log is filled by at most.
+const MOST_LOGGED: usize = 100_000;
+
+/// How often a sample repeats its work at most.
+const MOST_ROUNDS: usize = 1_000;
+
+/// What the words after the program's name ask for; None where they ask for nothing.
+pub fn parse_words(words: &[String]) -> Option<Job>
+    ensures some { IfSome result (Asks (map string_bytes words.now)) }
+    ensures none { IfNone result (AsksNothing (map string_bytes words.now)) }
+{
+    match words {
+        [word] if word.as_str() == "sizes" => Some(Job::Sizes),
+        [subject, size, rounds] => timed(subject.as_str(), size.as_str(), rounds.as_str()),
+        _ => None,
+    }
+}
+
+fn timed(subject: &str, size: &str, rounds: &str) -> Option<Job>
+    ensures some { IfSome result (Asks (subject.now ∷ size.now ∷ rounds.now ∷ [])) }
+    ensures none { IfNone result (AsksNothing (subject.now ∷ size.now ∷ rounds.now ∷ [])) }
+{
+    let subject = Subject::named(subject)?;
+    let size = number(size)?;
+    let rounds = number(rounds)?;
+    let is_in_range = subject.takes(size) && 1 <= rounds && rounds <= MOST_ROUNDS;
+    if is_in_range {
+        Some(Job::Time {
+            subject,
+            size,
+            rounds,
+        })
+    } else {
+        None
+    }
+}
+
+fn number(text: &str) -> Option<usize>
+    ensures { MatchOption result ((n : ℕ) → Spells text.now n → ⊥) (Spells text.now) }
+{
+    text.parse::<usize>().ok()
+}
+
+impl Subject {
+    ghost use Rattle.rdm_bench.specs.declared.job.Subject.{Subject};
+    ghost use Rattle.rdm_bench.specs.Words.{name_of, Takes};
+
+    // The one that the word names.
+    fn named(word: &str) -> Option<Subject>
+        ensures { MatchOption result ((s : Subject) → word.now ≡ name_of s → ⊥) (λ s. word.now ≡ name_of s) }
+    {
+        match word {
+            "agent" => Some(Subject::Agent),
+            "calls" => Some(Subject::Calls),
+            "queue" => Some(Subject::Queue),
+            "log" => Some(Subject::Log),
+            "all" => Some(Subject::All),
+            _ => None,
+        }
+    }
+
+    // Whether it may have this size.
+    fn takes(self, size: usize) -> bool
+        ensures { IsTrue result ↔ Takes self size }
+    {
+        match self {
+            Subject::Agent => 1 <= size && size <= MOST_DEVICES,
+            Subject::Calls => size <= MOST_PARAMETER_BYTES,
+            Subject::Queue => 1 <= size && size <= usize::from(MOST_PLACES),
+            Subject::Log => 1 <= size && size <= MOST_LOGGED,
+            Subject::All => 1 <= size && size <= MOST_PARAMETER_BYTES,
+        }
+    }
+}

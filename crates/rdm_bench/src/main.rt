@@ -1,0 +1,88 @@
+//! Times the compiled libraries. What was done is counted on standard output, the same for each build; the processor
+//! time that it took goes to standard error.
+#![tactic(auto)]
+
+mod agent;
+mod bench;
+mod calls;
+mod devices;
+mod fault;
+mod job;
+mod log;
+mod median;
+mod packets;
+mod queue;
+mod random;
+mod serving;
+mod sizes;
+mod tape;
+
+use crate::bench::Bench;
+use crate::fault::Fault;
+use crate::job::{Job, Subject, parse_words};
+use std::process::ExitCode;
+use std::{env, io};
+
+const USAGE: &str = "\
+usage: rdm_bench SUBJECT SIZE ROUNDS | rdm_bench sizes
+  agent   discovery runs; SIZE: devices on the line, 1 to 1024
+  calls   single calls; SIZE: bytes of parameter data, 0 to 231
+  queue   the queue of requests; SIZE: requests that wait, 1 to 4080
+  log     the log of a session; SIZE: requests in it, 1 to 100000
+  all     each of these, and the sizes; SIZE: 1 to 231
+  sizes   how many bytes the values take
+ROUNDS: how often each of the 21 samples repeats its work, 1 to 1000";
+
+fn main(rt: HostRuntime) -> ExitCode {
+    match run(&rt) {
+        Ok(()) => ExitCode::SUCCESS,
+        Err(fault) => tell(&rt, fault),
+    }
+}
+
+fn run(rt: &HostRuntime) -> Result<(), Fault> {
+    let words = env::args(rt)?.skip(1).collect::<Vec<String>>(rt.alloc())?;
+    match parse_words(&words).ok_or(Fault::Words)? {
+        Job::Sizes => sizes::print(rt),
+        Job::Time {
+            subject,
+            size,
+            rounds,
+        } => {
+            let bench = Bench {
+                rt,
+                alloc: rt.alloc(),
+                rounds,
+            };
+            time(&bench, subject, size)
+        }
+    }
+}
+
+fn time(bench: &Bench<'_, HostRuntime>, subject: Subject, size: usize) -> Result<(), Fault> {
+    match subject {
+        Subject::Agent => agent::time(bench, size),
+        Subject::Calls => calls::time(bench, size),
+        Subject::Queue => queue::time(bench, size),
+        Subject::Log => log::time(bench, size),
+        Subject::All => {
+            agent::time(bench, size)?;
+            calls::time(bench, size)?;
+            queue::time(bench, size)?;
+            log::time(bench, size)?;
+            sizes::print(bench.rt)
+        }
+    }
+}
+
+// Where the fault can't be printed either, the status tells of it.
+fn tell(rt: &HostRuntime, fault: Fault) -> ExitCode {
+    let told: io::Result<()> = match fault {
+        Fault::Words => eprintln!(rt; "{USAGE}"),
+        _ => eprintln!(rt; "rdm_bench: {fault}"),
+    };
+    match (told, fault) {
+        (Ok(()), Fault::Words) => ExitCode::from(2),
+        _ => ExitCode::FAILURE,
+    }
+}

@@ -1,0 +1,181 @@
+//! The queue of requests while so many wait: one is answered and collected, and another submitted.
+use crate::bench::{Bench, Name, Sample};
+use crate::fault::Fault;
+use crate::median::SAMPLES;
+use crate::packets::{Part, Replies, request};
+use crate::serving::{Serving, new_controller, new_session};
+use rdm_queue::ClientId;
+use std::alloc::Global;
+use std::time::CpuClock;
+
+/// How each request is answered.
+#[derive(Clone, Copy, Debug)]
+struct Answer {
+    name: &'static str,
+    // In how many replies, from 1.
+    parts: usize,
+    // How many bytes each of them has.
+    length: u8,
+}
+
+const ANSWERS: [Answer; 3] = [
+    Answer {
+        name: "answered by 2 bytes",
+        parts: 1,
+        length: 2,
+    },
+    Answer {
+        name: "answered by 231 bytes",
+        parts: 1,
+        length: 231,
+    },
+    Answer {
+        name: "answered by 17 parts of 231 bytes",
+        parts: 17,
+        length: 231,
+    },
+];
+
+// How many places a client may have.
+const MOST_PLACES_EACH: usize = 255;
+
+const ENTRIES_BESIDE: usize = 32;
+
+/// Times requests while so many wait.
+pub fn time<R: CpuClock + Print + Eprint>(
+    bench: &Bench<'_, R>,
+    waiting: usize,
+) -> Result<(), Fault> {
+    for answer in &ANSWERS {
+        let mut controller = new_controller(bench.alloc)?;
+        time_one(bench, "without log", &mut controller, waiting, answer)?;
+        let free = entries(bench.rounds, waiting, answer.parts);
+        let mut session = new_session(bench.alloc, free)?;
+        time_one(bench, "with log", &mut session, waiting, answer)?;
+    }
+    Ok(())
+}
+
+fn time_one<R: CpuClock + Print + Eprint, S: Serving>(
+    bench: &Bench<'_, R>,
+    scene: &'static str,
+    serving: &mut S,
+    waiting: usize,
+    answer: &Answer,
+) -> Result<(), Fault> {
+    let name = Name {
+        subject: "queue",
+        scene,
+        work: answer.name,
+        steps: "requests",
+    };
+    let mut turns = Turns::new(bench.alloc, serving, waiting, answer)?;
+    bench.time(&name, &mut turns)
+}
+
+// How many entries a log needs: for each turn an acceptance, a result, a collection, and a frame and a reply for each
+// part; for each request that waits its acceptance and the two that are reserved for it; and those of the joins, and
+// what has to be free for the last turn.
+fn entries(rounds: usize, waiting: usize, parts: usize) -> usize {
+    let turns = rounds.wrapping_mul(SAMPLES);
+    let of_turn = parts.wrapping_mul(2).wrapping_add(3);
+    let of_waiting = waiting.wrapping_mul(3);
+    turns
+        .wrapping_mul(of_turn)
+        .wrapping_add(of_waiting)
+        .wrapping_add(ENTRIES_BESIDE)
+}
+
+// Turns while the same number of requests wait.
+#[derive(Drop)]
+struct Turns<'a, S> {
+    alloc: Global,
+    serving: &'a mut S,
+    parts: usize,
+    part: Replies,
+    last: Replies,
+    // How many bytes an outcome has.
+    length: usize,
+    // The next frame's transaction number.
+    tn: u8,
+    clients: u8,
+    // Whose outcome is next.
+    collector: u8,
+    // Who submits next.
+    submitter: u8,
+}
+
+impl<'a, S: Serving> Turns<'a, S> {
+    // As few clients as have places for the requests that wait.
+    fn new(
+        alloc: Global,
+        serving: &'a mut S,
+        waiting: usize,
+        answer: &Answer,
+    ) -> Result<Turns<'a, S>, Fault> {
+        let clients = (waiting.div_ceil(MOST_PLACES_EACH)).clamp(1, 16) as u8;
+        for _ in 0..clients {
+            serving.join(alloc, u8::MAX)?;
+        }
+        let mut turns = Turns {
+            alloc,
+            serving,
+            parts: answer.parts,
+            part: Replies::new(alloc, Part::More, answer.length)?,
+            last: Replies::new(alloc, Part::Last, answer.length)?,
+            length: usize::from(answer.length).wrapping_mul(answer.parts),
+            tn: 0,
+            clients,
+            collector: 0,
+            submitter: 0,
+        };
+        for _ in 0..waiting {
+            turns.submit()?;
+        }
+        Ok(turns)
+    }
+
+    fn submit(&mut self) -> Result<(), Fault> {
+        self.serving.submit(ClientId(self.submitter), request(0)?)?;
+        self.submitter = self.after(self.submitter);
+        Ok(())
+    }
+
+    fn collect(&mut self) -> Result<(), Fault> {
+        if self.serving.collect(ClientId(self.collector))? != self.length {
+            return Err(Fault::Unexpected("next_outcome"));
+        }
+        self.collector = self.after(self.collector);
+        Ok(())
+    }
+
+    fn after(&self, client: u8) -> u8 {
+        let next = client.wrapping_add(1);
+        if next < self.clients { next } else { 0 }
+    }
+
+    fn exchange(&mut self, part: Part) -> Result<(), Fault> {
+        let frame = self.serving.take()?;
+        if frame.is_empty() {
+            return Err(Fault::Unexpected("take"));
+        }
+        let reply = match part {
+            Part::More => self.part.copied(self.tn)?,
+            Part::Last => self.last.copied(self.tn)?,
+        };
+        self.tn = self.tn.wrapping_add(1);
+        self.serving.deliver(self.alloc, reply)
+    }
+}
+
+impl<S: Serving> Sample for Turns<'_, S> {
+    fn run(&mut self) -> Result<u64, Fault> {
+        for _ in 1..self.parts {
+            self.exchange(Part::More)?;
+        }
+        self.exchange(Part::Last)?;
+        self.collect()?;
+        self.submit()?;
+        Ok(1)
+    }
+}

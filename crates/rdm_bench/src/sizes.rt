@@ -1,0 +1,37 @@
+//! How many bytes the values take.
+use crate::fault::Fault;
+use rdm_agent::{Agent, Op, OpReply};
+use rdm_join::{Joiner, Judged, LineEvent, Sent};
+use rdm_queue::{Answer, Controller, Entry, Event, Log, Outcome, Session};
+use rdm_wire::{BranchReply, DeviceSet, Frame, Request, Response, UidSet};
+use std::mem::size_of;
+
+/// Prints them to standard output.
+pub fn print(rt: &impl Print) -> Result<(), Fault> {
+    let sizes = [
+        ("BranchReply", size_of::<BranchReply>()),
+        ("UidSet", size_of::<UidSet>()),
+        ("DeviceSet", size_of::<DeviceSet>()),
+        ("Frame", size_of::<Frame>()),
+        ("Request", size_of::<Request>()),
+        ("Response", size_of::<Response>()),
+        ("Sent", size_of::<Sent>()),
+        ("LineEvent", size_of::<LineEvent>()),
+        ("Judged", size_of::<Judged>()),
+        ("Joiner", size_of::<Joiner>()),
+        ("Op", size_of::<Op>()),
+        ("OpReply", size_of::<OpReply>()),
+        ("Agent", size_of::<Agent>()),
+        ("Controller", size_of::<Controller>()),
+        ("Session", size_of::<Session>()),
+        ("Log", size_of::<Log>()),
+        ("Entry", size_of::<Entry>()),
+        ("Event", size_of::<Event>()),
+        ("Answer", size_of::<Answer>()),
+        ("Outcome", size_of::<Outcome>()),
+    ];
+    for (name, bytes) in sizes {
+        println!(rt; "sizes {name}: {bytes} bytes")?;
+    }
+    Ok(())
+}
