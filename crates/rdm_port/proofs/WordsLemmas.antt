@@ -37,9 +37,9 @@ asks_decode digits h = (no_fault (codes "decode") digits.now (inl refl) h, digit
 pub asks_encode : (uid : Bor Text) → is_plain uid.now ≡ true → Asks (codes "encode" ∷ uid.now ∷ []) (Encode uid)
 asks_encode uid h = (no_fault (codes "encode") uid.now (inr refl) h, uid_given uid.now h)
 
-pub asks_behind_hyphens : (digits : Bor Text) → Asks (codes "decode" ∷ codes "--" ∷ digits.now ∷ []) (Decode digits)
+pub asks_after_hyphens : (digits : Bor Text) → Asks (codes "decode" ∷ codes "--" ∷ digits.now ∷ []) (Decode digits)
 unfolding clap_on_literals
-asks_behind_hyphens digits = (refl, refl)
+asks_after_hyphens digits = (refl, refl)
 
 -- words that aren't taken ask for nothing
 refused : (words : List Text) → (fault_of commands words ≡ [] → ⊥) → AsksNothing words

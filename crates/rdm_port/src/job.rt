@@ -28,8 +28,8 @@ pub enum WordsFault {
     NoMemory,
 }
 
-/// What the words behind the program's name ask for, as `clap` reads them: a command's name and its argument. A word
-/// that begins with `-` and isn't `-` alone is an argument only behind a word `--` (profile of this project).
+/// What the words after the program's name ask for, as `clap` reads them: a command's name and its argument. A word
+/// that begins with `-` and isn't `-` alone is an argument only after a word `--` (profile of this project).
 pub fn parse_words<'a>(alloc: Global, words: &'a [&'a str]) -> Result<Job<'a>, WordsFault>
     ensures job { IfOk result (λ job. Asks (texts_of words.now) job) }
     ensures words { result ≡ Err WordsFault.Words → AsksNothing (texts_of words.now) }

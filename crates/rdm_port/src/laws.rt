@@ -5,7 +5,7 @@ ghost use Rattle.rdm_port.specs.Words.{Asks, AsksNothing, is_plain};
 
 use crate::job::Job;
 
-/// A command's name and a word that doesn't begin with a hyphen ask for that command, and behind `--` any word may
+/// A command's name and a word that doesn't begin with a hyphen ask for that command, and after `--` any word may
 /// stand. No words, a command's name alone, and words for help ask for nothing.
 pub fn what_words_ask()
     ensures decode { (digits : Bor (List ℕ)) → is_plain digits.now ≡ true

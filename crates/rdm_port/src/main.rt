@@ -36,7 +36,7 @@ fn print(rt: &HostRuntime, job: Result<Job<'_>, WordsFault>) -> u8 {
     perform(rt.alloc(), job, &mut io::empty(), &mut io::writer(rt))
 }
 
-// The words behind the program's name. One that is no text fits no command.
+// The words after the program's name. One that is no text fits no command.
 fn args(rt: &HostRuntime) -> Result<Vec<String>, WordsFault> {
     let args = env::args(rt).map_err(|error| match error.kind() {
         io::ErrorKind::OutOfMemory => WordsFault::NoMemory,

@@ -1,11 +1,11 @@
-use Rattle.rdm_port.proofs.WordsLemmas.{asks_decode, asks_encode, asks_behind_hyphens, nothing_asked, no_argument, help_refused, help_of_command_refused}
+use Rattle.rdm_port.proofs.WordsLemmas.{asks_decode, asks_encode, asks_after_hyphens, nothing_asked, no_argument, help_refused, help_of_command_refused}
 use Rattle.rdm_port.proofs.laws.what_words_ask.Goals as goal
 
 pub returns : goal.returns
 returns c = record {
   decode = asks_decode;
   encode = asks_encode;
-  any_word = asks_behind_hyphens;
+  any_word = asks_after_hyphens;
   no_words = nothing_asked;
   no_argument = no_argument;
   help = help_refused;

@@ -10,7 +10,7 @@ use Rattle.rdm_port.proofs.perform.takes_all.Goals as goal
 use Rattle.rdm_port.proofs.perform.takes_all.Goals.{in-Ok, in-Err}
 use Rattle.rdm_port.proofs.perform.takes_all.Goals.{else-writing-test, then-writing-test+then-written-bytes, then-writing-test+else-written-bytes+in-Ok-eq0, then-writing-test+else-written-bytes+in-Err-2}
 
--- what is kept behind an append is what was appended
+-- what is kept after an append is what was appended
 kept : (a b c : Option (List ℕ)) (bytes : List ℕ) → Appends a b bytes → Keeps b c → Appends a c bytes
 kept None b c bytes p q = tt
 kept (Some x) None c bytes p q = absurd p
