@@ -30,8 +30,8 @@ ghost use Rattle.rdm_agent.specs.declared.op.Op.{Op};
 ghost use Rattle.rdm_agent.specs.declared.op.Op.TheVariants.{End};
 ghost use Rattle.rdm_agent.specs.Certificate.{Certificate};
 
-/// A run unmutes three times, and then asks for branches and for mutes of devices. It counts its exchanges, asks
-/// nothing after a failure nor where its budget is used up, has found what was acknowledged, and keeps at most
+/// A run unmutes three times, and then asks for branches and for mutes of devices. It counts its exchanges, and asks
+/// nothing after a failure nor where its budget is used up. It has found what was acknowledged, and keeps at most
 /// [`MOST_RANGES`](crate::MOST_RANGES) ranges open. This holds of full and of incremental runs, for every known set
 /// and budget, at any moment, and whatever the line replies.
 pub fn run_asks_in_order()
@@ -71,8 +71,8 @@ pub fn no_phantom()
 {}
 
 /// On an honest line with `n` devices, at most 1,024, a run with `k` known UIDs (0 in a full one) makes at most
-/// `8 + 370 n + 5 k` exchanges, where no exchange failed and its budget is no less. Once it made as many it has ended,
-/// and at its end it has no fault, whatever bytes colliding replies make.
+/// `8 + 370 n + 5 k` exchanges. The premise is that no exchange failed and that its budget is no less. Once it made as
+/// many it has ended, and at its end it has no fault, whatever bytes colliding replies make.
 pub fn honest_run_ends()
     ensures { EndsInBound }
 {}

@@ -5,8 +5,8 @@ use Rattle.rdm_wire.specs.Uid.{has, IsDeviceSet}
 use Rattle.rdm_wire.specs.Honest.{LineState, HonestStep, KeepsMuted, Seen, before_run}
 use Rattle.rdm_wire.specs.Honest.Heard.{Failed}
 
--- devices leave and come before an exchange. Those in present are there at it, those in last were there at the
--- exchange before, and those in earlier were there at some exchange of the run before. Who left doesn't come back, and
+-- devices leave and come before an exchange. Those in present are there at it; those in last were there at the
+-- exchange before; those in earlier were there at some earlier exchange of the run. Who left doesn't come back, and
 -- who isn't there isn't muted
 pub record ComeAndLeave (earlier last present : List ℕ) (old new : LineState) : Type 0 where
   pub stays : (u : ℕ) → has last u ≡ true → has present u ≡ true → KeepsMuted u old new
