@@ -30,3 +30,4 @@ pub mod FirstAcked
 pub mod ChangingDevices
 pub mod SampleLines
 pub mod SampleIncremental
+pub mod CertificateEnds

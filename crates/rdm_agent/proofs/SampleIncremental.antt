@@ -1,5 +1,5 @@
 -- The incremental sample run is an honest line's, and has its certificate.
-use Rattle.std.proofs.Common.{◌≡◌, ℕ, zero, suc, List, [], ◌∷◌, ◌++◌, drop, replicate, None, refl, ap, cond, true, inl, inr, arith}
+use Rattle.std.proofs.Common.{ℕ, zero, suc, List, [], ◌∷◌, ◌++◌, drop, replicate, None, refl, ap, cond, true, inl, inr, arith}
 use Rattle.rdm_wire.specs.Uid.{IsDeviceSet}
 use Rattle.rdm_wire.specs.Honest.{Seen, HonestTrace}
 use Rattle.rdm_wire.specs.Honest.Asked.{Mute}
@@ -7,7 +7,7 @@ use Rattle.rdm_wire.specs.Honest.Heard.{Silent}
 use Rattle.rdm_agent.specs.Certificate.{Certificate}
 use Rattle.rdm_agent.specs.Machine.{AgentState, Runs, start}
 use Rattle.rdm_agent.specs.Machine.Phase.{Ended}
-use Rattle.rdm_agent.specs.SampleRun.{exchange, sample_uid, other_uid, absent_uid, sample_device, other_device, incremental_run}
+use Rattle.rdm_agent.specs.SampleRun.{exchange, sample_uid, absent_uid, sample_device, other_device, incremental_run}
 use Rattle.rdm_agent.specs.declared.kind.Kind.TheVariants.{Incremental}
 use Rattle.rdm_agent.specs.declared.limits.TheConstants.{DEFAULT_BUDGET}
 use Rattle.rdm_agent.proofs.Runs.{ends_certified}

@@ -16,6 +16,7 @@ ghost use Rattle.rdm_agent.specs.Machine.{AgentState, fed, fed_all, start, next_
 ghost use Rattle.rdm_agent.specs.Machine.Phase.{Ended};
 ghost use Rattle.rdm_agent.specs.Statements.{AsksInOrder, EndsAtFailure, EndsAtBudget, FindsAcknowledged};
 ghost use Rattle.rdm_agent.specs.Statements.{HasFewRanges, EndsCertified, FindsAll, FindsEach, FindsNoPhantom};
+ghost use Rattle.rdm_agent.specs.Statements.{CertificateIsTheEnd};
 ghost use Rattle.rdm_agent.specs.Statements.{FindsStaying, FindsNoStranger, IsInEach, IsInOne};
 ghost use Rattle.rdm_agent.specs.declared.limits.TheConstants.{DEFAULT_BUDGET, MOST_RANGES, TRIES, UNMUTES};
 ghost use Rattle.rdm_agent.specs.declared.kind.Kind.{Kind};
@@ -48,6 +49,12 @@ pub fn run_asks_in_order()
 /// replies.
 pub fn run_has_certificate()
     ensures { EndsCertified }
+{}
+
+/// A run has a certificate, of whatever set, only once it has ended without fault. So a fault is never told of a run
+/// whose exchanges show all: not for want of frames at the very end, and not for an abort.
+pub fn certificate_is_the_end()
+    ensures { CertificateIsTheEnd }
 {}
 
 /// On an honest line a run that ends without fault finds exactly the devices, whatever bytes colliding replies make.
