@@ -37,7 +37,7 @@ pub(crate) struct Client {
 }
 
 impl Client {
-    ghost use Rattle.rdm_queue.specs.body.Rings.{IsNewClient, Accepts, FinishesOldest, Collects};
+    ghost use Rattle.rdm_queue.specs.body.Rings.{IsNewClient, ClientAccepts, ClientFinishes, ClientCollects};
 
     /// A client without requests, whose memory is reserved here.
     pub(crate) fn with_places(alloc: Global, places: u8) -> Result<Client, AllocError>
@@ -78,10 +78,10 @@ impl Client {
         self.waiting.front()
     }
 
-    /// Accepts a request, for which it has a place.
+    /// ClientAccepts a request, for which it has a place.
     pub(crate) fn accept(&mut self, number: u64, request: Request)
         requires { deque_len self.old.waiting < deque_capacity self.old.waiting }
-        ensures { Accepts self.old number request self.new }
+        ensures { ClientAccepts self.old number request self.new }
     {
         self.waiting.push_back_reserved(Waiting { number, request });
     }
@@ -90,7 +90,7 @@ impl Client {
     pub(crate) fn finish_oldest(&mut self, done: Completion) -> Entry
         requires some { 0 < deque_len self.old.waiting }
         requires room { deque_len self.old.outcomes < deque_capacity self.old.outcomes }
-        ensures { FinishesOldest self.old done result self.new }
+        ensures { ClientFinishes self.old done result self.new }
     {
         let Some(oldest) = self.waiting.pop_front() else {
             unreachable!();
@@ -109,7 +109,7 @@ impl Client {
 
     /// Takes its oldest outcome out.
     pub(crate) fn collect(&mut self) -> Option<Owed>
-        ensures { Collects self.old result self.new }
+        ensures { ClientCollects self.old result self.new }
     {
         self.outcomes.pop_front()
     }

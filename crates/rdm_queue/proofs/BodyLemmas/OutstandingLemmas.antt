@@ -3,7 +3,7 @@ use Rattle.std.proofs.Common.{◌≡◌, ℕ, suc, ◌+◌, ◌-◌, ◌<◌, �
 use Rattle.std.specs.Prelude.{◌⊎◌, ◌≢◌, ◌==◌, slice_index}
 use Rattle.std.proofs.lemmas.Bool.{eq-eqb, ne_eqb, cases_eq, cases_lt}
 use Rattle.std.proofs.lemmas.List.{length-map, get_or-set_same, get_or-set_other, get_or_past}
-use Rattle.std.proofs.lemmas.List.Sums.{sum_by-set, get_or-le-sum_by}
+use Rattle.std.proofs.lemmas.List.Sums.{sum_by-set}
 use Rattle.std.proofs.lemmas.List.Elements.{filter-append}
 use Rattle.rdm_queue.specs.log.Entries.{Accepted}
 use Rattle.rdm_queue.proofs.LogLemmas.Counts.{count}
@@ -70,20 +70,7 @@ outstanding-le s few = subst (λ (n : ℕ). n ≤ sum s.places) whole (few_in_al
     each : (c : ℕ) → count c clients ≤ get_or s.places c 0
     each c = rw (filter-append (λ d. c == d) waits owes, length-append (filter (λ d. c == d) waits) (filter (λ d. c == d) owes), length-filter_map (λ (a : Accepted). a.client) (λ d. c == d) s.waiting, length-filter_map (λ (d : OwedOutcome). d.client) (λ d. c == d) s.outcomes) (few c)
 
--- what all places bound
-pub outstanding-fits : (s : QueueState) → StateInvariant s → (c : ℕ) → outstanding c s ≤ 4080
-outstanding-fits s room c = by_place (cases_lt c (length s.places))
-  where
-    by_place : (c < length s.places) ⊎ (length s.places ≤ c) → outstanding c s ≤ 4080
-    by_place (inl here) = bounded (room.few c) (get_or-le-sum_by (λ n. n) s.places c 0 here) room.few_places room.greatest
-      where
-        bounded : {n m t g : ℕ} → n ≤ m → m ≤ t → t ≤ g → g ≤ 4080 → n ≤ 4080
-        bounded a b c d = omega arith
-    by_place (inr past) = none (room.few c) (get_or_past s.places c 0 past)
-      where
-        none : {n m : ℕ} → n ≤ m → m ≡ 0 → n ≤ 4080
-        none a b = omega arith
-
+-- all clients together have no more outstanding than all places
 pub all-outstanding : (s : QueueState) → StateInvariant s → length s.waiting + length s.outcomes ≤ sum s.places
 all-outstanding s room = outstanding-le s room.few
 

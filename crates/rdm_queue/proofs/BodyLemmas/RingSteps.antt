@@ -13,7 +13,7 @@ use Rattle.rdm_queue.specs.declared.outcome.Completion.{Completion}
 use Rattle.rdm_queue.specs.log.Entries.{Accepted}
 use Rattle.rdm_queue.specs.promises.Outcomes.{completion_value}
 use Rattle.rdm_queue.specs.body.Merged.{AreShares}
-use Rattle.rdm_queue.specs.body.Rings.{HasRings, IsNewClient, Accepts, FinishesOldest, Collects}
+use Rattle.rdm_queue.specs.body.Rings.{HasRings, IsNewClient, ClientAccepts, ClientFinishes, ClientCollects}
 use Rattle.rdm_queue.specs.body.Fields.{accepted_is, owed_is, waiting_ring, outcome_ring, waiting_rings, outcome_rings, places_of}
 use Rattle.rdm_queue.specs.body.QueueInvariant.{RingsInvariant, QueueInvariant}
 use Rattle.rdm_queue.specs.body.State.{QueueState, OwedOutcome, outstanding, owed_for, accepted_as, accepts_request, finishes_oldest, first_join_fault, first_submit_fault, without_first, owed_to}
@@ -30,7 +30,7 @@ rings-join s clients k places rings fresh = record {
 }
 
 -- a client's request is accepted
-pub rings-accept : (s : QueueState) (clients : List Client) (c : ℕ) (k l : Client) (request : Request) → RingsInvariant s clients → slice_get clients c ≡ Some k → Accepts k s.next_request request l → RingsInvariant (accepts_request s c request) (set clients c l)
+pub rings-accept : (s : QueueState) (clients : List Client) (c : ℕ) (k l : Client) (request : Request) → RingsInvariant s clients → slice_get clients c ≡ Some k → ClientAccepts k s.next_request request l → RingsInvariant (accepts_request s c request) (set clients c l)
 rings-accept s clients c k l request rings at accepts = record {
   waiting = subst (λ lists. AreShares (λ (a : Accepted). a.client) lists (s.waiting ++ accepted_as s c request ∷ [])) (sym changed) (shares_push (λ a. a.client) (waiting_rings clients) s.waiting (accepted_as s c request) rings.waiting (ring_within waiting_ring clients c k at));
   outcomes = subst (λ lists. AreShares (λ (d : OwedOutcome). d.client) lists s.outcomes) (sym (ring_stayed outcome_ring clients c k l at (ap (λ ds. map (owed_is c) ds) accepts.outcomes))) rings.outcomes;
@@ -54,7 +54,7 @@ front_is s clients k a w ws rings at items oldest =
     cc
 
 -- the oldest request is finished
-pub rings-finish : (s : QueueState) (clients : List Client) (k l : Client) (done : Completion) (entry : Entry) (a : Accepted) → RingsInvariant s clients → slice_get clients a.client ≡ Some k → (finishes : FinishesOldest k done entry l) → slice_get s.waiting 0 ≡ Some a → RingsInvariant (finishes_oldest s (owed_for (completion_value done) a)) (set clients a.client l)
+pub rings-finish : (s : QueueState) (clients : List Client) (k l : Client) (done : Completion) (entry : Entry) (a : Accepted) → RingsInvariant s clients → slice_get clients a.client ≡ Some k → (finishes : ClientFinishes k done entry l) → slice_get s.waiting 0 ≡ Some a → RingsInvariant (finishes_oldest s (owed_for (completion_value done) a)) (set clients a.client l)
 rings-finish s clients k l done entry a rings at finishes oldest = record {
   waiting = subst (λ lists. AreShares (λ (b : Accepted). b.client) lists (drop 1 s.waiting)) (sym (ring_changed waiting_ring clients a.client l (waiting_ring a.client l) refl)) (shares_rest (λ b. b.client) (waiting_rings clients) (drop 1 s.waiting) a (waiting_ring a.client l) all first);
   outcomes = subst (λ lists. AreShares (λ (d : OwedOutcome). d.client) lists (s.outcomes ++ owed ∷ [])) (sym changed) (shares_push (λ d. d.client) (outcome_rings clients) s.outcomes owed rings.outcomes (ring_within outcome_ring clients a.client k at));
@@ -84,11 +84,11 @@ rings-finish s clients k l done entry a rings at finishes oldest = record {
     changed = ring_changed outcome_ring clients a.client l (get_or (outcome_rings clients) a.client [] ++ owed ∷ []) items_are
 
 -- the entry of its end
-pub entry-finish : (s : QueueState) (clients : List Client) (k l : Client) (done : Completion) (entry : Entry) (a : Accepted) → RingsInvariant s clients → slice_get clients a.client ≡ Some k → (finishes : FinishesOldest k done entry l) → slice_get s.waiting 0 ≡ Some a → a.number ≡ finishes.oldest.number
+pub entry-finish : (s : QueueState) (clients : List Client) (k l : Client) (done : Completion) (entry : Entry) (a : Accepted) → RingsInvariant s clients → slice_get clients a.client ≡ Some k → (finishes : ClientFinishes k done entry l) → slice_get s.waiting 0 ≡ Some a → a.number ≡ finishes.oldest.number
 entry-finish s clients k l done entry a rings at finishes oldest = ap (λ (b : Accepted). b.number) (front_is s clients k a finishes.oldest l.waiting.items rings at finishes.waiting oldest)
 
 -- a client's oldest outcome is taken out
-pub rings-collect : (s : QueueState) (clients : List Client) (c : ℕ) (k l : Client) (d : Owed) → RingsInvariant s clients → slice_get clients c ≡ Some k → Collects k (Some d) l → RingsInvariant (record s { outcomes = without_first c s.outcomes }) (set clients c l)
+pub rings-collect : (s : QueueState) (clients : List Client) (c : ℕ) (k l : Client) (d : Owed) → RingsInvariant s clients → slice_get clients c ≡ Some k → ClientCollects k (Some d) l → RingsInvariant (record s { outcomes = without_first c s.outcomes }) (set clients c l)
 rings-collect s clients c k l d rings at collects = record {
   waiting = subst (λ lists. AreShares (λ (a : Accepted). a.client) lists s.waiting) (sym (ring_stayed waiting_ring clients c k l at (ap (λ ws. map (accepted_is c) ws) collects.waiting))) rings.waiting;
   outcomes = subst (λ lists. AreShares (λ (e : OwedOutcome). e.client) lists (without_first c s.outcomes)) (sym (ring_changed outcome_ring clients c l (outcome_ring c l) refl)) (shares_without (outcome_rings clients) s.outcomes c (owed_is c d) (outcome_ring c l) rings.outcomes first);
@@ -133,19 +133,19 @@ room_for_outcome s clients c k held same at =
     omega (arith, sizes.outcomes)
 
 -- what the whole queue keeps through these
-pub kept-finish : (s : QueueState) (clients : List Client) (k l : Client) (done : Completion) (entry : Entry) (a : Accepted) → QueueInvariant s clients → slice_get clients a.client ≡ Some k → FinishesOldest k done entry l → slice_get s.waiting 0 ≡ Some a → QueueInvariant (finishes_oldest s (owed_for (completion_value done) a)) (set clients a.client l)
+pub kept-finish : (s : QueueState) (clients : List Client) (k l : Client) (done : Completion) (entry : Entry) (a : Accepted) → QueueInvariant s clients → slice_get clients a.client ≡ Some k → ClientFinishes k done entry l → slice_get s.waiting 0 ≡ Some a → QueueInvariant (finishes_oldest s (owed_for (completion_value done) a)) (set clients a.client l)
 kept-finish s clients k l done entry a held at finishes oldest = record {
   state = held-finishes s (completion_value done) a held.state oldest;
   rings = rings-finish s clients k l done entry a held.rings at finishes oldest;
 }
 
-pub kept-accept : (s : QueueState) (clients : List Client) (c : ℕ) (k l : Client) (request : Request) → QueueInvariant s clients → slice_get clients c ≡ Some k → Accepts k s.next_request request l → first_submit_fault s c ≡ None → QueueInvariant (accepts_request s c request) (set clients c l)
+pub kept-accept : (s : QueueState) (clients : List Client) (c : ℕ) (k l : Client) (request : Request) → QueueInvariant s clients → slice_get clients c ≡ Some k → ClientAccepts k s.next_request request l → first_submit_fault s c ≡ None → QueueInvariant (accepts_request s c request) (set clients c l)
 kept-accept s clients c k l request held at accepts passes = record {
   state = held-accepts s c request held.state passes;
   rings = rings-accept s clients c k l request held.rings at accepts;
 }
 
-pub kept-collect : (s : QueueState) (clients : List Client) (c : ℕ) (k l : Client) (d : Owed) → QueueInvariant s clients → slice_get clients c ≡ Some k → Collects k (Some d) l → QueueInvariant (record s { outcomes = without_first c s.outcomes }) (set clients c l)
+pub kept-collect : (s : QueueState) (clients : List Client) (c : ℕ) (k l : Client) (d : Owed) → QueueInvariant s clients → slice_get clients c ≡ Some k → ClientCollects k (Some d) l → QueueInvariant (record s { outcomes = without_first c s.outcomes }) (set clients c l)
 kept-collect s clients c k l d held at collects = record {
   state = held-collects s c held.state;
   rings = rings-collect s clients c k l d held.rings at collects;
@@ -158,7 +158,7 @@ kept-join s clients k places held fresh passes = record {
 }
 
 -- a client that has no outcome, and one that has
-pub kept-uncollected : (s : QueueState) (clients : List Client) (c : ℕ) (k l : Client) → QueueInvariant s clients → slice_get clients c ≡ Some k → Collects k None l → QueueInvariant s (set clients c l)
+pub kept-uncollected : (s : QueueState) (clients : List Client) (c : ℕ) (k l : Client) → QueueInvariant s clients → slice_get clients c ≡ Some k → ClientCollects k None l → QueueInvariant s (set clients c l)
 kept-uncollected s clients c k l held at collects = record {
   state = held.state;
   rings = record {
@@ -168,8 +168,8 @@ kept-uncollected s clients c k l held at collects = record {
   };
 }
 
-pub none_owed : (s : QueueState) (clients : List Client) (c : ℕ) (k l : Client) → RingsInvariant s clients → slice_get clients c ≡ Some k → Collects k None l → slice_get (owed_to c s) 0 ≡ None
+pub none_owed : (s : QueueState) (clients : List Client) (c : ℕ) (k l : Client) → RingsInvariant s clients → slice_get clients c ≡ Some k → ClientCollects k None l → slice_get (owed_to c s) 0 ≡ None
 none_owed s clients c k l rings at collects = ap (λ ds. slice_get ds 0) (sym (rings.outcomes c) ∙ (ring_of outcome_ring clients c k at ∙ ap (λ ds. map (owed_is c) ds) collects.none))
 
-pub first_owed : (s : QueueState) (clients : List Client) (c : ℕ) (k l : Client) (d : Owed) → RingsInvariant s clients → slice_get clients c ≡ Some k → Collects k (Some d) l → slice_get (owed_to c s) 0 ≡ Some (owed_is c d)
+pub first_owed : (s : QueueState) (clients : List Client) (c : ℕ) (k l : Client) (d : Owed) → RingsInvariant s clients → slice_get clients c ≡ Some k → ClientCollects k (Some d) l → slice_get (owed_to c s) 0 ≡ Some (owed_is c d)
 first_owed s clients c k l d rings at collects = ap (λ ds. slice_get ds 0) (sym (rings.outcomes c) ∙ (ring_of outcome_ring clients c k at ∙ ap (λ ds. map (owed_is c) ds) collects.outcomes))

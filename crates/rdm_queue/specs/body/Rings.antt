@@ -29,13 +29,13 @@ pub record SameRings (old new : Client) : Type 0 where
   pub outcomes : deque_capacity new.outcomes ≡ deque_capacity old.outcomes
 
 -- it has a request more
-pub record Accepts (old : Client) (number : ℕ) (request : Request) (new : Client) : Type 0 where
+pub record ClientAccepts (old : Client) (number : ℕ) (request : Request) (new : Client) : Type 0 where
   pub waiting : new.waiting.items ≡ old.waiting.items ++ record { number = number; request = request } ∷ []
   pub outcomes : new.outcomes.items ≡ old.outcomes.items
   pub rings : SameRings old new
 
 -- its oldest request was finished so, with this entry
-pub record FinishesOldest (old : Client) (done : Completion) (entry : Entry) (new : Client) : Type 0 where
+pub record ClientFinishes (old : Client) (done : Completion) (entry : Entry) (new : Client) : Type 0 where
   pub oldest : Waiting
   pub waiting : old.waiting.items ≡ oldest ∷ new.waiting.items
   pub outcomes : new.outcomes.items ≡ old.outcomes.items ++ record { number = oldest.number; done = done } ∷ []
@@ -43,7 +43,7 @@ pub record FinishesOldest (old : Client) (done : Completion) (entry : Entry) (ne
   pub rings : SameRings old new
 
 -- its oldest outcome was taken out, if it had one
-pub record Collects (old : Client) (owed : Option Owed) (new : Client) : Type 0 where
+pub record ClientCollects (old : Client) (owed : Option Owed) (new : Client) : Type 0 where
   pub waiting : new.waiting.items ≡ old.waiting.items
   pub outcomes : old.outcomes.items ≡ option_to_list owed ++ new.outcomes.items
   pub none : IfNone owed (old.outcomes.items ≡ [])
