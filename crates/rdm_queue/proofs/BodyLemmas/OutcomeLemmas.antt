@@ -24,7 +24,7 @@ below_places bound [] at = tt
 below_places bound (Finish n status len ∷ h) at = (at 0 (record { number = n; status = status; len = len }) refl, below_places bound h (λ i f is. at (suc i) f is))
 below_places bound (e ∷ h) at = (tt, below_places bound h at)
 
-place_within : {X : Type 0} (xs : List X) (i : ℕ) (x : X) → slice_get xs i ≡ Some x → i < length xs
+pub place_within : {X : Type 0} (xs : List X) (i : ℕ) (x : X) → slice_get xs i ≡ Some x → i < length xs
 place_within [] i x at = cc
 place_within (y ∷ xs) zero x at = omega arith
 place_within (y ∷ xs) (suc i) x at = let rest = place_within xs i x at in omega arith
