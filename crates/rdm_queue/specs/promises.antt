@@ -3,4 +3,5 @@ pub mod Outcomes
 pub mod Blocks
 pub mod Explains
 pub mod Headline
+pub mod Discoveries
 pub mod EventsHeadline

@@ -18,8 +18,8 @@ use Rattle.rdm_queue.specs.declared.entry.Opening.{Opening}
 use Rattle.rdm_queue.specs.declared.entry.Entry.{Entry}
 use Rattle.rdm_queue.specs.declared.entry.Entry.TheVariants.{Refuse, Accept, Finish, Close}
 use Rattle.rdm_queue.specs.declared.fault.SubmitFault.TheVariants.{Full}
-use Rattle.rdm_queue.specs.log.Entries.{Accepted, Finished, Traded, joins, accepts, sends, finishes, of_request}
-use Rattle.rdm_queue.specs.log.Entries.{verdicts, result}
+use Rattle.rdm_queue.specs.log.Entries.{Accepted, Finished, Traded, joins, accepts, asks, sends, finishes}
+use Rattle.rdm_queue.specs.log.Entries.{of_request, verdicts, result}
 use Rattle.rdm_queue.specs.log.History.{awaited, is_paused, is_closed, places, next_client, next_request, frames_sent}
 use Rattle.rdm_queue.specs.log.History.{unfinished}
 use Rattle.rdm_queue.specs.log.Clients.{accepts_by, answers_to, uncollected, outstanding_requests}
@@ -124,10 +124,11 @@ pub record FullRefuses (o : Opening) (h : List Entry) : Type 0 where
   pub unchanged : (front back : List Entry) (c : Option ClientId) (call : Call) (cause : Cause)
       → h ≡ front ++ Refuse c call cause ∷ back → SameQueue o front (front ++ Refuse c call cause ∷ [])
 
--- nobody joins, no request is accepted, and no frame is sent
+-- nobody joins, no request and no discovery is accepted, and no frame is sent
 pub record NothingStarts (h : List Entry) : Type 0 where
   pub no_client : joins h ≡ []
   pub no_request : accepts h ≡ []
+  pub no_discovery : asks h ≡ []
   pub no_frame : sends h ≡ []
 
 -- Nothing starts after a close.
