@@ -1,5 +1,6 @@
 -- What the code holds agrees with the log after each call.
 pub mod OutstandingLemmas
+pub mod RequestsAlone
 pub mod FieldLemmas
 pub mod HeardLemmas
 pub mod InvariantLemmas

@@ -15,3 +15,4 @@ pub mod QuietEvents
 pub mod RisingNumbers
 pub mod CollectedEvents
 pub mod EventsPromises
+pub mod RunsAnswer

@@ -35,7 +35,7 @@ use Rattle.rdm_queue.proofs.LogLemmas.Grows.{front}
 use Rattle.rdm_queue.proofs.LogLemmas.LegalFacts.{legal_facts}
 use Rattle.rdm_queue.proofs.LogLemmas.Places.{slice_get-drop, filter_map_has}
 use Rattle.rdm_queue.proofs.LogLemmas.ClientLemmas.{client_stays}
-use Rattle.rdm_queue.proofs.PromiseLemmas.StableResults.{filter_has, IsFinish, uncollected_finish}
+use Rattle.rdm_queue.proofs.PromiseLemmas.StableResults.{filter_has, IsFinish, oldest_finish}
 use Rattle.rdm_queue.proofs.PromiseLemmas.OwnAnswers.{finished_stays}
 use Rattle.rdm_queue.proofs.PromiseLemmas.OneResult.{one_result}
 use Rattle.rdm_queue.proofs.PromiseLemmas.FullRefuses.{full_is_fault, fault_is_full, refusal_changes_nothing}
@@ -125,7 +125,7 @@ own_outcome o h more c outcome each is = record {
 }
   where
     f : IsFinish o h is.entry
-    f = uncollected_finish o h (legal_facts o h (front o h more each)) c 0 is.entry is.oldest
+    f = oldest_finish o h (legal_facts o h (front o h more each)) c outcome is
 
     found : (j : ℕ) × (slice_get h j ≡ Some is.entry) × (is_answer_to o c h is.entry ≡ true)
     found = answer_found o h c is.entry is.oldest

@@ -6,9 +6,9 @@ use Rattle.std.proofs.lemmas.List.{map-append, take-append-drop, length-take-le}
 use Rattle.std.proofs.lemmas.List.Elements.{filter-append}
 use Rattle.rdm_queue.specs.declared.entry.Opening.{Opening}
 use Rattle.rdm_queue.specs.declared.entry.Entry.{Entry}
-use Rattle.rdm_queue.specs.declared.entry.Entry.TheVariants.{Finish}
+use Rattle.rdm_queue.specs.declared.entry.Entry.TheVariants.{Finish, Answer}
 use Rattle.rdm_queue.specs.log.Entries.{Accepted, Finished, finished_of, accepts, finishes}
-use Rattle.rdm_queue.specs.log.Clients.{accepts_by, client_of_request, is_just, is_answer_to, answers_to}
+use Rattle.rdm_queue.specs.log.Clients.{accepts_by, client_of_request, client_of_ask, is_just, is_answer_to, answers_to}
 use Rattle.rdm_queue.specs.log.Legal.{Legal}
 use Rattle.rdm_queue.specs.promises.Headline.{numbers_accepted, numbers_finished, Begins, InOrder}
 use Rattle.rdm_queue.proofs.PromiseLemmas.Numbers.{range_parts, numbers_by_place}
@@ -43,6 +43,17 @@ finishes_to o c h (Finish n status len ∷ k) = by_test (is_just c (client_of_re
 
     by_test : (b : Bool) → filter_map finished_of answers ≡ own → filter_map finished_of (if b then Finish n status len ∷ answers else answers) ≡ (if b then f ∷ own else own)
     by_test true later = ap (λ l. f ∷ l) later
+    by_test false later = later
+finishes_to o c h (Answer n run fault ∷ k) = by_test (is_just c (client_of_ask o h n)) (finishes_to o c h k)
+  where
+    answers : List Entry
+    answers = filter (is_answer_to o c h) k
+
+    own : List Finished
+    own = filter (λ g. is_just c (client_of_request o h g.number)) (filter_map finished_of k)
+
+    by_test : (b : Bool) → filter_map finished_of answers ≡ own → filter_map finished_of (if b then Answer n run fault ∷ answers else answers) ≡ own
+    by_test true later = later
     by_test false later = later
 finishes_to o c h (e ∷ k) = finishes_to o c h k
 

@@ -67,7 +67,7 @@ exactly_one o h legal closed idle n has = counted o h facts n (record { from = i
     is = range_contains o.next_request (length (accepts h)) n (rw (accepted_in_order o h facts) at has)
 
     all : length (accepts h) ≤ length (finishes h)
-    all = omega (arith, length-drop (length (finishes h)) (accepts h), ap length (legal.settled.all_closed closed idle))
+    all = omega (arith, length-drop (length (finishes h)) (accepts h), ap length (legal.settled.all_closed closed idle).0)
 
 pub one_result : (o : Opening) (h : List Entry) → Legal o h → OneResult o h
 one_result o h legal = let facts = legal_facts o h legal.each in record { at_most_one = at_most_one o h facts; accepted = was_accepted o h facts; exactly_one = exactly_one o h legal }

@@ -5,7 +5,7 @@ use Rattle.rdm_join.specs.declared.verdict.Sent.{Sent}
 use Rattle.rdm_join.specs.Verdict.{sent_by}
 use Rattle.rdm_queue.specs.declared.entry.Opening.{Opening}
 use Rattle.rdm_queue.specs.declared.entry.Entry.{Entry}
-use Rattle.rdm_queue.specs.log.Entries.{Sending, asks, sends, finishes, collectors, verdicts}
+use Rattle.rdm_queue.specs.log.Entries.{Sending, asks, sends, finishes, answers, collectors, verdicts}
 use Rattle.rdm_queue.specs.log.History.{awaited, is_paused, is_closed, places, next_request, next_tn, unfinished}
 use Rattle.rdm_queue.specs.log.Runs.{last_run}
 use Rattle.rdm_queue.specs.log.Clients.{uncollected}
@@ -31,9 +31,10 @@ IsPending h (Some sent) = IsLastSent h sent
 abbrev pub oldest_number : Opening → List Entry → ℕ
 oldest_number o h = o.next_request + length (finishes h)
 
--- no discovery was asked, and none run
+-- no discovery was asked or answered, and no run began
 pub record NoDiscoveries (h : List Entry) : Type 0 where
   pub no_ask : asks h ≡ []
+  pub no_answer : answers h ≡ []
   pub no_run : last_run h ≡ None
 
 -- what a queue holds is what the log says
