@@ -11,7 +11,7 @@ use Rattle.rdm_wire.specs.Honest.Heard.{Failed, Silent, One, Acked, Noise}
 use Rattle.rdm_agent.specs.Certificate.{known_of}
 use Rattle.rdm_agent.specs.Machine.{Phase, AgentState, Runs, start, wanted, fed, found_uids, fault_of, heard_by_phase}
 use Rattle.rdm_agent.specs.Machine.Phase.{Unmuting, MutingKnown, Searching, MutingRead, Ended}
-use Rattle.rdm_agent.specs.Potential.{is_left, left_in, worth, Costs, Affords}
+use Rattle.rdm_agent.proofs.Potential.{is_left, left_in, worth, Costs, Affords}
 use Rattle.rdm_agent.specs.Bound.{enough_for, EndsWithin, EndsInBound, EndsByDefault}
 use Rattle.rdm_agent.specs.declared.kind.Kind.{Kind}
 use Rattle.rdm_agent.specs.declared.limits.TheConstants.{DEFAULT_BUDGET}

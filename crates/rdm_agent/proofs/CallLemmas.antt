@@ -1,6 +1,6 @@
 -- How an agent stands after a list of exchanges, call by call.
 use Rattle.std.proofs.Common.{◌≡◌, ℕ, ◌≤◌, Bool, true, false, cond, List, [], ◌∷◌, ◌++◌, length, Option, Some, None, refl, sym, ap, ◌∙◌, subst, true≢false, arith}
-use Rattle.std.specs.Prelude.{◌≢◌, nat_lt, MatchOption}
+use Rattle.std.specs.Prelude.{◌≢◌, nat_lt, MatchOption, IfNone, IfSome}
 use Rattle.rdm_wire.specs.Uid.{has, IsDevice}
 use Rattle.rdm_wire.specs.Honest.{Asked, Heard, Seen, HonestTrace, HonestTo}
 use Rattle.rdm_wire.specs.HonestOver.{HonestOver}
@@ -60,7 +60,7 @@ aborted_ends a = by_test (nat_lt a.frames a.budget)
     by_test false = refl
 
 -- one more exchange
-runs-push : (x : List Seen) (a b : AgentState) (asked : Asked) (heard : Heard) → Runs a x b → next_of b ≡ Some asked → Runs a (x ++ record { asked = asked; heard = heard } ∷ []) (fed b heard)
+pub runs-push : (x : List Seen) (a b : AgentState) (asked : Asked) (heard : Heard) → Runs a x b → next_of b ≡ Some asked → Runs a (x ++ record { asked = asked; heard = heard } ∷ []) (fed b heard)
 runs-push [] a b asked heard run next = (subst (λ c. next_of c ≡ Some asked) run next, ap (λ c. fed c heard) run)
 runs-push (e ∷ x) a b asked heard run next = (run.0, runs-push x (fed a e.heard) b asked heard run.1 next)
 
@@ -164,6 +164,20 @@ module _ (a : AgentState) (end : next_op a ≡ End) (fault : AgentFault) (has_fa
     where
       going : next_of s.before ≢ None
       going none = s.is.0 (none_ends s.before none)
+
+-- the same by what the agent tells of its fault
+pub fault-certified : (a : AgentState) → next_op a ≡ End → (o : Option AgentFault) → o ≡ fault_of a.phase → OfEach a (λ kind known budget aborted x. IfNone o (Certificate kind known x a.found))
+fault-certified a end None is kind known budget aborted x s = (end-certified a end (sym is) kind known budget aborted x s).0
+fault-certified a end (Some fault) is kind known budget aborted x s = tt
+
+pub fault-caused : (a : AgentState) → next_op a ≡ End → (o : Option AgentFault) → o ≡ fault_of a.phase → OfEach a (λ kind known budget aborted x. IfSome o (λ f. Cause budget (aborted ≡ true) f x))
+fault-caused a end None is kind known budget aborted x s = tt
+fault-caused a end (Some fault) is kind known budget aborted x s = (end-caused a end fault (sym is) kind known budget aborted x s).0
+
+-- at any moment the devices found are the run's report
+pub found-report : (a : AgentState) → OfEach a (λ kind known budget aborted x. IsReport x a.found)
+found-report a kind known budget false x s = (finds_acknowledged kind known budget x a s.devices (runs-own kind known budget x a s)).0
+found-report a kind known budget true x s = rw s.is.1 (finds_acknowledged kind known budget x s.before s.devices s.runs).0
 
 pub found-present : (a : AgentState) → OfEach a (λ kind known budget aborted x. (present : List ℕ) (u : ℕ) → HonestTrace present x → has (found_uids a) u ≡ true → has present u ≡ true)
 found-present a kind known budget false x s present u honest there = finds_no_phantom kind known budget x a s.devices (runs-own kind known budget x a s) present u honest there

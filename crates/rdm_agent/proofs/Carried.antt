@@ -7,8 +7,9 @@ use Rattle.rdm_wire.specs.BranchText.{ReadsAs}
 use Rattle.rdm_wire.specs.Reading.{text_read, ack_read}
 use Rattle.rdm_wire.specs.Packet.{Fields, fields_at}
 use Rattle.rdm_wire.specs.CommandFrames.{all_devices, branch_frame, mute_frame, unmute_frame}
-use Rattle.rdm_wire.specs.Commands.{CanSend, command_fields}
-use Rattle.rdm_wire.specs.Commands.Command.{Unmute, Branch, Mute}
+use Rattle.rdm_wire.specs.Commands.{FitsFrame, command_fields}
+use Rattle.rdm_wire.specs.declared.command.Command.{Command}
+use Rattle.rdm_wire.specs.declared.command.Command.TheVariants as commands
 use Rattle.rdm_wire.specs.Frames.{asked_in, asked_with, heard_in, heard_bytes, one_or_noise, acked_or_noise, seen_exchange}
 use Rattle.rdm_wire.specs.Honest.{Asked, Heard, Seen}
 use Rattle.rdm_wire.specs.Honest.Asked.{Unmute as unmuted, Branch as branched, Mute as muted, Other as nothing}
@@ -47,30 +48,33 @@ second p q a b c fails holds = rw (fails, holds) refl
 third : {W : Type 0} (p q r : Bool) (a b c d : W) → p ≡ false → q ≡ false → r ≡ true → cond p a (cond q b (cond r c d)) ≡ c
 third p q r a b c d fails too holds = rw (fails, too, holds) refl
 
--- what can send one command can send the others
-can_unmute : (s tn : ℕ) → s < 2 ^ 48 → tn < 2 ^ 8 → CanSend Unmute s tn
+abbrev branch_of : ℕ → ℕ → Command
+branch_of lo hi = commands.Branch (record { lo = lo; hi = hi })
+
+-- what fits the frame of one command fits those of the others
+can_unmute : (s tn : ℕ) → s < 2 ^ 48 → tn < 2 ^ 8 → FitsFrame commands.Unmute s tn
 can_unmute s tn source number = record {
   fits = record { dest = omega arith; source = source; tn = number; port = omega arith; count = omega arith; sub_device = omega arith; class = omega arith; pid = omega arith; param = omega arith };
   bounds = tt;
 }
 
-can_branch : (s tn : ℕ) → s < 2 ^ 48 → tn < 2 ^ 8 → CanSend (Branch 0 0) s tn
+can_branch : (s tn : ℕ) → s < 2 ^ 48 → tn < 2 ^ 8 → FitsFrame (branch_of 0 0) s tn
 can_branch s tn source number = record {
   fits = record { dest = omega arith; source = source; tn = number; port = omega arith; count = omega arith; sub_device = omega arith; class = omega arith; pid = omega arith; param = omega arith };
   bounds = (omega arith, omega arith);
 }
 
 -- what the frames ask
-pub unmute_asks : (s tn : ℕ) → CanSend Unmute s tn → asked_in (unmute_frame s tn) ≡ unmuted
-unmute_asks s tn can = ap (asked_with (unmute_frame s tn)) (fields_at-packet (command_fields Unmute s tn) can.fits)
+pub unmute_asks : (s tn : ℕ) → FitsFrame commands.Unmute s tn → asked_in (unmute_frame s tn) ≡ unmuted
+unmute_asks s tn can = ap (asked_with (unmute_frame s tn)) (fields_at-packet (command_fields commands.Unmute s tn) can.fits)
     ∙ rw (same_bytes (unmute_frame s tn) (unmute_frame s tn) refl) refl
 
-pub branch_asks : (lo hi s tn : ℕ) → CanSend (Branch lo hi) s tn → asked_in (branch_frame lo hi s tn) ≡ branched lo hi
-branch_asks lo hi s tn can = ap (asked_with (branch_frame lo hi s tn)) (fields_at-packet (command_fields (Branch lo hi) s tn) can.fits)
+pub branch_asks : (lo hi s tn : ℕ) → FitsFrame (branch_of lo hi) s tn → asked_in (branch_frame lo hi s tn) ≡ branched lo hi
+branch_asks lo hi s tn can = ap (asked_with (branch_frame lo hi s tn)) (fields_at-packet (command_fields (branch_of lo hi) s tn) can.fits)
     ∙ bounds _ _ (number_of-uid_bytes lo can.bounds.0) (number_of-uid_bytes hi can.bounds.1)
   where
     no_unmute : branch_frame lo hi s tn ≡ unmute_frame s tn → ⊥
-    no_unmute same = let one : Branch lo hi ≡ Unmute = (one_command (Branch lo hi) Unmute s tn s tn can (can_unmute s tn can.fits.source can.fits.tn) same).0 in cc
+    no_unmute same = let one : branch_of lo hi ≡ commands.Unmute = (one_command (branch_of lo hi) commands.Unmute s tn s tn can (can_unmute s tn can.fits.source can.fits.tn) same).0 in cc
 
     bounds : (low high : ℕ) → low ≡ lo → high ≡ hi
         → cond (bytes_eq (branch_frame lo hi s tn) (unmute_frame s tn)) unmuted
@@ -80,15 +84,15 @@ branch_asks lo hi s tn can = ap (asked_with (branch_frame lo hi s tn)) (fields_a
         second _ _ unmuted (branched low high) (cond (bytes_eq (branch_frame lo hi s tn) (mute_frame all_devices s tn)) (muted all_devices) nothing) (other_bytes (branch_frame lo hi s tn) (unmute_frame s tn) no_unmute) (same_bytes (branch_frame lo hi s tn) (branch_frame low high s tn) (ap (λ n. branch_frame n hi s tn) (sym is_low) ∙ ap (λ n. branch_frame low n s tn) (sym is_high)))
         ∙ ap (λ n. branched n high) is_low ∙ ap (λ n. branched lo n) is_high
 
-pub mute_asks : (u s tn : ℕ) → CanSend (Mute u) s tn → asked_in (mute_frame u s tn) ≡ muted u
-mute_asks u s tn can = ap (asked_with (mute_frame u s tn)) (fields_at-packet (command_fields (Mute u) s tn) can.fits)
+pub mute_asks : (u s tn : ℕ) → FitsFrame (commands.Mute u) s tn → asked_in (mute_frame u s tn) ≡ muted u
+mute_asks u s tn can = ap (asked_with (mute_frame u s tn)) (fields_at-packet (command_fields (commands.Mute u) s tn) can.fits)
     ∙ third _ _ _ unmuted (branched 0 0) (muted u) nothing (other_bytes (mute_frame u s tn) (unmute_frame s tn) no_unmute) (other_bytes (mute_frame u s tn) (branch_frame 0 0 s tn) no_branch) (same_bytes (mute_frame u s tn) (mute_frame u s tn) refl)
   where
     no_unmute : mute_frame u s tn ≡ unmute_frame s tn → ⊥
-    no_unmute same = let one : Mute u ≡ Unmute = (one_command (Mute u) Unmute s tn s tn can (can_unmute s tn can.fits.source can.fits.tn) same).0 in cc
+    no_unmute same = let one : commands.Mute u ≡ commands.Unmute = (one_command (commands.Mute u) commands.Unmute s tn s tn can (can_unmute s tn can.fits.source can.fits.tn) same).0 in cc
 
     no_branch : mute_frame u s tn ≡ branch_frame 0 0 s tn → ⊥
-    no_branch same = let one : Mute u ≡ Branch 0 0 = (one_command (Mute u) (Branch 0 0) s tn s tn can (can_branch s tn can.fits.source can.fits.tn) same).0 in cc
+    no_branch same = let one : commands.Mute u ≡ branch_of 0 0 = (one_command (commands.Mute u) (branch_of 0 0) s tn s tn can (can_branch s tn can.fits.source can.fits.tn) same).0 in cc
 
 -- how bytes are heard after a frame with these fields that asks this
 heard_after : (frame : List ℕ) (f : Fields) (asked : Asked) (bytes : List ℕ) → fields_at frame ≡ f → asked_in frame ≡ asked → heard_in frame (Some bytes) ≡ heard_bytes f.source f.tn asked bytes
@@ -108,9 +112,9 @@ read_heard lo hi s tn (b ∷ bs) replies.Collision reads = by_option (text_read 
     by_option None is = refl
     by_option (Some u) is = absurd (reads.1 u (of-text_read (b ∷ bs) u is))
 
-pub branch_seen : (r : Span) (s tn : ℕ) (bytes : List ℕ) (reply : BranchReply) → CanSend (Branch r.lo r.hi) s tn → ReadsAs bytes reply → seen_exchange (branch_frame r.lo r.hi s tn) (Some bytes) ≡ seen_op (ops.Branch r, came.Branch reply)
+pub branch_seen : (r : Span) (s tn : ℕ) (bytes : List ℕ) (reply : BranchReply) → FitsFrame (commands.Branch r) s tn → ReadsAs bytes reply → seen_exchange (branch_frame r.lo r.hi s tn) (Some bytes) ≡ seen_op (ops.Branch r, came.Branch reply)
 branch_seen r s tn bytes reply can reads = both _ _ asks
-    (heard_after (branch_frame r.lo r.hi s tn) (command_fields (Branch r.lo r.hi) s tn) (branched r.lo r.hi) bytes (fields_at-packet (command_fields (Branch r.lo r.hi) s tn) can.fits) asks
+    (heard_after (branch_frame r.lo r.hi s tn) (command_fields (commands.Branch r) s tn) (branched r.lo r.hi) bytes (fields_at-packet (command_fields (commands.Branch r) s tn) can.fits) asks
     ∙ read_heard r.lo r.hi s tn bytes reply reads)
   where
     asks : asked_in (branch_frame r.lo r.hi s tn) ≡ branched r.lo r.hi
@@ -120,8 +124,8 @@ branch_seen r s tn bytes reply can reads = both _ _ asks
     both asked heard is_asked is_heard = rw (is_asked, is_heard) refl
 
 -- after a mute
-mute_hears : (u s tn : ℕ) (bytes : List ℕ) → CanSend (Mute u) s tn → heard_in (mute_frame u s tn) (Some bytes) ≡ heard_bytes s tn (muted u) bytes
-mute_hears u s tn bytes can = heard_after (mute_frame u s tn) (command_fields (Mute u) s tn) (muted u) bytes (fields_at-packet (command_fields (Mute u) s tn) can.fits) (mute_asks u s tn can)
+mute_hears : (u s tn : ℕ) (bytes : List ℕ) → FitsFrame (commands.Mute u) s tn → heard_in (mute_frame u s tn) (Some bytes) ≡ heard_bytes s tn (muted u) bytes
+mute_hears u s tn bytes can = heard_after (mute_frame u s tn) (command_fields (commands.Mute u) s tn) (muted u) bytes (fields_at-packet (command_fields (commands.Mute u) s tn) can.fits) (mute_asks u s tn can)
 
 acked_heard : (u s tn : ℕ) (bytes : List ℕ) (ack : MuteAck) → (heard_bytes s tn (muted u) bytes ≡ Acked ack) ↔ (ack_read u s tn bytes ≡ Some ack)
 acked_heard u s tn [] ack = (λ e. cc, λ e. cc)
@@ -131,7 +135,7 @@ acked_heard u s tn (b ∷ bs) ack = by_option (ack_read u s tn (b ∷ bs))
     by_option None = (λ e. cc, λ e. cc)
     by_option (Some a) = (λ e. cc, λ e. cc)
 
-pub mute_heard : (u s tn : ℕ) (bytes : List ℕ) (ack : MuteAck) → CanSend (Mute u) s tn → (heard_in (mute_frame u s tn) (Some bytes) ≡ Acked ack) ↔ (ack_read u s tn bytes ≡ Some ack)
+pub mute_heard : (u s tn : ℕ) (bytes : List ℕ) (ack : MuteAck) → FitsFrame (commands.Mute u) s tn → (heard_in (mute_frame u s tn) (Some bytes) ≡ Acked ack) ↔ (ack_read u s tn bytes ≡ Some ack)
 mute_heard u s tn bytes ack can = subst (λ h. (h ≡ Acked ack) ↔ (ack_read u s tn bytes ≡ Some ack)) (sym (mute_hears u s tn bytes can)) (acked_heard u s tn bytes ack)
 
 -- an agent that doesn't search takes other bytes as silence
@@ -153,7 +157,7 @@ wants a op next goes = by_test (nat_lt a.frames a.budget) next
 noise_fed : (a : AgentState) (op : Op) → next_op a ≡ op → (op ≡ ops.End → ⊥) → ((r : Span) → op ≡ ops.Branch r → ⊥) → fed a Noise ≡ fed a Silent
 noise_fed a op next goes other = noise_is_silence a a.phase (λ r is. other r (sym (wants a op next goes) ∙ is))
 
-pub mute_fed : (a : AgentState) (u s tn : ℕ) (bytes : List ℕ) → next_op a ≡ ops.Mute u → CanSend (Mute u) s tn → fed a (heard_in (mute_frame u s tn) (Some bytes)) ≡ fed a (heard_by (came.Mute (ack_read u s tn bytes)))
+pub mute_fed : (a : AgentState) (u s tn : ℕ) (bytes : List ℕ) → next_op a ≡ ops.Mute u → FitsFrame (commands.Mute u) s tn → fed a (heard_in (mute_frame u s tn) (Some bytes)) ≡ fed a (heard_by (came.Mute (ack_read u s tn bytes)))
 mute_fed a u s tn bytes next can = ap (fed a) (mute_hears u s tn bytes can) ∙ by_bytes bytes
   where
     by_option : (o : Option MuteAck) → fed a (acked_or_noise o) ≡ fed a (heard_of_mute o)
@@ -165,9 +169,9 @@ mute_fed a u s tn bytes next can = ap (fed a) (mute_hears u s tn bytes can) ∙ 
     by_bytes (b ∷ bs) = by_option (ack_read u s tn (b ∷ bs))
 
 -- after an unmute
-pub unmute_fed : (a : AgentState) (s tn : ℕ) (bytes : List ℕ) → next_op a ≡ ops.UnmuteAll → CanSend Unmute s tn → fed a (heard_in (unmute_frame s tn) (Some bytes)) ≡ fed a (heard_by came.Done)
+pub unmute_fed : (a : AgentState) (s tn : ℕ) (bytes : List ℕ) → next_op a ≡ ops.UnmuteAll → FitsFrame commands.Unmute s tn → fed a (heard_in (unmute_frame s tn) (Some bytes)) ≡ fed a (heard_by came.Done)
 unmute_fed a s tn bytes next can =
-    ap (fed a) (heard_after (unmute_frame s tn) (command_fields Unmute s tn) unmuted bytes (fields_at-packet (command_fields Unmute s tn) can.fits) (unmute_asks s tn can)) ∙ by_bytes bytes
+    ap (fed a) (heard_after (unmute_frame s tn) (command_fields commands.Unmute s tn) unmuted bytes (fields_at-packet (command_fields commands.Unmute s tn) can.fits) (unmute_asks s tn can)) ∙ by_bytes bytes
   where
     by_bytes : (l : List ℕ) → fed a (heard_bytes s tn unmuted l) ≡ fed a Silent
     by_bytes [] = refl
@@ -190,7 +194,7 @@ Feeds op s tn answer reply = (a : AgentState) → next_op a ≡ op → fed a (he
 pub unmute_carried : (op : Op) (s tn : ℕ) (bytes : List ℕ) → IsSendable op s tn → op ≡ ops.UnmuteAll → Acks op s tn (Some bytes) came.Done × Feeds op s tn (Some bytes) came.Done
 unmute_carried op s tn bytes can is = subst (λ o. Acks o s tn (Some bytes) came.Done × Feeds o s tn (Some bytes) came.Done) (sym is) (acks, λ a next. sym (unmute_fed a s tn bytes next own))
   where
-    own : CanSend Unmute s tn
+    own : FitsFrame commands.Unmute s tn
     own = subst (λ o. IsSendable o s tn) is can
 
     silent : (l : List ℕ) (ack : MuteAck) → heard_bytes s tn unmuted l ≡ Acked ack → ⊥
@@ -198,12 +202,12 @@ unmute_carried op s tn bytes can is = subst (λ o. Acks o s tn (Some bytes) came
     silent (b ∷ bs) ack h = cc
 
     acks : Acks ops.UnmuteAll s tn (Some bytes) came.Done
-    acks ack = (λ h. cc, λ h. absurd (silent bytes ack (sym (heard_after (unmute_frame s tn) (command_fields Unmute s tn) unmuted bytes (fields_at-packet (command_fields Unmute s tn) own.fits) (unmute_asks s tn own)) ∙ h)))
+    acks ack = (λ h. cc, λ h. absurd (silent bytes ack (sym (heard_after (unmute_frame s tn) (command_fields commands.Unmute s tn) unmuted bytes (fields_at-packet (command_fields commands.Unmute s tn) own.fits) (unmute_asks s tn own)) ∙ h)))
 
 pub mute_carried : (op : Op) (u s tn : ℕ) (bytes : List ℕ) → IsSendable op s tn → op ≡ ops.Mute u → Acks op s tn (Some bytes) (came.Mute (ack_read u s tn bytes)) × Feeds op s tn (Some bytes) (came.Mute (ack_read u s tn bytes))
 mute_carried op u s tn bytes can is = subst (λ o. Acks o s tn (Some bytes) (came.Mute (ack_read u s tn bytes)) × Feeds o s tn (Some bytes) (came.Mute (ack_read u s tn bytes))) (sym is) (acks, λ a next. sym (mute_fed a u s tn bytes next own))
   where
-    own : CanSend (Mute u) s tn
+    own : FitsFrame (commands.Mute u) s tn
     own = subst (λ o. IsSendable o s tn) is can
 
     acks : Acks (ops.Mute u) s tn (Some bytes) (came.Mute (ack_read u s tn bytes))

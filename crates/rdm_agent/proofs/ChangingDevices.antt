@@ -3,14 +3,17 @@ use Rattle.std.proofs.Common.{◌≡◌, ℕ, true, List, [], ◌∷◌, ◌++�
 use Rattle.std.specs.List.{cons_option}
 use Rattle.rdm_wire.specs.Uid.{has, IsDevice}
 use Rattle.rdm_wire.specs.Honest.{Seen, LineState, HonestToStep, HonestTo, Chain, before_run}
-use Rattle.rdm_wire.specs.HonestOver.{Moves, ChainOver, HonestOver, first_set}
+use Rattle.rdm_wire.specs.HonestOver.{ComeAndLeave, ChainOver, HonestOver, first_set}
 use Rattle.rdm_agent.specs.Run.{acked_uid, acked_in, FailureIsLast}
+use Rattle.rdm_agent.specs.Certificate.{SearchShows}
+use Rattle.rdm_agent.specs.declared.kind.Kind.{Kind}
 use Rattle.rdm_agent.specs.Statements.{IsInEach, IsInOne}
 use Rattle.rdm_agent.proofs.Members.{member, put-has}
+use Rattle.rdm_agent.proofs.OneDevice.{found}
 use Rattle.rdm_agent.proofs.AllDevices.{IsBelow, below_step, acked_present, failed_none}
 
 -- coming and leaving moves nothing of a device that stays
-stays_below : (u : ℕ) (earlier last present : List ℕ) (s moved t : LineState) → has last u ≡ true → has present u ≡ true → Moves earlier last present s moved → IsBelow u t s → IsBelow u t moved
+stays_below : (u : ℕ) (earlier last present : List ℕ) (s moved t : LineState) → has last u ≡ true → has present u ≡ true → ComeAndLeave earlier last present s moved → IsBelow u t s → IsBelow u t moved
 stays_below u earlier last present s moved t was is m under =
     let branches = under.branches in let lost = under.lost in let same_branches = m.lost_branches in let same_mutes = m.lost_mutes in record {
       muted = under.muted ∙ sym (m.stays u was is);
@@ -57,3 +60,9 @@ no_stranger sets x u ok honest h = present_over (first_set sets) (first_set sets
 pub staying_device : (sets : List (List ℕ)) (u : ℕ) (e : Seen) (x : List Seen) → IsInEach u sets → HonestOver sets (e ∷ x) → IsDevice u
 staying_device [] u e x each honest = absurd honest.chain
 staying_device (present ∷ sets) u e x each honest = member IsDevice present u honest.devices.0.devices each.0
+
+-- so a certificate's set has each device that stays
+pub staying_found : (kind : Kind) (known : List ℕ) (x : List Seen) (s : List ℕ) (sets : List (List ℕ)) (u : ℕ) → SearchShows kind known x s → HonestOver sets x → IsInEach u sets → has s u ≡ true
+staying_found kind known [] s sets u c honest each = absurd (let wrong : ⊥ = cc (c.unmutes) in wrong)
+staying_found kind known (e ∷ x) s sets u c honest each =
+    found kind known (e ∷ x) s u (staying_device sets u e x each honest) c (honest_over_to_each sets u (e ∷ x) each honest)

@@ -6,7 +6,7 @@ use Rattle.std.proofs.Math.Pow.{pow_pos}
 use Rattle.std.proofs.Math.Nat.{pow-suc}
 use Rattle.rdm_wire.specs.Uid.{has, is_within, IsAscending}
 use Rattle.rdm_wire.specs.Span.{Span, middle, lower_half, upper_half}
-use Rattle.rdm_agent.specs.Potential.{is_left, left_in, worth, Covers}
+use Rattle.rdm_agent.proofs.Potential.{is_left, left_in, worth, Covers}
 use Rattle.rdm_agent.proofs.LeftLemmas.{no_more, one_fewer, at_most_one, left-halves}
 
 -- with no more devices left a range is worth no more

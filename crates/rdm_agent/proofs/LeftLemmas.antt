@@ -4,7 +4,7 @@ use Rattle.std.specs.Prelude.{filter, ◌==◌, ◌⊎◌}
 use Rattle.std.specs.List.{AllByRecursion}
 use Rattle.std.proofs.lemmas.Bool.{le-leb, lt-leb, cases_lt, cases_Bool, or_cases, eqb-true}
 use Rattle.rdm_wire.specs.Uid.{has, is_within, IsAscending}
-use Rattle.rdm_agent.specs.Potential.{is_left, left_in}
+use Rattle.rdm_agent.proofs.Potential.{is_left, left_in}
 use Rattle.rdm_agent.proofs.Members.{heads}
 use Rattle.rdm_agent.proofs.Sets.{has-head, has-rest}
 

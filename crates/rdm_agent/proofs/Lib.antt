@@ -20,6 +20,7 @@ pub mod RunLemmas
 pub mod Runs
 pub mod HonestRuns
 pub mod Carried
+pub mod Potential
 pub mod LeftLemmas
 pub mod CoverLemmas
 pub mod PaidLemmas
@@ -28,3 +29,5 @@ pub mod BoundCalls
 pub mod FirstAcked
 pub mod ChangingDevices
 pub mod SampleLines
+pub mod SampleIncremental
+pub mod CertificateEnds

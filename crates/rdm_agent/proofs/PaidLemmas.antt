@@ -14,7 +14,7 @@ use Rattle.rdm_wire.specs.Honest.Heard.{Failed, Silent, One, Acked, Noise}
 use Rattle.rdm_wire.specs.declared.mute_ack.MuteAck.{MuteAck}
 use Rattle.rdm_agent.specs.Machine.{Phase, AgentState, to_phase, to_found, split, search_from, search_below, is_new, found_uids, branch_heard, known_heard, mute_heard, heard_by_phase}
 use Rattle.rdm_agent.specs.Machine.Phase.{Unmuting, MutingKnown, Searching, MutingRead, Ended}
-use Rattle.rdm_agent.specs.Potential.{unfound, is_left, left_in, Covers, Costs, CostsKnown, CostsSearching, CostsRead, Finds, Affords}
+use Rattle.rdm_agent.proofs.Potential.{unfound, is_left, left_in, Covers, Costs, CostsKnown, CostsSearching, CostsRead, Finds, Affords}
 use Rattle.rdm_agent.specs.declared.limits.TheConstants.{TRIES}
 use Rattle.rdm_agent.specs.declared.fault.AgentFault.TheVariants.{TooMany}
 use Rattle.rdm_agent.proofs.Members.{member}

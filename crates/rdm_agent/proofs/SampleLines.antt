@@ -8,10 +8,10 @@ use Rattle.rdm_wire.specs.Honest.Heard.{Failed, Silent, Noise}
 use Rattle.rdm_agent.specs.SampleRun.{sample_uid, other_uid, colliding_run, failed_run, garbled_run}
 use Rattle.rdm_agent.proofs.SampleHonest.{none_muted, one_muted, line, counts, unmutes, silent}
 
-abbrev both : List ℕ
+abbrev pub both : List ℕ
 both = sample_uid ∷ other_uid ∷ []
 
-abbrev both_muted : ℕ → Bool
+abbrev pub both_muted : ℕ → Bool
 both_muted u = cond (other_uid == u) true (one_muted u)
 
 pub colliding_honest : HonestTrace both colliding_run

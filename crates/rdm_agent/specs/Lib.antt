@@ -8,6 +8,5 @@ pub mod Statements
 pub mod Calls
 pub mod Sound
 pub mod View
-pub mod Potential
 pub mod Bound
 pub mod OpFrames

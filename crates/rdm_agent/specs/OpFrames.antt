@@ -1,8 +1,8 @@
 -- The frame of an operation.
 use Rattle.std.specs.Prelude.{ℕ, List, []}
 use Rattle.rdm_wire.specs.CommandFrames.{branch_frame, mute_frame, unmute_frame}
-use Rattle.rdm_wire.specs.Commands.{CanSend}
-use Rattle.rdm_wire.specs.Commands.Command.{Unmute as unmute, Mute as mute, Branch as branch}
+use Rattle.rdm_wire.specs.Commands.{FitsFrame}
+use Rattle.rdm_wire.specs.declared.command.Command.TheVariants as commands
 use Rattle.rdm_agent.specs.declared.op.Op.{Op}
 use Rattle.rdm_agent.specs.declared.op.Op.TheVariants.{UnmuteAll, Mute, Branch, End}
 
@@ -13,9 +13,9 @@ op_frame (Mute u) s tn = mute_frame u s tn
 op_frame (Branch r) s tn = branch_frame r.lo r.hi s tn
 op_frame End s tn = []
 
--- its encoder can be given this source and transaction number
+-- the source and the transaction number fit its frame, and so do its UIDs
 abbrev pub IsSendable : Op → ℕ → ℕ → Type 0
-IsSendable UnmuteAll s tn = CanSend unmute s tn
-IsSendable (Mute u) s tn = CanSend (mute u) s tn
-IsSendable (Branch r) s tn = CanSend (branch r.lo r.hi) s tn
+IsSendable UnmuteAll s tn = FitsFrame commands.Unmute s tn
+IsSendable (Mute u) s tn = FitsFrame (commands.Mute u) s tn
+IsSendable (Branch r) s tn = FitsFrame (commands.Branch r) s tn
 IsSendable End s tn = Unit {0}

@@ -64,3 +64,15 @@ failed_run = replicate 3 (exchange Unmute Silent) ++ exchange all_branch Failed 
 -- a mute of another UID is answered by bytes that acknowledge nothing
 abbrev pub garbled_run : List Seen
 garbled_run = exchange (Mute other_uid) Noise ∷ []
+
+-- a run that knows the first device and a UID that isn't there. The first mute's acknowledgement is lost, five mutes of
+-- the absent UID are silent, and the other device is found
+abbrev pub absent_uid : ℕ
+absent_uid = 0x567800000009
+
+abbrev pub incremental_run : List Seen
+incremental_run =
+    replicate 3 (exchange Unmute Silent) ++ (exchange (Mute sample_uid) Silent
+    ∷ exchange (Mute sample_uid) (Acked sample_ack) ∷ (replicate 5 (exchange (Mute absent_uid) Silent)
+    ++ (exchange all_branch (One other_uid) ∷ exchange (Mute other_uid) (Acked (record { control = 0; binding = None }))
+    ∷ replicate 5 (exchange all_branch Silent))))

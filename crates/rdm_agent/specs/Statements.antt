@@ -5,6 +5,7 @@ use Rattle.rdm_wire.specs.Uid.{has, IsDevice, IsDeviceSet}
 use Rattle.rdm_wire.specs.Honest.{Asked, Seen, HonestTo, HonestTrace}
 use Rattle.rdm_wire.specs.Honest.Asked.{Unmute, Branch, Mute, Other}
 use Rattle.rdm_wire.specs.HonestOver.{HonestOver}
+use Rattle.rdm_wire.specs.declared.device.Device.{Device}
 use Rattle.rdm_agent.specs.Run.{IsReport, FailureIsLast}
 use Rattle.rdm_agent.specs.Certificate.{Certificate}
 use Rattle.rdm_agent.specs.Cause.{Cause, EndsFailed, AllReported}
@@ -65,6 +66,11 @@ abbrev pub EndsCertified : Type 0
 EndsCertified = OfEachRun (λ kind known budget x b. next_of b ≡ None →
     MatchOption (fault_of b.phase) (Certificate kind known x b.found) (λ f. Cause budget ⊥ f x)
     × IsReport x b.found)
+
+-- and it has a certificate, of whatever set, only once it has ended without fault
+abbrev pub CertificateIsTheEnd : Type 0
+CertificateIsTheEnd = OfEachRun (λ kind known budget x b. (s : List Device) → Certificate kind known x s
+    → (next_of b ≡ None) × (fault_of b.phase ≡ None))
 
 -- on an honest line a run that ends without fault finds the devices
 abbrev pub FindsAll : Type 0

@@ -1,5 +1,6 @@
 //! The agent of a discovery run.
 ghost use Rattle.std.specs.Prelude.{◌≡◌, ◌≢◌, ◌≤◌, ◌++◌, ◌∷◌, [], ℕ, List, true, false, length, IfOk, IfErr, IsOkAnd};
+ghost use Rattle.std.specs.Prelude.{IfSome, IfNone};
 ghost use Rattle.rdm_wire.specs.Uid.{has, IsDevice};
 ghost use Rattle.rdm_wire.specs.Devices.{uids_of};
 ghost use Rattle.rdm_wire.specs.Honest.{HonestTrace, HonestTo};
@@ -126,16 +127,48 @@ impl Agent {
     }
 
     /// Ends the run with [`AgentFault::Aborted`]; a run that has ended is unchanged.
+    pub fn stop(&mut self)
+        ensures state { next_op self.old ≢ End → self.new ≡ ended_by_abort self.old }
+        ensures has_run { AfterEach self.old (λ run.
+            next_op self.old ≢ End → HasRun run.kind run.known run.budget true run.exchanges self.new) }
+        ensures unchanged { next_op self.old ≡ End → self.new ≡ self.old }
+    {
+        if self.next() != Op::End {
+            self.phase = Phase::Ended(Some(AgentFault::Aborted));
+        }
+    }
+
+    /// The agent after [`Agent::stop`]; the whole agent is moved.
     pub fn abort(mut self) -> Agent
         ensures state { next_op self ≢ End → result ≡ ended_by_abort self }
         ensures has_run { AfterEach self (λ run.
             next_op self ≢ End → HasRun run.kind run.known run.budget true run.exchanges result) }
         ensures unchanged { next_op self ≡ End → result ≡ self }
     {
-        if self.next() != Op::End {
-            self.phase = Phase::Ended(Some(AgentFault::Aborted));
-        }
+        self.stop();
         self
+    }
+
+    /// The devices found so far, each with the control field and the binding UID of its first acknowledgement in the
+    /// run. It is what [`Agent::end`] gives, without a copy.
+    pub fn found(&self) -> &DeviceSet
+        ensures value { result.now ≡ self.now.found }
+        ensures report { AfterEach self.now (λ run. IsReport run.exchanges result.now) }
+    {
+        &self.progress.found
+    }
+
+    /// Why the run, which must have ended (`next` is [`Op::End`]), has no answer; None where it has one. It is what
+    /// [`Agent::end`] gives, without the set.
+    pub fn fault(&self) -> Option<AgentFault>
+        requires { next_op self.now ≡ End }
+        ensures value { result ≡ fault_of self.now.phase }
+        ensures certified { AfterEach self.now (λ run.
+            IfNone result (Certificate run.kind run.known run.exchanges self.now.found)) }
+        ensures caused { AfterEach self.now (λ run.
+            IfSome result (λ f. Cause run.budget (run.aborted ≡ true) f run.exchanges)) }
+    {
+        self.phase.fault()
     }
 
     /// What the run found; it must have ended (`next` is [`Op::End`]). `Ok`: the devices found, with the certificate

@@ -6,20 +6,23 @@ ghost use Rattle.rdm_wire.specs.Uid.{has, IsDevice};
 ghost use Rattle.rdm_wire.specs.Devices.{uids_of};
 ghost use Rattle.rdm_wire.specs.declared.device.Device.{Device};
 ghost use Rattle.rdm_wire.specs.Honest.{Seen, HonestTo, HonestTrace};
+ghost use Rattle.rdm_wire.specs.HonestOver.{HonestOver};
 ghost use Rattle.rdm_wire.specs.Honest.Heard.{Silent, Noise};
 ghost use Rattle.rdm_wire.specs.Frames.{asked_in, seen_exchange};
 ghost use Rattle.rdm_agent.specs.SampleRun.{sample_uid, sample_device, sample_run, lossy_run};
 ghost use Rattle.rdm_agent.specs.SampleRun.{other_uid, other_device, colliding_run, failed_run, garbled_run};
-ghost use Rattle.rdm_agent.specs.Machine.{AgentState, fed, fed_all, start, next_of, open_ranges, Runs};
+ghost use Rattle.rdm_agent.specs.SampleRun.{absent_uid, incremental_run};
+ghost use Rattle.rdm_agent.specs.Machine.{AgentState, fed, fed_all, start, next_of, fault_of, open_ranges, Runs};
 ghost use Rattle.rdm_agent.specs.Machine.Phase.{Ended};
 ghost use Rattle.rdm_agent.specs.Statements.{AsksInOrder, EndsAtFailure, EndsAtBudget, FindsAcknowledged};
 ghost use Rattle.rdm_agent.specs.Statements.{HasFewRanges, EndsCertified, FindsAll, FindsEach, FindsNoPhantom};
-ghost use Rattle.rdm_agent.specs.Statements.{FindsStaying, FindsNoStranger};
+ghost use Rattle.rdm_agent.specs.Statements.{CertificateIsTheEnd};
+ghost use Rattle.rdm_agent.specs.Statements.{FindsStaying, FindsNoStranger, IsInEach, IsInOne};
 ghost use Rattle.rdm_agent.specs.declared.limits.TheConstants.{DEFAULT_BUDGET, MOST_RANGES, TRIES, UNMUTES};
 ghost use Rattle.rdm_agent.specs.declared.kind.Kind.{Kind};
-ghost use Rattle.rdm_agent.specs.declared.kind.Kind.TheVariants.{Full};
+ghost use Rattle.rdm_agent.specs.declared.kind.Kind.TheVariants.{Full, Incremental};
 ghost use Rattle.rdm_agent.specs.declared.fault.AgentFault.{AgentFault};
-ghost use Rattle.rdm_agent.specs.declared.fault.AgentFault.TheVariants.{LineFailed};
+ghost use Rattle.rdm_agent.specs.declared.fault.AgentFault.TheVariants.{Exhausted, LineFailed};
 ghost use Rattle.rdm_agent.specs.Run.{acked_in, asked_by, FailureIsLast};
 ghost use Rattle.rdm_agent.specs.Calls.{next_op, HasRun, AfterEach};
 ghost use Rattle.rdm_agent.specs.OpFrames.{op_frame, IsSendable};
@@ -28,8 +31,8 @@ ghost use Rattle.rdm_agent.specs.declared.op.Op.{Op};
 ghost use Rattle.rdm_agent.specs.declared.op.Op.TheVariants.{End};
 ghost use Rattle.rdm_agent.specs.Certificate.{Certificate};
 
-/// A run unmutes three times, and then asks for branches and for mutes of devices. It counts its exchanges, asks
-/// nothing after a failure nor where its budget is used up, has found what was acknowledged, and keeps at most
+/// A run unmutes three times, and then asks for branches and for mutes of devices. It counts its exchanges, and asks
+/// nothing after a failure nor where its budget is used up. It has found what was acknowledged, and keeps at most
 /// [`MOST_RANGES`](crate::MOST_RANGES) ranges open. This holds of full and of incremental runs, for every known set
 /// and budget, at any moment, and whatever the line replies.
 pub fn run_asks_in_order()
@@ -46,6 +49,12 @@ pub fn run_asks_in_order()
 /// replies.
 pub fn run_has_certificate()
     ensures { EndsCertified }
+{}
+
+/// A run has a certificate, of whatever set, only once it has ended without fault. So a fault is never told of a run
+/// whose exchanges show all: not for want of frames at the very end, and not for an abort.
+pub fn certificate_is_the_end()
+    ensures { CertificateIsTheEnd }
 {}
 
 /// On an honest line a run that ends without fault finds exactly the devices, whatever bytes colliding replies make.
@@ -69,8 +78,8 @@ pub fn no_phantom()
 {}
 
 /// On an honest line with `n` devices, at most 1,024, a run with `k` known UIDs (0 in a full one) makes at most
-/// `8 + 370 n + 5 k` exchanges, where no exchange failed and its budget is no less. Once it made as many it has ended,
-/// and at its end it has no fault, whatever bytes colliding replies make.
+/// `8 + 370 n + 5 k` exchanges. The premise is that no exchange failed and that its budget is no less. Once it made as
+/// many it has ended, and at its end it has no fault, whatever bytes colliding replies make.
 pub fn honest_run_ends()
     ensures { EndsInBound }
 {}
@@ -82,8 +91,9 @@ pub fn default_budget_suffices()
     ensures ends { EndsByDefault }
 {}
 
-/// The same of a list of exchanges, whoever asked: on an honest line a certificate's set is that of the devices, and
-/// no phantom is acknowledged.
+/// The same of a list of exchanges, whoever asked. On an honest line a certificate's set is that of the devices, and
+/// no phantom is acknowledged. Where devices come and leave, a certificate's set has each that was always present, and
+/// only devices that were present at some exchange are acknowledged.
 pub fn honest_certificate()
     // A device to which the line was honest is found, whatever others do.
     ensures found { (kind : Kind) (known : List ℕ) (x : List Seen) (s : List Device) (u : ℕ) →
@@ -92,6 +102,10 @@ pub fn honest_certificate()
         Certificate kind known x s → HonestTrace present x → uids_of s ≡ present }
     ensures no_phantom { (present : List ℕ) (x : List Seen) (u : ℕ) →
         FailureIsLast x → HonestTrace present x → has (acked_in x) u ≡ true → has present u ≡ true }
+    ensures staying { (kind : Kind) (known : List ℕ) (x : List Seen) (s : List Device) (sets : List (List ℕ)) (u : ℕ) →
+        Certificate kind known x s → HonestOver sets x → IsInEach u sets → has (uids_of s) u ≡ true }
+    ensures no_stranger { (sets : List (List ℕ)) (x : List Seen) (u : ℕ) →
+        FailureIsLast x → HonestOver sets x → has (acked_in x) u ≡ true → IsInOne u sets }
 {}
 
 /// Whole runs: an empty line; a line that answers each branch by a byte; budgets of 8, 7 and 0.
@@ -102,7 +116,9 @@ pub fn worked_runs()
         ≡ record { budget = DEFAULT_BUDGET; frames = 52; found = []; phase = Ended (Some (AgentFault.Corrupt 0)) } }
     ensures in_budget { (fed_all (start Full [] 8) (replicate 8 Silent)).phase ≡ Ended None }
     ensures exhausted { next_of (fed_all (start Full [] 7) (replicate 7 Silent)) ≡ None }
+    ensures exhausted_fault { fault_of (fed_all (start Full [] 7) (replicate 7 Silent)).phase ≡ Some Exhausted }
     ensures none { next_of (start Full [] 0) ≡ None }
+    ensures none_fault { fault_of (start Full [] 0).phase ≡ Some Exhausted }
     ensures whole_first { open_ranges (start Full [] DEFAULT_BUDGET).phase ≡ 1 }
     ensures deepest { open_ranges
         (fed_all (start Full [] DEFAULT_BUDGET) (replicate 3 Silent ++ replicate 48 Noise)).phase ≡ 49 }
@@ -115,6 +131,20 @@ pub fn honest_run()
     ensures certified { Certificate Full [] sample_run (sample_device ∷ []) }
     ensures ends { Runs (start Full [] DEFAULT_BUDGET) sample_run
         (record { budget = DEFAULT_BUDGET; frames = 10; found = sample_device ∷ []; phase = Ended None }) }
+{}
+
+/// An incremental run that knows a device and a UID that isn't there any more. The first acknowledgement is lost, and
+/// the known device is muted again; five mutes find the other UID absent; the search finds a new device.
+pub fn incremental_sample()
+    ensures honest { HonestTrace (sample_uid ∷ other_uid ∷ []) incremental_run }
+    ensures certified { Certificate Incremental (sample_uid ∷ absent_uid ∷ []) incremental_run
+        (sample_device ∷ other_device ∷ []) }
+    ensures ends { Runs (start Incremental (sample_uid ∷ absent_uid ∷ []) DEFAULT_BUDGET) incremental_run (record {
+      budget = DEFAULT_BUDGET;
+      frames = 17;
+      found = sample_device ∷ other_device ∷ [];
+      phase = Ended None;
+    }) }
 {}
 
 /// The ten exchanges of [`honest_run`] are such a run's: the bound speaks of runs that there are. With one device it is

@@ -4,25 +4,27 @@ use rdm_wire::MOST_DEVICES;
 /// How many unmutes begin a run: the first ones may be lost (profile of this project).
 pub const UNMUTES: u8 = 3;
 
-/// How often in succession a range is branched before its silence counts, and a UID muted before it counts as absent
-/// (profile of this project).
+/// How often in succession a range is branched before its silence counts (profile of this project). As often a UID is
+/// muted before it counts as absent.
 pub const TRIES: u8 = 5;
 
-/// How many ranges are open at most: one at each of the 48 depths, and one more at the deepest (profile of this
-/// project, which splits a range of E1.20's discovery branch in halves).
+/// How many ranges are open at most: one at each of the 48 depths, and one more at the deepest. They are ranges of
+/// E1.20's discovery branch; that they are split in halves is this project's profile.
 pub const MOST_RANGES: usize = 49;
 
 // What a device adds: 24 splits of ten exchanges, 24 last ranges of five, and ten of its own.
 const FRAMES_PER_DEVICE: u64 = 370;
 
-/// The exchanges that suffice for [`MOST_DEVICES`] devices and as many known UIDs, on a line that loses at most four
-/// replies in succession (profile of this project): 384,008. A run on an honest line makes no more, and ends without
-/// fault.
+/// The exchanges that suffice for [`MOST_DEVICES`] devices and as many known UIDs: 384,008 (profile of this project).
+/// The line may lose up to four replies in succession. A run on an honest line makes no more, and ends without fault.
 ///
-/// For `n` devices and `k` known UIDs: a range that is split holds two devices that aren't found, and there are 48
-/// depths, so there are at most `24 n` splits, of at most 5 branches and 5 mutes each; 5 silences for each of
-/// `24 n + 1` last ranges; 5 branches and 5 mutes for each device; 5 mutes for each known UID; and 3 unmutes. Together
-/// these are `8 + 370 n + 5 k`.
+/// For `n` devices and `k` known UIDs these are `8 + 370 n + 5 k`:
+///
+/// - A range that is split holds two devices that aren't found, and there are 48 depths. So there are at most `24 n`
+///   splits, of at most 5 branches and 5 mutes each.
+/// - Each of at most `24 n + 1` last ranges has 5 silences.
+/// - Each device has 5 branches and 5 mutes, and each known UID 5 mutes.
+/// - 3 unmutes come first.
 pub const DEFAULT_BUDGET: u64 = UNMUTES as u64
     + TRIES as u64
     + (FRAMES_PER_DEVICE + TRIES as u64) * MOST_DEVICES as u64;

@@ -2,5 +2,6 @@
 mod bound;
 mod by_hand;
 mod bytes;
+mod faults;
 mod line;
 mod runs;

@@ -150,9 +150,13 @@ impl Joiner {
 
     /// Gives it the verdict on the next reply. The last one must not have answered `Done`.
     ///
-    /// A reply joins with the parts before it where it has the class, the PID and the sub-device of the first, is an
-    /// ACK unless it is a part itself, leaves the data within `MOST_JOINED_BYTES`, and is no part in the last of
-    /// `MOST_PARTS` places. Else the request ends as an invalid response (profile of this project).
+    /// A reply joins with the parts before it where all of these hold; else the request ends as an invalid response
+    /// (profile of this project):
+    ///
+    /// - it has the class, the PID and the sub-device of the first part;
+    /// - it is an ACK, unless it is a part itself;
+    /// - the data stay within [`MOST_JOINED_BYTES`];
+    /// - it isn't a part in the last of [`MOST_PARTS`] places.
     pub fn add(&mut self, judged: Judged) -> Step
         requires { IsOpen self.old }
         ensures more { (result ≡ Step.More) ↔ IsOpen self.new }

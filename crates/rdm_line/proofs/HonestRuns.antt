@@ -7,7 +7,7 @@ use Rattle.std.proofs.lemmas.List.{length-map}
 use Rattle.std.proofs.lemmas.List.Folds.{list_any-append}
 use Rattle.rdm_wire.specs.Uid.{has, IsDeviceSet}
 use Rattle.rdm_wire.specs.Honest.{LineState, before_run}
-use Rattle.rdm_wire.specs.HonestOver.{Moves, ChainOver, HonestOver}
+use Rattle.rdm_wire.specs.HonestOver.{ComeAndLeave, ChainOver, HonestOver}
 use Rattle.rdm_wire.specs.Frames.{heard_in}
 use Rattle.rdm_join.specs.Exchange.{bytes_heard}
 use Rattle.rdm_line.specs.Scenes.{IsScene, device_at, is_present, is_before, present_at}
@@ -107,7 +107,7 @@ came_by ds i u from scene here f =
     same_some a b h = cc
 
 moves : (done : List Step) (s : SimState) (k : ℕ) (earlier last : List ℕ) (ls : LineState) → IsSoundState s → Tracks done s k earlier last ls
-    → Moves earlier last (present_at s.devices s.exchanges) ls (line_state (present_at s.devices s.exchanges) s.muted ls.lost_branches ls.lost_mutes ls.unmutes)
+    → ComeAndLeave earlier last (present_at s.devices s.exchanges) ls (line_state (present_at s.devices s.exchanges) s.muted ls.lost_branches ls.lost_mutes ls.unmutes)
 moves done s k earlier last ls sound t = record {
   stays = λ u was is. ap (λ b. b && has s.muted u) is ∙ sym (ap (λ b. b && has s.muted u) was) ∙ sym (t.muted u);
   comes = comes;

@@ -14,7 +14,7 @@ use Rattle.rdm_wire.specs.Packet.{packet, fields_at}
 use Rattle.rdm_wire.specs.Responses.{fields_of}
 use Rattle.rdm_wire.specs.MuteAcks.{MuteAcked}
 use Rattle.rdm_wire.specs.MuteResponses.{mute_response, binding_bytes}
-use Rattle.rdm_wire.specs.Commands.{Writes, said, command_fields, command_read, asked_by_command, AsksNobody, AsksSo}
+use Rattle.rdm_wire.specs.Commands.{Writes, command_fields, command_read, asked_by_command, AsksNobody, AsksSo}
 use Rattle.rdm_wire.specs.Frames.{asked_in, heard_in, heard_bytes, one_or_noise, acked_or_noise}
 use Rattle.rdm_wire.specs.Honest.{Asked, Heard, LineState, HonestStep, MuteMoves, MayReply, Counts, due_in, lost_after, is_silent, is_acked}
 use Rattle.rdm_wire.specs.Honest.Asked.{Unmute as Unmuted, Branch as Branched, Mute as Muted, Other}
@@ -208,8 +208,8 @@ asks_command x c so tn bytes is = record {
     w : Writes c so tn x.exchange.0.items
     w = writes-of_read x.exchange.0.items c so tn bytes is
 
-    fields : fields_at x.exchange.0.items ≡ command_fields (said c) so tn
-    fields = ap fields_at w.bytes ∙ fields_at-packet (command_fields (said c) so tn) w.can.fits
+    fields : fields_at x.exchange.0.items ≡ command_fields c so tn
+    fields = ap fields_at w.bytes ∙ fields_at-packet (command_fields c so tn) w.frame.fits
 
 -- an unmute
 unmute_after : (x : Step) (next : SimState) (b m n so tn : ℕ) → Asks x Unmute so tn → next.muted ≡ [] → HonestAfter x next b m n
@@ -318,7 +318,7 @@ mute_device_after x next b m n u so tn d reply sound asks is found says muted = 
     by_loss false kept event few =
         quiet x next b m n 0 (seen_as p (line_state p x.before.muted b m n) (line_state p next.muted 0 0 0) _ (Muted u) _ (heard_bytes so tn (Muted u) (packet (fields_of (mute_response d.device so tn)))) asks.asked
         (heard_as x (packet (fields_of (mute_response d.device so tn))) (event ∙ ap (λ l. Reply (record { items = l })) says) (Muted u) so tn asks.asked asks.source asks.number)
-        (mute_present p (line_state p x.before.muted b m n) (line_state p next.muted 0 0 0) u _ there others (inl (hears_ack d u so tn (acknowledged d u so tn at.uid at.own.in_range asks.writes.can.fits.source asks.writes.can.fits.tn), is_muted, counts p next.muted 0 0 0 (omega arith) (omega arith)))))
+        (mute_present p (line_state p x.before.muted b m n) (line_state p next.muted 0 0 0) u _ there others (inl (hears_ack d u so tn (acknowledged d u so tn at.uid at.own.in_range asks.writes.frame.fits.source asks.writes.frame.fits.tn), is_muted, counts p next.muted 0 0 0 (omega arith) (omega arith)))))
 
 -- what comes after a branch
 heard_text : (so tn lo hi : ℕ) (b : List ℕ) (u : ℕ) → text_read b ≡ Some u → 0 < length b → heard_bytes so tn (Branched lo hi) b ≡ One u

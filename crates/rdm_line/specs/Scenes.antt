@@ -1,5 +1,6 @@
 -- The devices of a scene.
-use Rattle.std.specs.Prelude.{option_and_then, ◌≡◌, ℕ, ◌≤◌, Bool, true, ◌&&◌, ◌==◌, List, [], ◌∷◌, length, map, filter, Option, Some, None, nat_lt, nat_le, if◌then◌else◌}
+use Rattle.std.specs.Prelude.{option_and_then, ◌≡◌, ℕ, ◌≤◌, Bool, true, ◌&&◌, ◌==◌, List, [], ◌∷◌, length, map, filter}
+use Rattle.std.specs.Prelude.{Option, Some, None, nat_lt, nat_le, if◌then◌else◌}
 use Rattle.std.specs.List.{AllByRecursion}
 use Rattle.rdm_wire.specs.Uid.{IsDeviceSet}
 use Rattle.rdm_line.specs.Parameters.{ParameterState, parameter_of, sent_of}
@@ -54,7 +55,8 @@ parameter_at u pid devices = option_and_then (λ (d : SceneDevice). parameter_of
 -- the devices after that one was asked for this parameter
 abbrev pub sent_by : ℕ → ℕ → List SceneDevice → List SceneDevice
 sent_by u pid [] = []
-sent_by u pid (d ∷ ds) = if d.device.uid == u then record d { params = sent_of pid d.params } ∷ ds else d ∷ sent_by u pid ds
+sent_by u pid (d ∷ ds) =
+    if d.device.uid == u then record d { params = sent_of pid d.params } ∷ ds else d ∷ sent_by u pid ds
 
 -- a device that is there from the start and never leaves
 pub record Stays (d : SceneDevice) : Type 0 where

@@ -1,5 +1,6 @@
 -- The simulated line: its state, and a rule for each thing that it is asked.
-use Rattle.std.specs.Prelude.{◌≡◌, ℕ, ◌+◌, ◌<◌, Bool, ◌&&◌, not, List, [], ◌∷◌, length, map, filter, Option, Some, None, MatchOption, nat_lt, if◌then◌else◌, MatchBool}
+use Rattle.std.specs.Prelude.{◌≡◌, ℕ, ◌+◌, ◌<◌, Bool, ◌&&◌, not, List, [], ◌∷◌, length, map, filter, Option, Some, None}
+use Rattle.std.specs.Prelude.{MatchOption, nat_lt, if◌then◌else◌, MatchBool}
 use Rattle.arrayvec.specs.ArrayVec.{ArrayVec}
 use Rattle.hex.specs.Hex.{IsBytes}
 use Rattle.rdm_wire.specs.Uid.{has, with_uid, is_within}
@@ -58,7 +59,8 @@ is_among i numbers = nat_lt i last_exchange && has numbers i
 
 -- the devices that answer a branch: present, in its range, and not muted
 abbrev pub answers_branch : ℕ → List ℕ → Span → SceneDevice → Bool
-answers_branch i muted range d = is_present i d && is_within range.lo range.hi d.device.uid && not (has muted d.device.uid)
+answers_branch i muted range d =
+    is_present i d && is_within range.lo range.hi d.device.uid && not (has muted d.device.uid)
 
 abbrev pub answering : ℕ → SimState → Span → List SceneDevice
 answering i s range = filter (answers_branch i s.muted range) s.devices
@@ -127,11 +129,14 @@ answers_class Set = responses.Set
 
 -- the response to a GET of which this part was sent; a parameter that the device doesn't have is refused, with reason 0
 abbrev pub TellsPart : Request → ℕ → ℕ → Option (ArrayVec ℕ × AckType) → List ℕ → Type 0
-TellsPart r source tn None reply = reply ≡ packet (fields_of (response_to r source tn responses.Get Nack (two_bytes 0)))
-TellsPart r source tn (Some sent) reply = reply ≡ packet (fields_of (response_to r source tn responses.Get sent.1 sent.0.items))
+TellsPart r source tn None reply =
+    reply ≡ packet (fields_of (response_to r source tn responses.Get Nack (two_bytes 0)))
+TellsPart r source tn (Some sent) reply =
+    reply ≡ packet (fields_of (response_to r source tn responses.Get sent.1 sent.0.items))
 
 -- a GET is answered with the parameter's next part
-pub record AnswersGet (s : SimState) (r : Request) (source tn : ℕ) (p : ParameterState) (reply : List ℕ) (new : SimState) : Type 0 where
+pub record AnswersGet (s : SimState) (r : Request) (source tn : ℕ) (p : ParameterState)
+    (reply : List ℕ) (new : SimState) : Type 0 where
   pub bytes : reply ≡ packet (fields_of (response_to r source tn responses.Get (ack_of_part p) (part_of p)))
   pub sent : new ≡ record s { devices = sent_by r.target r.pid s.devices }
 
@@ -141,7 +146,8 @@ pub record AnswersSet (s : SimState) (r : Request) (source tn : ℕ) (reply : Li
   pub same : new ≡ s
 
 -- a parameter that the device doesn't have is refused, with reason 0
-pub record Refuses (s : SimState) (r : Request) (source tn : ℕ) (class : RespClass) (reply : List ℕ) (new : SimState) : Type 0 where
+pub record Refuses (s : SimState) (r : Request) (source tn : ℕ) (class : RespClass)
+    (reply : List ℕ) (new : SimState) : Type 0 where
   pub bytes : reply ≡ packet (fields_of (response_to r source tn class Nack (two_bytes 0)))
   pub same : new ≡ s
 
@@ -151,15 +157,20 @@ AnswersOf s r source tn p Set reply new = AnswersSet s r source tn reply new
 
 abbrev pub AnswersRequest : SimState → Request → ℕ → ℕ → SceneDevice → List ℕ → SimState → Type 0
 AnswersRequest s r source tn d reply new =
-    MatchOption (parameter_of r.pid d.params) (Refuses s r source tn (answers_class r.class) reply new) (λ p. AnswersOf s r source tn p r.class reply new)
+    MatchOption (parameter_of r.pid d.params)
+    (Refuses s r source tn (answers_class r.class) reply new)
+    (λ p. AnswersOf s r source tn p r.class reply new)
 
 -- how the devices act on a command at exchange i
 abbrev pub ActsOn : ℕ → SimState → Command → ℕ → ℕ → List ℕ → SimState → Type 0
 ActsOn i s Unmute source tn reply new = Unmutes s reply new
 ActsOn i s (Branch range) source tn reply new = AnswersBranch s (answering i s range) reply new
-ActsOn i s (Mute u) source tn reply new = MatchOption (device_at i s.devices u) (KeepsSilent s reply new) (λ d. Mutes s d source tn reply new)
+ActsOn i s (Mute u) source tn reply new =
+    MatchOption (device_at i s.devices u) (KeepsSilent s reply new) (λ d. Mutes s d source tn reply new)
 ActsOn i s (Requested r) source tn reply new =
-    MatchOption (device_at i s.devices r.target) (KeepsSilent s reply new) (λ d. AnswersRequest s r source tn d reply new)
+    MatchOption (device_at i s.devices r.target)
+    (KeepsSilent s reply new)
+    (λ d. AnswersRequest s r source tn d reply new)
 
 -- how the devices act on a frame: on one that is no command they keep silent
 abbrev pub Acts : ℕ → SimState → Option (Command × ℕ × ℕ) → List ℕ → SimState → Type 0

@@ -51,7 +51,8 @@ pub record LosesMute (x : Step) : Type 0 where
 
 -- there aren't five such steps in succession
 abbrev pub NeverFive : (Step → Type 0) → List Step → Type 0
-NeverFive P xs = (front five back : List Step) → xs ≡ front ++ five ++ back → length five ≡ 5 → AllByRecursion P five → ⊥
+NeverFive P xs =
+    (front five back : List Step) → xs ≡ front ++ five ++ back → length five ≡ 5 → AllByRecursion P five → ⊥
 
 -- what is demanded of a scene's losses
 pub record LosesFew (xs : List Step) : Type 0 where

@@ -22,7 +22,9 @@ later_events (event ∷ events) = events
 abbrev pub IsTold : LineEvent → ℕ → LineEvent → ℕ → Type 0
 IsTold (Reply reply) failures told counted = (told ≡ Reply reply) × (counted ≡ failures)
 IsTold Failed failures told counted =
-    MatchBool (failures == 0xffffffffffffffff) ((told ≡ Reply (record { items = [] })) × (counted ≡ failures)) ((told ≡ Failed) × (counted ≡ failures + 1))
+    MatchBool (failures == 0xffffffffffffffff)
+    ((told ≡ Reply (record { items = [] })) × (counted ≡ failures))
+    ((told ≡ Failed) × (counted ≡ failures + 1))
 
 -- the events come in order, whatever the frames are
 pub record TapeStep (old : TapeState) (x : Exchange) (new : TapeState) : Type 0 where

@@ -7,10 +7,10 @@ ghost use Rattle.rdm_line.specs.Scenes.{Stays, present_at, uids_of_scene};
 ghost use Rattle.rdm_line.specs.declared.scene.SceneDevice.{SceneDevice};
 ghost use Rattle.std.specs.List.{AllByRecursion};
 
-/// A simulated line is honest towards the devices that are present at each exchange, as long as no five replies of a
-/// kind are lost in succession: branches that a device is due to answer, and mutes of a present device. This holds of
-/// a run of exchanges that begins at any moment, whatever the frames, the collisions and the devices that come and
-/// leave; up to the first failure, if there is one.
+/// A simulated line is honest towards the devices that are present at each exchange. The premise is that no five
+/// replies of a kind are lost in succession: to branches that a device is due to answer, and to mutes of a present
+/// device. This holds of a run of exchanges that begins at any moment, up to its first failure, if there is one. It
+/// holds whatever the frames, the collisions and the devices that come and leave.
 pub fn simulated_line_is_honest()
     ensures { (s new : SimState) (steps : List Step) →
         IsRun s steps new → LosesFew steps → HonestOver (map present_in steps) (map seen_in steps) }

@@ -1,6 +1,7 @@
 //! The parameters of a simulated device.
 ghost use Rattle.std.specs.Prelude.{◌≡◌, ◌<◌, ◌≤◌, length, is_some};
-ghost use Rattle.rdm_line.specs.Parameters.{part_of, ack_of_part, part_sent, parameter_of, sent_of, place_of, AnswersPart};
+ghost use Rattle.rdm_line.specs.Parameters.{part_of, ack_of_part, part_sent, parameter_of, sent_of, place_of};
+ghost use Rattle.rdm_line.specs.Parameters.{AnswersPart};
 
 use arrayvec::ArrayVec;
 use rdm_wire::{AckType, MOST_PARAMETER_BYTES};

@@ -1,7 +1,9 @@
 //! The devices of a scene.
-ghost use Rattle.std.specs.Prelude.{◌≡◌, ◌↔◌, ◌≤◌, ◌<◌, ◌^◌, [], length, true, false, None, IsErrOf, OnOk, OnErr, OnSome, IfNone, IfSome, is_some, option_map};
+ghost use Rattle.std.specs.Prelude.{◌≡◌, ◌↔◌, ◌≤◌, ◌<◌, ◌^◌, [], length, true, false, None, IsErrOf, OnOk, OnErr};
+ghost use Rattle.std.specs.Prelude.{OnSome, IfNone, IfSome, is_some, option_map};
 ghost use Rattle.rdm_wire.specs.Uid.{is_broadcast, has};
-ghost use Rattle.rdm_line.specs.Scenes.{IsScene, uids_of_scene, with_scene_device, find_device, device_at, parameter_at, sent_by};
+ghost use Rattle.rdm_line.specs.Scenes.{IsScene, uids_of_scene, with_scene_device, find_device, device_at};
+ghost use Rattle.rdm_line.specs.Scenes.{parameter_at, sent_by};
 ghost use Rattle.rdm_line.specs.ScenePlaces.{place_in, has_at, IsFoundAt, IsFreeAt};
 ghost use Rattle.rdm_line.specs.Parameters.{AnswersPart};
 

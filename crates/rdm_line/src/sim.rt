@@ -8,7 +8,8 @@ ghost use Rattle.rdm_wire.specs.Commands.{command_read};
 ghost use Rattle.rdm_line.specs.Overlays.{all_laid_over};
 ghost use Rattle.rdm_line.specs.Scenes.{parameter_at};
 ghost use Rattle.rdm_line.specs.Sim.{SimStep, Acts, ActsOn, Unmutes, AnswersBranch, AnswersGet, AnswersSet, Refuses};
-ghost use Rattle.rdm_line.specs.Sim.{is_among, next_exchange, answers_branch, answering, branch_reply_of, collided, later_collisions};
+ghost use Rattle.rdm_line.specs.Sim.{is_among, next_exchange, answers_branch, answering, branch_reply_of, collided};
+ghost use Rattle.rdm_line.specs.Sim.{later_collisions};
 ghost use Rattle.rdm_line.specs.Sim.{response_to, TellsPart};
 
 use crate::collision::Collision;

@@ -3,8 +3,10 @@ use Rattle.std.proofs.Common.{◌≡◌, ℕ, ◌<◌, ◌^◌, List, ◌++◌, 
 use Rattle.rdm_wire.specs.Bytes.{number_of, uid_bytes}
 use Rattle.rdm_wire.specs.CommandFrames.{code_of_request_class}
 use Rattle.rdm_wire.specs.Packet.{fields_at}
-use Rattle.rdm_wire.specs.Commands.{Command, command_fields, command_frame, CanSend, HasUids}
-use Rattle.rdm_wire.specs.Commands.Command.{Unmute, Branch, Mute, GetOrSet}
+use Rattle.rdm_wire.specs.Commands.{command_fields, command_frame, FitsFrame, HasUids}
+use Rattle.rdm_wire.specs.Span.{Span}
+use Rattle.rdm_wire.specs.declared.command.Command.{Command}
+use Rattle.rdm_wire.specs.declared.command.Command.TheVariants as asks
 use Rattle.rdm_wire.specs.declared.request.Request.{Request}
 use Rattle.rdm_wire.specs.declared.request.ReqClass.{ReqClass}
 use Rattle.rdm_wire.specs.declared.request.ReqClass.TheVariants.{Get, Set}
@@ -26,13 +28,13 @@ same_class Set Set h = refl
 same_uid : (u v : ℕ) → u < 2 ^ 48 → v < 2 ^ 48 → uid_bytes u ≡ uid_bytes v → u ≡ v
 same_uid u v hu hv h = sym (number_of-uid_bytes u hu) ∙ ap number_of h ∙ number_of-uid_bytes v hv
 
-same_branch : (lo hi low high : ℕ) → HasUids (Branch lo hi) → HasUids (Branch low high) → uid_bytes lo ++ uid_bytes hi ≡ uid_bytes low ++ uid_bytes high → Branch lo hi ≡ Branch low high
-same_branch lo hi low high h k same = both _ _ (same_uid lo low h.0 k.0 (ap (take 6) same)) (same_uid hi high h.1 k.1 (ap (drop 6) same))
+same_branch : (r q : Span) → HasUids (asks.Branch r) → HasUids (asks.Branch q) → uid_bytes r.lo ++ uid_bytes r.hi ≡ uid_bytes q.lo ++ uid_bytes q.hi → asks.Branch r ≡ asks.Branch q
+same_branch r q h k same = both _ _ (same_uid r.lo q.lo h.0 k.0 (ap (take 6) same)) (same_uid r.hi q.hi h.1 k.1 (ap (drop 6) same))
   where
-    both : (x y : ℕ) → x ≡ low → y ≡ high → Branch x y ≡ Branch low high
+    both : (x y : ℕ) → x ≡ q.lo → y ≡ q.hi → asks.Branch (record { lo = x; hi = y }) ≡ asks.Branch q
     both x y p q = rw (p, q) refl
 
-same_request : (r q : Request) (s m t n : ℕ) → command_fields (GetOrSet r) s m ≡ command_fields (GetOrSet q) t n → r ≡ q
+same_request : (r q : Request) (s m t n : ℕ) → command_fields (asks.Request r) s m ≡ command_fields (asks.Request q) t n → r ≡ q
 same_request r q s m t n h =
     made _ _ _ _ _ (ap (λ f. f.dest) h) (ap (λ f. f.sub_device) h) (same_class r.class q.class (ap (λ f. f.class) h)) (ap (λ f. f.pid) h) (ap (λ f. f.param) h)
   where
@@ -42,39 +44,39 @@ same_request r q s m t n h =
 
 -- the fields tell the command
 same_command : (c d : Command) (s m t n : ℕ) → HasUids c → HasUids d → command_fields c s m ≡ command_fields d t n → c ≡ d
-same_command Unmute Unmute s m t n h k e = refl
-same_command (Branch lo hi) (Branch low high) s m t n h k e = same_branch lo hi low high h k (ap (λ f. f.param) e)
-same_command (Mute u) (Mute v) s m t n h k e = ap Mute (ap (λ f. f.dest) e)
-same_command (GetOrSet r) (GetOrSet q) s m t n h k e = ap GetOrSet (same_request r q s m t n e)
-same_command (GetOrSet r) Unmute s m t n h k e = absurd (no_discovery r.class (ap (λ f. f.class) e))
-same_command (GetOrSet r) (Branch lo hi) s m t n h k e = absurd (no_discovery r.class (ap (λ f. f.class) e))
-same_command (GetOrSet r) (Mute u) s m t n h k e = absurd (no_discovery r.class (ap (λ f. f.class) e))
-same_command Unmute (GetOrSet q) s m t n h k e = absurd (no_discovery q.class (sym (ap (λ f. f.class) e)))
-same_command (Branch lo hi) (GetOrSet q) s m t n h k e = absurd (no_discovery q.class (sym (ap (λ f. f.class) e)))
-same_command (Mute u) (GetOrSet q) s m t n h k e = absurd (no_discovery q.class (sym (ap (λ f. f.class) e)))
+same_command asks.Unmute asks.Unmute s m t n h k e = refl
+same_command (asks.Branch a) (asks.Branch b) s m t n h k e = same_branch a b h k (ap (λ f. f.param) e)
+same_command (asks.Mute u) (asks.Mute v) s m t n h k e = ap asks.Mute (ap (λ f. f.dest) e)
+same_command (asks.Request r) (asks.Request q) s m t n h k e = ap asks.Request (same_request r q s m t n e)
+same_command (asks.Request r) asks.Unmute s m t n h k e = absurd (no_discovery r.class (ap (λ f. f.class) e))
+same_command (asks.Request r) (asks.Branch a) s m t n h k e = absurd (no_discovery r.class (ap (λ f. f.class) e))
+same_command (asks.Request r) (asks.Mute u) s m t n h k e = absurd (no_discovery r.class (ap (λ f. f.class) e))
+same_command asks.Unmute (asks.Request q) s m t n h k e = absurd (no_discovery q.class (sym (ap (λ f. f.class) e)))
+same_command (asks.Branch a) (asks.Request q) s m t n h k e = absurd (no_discovery q.class (sym (ap (λ f. f.class) e)))
+same_command (asks.Mute u) (asks.Request q) s m t n h k e = absurd (no_discovery q.class (sym (ap (λ f. f.class) e)))
 same_command c d s m t n h k e = absurd (other_pid (ap (λ f. f.pid) e))
   where
     other_pid : (command_fields c s m).pid ≡ (command_fields d t n).pid → ⊥
     other_pid p = omega arith
 
 -- a frame tells its command, its source and its number
-pub one_command : (c d : Command) (s m t n : ℕ) → CanSend c s m → CanSend d t n → command_frame c s m ≡ command_frame d t n → (c ≡ d) × (s ≡ t) × (m ≡ n)
+pub one_command : (c d : Command) (s m t n : ℕ) → FitsFrame c s m → FitsFrame d t n → command_frame c s m ≡ command_frame d t n → (c ≡ d) × (s ≡ t) × (m ≡ n)
 one_command c d s m t n can could same = (same_command c d s m t n can.bounds could.bounds fields, source c d (ap (λ f. f.source) fields), number c d (ap (λ f. f.tn) fields))
   where
     fields : command_fields c s m ≡ command_fields d t n
     fields = sym (fields_at-packet (command_fields c s m) can.fits) ∙ ap fields_at same ∙ fields_at-packet (command_fields d t n) could.fits
 
     source_of : (x : Command) (u k : ℕ) → (command_fields x u k).source ≡ u
-    source_of Unmute u k = refl
-    source_of (Branch lo hi) u k = refl
-    source_of (Mute v) u k = refl
-    source_of (GetOrSet r) u k = refl
+    source_of asks.Unmute u k = refl
+    source_of (asks.Branch a) u k = refl
+    source_of (asks.Mute v) u k = refl
+    source_of (asks.Request r) u k = refl
 
     number_of_command : (x : Command) (u k : ℕ) → (command_fields x u k).tn ≡ k
-    number_of_command Unmute u k = refl
-    number_of_command (Branch lo hi) u k = refl
-    number_of_command (Mute v) u k = refl
-    number_of_command (GetOrSet r) u k = refl
+    number_of_command asks.Unmute u k = refl
+    number_of_command (asks.Branch a) u k = refl
+    number_of_command (asks.Mute v) u k = refl
+    number_of_command (asks.Request r) u k = refl
 
     source : (x y : Command) → (command_fields x s m).source ≡ (command_fields y t n).source → s ≡ t
     source x y h = sym (source_of x s m) ∙ h ∙ source_of y t n

@@ -9,7 +9,7 @@ use Rattle.rdm_wire.specs.Uid.{is_broadcast}
 use Rattle.rdm_wire.specs.Span.{Span}
 use Rattle.rdm_wire.specs.Packet.{Fields, Fits, fields_at, packet}
 use Rattle.rdm_wire.specs.CommandFrames.{code_of_request_class, discovery_fields, all_devices}
-use Rattle.rdm_wire.specs.Commands.{Writes, IsInOrder, said, command_fields, command_frame, CanSend, command_in, discovery_in, branch_in, request_in, written_so, command_read}
+use Rattle.rdm_wire.specs.Commands.{Writes, IsInOrder, command_fields, command_frame, FitsFrame, command_in, discovery_in, branch_in, request_in, written_so, command_read}
 use Rattle.rdm_wire.specs.declared.command.Command as asked
 use Rattle.rdm_wire.specs.declared.command.Command.TheVariants as asks
 use Rattle.rdm_wire.specs.declared.request.ReqClass.{ReqClass}
@@ -20,13 +20,13 @@ use Rattle.rdm_wire.proofs.OffsetLemmas.{uid_at, IsBytes-drop, IsBytes-take}
 use Rattle.rdm_wire.proofs.ReadBack.{HasBody, has_body}
 
 -- the source and the number stand in every command's fields
-pub source_is : (c : asked.Command) (s tn : ℕ) → (command_fields (said c) s tn).source ≡ s
+pub source_is : (c : asked.Command) (s tn : ℕ) → (command_fields c s tn).source ≡ s
 source_is asks.Unmute s tn = refl
 source_is (asks.Branch r) s tn = refl
 source_is (asks.Mute u) s tn = refl
 source_is (asks.Request r) s tn = refl
 
-pub tn_is : (c : asked.Command) (s tn : ℕ) → (command_fields (said c) s tn).tn ≡ tn
+pub tn_is : (c : asked.Command) (s tn : ℕ) → (command_fields c s tn).tn ≡ tn
 tn_is asks.Unmute s tn = refl
 tn_is (asks.Branch r) s tn = refl
 tn_is (asks.Mute u) s tn = refl
@@ -41,13 +41,13 @@ branch_back r lo hi in_order = same _ _ (number_of-uid_bytes r.lo lo) (number_of
     same a b p q = rw (p, q, le-leb r.lo r.hi in_order) refl
 
 -- the fields of a command say it
-command_back : (c : asked.Command) (s tn : ℕ) → CanSend (said c) s tn → IsInOrder c → command_in (command_fields (said c) s tn) ≡ Some c
+command_back : (c : asked.Command) (s tn : ℕ) → FitsFrame c s tn → IsInOrder c → command_in (command_fields c s tn) ≡ Some c
 command_back asks.Unmute s tn can in_order = refl
 command_back (asks.Branch r) s tn can in_order = branch_back r can.bounds.0 can.bounds.1 in_order
 command_back (asks.Mute u) s tn can in_order = rw in_order refl
 command_back (asks.Request r) s tn can in_order = of_class r.class refl
   where
-    of_class : (class : ReqClass) → r.class ≡ class → command_in (command_fields (said (asks.Request r)) s tn) ≡ Some (asks.Request r)
+    of_class : (class : ReqClass) → r.class ≡ class → command_in (command_fields (asks.Request r) s tn) ≡ Some (asks.Request r)
     of_class Get is = rw is refl
     of_class Set is = rw is refl
 
@@ -56,20 +56,20 @@ equal_bytes b c same = (bytes_eq-Decides b c).1 same
 
 -- what an encoder writes is read as its command
 pub read_of-writes : (c : asked.Command) (s tn : ℕ) (b : List ℕ) → Writes c s tn b → command_read b ≡ Some (c, s, tn)
-read_of-writes c s tn b w = made _ _ _ (ap (λ f. f.source) fields ∙ source_is c s tn) (ap (λ f. f.tn) fields ∙ tn_is c s tn) (ap command_in fields ∙ command_back c s tn w.can w.in_order)
+read_of-writes c s tn b w = made _ _ _ (ap (λ f. f.source) fields ∙ source_is c s tn) (ap (λ f. f.tn) fields ∙ tn_is c s tn) (ap command_in fields ∙ command_back c s tn w.frame w.in_order)
   where
-    fields : fields_at b ≡ command_fields (said c) s tn
-    fields = ap fields_at w.bytes ∙ fields_at-packet (command_fields (said c) s tn) w.can.fits
+    fields : fields_at b ≡ command_fields c s tn
+    fields = ap fields_at w.bytes ∙ fields_at-packet (command_fields c s tn) w.frame.fits
 
     made : (source number : ℕ) (o : Option asked.Command) → source ≡ s → number ≡ tn → o ≡ Some c → written_so b source number o ≡ Some (c, s, tn)
-    made source number o p q r = rw (p, q, r, equal_bytes b (command_frame (said c) s tn) w.bytes) refl
+    made source number o p q r = rw (p, q, r, equal_bytes b (command_frame c s tn) w.bytes) refl
 
 -- what is read was said by the fields, and its frame is these bytes
 record ReadsSo (b : List ℕ) (c : asked.Command) (s tn : ℕ) : Type 0 where
   in_fields : command_in (fields_at b) ≡ Some c
   source : (fields_at b).source ≡ s
   number : (fields_at b).tn ≡ tn
-  bytes : b ≡ command_frame (said c) s tn
+  bytes : b ≡ command_frame c s tn
 
 reads_so : (b : List ℕ) (c : asked.Command) (s tn : ℕ) → command_read b ≡ Some (c, s, tn) → ReadsSo b c s tn
 reads_so b c s tn h = by_option (command_in (fields_at b)) refl h
@@ -78,15 +78,15 @@ reads_so b c s tn h = by_option (command_in (fields_at b)) refl h
     same_some x y e = cc
 
     by_test : (d : asked.Command) → command_in (fields_at b) ≡ Some d
-        → (t : Bool) → bytes_eq b (command_frame (said d) (fields_at b).source (fields_at b).tn) ≡ t
+        → (t : Bool) → bytes_eq b (command_frame d (fields_at b).source (fields_at b).tn) ≡ t
         → cond {A = Option (asked.Command × ℕ × ℕ)} t (Some (d, (fields_at b).source, (fields_at b).tn)) None ≡ Some (c, s, tn) → ReadsSo b c s tn
     by_test d is true eq h =
         let all = same_some _ _ h in
         let command : d ≡ c = ap (λ (x : asked.Command × ℕ × ℕ). x.0) all in
         let source : (fields_at b).source ≡ s = ap (λ (x : asked.Command × ℕ × ℕ). x.1) all in
         let number : (fields_at b).tn ≡ tn = ap (λ (x : asked.Command × ℕ × ℕ). x.2) all in
-        let same : b ≡ command_frame (said d) (fields_at b).source (fields_at b).tn = (bytes_eq-Decides b _).0 eq in
-        record { in_fields = is ∙ ap Some command; source = source; number = number; bytes = subst (λ x. b ≡ command_frame (said x) s tn) command (subst (λ x. b ≡ command_frame (said d) s x) number (subst (λ x. b ≡ command_frame (said d) x (fields_at b).tn) source same)) }
+        let same : b ≡ command_frame d (fields_at b).source (fields_at b).tn = (bytes_eq-Decides b _).0 eq in
+        record { in_fields = is ∙ ap Some command; source = source; number = number; bytes = subst (λ x. b ≡ command_frame x s tn) command (subst (λ x. b ≡ command_frame d s x) number (subst (λ x. b ≡ command_frame d x (fields_at b).tn) source same)) }
     by_test d is false eq h = absurd (let wrong : ⊥ = cc in wrong)
 
     by_option : (o : Option asked.Command) → command_in (fields_at b) ≡ o → written_so b (fields_at b).source (fields_at b).tn o ≡ Some (c, s, tn) → ReadsSo b c s tn
@@ -130,7 +130,7 @@ by_code code k first others x h = by_test (code == k) refl h
 
 -- a command's packet has fields in range where those that said it were
 record Sendable (f : Fields) (c : asked.Command) : Type 0 where
-  can : CanSend (said c) f.source f.tn
+  frame : FitsFrame c f.source f.tn
   in_order : IsInOrder c
 
 pub discovery_fits : (f : Fields) (dest pid : ℕ) (param : List ℕ) → Fits f → dest < 2 ^ 48 → pid < 2 ^ 16 → length param ≤ 231 → Fits (discovery_fields dest pid param f.source f.tn)
@@ -153,7 +153,7 @@ branch_sendable f c bytes fits h =
     let size : length f.param ≡ 12 = eqb-true _ 12 both.0 in
     let is : asks.Branch (record { lo = number_at 0 6 f.param; hi = number_at 6 6 f.param }) ≡ c = cc in
     subst (Sendable f) is (record {
-      can = record {
+      frame = record {
         fits = discovery_fits f all_devices 1 _ fits (omega arith) (omega arith) (omega arith);
         bounds = ((uid_at 0 f.param bytes (omega arith)).below, (uid_at 6 f.param bytes (omega arith)).below);
       };
@@ -164,7 +164,7 @@ request_sendable : (f : Fields) (c : asked.Command) (class : ReqClass) → Fits 
 request_sendable f c class fits h =
     let is : asks.Request (request_in f class) ≡ c = cc in
     subst (Sendable f) is (record {
-      can = record {
+      frame = record {
         fits = record {
           dest = fits.dest;
           source = fits.source;
@@ -187,7 +187,7 @@ request_sendable f c class fits h =
 
 discovery_sendable : (f : Fields) (c : asked.Command) → IsBytes f.param → Fits f → discovery_in f ≡ Some c → Sendable f c
 discovery_sendable f c bytes fits h = elim (by_code f.pid 3 _ _ c h) [
-  | inl unmute ↦ subst (Sendable f) (same unmute.1) (record { can = record { fits = discovery_fits f all_devices 3 [] fits (omega arith) (omega arith) (omega arith); bounds = tt }; in_order = tt })
+  | inl unmute ↦ subst (Sendable f) (same unmute.1) (record { frame = record { fits = discovery_fits f all_devices 3 [] fits (omega arith) (omega arith) (omega arith); bounds = tt }; in_order = tt })
   | inr h ↦ elim (by_code f.pid 2 _ _ c h) [
     | inl mute ↦ muted (is_broadcast f.dest) refl mute.1
     | inr h ↦ elim (by_code f.pid 1 _ _ c h) [ inl branch ↦ branch_sendable f c bytes fits branch.1 | inr none ↦ absurd (let wrong : ⊥ = cc in wrong) ]
@@ -201,7 +201,7 @@ discovery_sendable f c bytes fits h = elim (by_code f.pid 3 _ _ c h) [
     muted true is e = absurd (let wrong : ⊥ = cc in wrong)
     muted false is e =
         let mute : asks.Mute f.dest ≡ c = cc in
-        subst (Sendable f) mute (record { can = record { fits = discovery_fits f f.dest 2 [] fits fits.dest (omega arith) (omega arith); bounds = tt }; in_order = is })
+        subst (Sendable f) mute (record { frame = record { fits = discovery_fits f f.dest 2 [] fits fits.dest (omega arith) (omega arith); bounds = tt }; in_order = is })
 
 sendable : (f : Fields) (c : asked.Command) → IsBytes f.param → Fits f → command_in f ≡ Some c → Sendable f c
 sendable f c bytes fits h = elim (by_code f.class 0x10 _ _ c h) [
@@ -214,19 +214,19 @@ sendable f c bytes fits h = elim (by_code f.class 0x10 _ _ c h) [
 
 -- what is read is what an encoder writes
 pub writes-of_read : (b : List ℕ) (c : asked.Command) (s tn : ℕ) → IsBytes b → command_read b ≡ Some (c, s, tn) → Writes c s tn b
-writes-of_read b c s tn bytes h = record { can = sent.0; in_order = sent.1; bytes = so.bytes }
+writes-of_read b c s tn bytes h = record { frame = sent.0; in_order = sent.1; bytes = so.bytes }
   where
     so : ReadsSo b c s tn
     so = reads_so b c s tn h
 
     has : HasBody b
-    has = packet_body b (command_fields (said c) s tn) bytes so.bytes
+    has = packet_body b (command_fields c s tn) bytes so.bytes
 
     so_sendable : Sendable (fields_at b) c
     so_sendable = sendable (fields_at b) c (param_bytes b bytes) has.fits so.in_fields
 
-    sent : CanSend (said c) s tn × IsInOrder c
-    sent = (subst (λ n. CanSend (said c) s n) so.number (subst (λ n. CanSend (said c) n (fields_at b).tn) so.source so_sendable.can), so_sendable.in_order)
+    sent : FitsFrame c s tn × IsInOrder c
+    sent = (subst (λ n. FitsFrame c s n) so.number (subst (λ n. FitsFrame c n (fields_at b).tn) so.source so_sendable.frame), so_sendable.in_order)
 
 -- bytes that aren't as many as their data length says, or more than a frame has, are no command
 pub none_unless_long : (b : List ℕ) → IsBytes b → (length b ≡ 26 + slice_index b 23 → length b ≤ 257 → ⊥) → command_read b ≡ None

@@ -9,7 +9,7 @@ use Rattle.rdm_wire.specs.Uid.{has, is_within, IsDeviceSet}
 use Rattle.rdm_wire.specs.Honest.{Asked, Heard, Seen, LineState, HonestStep, HonestTrace, Chain, Counts, KeepsMuted, MuteMoves, UnmuteMoves, MayReply, lost_after, due_in, before_run}
 use Rattle.rdm_wire.specs.Honest.Asked.{Unmute, Branch, Mute, Other}
 use Rattle.rdm_wire.specs.Honest.Heard.{Silent}
-use Rattle.rdm_wire.specs.HonestOver.{HonestOver, ChainOver, Moves}
+use Rattle.rdm_wire.specs.HonestOver.{HonestOver, ChainOver, ComeAndLeave}
 
 module _ (p : List ℕ) where
   -- the state in which nobody but those present is muted
@@ -80,7 +80,7 @@ module _ (p : List ℕ) where
   step_within old new Other heard step = ((λ u. keeps_within u old new (step.0 u)), counts_within new 0 0 0 step.1)
 
   -- nobody comes or leaves
-  stays_same : (earlier : List ℕ) (s : LineState) → Moves earlier p p (within s) (within s)
+  stays_same : (earlier : List ℕ) (s : LineState) → ComeAndLeave earlier p p (within s) (within s)
   stays_same earlier s = record {
     stays = λ u was is. refl;
     comes = λ u was is. absurd (true≢false (sym is ∙ was));
@@ -103,7 +103,7 @@ module _ (p : List ℕ) where
   abbrev Outside : LineState → Type 0
   Outside s = (u : ℕ) → has p u ≡ false → s.muted u ≡ false
 
-  same_state : (earlier : List ℕ) (s moved : LineState) → Outside s → Moves earlier p p s moved → moved ≡ s
+  same_state : (earlier : List ℕ) (s moved : LineState) → Outside s → ComeAndLeave earlier p p s moved → moved ≡ s
   same_state earlier s moved out moves = λ i. record {
     muted = λ u. same u i;
     lost_branches = moves.lost_branches i;

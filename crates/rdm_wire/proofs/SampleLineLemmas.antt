@@ -4,7 +4,7 @@ use Rattle.std.specs.Prelude.{◌==◌}
 use Rattle.rdm_wire.specs.Uid.{has, IsDeviceSet}
 use Rattle.rdm_wire.specs.Honest.{Seen, LineState, Counts, before_run}
 use Rattle.rdm_wire.specs.Honest.Heard.{Failed, One, Noise}
-use Rattle.rdm_wire.specs.HonestOver.{HonestOver, Moves}
+use Rattle.rdm_wire.specs.HonestOver.{HonestOver, ComeAndLeave}
 use Rattle.rdm_wire.specs.SampleLines.{first_device, one_there, two_there, asked_all}
 
 one-devices : IsDeviceSet one_there
@@ -24,7 +24,7 @@ quiet-counts : Counts quiet 0 0 0
 quiet-counts = record { branches = refl; mutes = refl; unmutes = refl; few_branches = omega arith; few_mutes = omega arith }
 
 -- who comes wasn't there before, and nobody is muted
-quiet-moves : (earlier last present : List ℕ) → ((u : ℕ) → has last u ≡ false → has present u ≡ true → has earlier u ≡ false) → Moves earlier last present quiet quiet
+quiet-moves : (earlier last present : List ℕ) → ((u : ℕ) → has last u ≡ false → has present u ≡ true → has earlier u ≡ false) → ComeAndLeave earlier last present quiet quiet
 quiet-moves earlier last present new = record {
   stays = λ u was is. refl;
   comes = λ u was is. (new u was is, refl);

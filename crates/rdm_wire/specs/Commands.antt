@@ -1,5 +1,6 @@
 -- The commands that the controller sends.
-use Rattle.std.specs.Prelude.{◌≡◌, ℕ, true, ◌<◌, ◌≤◌, ◌^◌, ◌&&◌, ◌==◌, nat_le, false, List, length, Option, Some, None, bytes_eq, if◌then◌else◌}
+use Rattle.std.specs.Prelude.{◌≡◌, ℕ, true, ◌<◌, ◌≤◌, ◌^◌, ◌&&◌, ◌==◌, nat_le, false, List, length, Option, Some, None}
+use Rattle.std.specs.Prelude.{bytes_eq, if◌then◌else◌}
 use Rattle.rdm_wire.specs.Bytes.{number_at}
 use Rattle.rdm_wire.specs.Uid.{is_broadcast}
 use Rattle.rdm_wire.specs.Packet.{Fields, Fits, packet, fields_at}
@@ -9,88 +10,81 @@ use Rattle.rdm_wire.specs.declared.request.ReqClass.{ReqClass}
 use Rattle.rdm_wire.specs.declared.request.ReqClass.TheVariants.{Get, Set}
 use Rattle.rdm_wire.specs.Honest.{Asked}
 use Rattle.rdm_wire.specs.Honest.Asked.{Unmute as Unmuted, Branch as Branched, Mute as Muted, Other}
-use Rattle.rdm_wire.specs.declared.command.Command as asked
+use Rattle.rdm_wire.specs.declared.command.Command.{Command}
 use Rattle.rdm_wire.specs.declared.command.Command.TheVariants as asks
-
--- one for each encoder
-pub data Command : Type 0 where
-  Unmute : Command
-  Branch : (lo hi : ℕ) → Command
-  Mute : (u : ℕ) → Command
-  GetOrSet : (r : Request) → Command
 
 -- the fields of a command's packet, from this source with this number
 abbrev pub command_fields : Command → ℕ → ℕ → Fields
-command_fields Unmute s tn = unmute_fields s tn
-command_fields (Branch lo hi) s tn = branch_fields lo hi s tn
-command_fields (Mute u) s tn = mute_fields u s tn
-command_fields (GetOrSet r) s tn = request_fields r s tn
+command_fields asks.Unmute s tn = unmute_fields s tn
+command_fields (asks.Branch range) s tn = branch_fields range.lo range.hi s tn
+command_fields (asks.Mute u) s tn = mute_fields u s tn
+command_fields (asks.Request r) s tn = request_fields r s tn
 
 abbrev pub command_frame : Command → ℕ → ℕ → List ℕ
 command_frame command s tn = packet (command_fields command s tn)
 
 -- a branch's bounds are UIDs
 abbrev pub HasUids : Command → Type 0
-HasUids (Branch lo hi) = (lo < 2 ^ 48) × (hi < 2 ^ 48)
+HasUids (asks.Branch range) = (range.lo < 2 ^ 48) × (range.hi < 2 ^ 48)
 HasUids other = Unit {0}
 
--- what the encoder can be given
-pub record CanSend (command : Command) (s tn : ℕ) : Type 0 where
+-- what the command says fits the fields of its frame
+pub record FitsFrame (command : Command) (s tn : ℕ) : Type 0 where
   pub fits : Fits (command_fields command s tn)
   pub bounds : HasUids command
 
--- what a command says, as numbers
-abbrev pub said : asked.Command → Command
-said asks.Unmute = Unmute
-said (asks.Branch range) = Branch range.lo range.hi
-said (asks.Mute u) = Mute u
-said (asks.Request r) = GetOrSet r
-
--- what an encoder owes besides: a branch's bounds aren't crossed, and a mute is to a device
-abbrev pub IsInOrder : asked.Command → Type 0
+-- what its encoder wants besides: a branch's bounds aren't crossed, and a mute is to a device
+abbrev pub IsInOrder : Command → Type 0
 IsInOrder (asks.Branch range) = range.lo ≤ range.hi
 IsInOrder (asks.Mute u) = is_broadcast u ≡ false
 IsInOrder other = Unit {0}
 
 -- the bytes are what the command's encoder writes for this source and this transaction number
-pub record Writes (command : asked.Command) (s tn : ℕ) (b : List ℕ) : Type 0 where
-  pub can : CanSend (said command) s tn
+pub record Writes (command : Command) (s tn : ℕ) (b : List ℕ) : Type 0 where
+  pub frame : FitsFrame command s tn
   pub in_order : IsInOrder command
-  pub bytes : b ≡ command_frame (said command) s tn
+  pub bytes : b ≡ command_frame command s tn
 
 -- the request that fields say
 abbrev pub request_in : Fields → ReqClass → Request
-request_in f class = record { target = f.dest; sub_device = f.sub_device; class = class; pid = f.pid; param = record { items = f.param } }
+request_in f class = record {
+  target = f.dest;
+  sub_device = f.sub_device;
+  class = class;
+  pid = f.pid;
+  param = record { items = f.param };
+}
 
 -- the branch of the range that data give: two bounds that aren't crossed
-abbrev pub branch_in : List ℕ → Option asked.Command
+abbrev pub branch_in : List ℕ → Option Command
 branch_in param =
     if (length param == 12) && nat_le (number_at 0 6 param) (number_at 6 6 param)
     then Some (asks.Branch (record { lo = number_at 0 6 param; hi = number_at 6 6 param })) else None
 
-abbrev pub discovery_in : Fields → Option asked.Command
+abbrev pub discovery_in : Fields → Option Command
 discovery_in f =
     if f.pid == 3 then Some asks.Unmute
     else (if f.pid == 2 then (if is_broadcast f.dest then None else Some (asks.Mute f.dest))
     else (if f.pid == 1 then branch_in f.param else None))
 
 -- the command that fields say by class, PID and data
-abbrev pub command_in : Fields → Option asked.Command
+abbrev pub command_in : Fields → Option Command
 command_in f =
     if f.class == 0x10 then discovery_in f
     else (if f.class == 0x20 then Some (asks.Request (request_in f Get))
     else (if f.class == 0x30 then Some (asks.Request (request_in f Set)) else None))
 
-abbrev pub written_so : List ℕ → ℕ → ℕ → Option asked.Command → Option (asked.Command × ℕ × ℕ)
+abbrev pub written_so : List ℕ → ℕ → ℕ → Option Command → Option (Command × ℕ × ℕ)
 written_so b s tn None = None
-written_so b s tn (Some command) = if bytes_eq b (command_frame (said command) s tn) then Some (command, s, tn) else None
+written_so b s tn (Some command) =
+    if bytes_eq b (command_frame command s tn) then Some (command, s, tn) else None
 
 -- the command whose frame the bytes are, computed: the one that the fields say, if its frame is these bytes
-abbrev pub command_read : List ℕ → Option (asked.Command × ℕ × ℕ)
+abbrev pub command_read : List ℕ → Option (Command × ℕ × ℕ)
 command_read b = written_so b (fields_at b).source (fields_at b).tn (command_in (fields_at b))
 
 -- what a command asks of the devices
-abbrev pub asked_by_command : asked.Command → Asked
+abbrev pub asked_by_command : Command → Asked
 asked_by_command asks.Unmute = Unmuted
 asked_by_command (asks.Branch range) = Branched range.lo range.hi
 asked_by_command (asks.Mute u) = Muted u
@@ -104,6 +98,6 @@ AsksNobody (Muted u) = is_broadcast u ≡ true
 AsksNobody Other = Unit {0}
 
 -- what a frame asks that is read as this command, or as none
-abbrev pub AsksSo : Option (asked.Command × ℕ × ℕ) → Asked → Type 0
+abbrev pub AsksSo : Option (Command × ℕ × ℕ) → Asked → Type 0
 AsksSo None asked = AsksNobody asked
 AsksSo (Some sent) asked = asked ≡ asked_by_command sent.0

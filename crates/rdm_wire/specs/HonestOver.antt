@@ -5,10 +5,10 @@ use Rattle.rdm_wire.specs.Uid.{has, IsDeviceSet}
 use Rattle.rdm_wire.specs.Honest.{LineState, HonestStep, KeepsMuted, Seen, before_run}
 use Rattle.rdm_wire.specs.Honest.Heard.{Failed}
 
--- devices leave and come before an exchange. Those in present are there at it, those in last were there at the
--- exchange before, and those in earlier were there at some exchange of the run before. Who left doesn't come back, and
+-- devices leave and come before an exchange. Those in present are there at it; those in last were there at the
+-- exchange before; those in earlier were there at some earlier exchange of the run. Who left doesn't come back, and
 -- who isn't there isn't muted
-pub record Moves (earlier last present : List ℕ) (old new : LineState) : Type 0 where
+pub record ComeAndLeave (earlier last present : List ℕ) (old new : LineState) : Type 0 where
   pub stays : (u : ℕ) → has last u ≡ true → has present u ≡ true → KeepsMuted u old new
   pub comes : (u : ℕ) → has last u ≡ false → has present u ≡ true → (has earlier u ≡ false) × (new.muted u ≡ false)
   pub leaves : (u : ℕ) → has present u ≡ false → new.muted u ≡ false
@@ -23,7 +23,7 @@ ChainOver earlier last old [] [] = Unit {0}
 ChainOver earlier last old [] (x ∷ xs) = ⊥
 ChainOver earlier last old (present ∷ sets) [] = ⊥
 ChainOver earlier last old (present ∷ sets) (x ∷ xs) =
-    (moved : LineState) × Moves earlier last present old moved
+    (moved : LineState) × ComeAndLeave earlier last present old moved
     × ((x.heard ≡ Failed)
     ⊎ ((new : LineState) × HonestStep present moved x.asked x.heard new
     × ChainOver (present ++ earlier) present new sets xs))

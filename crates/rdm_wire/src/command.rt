@@ -4,7 +4,7 @@ ghost use Rattle.hex.specs.Hex.{IsBytes};
 ghost use Rattle.rdm_wire.specs.Header.{header_fields};
 ghost use Rattle.rdm_wire.specs.Packet.{Packet};
 ghost use Rattle.rdm_wire.specs.Commands.{Writes, IsInOrder, command_read, command_in, discovery_in, branch_in};
-ghost use Rattle.rdm_wire.specs.Commands.{request_in, said, command_fields};
+ghost use Rattle.rdm_wire.specs.Commands.{request_in, command_fields};
 
 use crate::discovery::{
     DISC_MUTE, DISC_UN_MUTE, DISC_UNIQUE_BRANCH, encode_branch, encode_mute, encode_unmute,
@@ -129,7 +129,7 @@ fn request_of(header: Header, class: ReqClass, bytes: &[u8]) -> Request
 // The frame of a command.
 fn encode_command(command: &Command, source: Uid, tn: u8) -> Frame
     requires { IsInOrder command.now }
-    ensures { Packet (command_fields (said command.now) source tn) result.items }
+    ensures { Packet (command_fields command.now source tn) result.items }
 {
     match command {
         Command::Unmute => encode_unmute(source, tn),

@@ -5,8 +5,8 @@ ghost use Rattle.rdm_wire.specs.BranchText.{BranchText};
 ghost use Rattle.rdm_wire.specs.Reading.{text_read, ack_read};
 ghost use Rattle.rdm_wire.specs.declared.response.Response.{Response};
 ghost use Rattle.rdm_wire.specs.Frames.{asked_in};
-ghost use Rattle.rdm_wire.specs.Commands.{Command, CanSend, command_frame, Writes, command_read, AsksSo};
-ghost use Rattle.rdm_wire.specs.declared.command.Command as read;
+ghost use Rattle.rdm_wire.specs.Commands.{FitsFrame, command_frame, Writes, command_read, AsksSo, asked_by_command};
+ghost use Rattle.rdm_wire.specs.declared.command.Command.{Command};
 ghost use Rattle.rdm_wire.specs.Uid.{IsDeviceSet};
 ghost use Rattle.rdm_wire.specs.Honest.{Seen, HonestTrace};
 ghost use Rattle.rdm_wire.specs.HonestOver.{HonestOver};
@@ -58,12 +58,14 @@ pub fn packets_tell_fields()
 
 /// What one of the four encoders writes, none writes with other arguments.
 pub fn frames_tell_commands()
-    ensures { (c d : Command) (s m t n : ℕ) → CanSend c s m → CanSend d t n
+    ensures { (c d : Command) (s m t n : ℕ) → FitsFrame c s m → FitsFrame d t n
         → command_frame c s m ≡ command_frame d t n → (c ≡ d) × (s ≡ t) × (m ≡ n) }
 {}
 
 /// A frame asks what it was written for, and a frame with a wrong checksum asks nothing of the devices.
 pub fn what_frames_ask()
+    ensures written { (command : Command) (s tn : ℕ) (b : List ℕ) →
+        Writes command s tn b → asked_in b ≡ asked_by_command command }
     ensures unmute { asked_in (unmute_frame 0x7a7000000100 255) ≡ Unmute }
     ensures branch { asked_in (branch_frame 5 0x1234ffffffff 0x7a7000000100 3) ≡ Branch 5 0x1234ffffffff }
     ensures mute { asked_in (mute_frame 0x123400000001 0x7a7000000100 4) ≡ Mute 0x123400000001 }
@@ -73,9 +75,9 @@ pub fn what_frames_ask()
 /// What an encoder writes is read as its command, and a frame asks the devices what the command does that it is read
 /// as; bytes that are no command ask no device anything. The definitions stand in `specs`.
 pub fn commands_read_back()
-    ensures read { (command : read.Command) (s tn : ℕ) (b : List ℕ) →
+    ensures read { (command : Command) (s tn : ℕ) (b : List ℕ) →
         Writes command s tn b → command_read b ≡ Some (command, s, tn) }
-    ensures writes { (command : read.Command) (s tn : ℕ) (b : List ℕ) → IsBytes b →
+    ensures writes { (command : Command) (s tn : ℕ) (b : List ℕ) → IsBytes b →
         command_read b ≡ Some (command, s, tn) → Writes command s tn b }
     ensures asks { (b : List ℕ) → IsBytes b → AsksSo (command_read b) (asked_in b) }
 {}

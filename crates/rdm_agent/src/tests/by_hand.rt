@@ -50,6 +50,8 @@ fn one_device_too_many(rt: HostRuntime) {
         hear(&rt, &mut agent, OpReply::Mute(Some(ack_of(plain(uid)))));
     }
     assert_eq!(rt; agent.frames(), 2_053);
+    assert_eq!(rt; agent.found().len(), 1024);
+    assert_eq!(rt; agent.fault(), Some(AgentFault::TooMany));
     let Err((fault, found)) = ended(&rt, agent) else {
         panic!(rt; "it has no fault")
     };
@@ -67,6 +69,11 @@ fn a_failure_and_an_abort(rt: HostRuntime) {
         ended(&rt, failed.abort()),
         Err((AgentFault::LineFailed, DeviceSet::new()))
     );
+    let mut aborted = begun(&rt);
+    aborted.stop();
+    assert_eq!(rt; aborted.fault(), Some(AgentFault::Aborted));
+    assert!(rt; aborted.found().is_empty());
+    assert_eq!(rt; aborted.frames(), 3);
     let aborted = begun(&rt).abort();
     assert_eq!(rt; aborted.frames(), 3);
     assert_eq!(rt;

@@ -116,9 +116,9 @@ fn joins_each_length_of_one_reply(rt: HostRuntime) -> Result<(), Fail> {
 }
 
 #[test]
-fn joins_each_number_of_parts(rt: HostRuntime) -> Result<(), Fail> {
-    for parts in 1..=17 {
-        for last in [0, 1, 2, 169] {
+fn joins_numbers_of_parts(rt: HostRuntime) -> Result<(), Fail> {
+    for parts in [1, 2, 3, 17, 18, 255, 256, 257, 283] {
+        for last in [0, 1, 2, 162] {
             assert!(rt; is_joined(&rt, rt.alloc(), parts, last)?);
         }
     }

@@ -91,14 +91,14 @@ fn a_failed_line_ends_the_request(rt: HostRuntime) -> Result<(), Fail> {
 }
 
 #[test]
-fn the_last_of_256_parts_ends_the_request(rt: HostRuntime) -> Result<(), Fail> {
-    let mut session = with_parts(&rt, rt.alloc(), 256, 0)?;
+fn the_last_of_512_parts_ends_the_request(rt: HostRuntime) -> Result<(), Fail> {
+    let mut session = with_parts(&rt, rt.alloc(), 512, 0)?;
     assert!(rt; is_none_taken(&mut session));
     assert_eq!(rt;
         collected(&rt, &mut session, 0).status,
         Status::InvalidResponse
     );
-    let mut session = with_parts(&rt, rt.alloc(), 255, 0)?;
+    let mut session = with_parts(&rt, rt.alloc(), 511, 0)?;
     let _ = taken(&rt, &mut session);
     delivers(&rt, rt.alloc(), &mut session, reply(&rt, 255, ACK, 0));
     let done = collected(&rt, &mut session, 0);
@@ -108,20 +108,27 @@ fn the_last_of_256_parts_ends_the_request(rt: HostRuntime) -> Result<(), Fail> {
 }
 
 #[test]
-fn joins_4096_bytes_and_no_more(rt: HostRuntime) -> Result<(), Fail> {
-    let mut session = with_parts(&rt, rt.alloc(), 17, MOST)?;
+fn joins_65535_bytes_and_no_more(rt: HostRuntime) -> Result<(), Fail> {
+    let mut session = with_parts(&rt, rt.alloc(), 283, MOST)?;
     let _ = taken(&rt, &mut session);
-    delivers(&rt, rt.alloc(), &mut session, reply(&rt, 17, ACK, 169));
+    delivers(&rt, rt.alloc(), &mut session, reply(&rt, 27, ACK, 162));
     let done = collected(&rt, &mut session, 0);
     assert_eq!(rt; done.status, Status::Completed);
-    assert_eq!(rt; done.bytes.len(), 4096);
-    let mut session = with_parts(&rt, rt.alloc(), 17, MOST)?;
+    assert_eq!(rt; done.bytes.len(), 65535);
+    let mut session = with_parts(&rt, rt.alloc(), 283, MOST)?;
     let _ = taken(&rt, &mut session);
-    delivers(&rt, rt.alloc(), &mut session, reply(&rt, 17, ACK, 170));
+    delivers(&rt, rt.alloc(), &mut session, reply(&rt, 27, ACK, 163));
     assert_eq!(rt;
         collected(&rt, &mut session, 0).status,
         Status::InvalidResponse
     );
+    Ok(())
+}
+
+#[test]
+fn the_frame_of_part_257_has_the_number_of_the_first(rt: HostRuntime) -> Result<(), Fail> {
+    let mut session = with_parts(&rt, rt.alloc(), 256, 0)?;
+    assert_eq!(rt; taken(&rt, &mut session).as_slice(), FRAMES[0].as_slice());
     Ok(())
 }
 

@@ -7,8 +7,8 @@ use arrayvec::ArrayVec;
 use std::process::Abort;
 use std::test::Fail;
 
-// A crossed branch, a mute of all devices, a wrong checksum, port id 2, a message count, a byte too many and one too
-// few, and a response.
+// No bytes; a crossed branch; a mute of all devices; a wrong checksum; port id 2; a message count; a byte too many; one
+// too few; a response.
 const NO_COMMANDS: [&str; 9] = [
     "",
     "cc0124ffffffffffff7a700000010003010000001000010cffffffffffff0000000000000df1",
