@@ -4,4 +4,5 @@ pub mod Blocks
 pub mod Explains
 pub mod Headline
 pub mod Discoveries
+pub mod Promised
 pub mod EventsHeadline

@@ -12,11 +12,11 @@ pub const MOST_CLIENTS: usize = 16;
 pub const NEVER_GIVEN: u64 = u64::MAX;
 
 /// How many discoveries a client may have outstanding (profile of this project).
-pub const MOST_ASKS: usize = 4;
+pub const MOST_DISCOVERIES: usize = 4;
 
 /// The number that no discovery is given: where it would be the next one, the numbers have run out (profile of this
 /// project).
-pub const NEVER_ASKED: u64 = u64::MAX - 1;
+pub const NEVER_GIVEN_TO_A_DISCOVERY: u64 = u64::MAX - 1;
 
 /// A client, numbered from 0 in the order of joining (profile of this project).
 #[derive(Clone, Copy, Debug, PartialEq, Eq)]
@@ -81,7 +81,7 @@ pub enum Entry {
         client: ClientId,
         /// Its number.
         number: u64,
-        /// Whether it starts from nothing or from the devices known.
+        /// What it asks for. A run is full where one of the discoveries that it serves asks for that.
         kind: Kind,
     },
     /// A frame was given for the line.
@@ -113,7 +113,7 @@ pub enum Entry {
         number: u64,
         /// The run that served it; 0 where none was begun for it.
         run: u64,
-        /// Why the run ended without all devices; None where it found all.
+        /// Why the run ended early; None where it ended without fault.
         fault: Option<AgentFault>,
     },
     /// A client was given its oldest outcome.

@@ -33,7 +33,7 @@ mod session;
 pub use config::{Config, MOST_PLACES};
 pub use controller::Controller;
 pub use entry::{
-    Call, Cause, ClientId, Entry, MOST_ASKS, MOST_CLIENTS, NEVER_ASKED, NEVER_GIVEN, Opening, Owner,
+    Call, Cause, ClientId, Entry, MOST_DISCOVERIES, MOST_CLIENTS, NEVER_GIVEN_TO_A_DISCOVERY, NEVER_GIVEN, Opening, Owner,
 };
 pub use event::{Answer, Event};
 pub use fault::{AskFault, JoinFault, LogFull, NoMemory, NotAsked, SubmitFault};

@@ -8,7 +8,7 @@ use Rattle.rdm_queue.specs.declared.entry.Owner.TheVariants as owners
 use Rattle.rdm_queue.specs.declared.entry.Opening.{Opening}
 use Rattle.rdm_queue.specs.declared.entry.Entry.{Entry}
 use Rattle.rdm_queue.specs.declared.entry.Entry.TheVariants.{Send}
-use Rattle.rdm_queue.specs.log.Entries.{AskedFor, Answered, Sending, asked_of, sending_of, answered_of, asks, answers, sends}
+use Rattle.rdm_queue.specs.log.Entries.{AskedDiscovery, Answered, Sending, asked_of, sending_of, answered_of, asks, answers, sends}
 use Rattle.rdm_queue.specs.log.History.{awaited, unanswered}
 use Rattle.rdm_queue.specs.log.Runs.{run_of_owner, last_run, open_run, unserved}
 use Rattle.rdm_queue.specs.body.Agrees.{NoDiscoveries}

@@ -9,7 +9,7 @@ use Rattle.rdm_queue.specs.declared.entry.ClientId.{ClientId}
 use Rattle.rdm_queue.specs.declared.entry.Opening.{Opening}
 use Rattle.rdm_queue.specs.declared.entry.Entry.{Entry}
 use Rattle.rdm_queue.specs.declared.entry.Entry.TheVariants.{Ask, Answer}
-use Rattle.rdm_queue.specs.log.Entries.{AskedFor, Answered, asked_of, answered_of, joins, asks, answers}
+use Rattle.rdm_queue.specs.log.Entries.{AskedDiscovery, Answered, asked_of, answered_of, joins, asks, answers}
 use Rattle.rdm_queue.specs.log.History.{next_client, unanswered}
 use Rattle.rdm_queue.specs.log.MayAnswer.{MayAnswer}
 use Rattle.rdm_queue.specs.log.Legal.{MayFollow}
@@ -22,19 +22,19 @@ pub record AskFacts (o : Opening) (h : List Entry) : Type 0 where
   -- no more Answers than Asks
   pub answered_within : length (answers h) ≤ length (asks h)
   -- numbers rise by one from the opening's
-  pub ask_numbers : (i : ℕ) (a : AskedFor) → slice_get (asks h) i ≡ Some a → a.number ≡ o.next_ask + i
+  pub ask_numbers : (i : ℕ) (a : AskedDiscovery) → slice_get (asks h) i ≡ Some a → a.number ≡ o.next_ask + i
   pub answer_numbers : (i : ℕ) (b : Answered) → slice_get (answers h) i ≡ Some b → b.number ≡ o.next_ask + i
   -- each discovery is of a client that had joined
-  pub askers : (i : ℕ) (a : AskedFor) → slice_get (asks h) i ≡ Some a → a.client < next_client o h
+  pub askers : (i : ℕ) (a : AskedDiscovery) → slice_get (asks h) i ≡ Some a → a.client < next_client o h
 
 -- the i-th unanswered discovery: its place among the Asks, and its number
-pub unanswered_place : (h : List Entry) (i : ℕ) (a : AskedFor) → slice_get (unanswered h) i ≡ Some a → slice_get (asks h) (length (answers h) + i) ≡ Some a
+pub unanswered_place : (h : List Entry) (i : ℕ) (a : AskedDiscovery) → slice_get (unanswered h) i ≡ Some a → slice_get (asks h) (length (answers h) + i) ≡ Some a
 unanswered_place h i a at = sym (slice_get-drop (length (answers h)) (asks h) i) ∙ at
 
-pub unanswered_within : (h : List Entry) (i : ℕ) (a : AskedFor) → slice_get (unanswered h) i ≡ Some a → length (answers h) + i < length (asks h)
+pub unanswered_within : (h : List Entry) (i : ℕ) (a : AskedDiscovery) → slice_get (unanswered h) i ≡ Some a → length (answers h) + i < length (asks h)
 unanswered_within h i a at = slice_get_within (asks h) (length (answers h) + i) a (unanswered_place h i a at)
 
-pub unanswered_number : (o : Opening) (h : List Entry) → AskFacts o h → (i : ℕ) (a : AskedFor) → slice_get (unanswered h) i ≡ Some a → a.number ≡ o.next_ask + (length (answers h) + i)
+pub unanswered_number : (o : Opening) (h : List Entry) → AskFacts o h → (i : ℕ) (a : AskedDiscovery) → slice_get (unanswered h) i ≡ Some a → a.number ≡ o.next_ask + (length (answers h) + i)
 unanswered_number o h facts i a at = facts.ask_numbers (length (answers h) + i) a (unanswered_place h i a at)
 
 facts_of_empty : (o : Opening) → AskFacts o []
@@ -69,7 +69,7 @@ facts_ask o h c n kind facts may = record {
     e : Entry
     e = Ask c n kind
 
-    a : AskedFor
+    a : AskedDiscovery
     a = record { client = c.0; number = n; kind = kind }
 
     more : asks (h ++ e ∷ []) ≡ asks h ++ a ∷ []

@@ -14,9 +14,9 @@ use Rattle.rdm_queue.specs.declared.entry.ClientId.{ClientId}
 use Rattle.rdm_queue.specs.declared.entry.Opening.{Opening}
 use Rattle.rdm_queue.specs.declared.entry.Entry.{Entry}
 use Rattle.rdm_queue.specs.declared.entry.Entry.TheVariants.{Accept, Ask, Finish, Answer, Collect}
-use Rattle.rdm_queue.specs.log.Entries.{Accepted, AskedFor, Finished, Answered, collector_of, finished_of, answered_of, accepts, asks, finishes, answers, collectors}
+use Rattle.rdm_queue.specs.log.Entries.{Accepted, AskedDiscovery, Finished, Answered, collector_of, finished_of, answered_of, accepts, asks, finishes, answers, collectors}
 use Rattle.rdm_queue.specs.log.History.{unfinished, unanswered}
-use Rattle.rdm_queue.specs.log.Clients.{accepts_by, asks_by, client_of_request, client_of_ask, is_answer_to, answers_to, collects_by, collected, uncollected, outstanding_requests, outstanding_asks}
+use Rattle.rdm_queue.specs.log.Clients.{accepts_by, asks_by, client_of_request, client_of_discovery, is_answer_to, answers_to, collects_by, collected, uncollected, outstanding_requests, outstanding_discoveries}
 use Rattle.rdm_queue.specs.log.MayFinish.{MayFinish}
 use Rattle.rdm_queue.specs.log.MayAnswer.{MayAnswer}
 use Rattle.rdm_queue.specs.log.Legal.{MayFollow}
@@ -31,7 +31,7 @@ use Rattle.rdm_queue.proofs.LogLemmas.ClientLemmas.{brings_work, ends_work, no_a
 abbrev pub unfinished_by : ℕ → List Entry → List Accepted
 unfinished_by c h = filter (λ a. c == a.client) (unfinished h)
 
-abbrev pub unanswered_by : ℕ → List Entry → List AskedFor
+abbrev pub unanswered_by : ℕ → List Entry → List AskedDiscovery
 unanswered_by c h = filter (λ a. c == a.client) (unanswered h)
 
 -- what each client was given and has collected
@@ -78,7 +78,7 @@ facts_ask o h d n kind log asked facts = record {
     e : Entry
     e = Ask d n kind
 
-    a : AskedFor
+    a : AskedDiscovery
     a = record { client = d.0; number = n; kind = kind }
 
 facts_finish : (o : Opening) (h : List Entry) (n : ℕ) (status : Status) (len : ℕ) → LogFacts o h → MayFinish o h n status len → ClientFacts o h → ClientFacts o (h ++ Finish n status len ∷ [])
@@ -125,7 +125,7 @@ facts_answer o h n r fault asked may facts = record {
     b : Answered
     b = record { number = n; run = r; fault = fault }
 
-    client : client_of_ask o h n ≡ Some may.asked.client
+    client : client_of_discovery o h n ≡ Some may.asked.client
     client = rw may.number (client_of_asked o h asked (length (answers h) + 0) may.asked (unanswered_place h 0 may.asked may.oldest))
 
     first : (c : ℕ) → length (unanswered_by c h) ≡ (if c == may.asked.client then 1 else 0) + length (filter (λ a. c == a.client) (drop 1 (unanswered h)))
@@ -194,8 +194,8 @@ replies_parts o c h = omega (arith, ap (λ l. length (answers l)) (take-append-d
 pub outstanding_parts : (o : Opening) (h : List Entry) → ClientFacts o h → (c : ℕ) → outstanding_requests o c h ≡ length (unfinished_by c h) + length (finishes (uncollected o c h))
 outstanding_parts o h facts c = omega (arith, finishes_parts o c h, facts.finished c)
 
-pub outstanding_ask_parts : (o : Opening) (h : List Entry) → ClientFacts o h → (c : ℕ) → outstanding_asks o c h ≡ length (unanswered_by c h) + length (answers (uncollected o c h))
-outstanding_ask_parts o h facts c = omega (arith, replies_parts o c h, facts.answered c)
+pub outstanding_discovery_parts : (o : Opening) (h : List Entry) → ClientFacts o h → (c : ℕ) → outstanding_discoveries o c h ≡ length (unanswered_by c h) + length (answers (uncollected o c h))
+outstanding_discovery_parts o h facts c = omega (arith, replies_parts o c h, facts.answered c)
 
 -- the clients of the finished requests, in order, and of the answered discoveries
 abbrev finished_clients : List Entry → List ℕ
@@ -217,10 +217,10 @@ count_finished o h facts c = omega (arith, facts.finished c, count-map (λ a. a.
 count_answered : (o : Opening) (h : List Entry) → ClientFacts o h → (c : ℕ) → count c (answered_clients h) ≡ length (answers (answers_to o c h))
 count_answered o h facts c = omega (arith, facts.answered c, count-map (λ a. a.client) c front, ap (λ l. length (filter own l)) (take-append-drop (length (answers h)) (asks h)), ap length (filter-append own front (unanswered h)), length-append (filter own front) (filter own (unanswered h)))
   where
-    own : AskedFor → Bool
+    own : AskedDiscovery → Bool
     own a = c == a.client
 
-    front : List AskedFor
+    front : List AskedDiscovery
     front = take (length (answers h)) (asks h)
 
 length_ended : (o : Opening) (h : List Entry) → LogFacts o h → AskFacts o h → length (finished_clients h ++ answered_clients h) ≡ length (finishes h) + length (answers h)

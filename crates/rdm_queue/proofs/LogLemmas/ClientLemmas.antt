@@ -12,9 +12,9 @@ use Rattle.rdm_queue.specs.declared.entry.ClientId.{ClientId}
 use Rattle.rdm_queue.specs.declared.entry.Opening.{Opening}
 use Rattle.rdm_queue.specs.declared.entry.Entry.{Entry}
 use Rattle.rdm_queue.specs.declared.entry.Entry.TheVariants.{Accept, Ask, Finish, Answer}
-use Rattle.rdm_queue.specs.log.Entries.{Accepted, AskedFor, accepted_of, asked_of, finished_of, answered_of, accepts, asks, finishes, answers}
+use Rattle.rdm_queue.specs.log.Entries.{Accepted, AskedDiscovery, accepted_of, asked_of, finished_of, answered_of, accepts, asks, finishes, answers}
 use Rattle.rdm_queue.specs.log.History.{unfinished, unanswered}
-use Rattle.rdm_queue.specs.log.Clients.{client_of_request, client_of_ask, is_just, is_answer_to, answers_to}
+use Rattle.rdm_queue.specs.log.Clients.{client_of_request, client_of_discovery, is_client_of, is_answer_to, answers_to}
 use Rattle.rdm_queue.proofs.LogLemmas.Places.{slice_get_append_within, filter_map_has, filter_agree_on}
 use Rattle.rdm_queue.proofs.LogLemmas.PushLemmas.{accepts-append, accepts_same, asks-append, asks_same}
 use Rattle.rdm_queue.proofs.LogLemmas.LegalFacts.{LogFacts, unfinished_place}
@@ -32,13 +32,13 @@ client_stays o h k n within =
     rw (accepts-append h k, map-append (λ a. a.client) (accepts h) (accepts k)) (slice_get_append_within (map (λ a. a.client) (accepts h)) (map (λ a. a.client) (accepts k)) (n - o.next_request) (omega (arith, length-map (accepts h) (λ a. a.client))))
 
 -- a discovery's client likewise
-pub client_of_asked : (o : Opening) (h : List Entry) → AskFacts o h → (i : ℕ) (a : AskedFor) → slice_get (asks h) i ≡ Some a → client_of_ask o h a.number ≡ Some a.client
+pub client_of_asked : (o : Opening) (h : List Entry) → AskFacts o h → (i : ℕ) (a : AskedDiscovery) → slice_get (asks h) i ≡ Some a → client_of_discovery o h a.number ≡ Some a.client
 client_of_asked o h facts i a at = slice_get-map (λ b. b.client) (asks h) (a.number - o.next_ask) ∙ rw (place, at) refl
   where
     place : a.number - o.next_ask ≡ i
     place = omega (arith, facts.ask_numbers i a at)
 
-pub asker_stays : (o : Opening) (h k : List Entry) (n : ℕ) → n - o.next_ask < length (asks h) → client_of_ask o (h ++ k) n ≡ client_of_ask o h n
+pub asker_stays : (o : Opening) (h k : List Entry) (n : ℕ) → n - o.next_ask < length (asks h) → client_of_discovery o (h ++ k) n ≡ client_of_discovery o h n
 asker_stays o h k n within =
     rw (asks-append h k, map-append (λ a. a.client) (asks h) (asks k)) (slice_get_append_within (map (λ a. a.client) (asks h)) (map (λ a. a.client) (asks k)) (n - o.next_ask) (omega (arith, length-map (asks h) (λ a. a.client))))
 
@@ -71,8 +71,8 @@ no_reply _ other = refl
 
 -- the same Accepts and Asks: the same answers
 answer_same : (o : Opening) (c : ℕ) (h k : List Entry) → accepts k ≡ accepts h → asks k ≡ asks h → (e : Entry) → is_answer_to o c k e ≡ is_answer_to o c h e
-answer_same o c h k same asked (Finish n status len) = ap (λ l. is_just c (slice_get (map (λ a. a.client) l) (n - o.next_request))) same
-answer_same o c h k same asked (Answer n run fault) = ap (λ l. is_just c (slice_get (map (λ a. a.client) l) (n - o.next_ask))) asked
+answer_same o c h k same asked (Finish n status len) = ap (λ l. is_client_of c (slice_get (map (λ a. a.client) l) (n - o.next_request))) same
+answer_same o c h k same asked (Answer n run fault) = ap (λ l. is_client_of c (slice_get (map (λ a. a.client) l) (n - o.next_ask))) asked
 answer_same o c h k same asked _ = refl
 
 -- an entry that ends no work answers nothing
@@ -98,10 +98,10 @@ pub answers_finish_other : (o : Opening) (c : ℕ) (h : List Entry) (n : ℕ) (s
 answers_finish_other o c h n status len d client other = answers-push o c h (Finish n status len) refl ∙ rw (client, other) (append-nil (answers_to o c h))
 
 -- and so is an Answer to its discovery's
-pub answers_answer_own : (o : Opening) (c : ℕ) (h : List Entry) (n r : ℕ) (fault : Option AgentFault) (d : ℕ) → client_of_ask o h n ≡ Some d → (c == d) ≡ true → answers_to o c (h ++ Answer n r fault ∷ []) ≡ answers_to o c h ++ Answer n r fault ∷ []
+pub answers_answer_own : (o : Opening) (c : ℕ) (h : List Entry) (n r : ℕ) (fault : Option AgentFault) (d : ℕ) → client_of_discovery o h n ≡ Some d → (c == d) ≡ true → answers_to o c (h ++ Answer n r fault ∷ []) ≡ answers_to o c h ++ Answer n r fault ∷ []
 answers_answer_own o c h n r fault d client own = answers-push o c h (Answer n r fault) refl ∙ rw (client, own) refl
 
-pub answers_answer_other : (o : Opening) (c : ℕ) (h : List Entry) (n r : ℕ) (fault : Option AgentFault) (d : ℕ) → client_of_ask o h n ≡ Some d → (c == d) ≡ false → answers_to o c (h ++ Answer n r fault ∷ []) ≡ answers_to o c h
+pub answers_answer_other : (o : Opening) (c : ℕ) (h : List Entry) (n r : ℕ) (fault : Option AgentFault) (d : ℕ) → client_of_discovery o h n ≡ Some d → (c == d) ≡ false → answers_to o c (h ++ Answer n r fault ∷ []) ≡ answers_to o c h
 answers_answer_other o c h n r fault d client other = answers-push o c h (Answer n r fault) refl ∙ rw (client, other) (append-nil (answers_to o c h))
 
 -- each Finish of the log is of a request that was accepted, and each Answer of a discovery that was asked
@@ -128,8 +128,8 @@ answers_kept o c h e facts asked ends = filter-append (is_answer_to o c k) h (e 
     k = h ++ e ∷ []
 
     agree : (i : ℕ) (x : Entry) → slice_get h i ≡ Some x → is_answer_to o c k x ≡ is_answer_to o c h x
-    agree i (Finish m status len) at = ap (is_just c) (client_stays o h (e ∷ []) m (finish_accepted o h facts i m status len at))
-    agree i (Answer m r fault) at = ap (is_just c) (asker_stays o h (e ∷ []) m (answer_asked o h asked i m r fault at))
+    agree i (Finish m status len) at = ap (is_client_of c) (client_stays o h (e ∷ []) m (finish_accepted o h facts i m status len at))
+    agree i (Answer m r fault) at = ap (is_client_of c) (asker_stays o h (e ∷ []) m (answer_asked o h asked i m r fault at))
     agree i _ at = refl
 
 pub answers_accept : (o : Opening) (c : ℕ) (h : List Entry) → LogFacts o h → AskFacts o h → (d : ClientId) (n : ℕ) (request : Request) → answers_to o c (h ++ Accept d n request ∷ []) ≡ answers_to o c h
@@ -142,5 +142,5 @@ answers_ask o c h facts asked d n kind = answers_kept o c h (Ask d n kind) facts
 pub client_of_unfinished : (o : Opening) (h : List Entry) → LogFacts o h → (i : ℕ) (a : Accepted) → slice_get (unfinished h) i ≡ Some a → client_of_request o h a.number ≡ Some a.client
 client_of_unfinished o h facts i a at = client_of_accepted o h facts (length (finishes h) + i) a (unfinished_place h i a at)
 
-pub client_of_unanswered : (o : Opening) (h : List Entry) → AskFacts o h → (i : ℕ) (a : AskedFor) → slice_get (unanswered h) i ≡ Some a → client_of_ask o h a.number ≡ Some a.client
+pub client_of_unanswered : (o : Opening) (h : List Entry) → AskFacts o h → (i : ℕ) (a : AskedDiscovery) → slice_get (unanswered h) i ≡ Some a → client_of_discovery o h a.number ≡ Some a.client
 client_of_unanswered o h facts i a at = client_of_asked o h facts (length (answers h) + i) a (unanswered_place h i a at)

@@ -8,7 +8,7 @@ use Rattle.rdm_queue.specs.declared.entry.Opening.{Opening}
 use Rattle.rdm_queue.specs.declared.entry.Entry.{Entry}
 use Rattle.rdm_queue.specs.declared.entry.Entry.TheVariants.{Accept, Ask, Finish, Answer, Collect}
 use Rattle.rdm_queue.specs.log.Entries.{accepted_of, asked_of, collector_of}
-use Rattle.rdm_queue.specs.log.Clients.{client_of_request, client_of_ask, answers_to, collects_by, collected, uncollected, outstanding_requests, outstanding_asks}
+use Rattle.rdm_queue.specs.log.Clients.{client_of_request, client_of_discovery, answers_to, collects_by, collected, uncollected, outstanding_requests, outstanding_discoveries}
 use Rattle.rdm_queue.specs.log.Legal.{MayFollow}
 use Rattle.rdm_queue.proofs.LogLemmas.Grows.{front}
 use Rattle.rdm_queue.proofs.LogLemmas.PushLemmas.{accepts_same, asks_same, collectors_same}
@@ -47,7 +47,7 @@ collected_step o c h (Answer n r fault) each may none = rw (collectors_same h (A
     e : Entry
     e = Answer n r fault
 
-    client : client_of_ask o h n ≡ Some may.asked.client
+    client : client_of_discovery o h n ≡ Some may.asked.client
     client = rw may.number (client_of_unanswered o h (ask_facts o h each) 0 may.asked may.oldest)
 
     by_client : ((c == may.asked.client) ≡ true) ⊎ ((c == may.asked.client) ≡ false) → take (length (collects_by c h)) (answers_to o c (h ++ e ∷ [])) ≡ collected o c h
@@ -60,5 +60,5 @@ collected_step o c h e each may none = collected_same o c h e refl refl none
 pub outstanding_same : (o : Opening) (c : ℕ) (h : List Entry) (e : Entry) → EachAfter (MayFollow o) (h ++ e ∷ []) → accepted_of e ≡ None → collector_of e ≡ None → outstanding_requests o c (h ++ e ∷ []) ≡ outstanding_requests o c h
 outstanding_same o c h e each accept collect = rw (accepts_same h e accept, collected_step o c h e (front o h (e ∷ []) each) (each h [] e refl) collect) refl
 
-pub outstanding_asks_same : (o : Opening) (c : ℕ) (h : List Entry) (e : Entry) → EachAfter (MayFollow o) (h ++ e ∷ []) → asked_of e ≡ None → collector_of e ≡ None → outstanding_asks o c (h ++ e ∷ []) ≡ outstanding_asks o c h
-outstanding_asks_same o c h e each ask collect = rw (asks_same h e ask, collected_step o c h e (front o h (e ∷ []) each) (each h [] e refl) collect) refl
+pub outstanding_discoveries_same : (o : Opening) (c : ℕ) (h : List Entry) (e : Entry) → EachAfter (MayFollow o) (h ++ e ∷ []) → asked_of e ≡ None → collector_of e ≡ None → outstanding_discoveries o c (h ++ e ∷ []) ≡ outstanding_discoveries o c h
+outstanding_discoveries_same o c h e each ask collect = rw (asks_same h e ask, collected_step o c h e (front o h (e ∷ []) each) (each h [] e refl) collect) refl

@@ -2,7 +2,7 @@
 use Rattle.std.proofs.Common.{◌≡◌, ℕ, ◌+◌, ◌<◌, ◌≤◌, true, false, List, [], ◌∷◌, ◌++◌, length, drop, Option, Some, None, slice_get, refl, sym, ap, ◌∙◌, append_assoc, append-nil, arith, inl, inr}
 use Rattle.std.specs.Prelude.{◌≢◌, ◌⊎◌, ◌==◌, MatchOption}
 use Rattle.std.specs.List.{AllByRecursion}
-use Rattle.rdm_wire.specs.Honest.Heard.{Failed}
+use Rattle.rdm_wire.specs.Honest.Asked.{Unmute}
 use Rattle.std.proofs.lemmas.Bool.{false≢true, cases_Bool, eqb-true, eq-eqb, ne_eqb}
 use Rattle.std.proofs.lemmas.List.{length_push}
 use Rattle.arrayvec.specs.ArrayVec.{ArrayVec}
@@ -17,7 +17,7 @@ use Rattle.rdm_queue.specs.declared.entry.Opening.{Opening}
 use Rattle.rdm_queue.specs.declared.entry.Entry.{Entry}
 use Rattle.rdm_queue.specs.declared.entry.Entry.TheVariants.{Join, Refuse, Accept, Send, Collect, Pause, Resume}
 use Rattle.rdm_queue.specs.log.Entries.{Accepted, Answered, asks, sends, cames, answers, result}
-use Rattle.rdm_queue.specs.log.Runs.{has_begun, open_run, served, run_exchanges}
+use Rattle.rdm_queue.specs.log.Runs.{has_begun, entries_before_run, open_run, served, run_exchanges}
 use Rattle.rdm_queue.specs.log.History.{awaited, is_closed, can_pause, can_resume, unfinished, next_client, next_request}
 use Rattle.rdm_queue.specs.log.Clients.{uncollected}
 use Rattle.rdm_queue.specs.log.Refusals.{join_fault, submit_fault, IsRefused}
@@ -28,8 +28,8 @@ use Rattle.rdm_queue.proofs.LogLemmas.Grows.{pushed}
 use Rattle.rdm_queue.proofs.LogLemmas.Places.{all_at, all_from_places, each_place_push}
 use Rattle.rdm_queue.proofs.LogLemmas.PushLemmas.{unfinished_accept, SameRequests, same_after, accepts_same, finishes_same, sends_same, cames_same, asks_same, answered_same, is_closed-push}
 use Rattle.rdm_queue.proofs.LogLemmas.ExchangeLemmas.{result_unsent, result_same, result_sent}
-use Rattle.rdm_queue.proofs.LogLemmas.RunLemmas.{SameRuns, same_runs, same_runs_sent, served_same, served_stays, run_exchanges_sent, length_exchanges, no_exchanges}
-use Rattle.rdm_queue.proofs.LogLemmas.RunFacts.{RunFacts, run_facts, after_begin, opened_by}
+use Rattle.rdm_queue.proofs.LogLemmas.RunLemmas.{SameRuns, same_runs, same_runs_sent, last_begun, entries_before_run_stays, served_same, served_stays, run_exchanges_sent, no_exchanges}
+use Rattle.rdm_queue.proofs.LogLemmas.RunFacts.{RunFacts, run_facts, open_is, after_begin, opened_by}
 use Rattle.rdm_queue.proofs.LogLemmas.RefusalLemmas.{submit_passes}
 use Rattle.rdm_queue.proofs.LogLemmas.LegalFacts.{sent_evenly, LogFacts, legal_facts, unaccepted_unsent}
 
@@ -45,18 +45,41 @@ pub record RunsSettled (o : Opening) (h : List Entry) : Type 0 where
 all_answered_same : (h k : List Entry) (r : ℕ) → served r k ≡ served r h → answers k ≡ answers h → AllAnswered r h → AllAnswered r k
 all_answered_same h k r serves answered all = rw (serves, answered) all
 
-goes_on_same : (o : Opening) (h k : List Entry) (r : ℕ) → run_exchanges r k ≡ run_exchanges r h → GoesOn o h r → GoesOn o k r
-goes_on_same o h k r same goes = record { no_failure = rw same goes.no_failure; in_budget = rw same goes.in_budget }
+goes_on_same : (o : Opening) (h k : List Entry) (r : ℕ) → served r k ≡ served r h → entries_before_run r k ≡ entries_before_run r h → run_exchanges r k ≡ run_exchanges r h → GoesOn o h r → GoesOn o k r
+goes_on_same o h k r serves before same goes = record {
+  no_failure = rw same goes.no_failure;
+  not_corrupt = rw same goes.not_corrupt;
+  all_reported = rw same goes.all_reported;
+  in_budget = rw same goes.in_budget;
+  not_done = λ done. goes.not_done (rw (serves, before, same) at done);
+}
+
+-- a run without exchanges goes on
+no_part : {X : Type 0} (front back : List X) (x : X) → [] ≡ front ++ x ∷ back → ⊥
+no_part [] back x w = cc
+no_part (y ∷ front) back x w = cc
+
+goes_on_empty : (o : Opening) (h : List Entry) (r : ℕ) → run_exchanges r h ≡ [] → 0 < o.budget → GoesOn o h r
+goes_on_empty o h r none some = record {
+  no_failure = rw none tt;
+  not_corrupt = rw none (λ u corrupt. no_part corrupt.before corrupt.mutes _ corrupt.whole);
+  all_reported = rw none (omega arith);
+  in_budget = rw none some;
+  not_done = λ done. absurd (no_unmutes (rw none at done.search.unmutes));
+}
+  where
+    no_unmutes : [] ≡ Unmute ∷ Unmute ∷ Unmute ∷ [] → ⊥
+    no_unmutes e = cc
 
 pub runs_settled : (o : Opening) (h k : List Entry) → SameRuns h k → NothingDue o h → RunsSettled o k
 runs_settled o h k same due = record {
   runs_answered = all_from_places (λ b. AllAnswered b.run k) (answers k) (λ i b at. all_answered_same h k b.run (same.same_served b.run) same.same_answers (all_at (λ x. AllAnswered x.run h) (answers h) due.runs_answered i b (sym (ap (λ l. slice_get l i) same.same_answers) ∙ at)));
-  run_goes_on = rw same.same_open (by_open (open_run h) due.run_goes_on);
+  run_goes_on = rw same.same_open (by_open (open_run h) refl due.run_goes_on);
 }
   where
-    by_open : (r : Option ℕ) → MatchOption r (Unit {0}) (GoesOn o h) → MatchOption r (Unit {0}) (GoesOn o k)
-    by_open None goes = tt
-    by_open (Some r) goes = goes_on_same o h k r (same.same_exchanges r) goes
+    by_open : (r : Option ℕ) → open_run h ≡ r → MatchOption r (Unit {0}) (GoesOn o h) → MatchOption r (Unit {0}) (GoesOn o k)
+    by_open None is goes = tt
+    by_open (Some r) is goes = goes_on_same o h k r (same.same_served r) (same.same_before r (last_begun r h (open_is h r is).last)) (same.same_exchanges r) goes
 
 -- where not closed, that and the requests' results are all
 pub settled_open : (o : Opening) (h : List Entry) → is_closed o h ≡ false → RunsSettled o h → ((i : ℕ) (a : Accepted) → slice_get (unfinished h) i ≡ Some a → result a.number h ≡ None) → NothingDue o h
@@ -170,27 +193,21 @@ run_send_keeps o h r frame legal may = record {
     from : 1 ≤ r
     from = (after_begin o h r may.turn facts).0
 
-    no_failure : MayBegin o h r ⊎ (open_run h ≡ Some r) → AllByRecursion (λ x. x.heard ≢ Failed) (run_exchanges r h)
-    no_failure (inl begins) = rw (no_exchanges r h (not_begun (cases_Bool (has_begun r h)))) tt
+    same : run_exchanges r k ≡ run_exchanges r h
+    same = run_exchanges_sent h (owners.Run r) frame r even
+
+    goes_on : MayBegin o h r ⊎ (open_run h ≡ Some r) → GoesOn o k r
+    goes_on (inl begins) = goes_on_empty o k r (same ∙ no_exchanges r h (not_begun (cases_Bool (has_begun r h)))) (omega (arith, may.in_budget))
       where
         not_begun : (has_begun r h ≡ true) ⊎ (has_begun r h ≡ false) → has_begun r h ≡ false
         not_begun (inl begun) = absurd (omega (arith, (facts.begun_below r begun).1, begins.number))
         not_begun (inr not) = not
-    no_failure (inr is) = (goes (rw is at legal.settled.run_goes_on)).no_failure
-      where
-        goes : GoesOn o h r → GoesOn o h r
-        goes g = g
-
-    goes_on : GoesOn o k r
-    goes_on = record {
-      no_failure = rw (run_exchanges_sent h (owners.Run r) frame r even) (no_failure may.turn);
-      in_budget = rw (run_exchanges_sent h (owners.Run r) frame r even) (omega (arith, length_exchanges r h, may.in_budget));
-    }
+    goes_on (inr is) = let begun = last_begun r h (open_is h r is).last in goes_on_same o h k r (served_stays r h (e ∷ []) begun) (entries_before_run_stays r h (e ∷ []) begun) same (rw is at legal.settled.run_goes_on)
 
     runs : RunsSettled o k
     runs = record {
       runs_answered = all_from_places (λ b. AllAnswered b.run k) (answers k) (λ i b at. let before = sym (ap (λ l. slice_get l i) (answered_same h e refl)) ∙ at in all_answered_same h k b.run (served_named o h r frame facts from i b before) (answered_same h e refl) (all_at (λ x. AllAnswered x.run h) (answers h) legal.settled.runs_answered i b before));
-      run_goes_on = rw (opened_by o h r frame facts may) goes_on;
+      run_goes_on = rw (opened_by o h r frame facts may) (goes_on may.turn);
     }
 
 -- that no frame may be sent is that no Send keeps the log legal

@@ -10,7 +10,7 @@ use Rattle.rdm_queue.specs.declared.entry.ClientId.{ClientId}
 use Rattle.rdm_queue.specs.declared.entry.Opening.{Opening}
 use Rattle.rdm_queue.specs.declared.entry.Entry.{Entry}
 use Rattle.rdm_queue.specs.declared.entry.Entry.TheVariants.{Accept, Finish}
-use Rattle.rdm_queue.specs.log.Entries.{Accepted, AskedFor, Sending, Finished, Answered, join_of, accepted_of, asked_of, sending_of, came_of, finished_of, answered_of, collector_of, joins, accepts, asks, sends, cames, finishes, answers, collectors}
+use Rattle.rdm_queue.specs.log.Entries.{Accepted, AskedDiscovery, Sending, Finished, Answered, join_of, accepted_of, asked_of, sending_of, came_of, finished_of, answered_of, collector_of, joins, accepts, asks, sends, cames, finishes, answers, collectors}
 use Rattle.rdm_queue.specs.log.History.{unfinished, unanswered, awaits_after, paused_after, closed_after, awaited, is_paused, is_closed}
 use Rattle.rdm_queue.proofs.LogLemmas.Places.{filter_map_none, filter_map_some}
 
@@ -60,7 +60,7 @@ pub asks_same : (h : List Entry) (e : Entry) → asked_of e ≡ None → asks (h
 unfolding asks
 asks_same h e other = filter_map_none asked_of h e other
 
-pub asks_more : (h : List Entry) (e : Entry) (a : AskedFor) → asked_of e ≡ Some a → asks (h ++ e ∷ []) ≡ asks h ++ a ∷ []
+pub asks_more : (h : List Entry) (e : Entry) (a : AskedDiscovery) → asked_of e ≡ Some a → asks (h ++ e ∷ []) ≡ asks h ++ a ∷ []
 unfolding asks
 asks_more h e a is = filter_map_some asked_of h e a is
 
@@ -150,7 +150,7 @@ unfinished_finish h n status len =
     rw (accepts_same h (Finish n status len) refl, finishes_more h (Finish n status len) f refl, length_push (finishes h) f) (sym (drop-drop 1 (length (finishes h)) (accepts h)))
 
 -- the unanswered discoveries likewise
-pub unanswered_ask : (h : List Entry) (e : Entry) (a : AskedFor) → asked_of e ≡ Some a → answered_of e ≡ None → length (answers h) ≤ length (asks h) → unanswered (h ++ e ∷ []) ≡ unanswered h ++ a ∷ []
+pub unanswered_ask : (h : List Entry) (e : Entry) (a : AskedDiscovery) → asked_of e ≡ Some a → answered_of e ≡ None → length (answers h) ≤ length (asks h) → unanswered (h ++ e ∷ []) ≡ unanswered h ++ a ∷ []
 unanswered_ask h e a is other within = rw (asks_more h e a is, answered_same h e other) (drop-append-le (length (answers h)) (asks h) (a ∷ []) within)
 
 pub unanswered_answer : (h : List Entry) (e : Entry) (b : Answered) → asked_of e ≡ None → answered_of e ≡ Some b → unanswered (h ++ e ∷ []) ≡ drop 1 (unanswered h)

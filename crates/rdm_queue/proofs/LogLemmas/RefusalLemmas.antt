@@ -4,7 +4,7 @@ use Rattle.std.proofs.lemmas.Bool.{leb-false, ltb-false, or_parts}
 use Rattle.rdm_queue.specs.declared.entry.Opening.{Opening}
 use Rattle.rdm_queue.specs.declared.entry.Entry.{Entry}
 use Rattle.rdm_queue.specs.log.History.{is_closed, places, next_client, next_request, next_ask}
-use Rattle.rdm_queue.specs.log.Clients.{outstanding_requests, outstanding_asks}
+use Rattle.rdm_queue.specs.log.Clients.{outstanding_requests, outstanding_discoveries}
 use Rattle.rdm_queue.specs.log.Refusals.{join_fault, submit_fault, ask_fault}
 
 -- of faults in order none stands
@@ -44,7 +44,7 @@ submit_passes o h c e =
 pub record AskPasses (o : Opening) (h : List Entry) (c : ℕ) : Type 0 where
   pub not_closed : is_closed o h ≡ false
   pub known : c < next_client o h
-  pub has_place : outstanding_asks o c h < 4
+  pub has_place : outstanding_discoveries o c h < 4
   pub has_number : next_ask o h < 2 ^ 64 - 2
 
 pub ask_passes : (o : Opening) (h : List Entry) (c : ℕ) → ask_fault o h c ≡ None → AskPasses o h c

@@ -15,7 +15,7 @@ use Rattle.rdm_queue.specs.declared.entry.Owner.TheVariants as owners
 use Rattle.rdm_queue.specs.declared.entry.Opening.{Opening}
 use Rattle.rdm_queue.specs.declared.entry.Entry.{Entry}
 use Rattle.rdm_queue.specs.declared.entry.Entry.TheVariants.{Join, Refuse, Accept, Ask, Send, Came, Finish, Answer, Collect, Pause, Resume, Close}
-use Rattle.rdm_queue.specs.log.Entries.{Accepted, AskedFor, Finished, Answered, asked_of, answered_of, accepts, asks, finishes, answers, collectors}
+use Rattle.rdm_queue.specs.log.Entries.{Accepted, AskedDiscovery, Finished, Answered, asked_of, answered_of, accepts, asks, finishes, answers, collectors}
 use Rattle.rdm_queue.specs.log.History.{awaited, is_closed, unfinished, unanswered, reserved}
 use Rattle.rdm_queue.specs.log.Legal.{MayFollow}
 use Rattle.rdm_queue.proofs.LogLemmas.Grows.{front, pushed}
@@ -56,7 +56,7 @@ taken_accept o h c n request within =
 
 taken_ask : (o : Opening) (h : List Entry) (c : ClientId) (n : ℕ) (kind : Kind) → length (answers h) ≤ length (asks h) → taken o (h ++ Ask c n kind ∷ []) ≡ taken o h + 3
 taken_ask o h c n kind within =
-    let a : AskedFor = record { client = c.0; number = n; kind = kind } in
+    let a : AskedDiscovery = record { client = c.0; number = n; kind = kind } in
     let e = Ask c n kind in
     rw (unanswered_ask h e a refl refl within, length_push (unanswered h) a, length_push h e, is_closed-push o h e, awaited-push h e, accepts_same h e refl, finishes_same h e refl, answered_same h e refl, collectors_same h e refl) (omega arith)
 

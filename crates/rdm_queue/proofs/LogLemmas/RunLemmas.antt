@@ -16,9 +16,9 @@ use Rattle.rdm_queue.specs.declared.entry.Owner.TheVariants as owners
 use Rattle.rdm_queue.specs.declared.entry.Opening.{Opening}
 use Rattle.rdm_queue.specs.declared.entry.Entry.{Entry}
 use Rattle.rdm_queue.specs.declared.entry.Entry.TheVariants.{Send, Came}
-use Rattle.rdm_queue.specs.log.Entries.{AskedFor, Answered, Sending, Traded, traded_of, sending_of, came_of, answered_of, asks, answers, sends, cames, traded, is_run}
+use Rattle.rdm_queue.specs.log.Entries.{AskedDiscovery, Answered, Sending, Traded, traded_of, sending_of, came_of, answered_of, asks, answers, sends, cames, traded, is_run}
 use Rattle.rdm_queue.specs.log.History.{unanswered}
-use Rattle.rdm_queue.specs.log.Runs.{sends_run, has_begun, before_run, run_of_owner, last_run, is_answered, unless_answered, open_run, asked_before, unserved, served, seen_of, run_exchanges, run_frames}
+use Rattle.rdm_queue.specs.log.Runs.{sends_run, has_begun, entries_before_run, run_of_owner, last_run, is_answered, unless_answered, open_run, asked_before, unserved, served, seen_of, run_exchanges, run_frames, last_run_without_fault, devices_of, known_devices}
 use Rattle.rdm_queue.proofs.LogLemmas.PushLemmas.{sends_more, sends_same, cames_same, answered_same, asks-append}
 use Rattle.rdm_queue.proofs.LogLemmas.ExchangeLemmas.{IsUnanswered, traded_sent, traded_came}
 
@@ -63,9 +63,9 @@ before_first-stays {X} p (x ∷ xs) ys some = before_first-cons p x (xs ++ ys) �
     by_test (inl passes) later = rw passes refl
     by_test (inr fails) later = rw fails (ap (λ l. x ∷ l) (later (rw fails at some)))
 
-pub before_run_stays : (r : ℕ) (h k : List Entry) → has_begun r h ≡ true → before_run r (h ++ k) ≡ before_run r h
-unfolding has_begun before_run
-before_run_stays r h k begun = before_first-stays (sends_run r) h k begun
+pub entries_before_run_stays : (r : ℕ) (h k : List Entry) → has_begun r h ≡ true → entries_before_run r (h ++ k) ≡ entries_before_run r h
+unfolding has_begun entries_before_run
+entries_before_run_stays r h k begun = before_first-stays (sends_run r) h k begun
 
 -- the run that began last has begun
 any_cons : {X : Type 0} (p : X → Bool) (x : X) (xs : List X) → list_any p (x ∷ xs) ≡ (p x || list_any p xs)
@@ -99,7 +99,7 @@ last_begun r h last = by_sends (from_sends r None (filter_map sending_of h) last
 
 -- what it serves
 pub served_stays : (r : ℕ) (h k : List Entry) → has_begun r h ≡ true → served r (h ++ k) ≡ served r h
-served_stays r h k begun = rw (begun_stays r h k begun, before_run_stays r h k begun, begun) refl
+served_stays r h k begun = rw (begun_stays r h k begun, entries_before_run_stays r h k begun, begun) refl
 
 pub served_same : (r : ℕ) (h : List Entry) (e : Entry) → sends_run r e ≡ false → served r (h ++ e ∷ []) ≡ served r h
 served_same r h e other = by_begun (cases_Bool (has_begun r h))
@@ -122,7 +122,7 @@ asked_before_same h e other = rw (last_run_same h (h ++ e ∷ []) (sends_same h 
   where
     by_last : (last : Option ℕ) → last_run h ≡ last → asked_before last (h ++ e ∷ []) ≡ asked_before last h
     by_last None is = refl
-    by_last (Some r) is = ap (λ (l : List Entry). length (asks l)) (before_run_stays r h (e ∷ []) (last_begun r h is))
+    by_last (Some r) is = ap (λ (l : List Entry). length (asks l)) (entries_before_run_stays r h (e ∷ []) (last_begun r h is))
 
 -- a run's exchanges
 pub run_exchanges_same : (h k : List Entry) (r : ℕ) → sends k ≡ sends h → cames k ≡ cames h → run_exchanges r k ≡ run_exchanges r h
@@ -185,6 +185,7 @@ pub record SameRuns (h k : List Entry) : Type 0 where
   pub same_served : (r : ℕ) → served r k ≡ served r h
   pub same_open : open_run k ≡ open_run h
   pub same_exchanges : (r : ℕ) → run_exchanges r k ≡ run_exchanges r h
+  pub same_before : (r : ℕ) → has_begun r h ≡ true → entries_before_run r k ≡ entries_before_run r h
 
 -- an entry that is neither Send nor Came nor Answer leaves them
 pub not_sent : (r : ℕ) (e : Entry) → sending_of e ≡ None → sends_run r e ≡ false
@@ -197,6 +198,7 @@ same_runs h e send came answer = record {
   same_served = λ r. served_same r h e (not_sent r e send);
   same_open = open_run_same h (h ++ e ∷ []) (sends_same h e send) (answered_same h e answer);
   same_exchanges = λ r. run_exchanges_same h (h ++ e ∷ []) r (sends_same h e send) (cames_same h e came);
+  same_before = λ r begun. entries_before_run_stays r h (e ∷ []) begun;
 }
 
 -- and so does a request's frame
@@ -206,6 +208,7 @@ same_runs_sent h n frame even = record {
   same_served = λ r. served_same r h e refl;
   same_open = rw (last_run_sent h (owners.Request n) frame) (by_last (last_run h));
   same_exchanges = λ r. run_exchanges_sent h (owners.Request n) frame r even;
+  same_before = λ r begun. entries_before_run_stays r h (e ∷ []) begun;
 }
   where
     e : Entry
@@ -214,3 +217,11 @@ same_runs_sent h n frame even = record {
     by_last : (last : Option ℕ) → unless_answered last (h ++ e ∷ []) ≡ unless_answered last h
     by_last None = refl
     by_last (Some r) = rw (answered_same h e refl) refl
+
+-- the devices known depend on the Answers and on their runs' exchanges alone
+pub known_same : (o : Opening) (h k : List Entry) → answers k ≡ answers h → ((r : ℕ) → run_exchanges r k ≡ run_exchanges r h) → known_devices o k ≡ known_devices o h
+known_same o h k answered same = rw answered (by_last (last_run_without_fault h))
+  where
+    by_last : (last : Option ℕ) → devices_of o.devices last k ≡ devices_of o.devices last h
+    by_last None = refl
+    by_last (Some r) = rw (same r) refl

@@ -1,8 +1,9 @@
 -- What no later entry changes: the results of finished requests, and the outcomes of a client's answers.
-use Rattle.std.proofs.Common.{◌≡◌, ℕ, zero, suc, ◌+◌, ◌<◌, Bool, true, false, filter, inl, inr, Option, List, [], ◌∷◌, ◌++◌, length, Some, None, slice_get, refl, sym, ◌∙◌, arith}
+use Rattle.std.proofs.Common.{◌≡◌, ℕ, zero, suc, ◌+◌, ◌<◌, Bool, true, false, filter, inl, inr, Option, List, [], ◌∷◌, ◌++◌, length, Some, None, slice_get, refl, sym, ap, ◌∙◌, arith}
 use Rattle.std.specs.Prelude.{◌≢◌, ◌⊎◌}
-use Rattle.std.proofs.lemmas.Bool.{cases_Bool, ne_eqb, false≢true}
-use Rattle.std.proofs.lemmas.Option.{slice_get_within}
+use Rattle.std.proofs.lemmas.Bool.{cases_Bool, ne_eqb, false≢true, eqb-true}
+use Rattle.std.proofs.lemmas.Option.{slice_get_within, get_or_from_slice_get}
+use Rattle.std.specs.List.{Contains}
 use Rattle.rdm_wire.specs.Lists.{EachAfter}
 use Rattle.rdm_join.specs.declared.status.Status.{Status}
 use Rattle.rdm_queue.specs.declared.entry.Owner.TheVariants as owners
@@ -10,7 +11,7 @@ use Rattle.rdm_queue.specs.declared.entry.Opening.{Opening}
 use Rattle.rdm_queue.specs.declared.entry.Entry.{Entry}
 use Rattle.rdm_queue.specs.declared.entry.Entry.TheVariants.{Send, Came, Finish, Answer}
 use Rattle.rdm_queue.specs.log.Entries.{finished_of, sending_of, came_of, finishes, result}
-use Rattle.rdm_queue.specs.log.Clients.{is_answer_to, answers_to, collects_by, uncollected}
+use Rattle.rdm_queue.specs.log.Clients.{is_client_of, is_answer_to, answers_to, collects_by, uncollected}
 use Rattle.rdm_queue.specs.log.Legal.{MayFollow}
 use Rattle.rdm_agent.specs.declared.fault.AgentFault.{AgentFault}
 use Rattle.rdm_queue.specs.declared.outcome.Outcome.{Outcome}
@@ -39,6 +40,15 @@ result_step o h (Came event) each may n other = by_owner (facts.waits may.1)
 result_step o h (Send (owners.Request m) frame) each may n other = result_sent h (owners.Request m) frame n (sent_evenly o h (legal_facts o h each) may.1.not_awaited)
 result_step o h (Send (owners.Run r) frame) each may n other = result_sent h (owners.Run r) frame n (sent_evenly o h (legal_facts o h each) may.1.not_awaited)
 result_step o h e each may n other = result_other h e n refl refl
+
+-- what stands at a place is contained
+pub contains_from_get : {X : Type 0} (xs : List X) (i : ℕ) (x : X) → slice_get xs i ≡ Some x → Contains xs x
+contains_from_get xs i x at = (i, slice_get_within xs i x at, get_or_from_slice_get xs i x x at)
+
+-- the client that a test passes
+pub client_is : (c : ℕ) (client : Option ℕ) → is_client_of c client ≡ true → client ≡ Some c
+client_is c None is = absurd (false≢true is)
+client_is c (Some d) is = ap (λ x. Some x) (sym (eqb-true c d is))
 
 -- what a test passes stands in the list, and passes
 pub filter_has : {X : Type 0} (p : X → Bool) (xs : List X) (i : ℕ) (x : X) → slice_get (filter p xs) i ≡ Some x → (j : ℕ) × (slice_get xs j ≡ Some x) × (p x ≡ true)

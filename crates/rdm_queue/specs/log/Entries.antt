@@ -19,7 +19,7 @@ pub record Accepted : Type 0 where
   pub number : ℕ
   pub request : Request
 
-pub record AskedFor : Type 0 where
+pub record AskedDiscovery : Type 0 where
   pub client : ℕ
   pub number : ℕ
   pub kind : Kind
@@ -46,7 +46,7 @@ abbrev pub accepted_of : Entry → Option Accepted
 accepted_of (Accept c n request) = Some (record { client = c.0; number = n; request = request })
 accepted_of _ = None
 
-abbrev pub asked_of : Entry → Option AskedFor
+abbrev pub asked_of : Entry → Option AskedDiscovery
 asked_of (Ask c n kind) = Some (record { client = c.0; number = n; kind = kind })
 asked_of _ = None
 
@@ -78,7 +78,7 @@ joins h = filter_map join_of h
 unfoldable pub accepts : List Entry → List Accepted
 accepts h = filter_map accepted_of h
 
-unfoldable pub asks : List Entry → List AskedFor
+unfoldable pub asks : List Entry → List AskedDiscovery
 asks h = filter_map asked_of h
 
 unfoldable pub sends : List Entry → List Sending

@@ -5,7 +5,7 @@ use Rattle.std.specs.List.{list_any}
 use Rattle.rdm_queue.specs.declared.entry.Opening.{Opening}
 use Rattle.rdm_queue.specs.declared.entry.Entry.{Entry}
 use Rattle.rdm_queue.specs.declared.entry.Entry.TheVariants.{Send, Came, Pause, Resume, Close}
-use Rattle.rdm_queue.specs.log.Entries.{Accepted, AskedFor, joins, accepts, asks, sends, finishes, answers}
+use Rattle.rdm_queue.specs.log.Entries.{Accepted, AskedDiscovery, joins, accepts, asks, sends, finishes, answers}
 use Rattle.rdm_queue.specs.log.Entries.{collectors, is_request}
 
 -- an entry turns a flag on, off, or leaves it
@@ -65,7 +65,7 @@ next_tn o h = frames_sent o h % 256
 abbrev pub unfinished : List Entry → List Accepted
 unfinished h = drop (length (finishes h)) (accepts h)
 
-abbrev pub unanswered : List Entry → List AskedFor
+abbrev pub unanswered : List Entry → List AskedDiscovery
 unanswered h = drop (length (answers h)) (asks h)
 
 -- the requests under way: a frame was sent of each, and it isn't finished

@@ -9,8 +9,7 @@ use Rattle.rdm_queue.specs.log.Entries.{Accepted, result}
 use Rattle.rdm_queue.specs.log.History.{awaited, is_closed, unfinished, unanswered}
 use Rattle.rdm_queue.specs.log.Runs.{unserved}
 
--- a close ends what is left: no reply is awaited, and the discoveries that are left are those that no run serves, so
--- that an aborted run's Answers come first
+-- a close ends what is left: no reply is awaited, and each discovery that a run serves has its Answer
 pub record IsClosing (o : Opening) (h : List Entry) : Type 0 where
   pub closed : is_closed o h ≡ true
   pub not_awaited : awaited h ≡ false

@@ -36,7 +36,7 @@ pub record MayBegin (o : Opening) (h : List Entry) (r : ℕ) : Type 0 where
   pub number : r ≡ next_run o h
   pub from_one : 1 ≤ r
 
--- a branch of a range, or a mute of a device
+-- a branch of a range
 pub record IsBranchFrame (source tn : ℕ) (frame : List ℕ) : Type 0 where
   pub lo : ℕ
   pub hi : ℕ
@@ -44,12 +44,13 @@ pub record IsBranchFrame (source tn : ℕ) (frame : List ℕ) : Type 0 where
   pub in_range : hi < 2 ^ 48
   pub frame_is : frame ≡ branch_frame lo hi source tn
 
+-- a mute of a device
 pub record IsMuteFrame (source tn : ℕ) (frame : List ℕ) : Type 0 where
   pub uid : ℕ
   pub device : IsDevice uid
   pub frame_is : frame ≡ mute_frame uid source tn
 
--- a run's frame, with so many before it: three unmutes, and then branches and mutes
+-- a run's frame, with this many before it: three unmutes, and then branches and mutes
 pub record IsRunFrame (source tn before : ℕ) (frame : List ℕ) : Type 0 where
   pub unmute : before < 3 → frame ≡ unmute_frame source tn
   pub search : 3 ≤ before → IsBranchFrame source tn frame ⊎ IsMuteFrame source tn frame

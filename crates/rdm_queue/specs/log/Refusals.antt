@@ -2,7 +2,7 @@
 -- wanted or the log is full it doesn't show.
 use Rattle.std.specs.Prelude.{◌≡◌, ℕ, ◌+◌, Bool, ◌||◌, List, length, sum, Option, Some, None, option_map, unwrap_or}
 use Rattle.std.specs.Prelude.{nat_lt, nat_le, if◌then◌else◌, slice_index}
-use Rattle.rdm_queue.specs.declared.entry.TheConstants.{MOST_ASKS, MOST_CLIENTS, NEVER_ASKED, NEVER_GIVEN}
+use Rattle.rdm_queue.specs.declared.entry.TheConstants.{MOST_CLIENTS, NEVER_GIVEN}
 use Rattle.rdm_queue.specs.declared.entry.ClientId.{ClientId}
 use Rattle.rdm_queue.specs.declared.entry.Call.{Call}
 use Rattle.rdm_queue.specs.declared.entry.Call.TheVariants as calls
@@ -15,7 +15,7 @@ use Rattle.rdm_queue.specs.declared.fault.SubmitFault.TheVariants as submit_faul
 use Rattle.rdm_queue.specs.declared.fault.AskFault.{AskFault}
 use Rattle.rdm_queue.specs.declared.fault.AskFault.TheVariants as ask_faults
 use Rattle.rdm_queue.specs.log.History.{is_closed, places, next_request, next_ask}
-use Rattle.rdm_queue.specs.log.Clients.{outstanding_requests, outstanding_asks}
+use Rattle.rdm_queue.specs.log.Clients.{outstanding_requests, outstanding_discoveries}
 
 -- of a join with n places, where the clients have these places, of so many
 abbrev pub join_fault_at : Bool → List ℕ → ℕ → ℕ → Option JoinFault
@@ -38,17 +38,16 @@ submit_fault_at closed places outstanding next c =
 abbrev pub submit_fault : Opening → List Entry → ℕ → Option SubmitFault
 submit_fault o h c = submit_fault_at (is_closed o h) (places o h) (outstanding_requests o c h) (next_request o h) c
 
--- of a discover by client c, which has so many discoveries outstanding: they are as many as it may have, or the numbers
--- have run out
+-- of a discover by client c, with this many discoveries outstanding: it has four, or the numbers have run out
 abbrev pub ask_fault_at : Bool → List ℕ → ℕ → ℕ → ℕ → Option AskFault
 ask_fault_at closed places outstanding next c =
     if closed then Some ask_faults.Closed
     else (if nat_le (length places) c then Some ask_faults.UnknownClient
-    else (if nat_le MOST_ASKS outstanding || nat_le NEVER_ASKED next then Some ask_faults.Full
+    else (if nat_le 4 outstanding || nat_le 18446744073709551614 next then Some ask_faults.Full
     else None))
 
 abbrev pub ask_fault : Opening → List Entry → ℕ → Option AskFault
-ask_fault o h c = ask_fault_at (is_closed o h) (places o h) (outstanding_asks o c h) (next_ask o h) c
+ask_fault o h c = ask_fault_at (is_closed o h) (places o h) (outstanding_discoveries o c h) (next_ask o h) c
 
 -- the faults' numbers
 abbrev pub number_of_join_fault : JoinFault → ℕ

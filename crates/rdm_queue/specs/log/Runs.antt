@@ -14,7 +14,7 @@ use Rattle.rdm_queue.specs.declared.entry.Owner.TheVariants as owners
 use Rattle.rdm_queue.specs.declared.entry.Opening.{Opening}
 use Rattle.rdm_queue.specs.declared.entry.Entry.{Entry}
 use Rattle.rdm_queue.specs.declared.entry.Entry.TheVariants.{Send}
-use Rattle.rdm_queue.specs.log.Entries.{AskedFor, Answered, Sending, Traded, asks, answers, sends, traded, is_run}
+use Rattle.rdm_queue.specs.log.Entries.{AskedDiscovery, Answered, Sending, Traded, asks, answers, sends, traded, is_run}
 use Rattle.rdm_queue.specs.log.History.{unanswered}
 
 -- the entry is a Send of the run
@@ -26,8 +26,8 @@ sends_run r _ = false
 unfoldable pub has_begun : ℕ → List Entry → Bool
 has_begun r h = list_any (sends_run r) h
 
-unfoldable pub before_run : ℕ → List Entry → List Entry
-before_run r h = before_first (sends_run r) h
+unfoldable pub entries_before_run : ℕ → List Entry → List Entry
+entries_before_run r h = before_first (sends_run r) h
 
 -- the run that began last: that of the last Send that is a run's
 abbrev pub run_of_owner : Option ℕ → Owner → Option ℕ
@@ -49,7 +49,7 @@ next_run o h = number_after o.next_run (last_run h)
 abbrev pub is_answered : ℕ → List Entry → Bool
 is_answered r h = list_any (λ b. b.run == r) (answers h)
 
--- the run with a Send and no Answer, if there is one
+-- the run that began last, unless some Answer names it; in a legal log no other run is open
 abbrev pub unless_answered : Option ℕ → List Entry → Option ℕ
 unless_answered None h = None
 unless_answered (Some r) h = if is_answered r h then None else Some r
@@ -60,15 +60,15 @@ open_run h = unless_answered (last_run h) h
 -- how many discoveries were asked before the last run began
 abbrev pub asked_before : Option ℕ → List Entry → ℕ
 asked_before None h = 0
-asked_before (Some r) h = length (asks (before_run r h))
+asked_before (Some r) h = length (asks (entries_before_run r h))
 
 -- the Asks without an Answer that were asked after the last run began: no run serves them yet
-abbrev pub unserved : List Entry → List AskedFor
+abbrev pub unserved : List Entry → List AskedDiscovery
 unserved h = drop (asked_before (last_run h) h - length (answers h)) (unanswered h)
 
--- the Asks that a run serves: those that no run served when it began
-abbrev pub served : ℕ → List Entry → List AskedFor
-served r h = if has_begun r h then unserved (before_run r h) else []
+-- the Asks that a run serves: those that were unserved when it began
+abbrev pub served : ℕ → List Entry → List AskedDiscovery
+served r h = if has_begun r h then unserved (entries_before_run r h) else []
 
 -- a run's exchanges, as seen
 abbrev pub seen_of : Traded → Seen
@@ -93,26 +93,26 @@ abbrev pub answer_devices : ℕ → List Entry → List Device
 answer_devices r h = if r == 0 then [] else run_devices r h
 
 -- the run of the last Answer without fault
-abbrev pub run_without_fault : Option ℕ → Answered → Option ℕ
-run_without_fault before b = elim b.fault [ None ↦ Some b.run | Some fault ↦ before ]
+abbrev pub if_without_fault : Option ℕ → Answered → Option ℕ
+if_without_fault before b = elim b.fault [ None ↦ Some b.run | Some fault ↦ before ]
 
-abbrev pub last_good_run : List Entry → Option ℕ
-last_good_run h = fold run_without_fault None (answers h)
+abbrev pub last_run_without_fault : List Entry → Option ℕ
+last_run_without_fault h = fold if_without_fault None (answers h)
 
--- the devices known, those of that run, else of the opening; and which run gave them
+-- the devices known, which the call `devices` gives: those of that run, else of the opening; and which run gave them
 abbrev pub devices_of : List Device → Option ℕ → List Entry → List Device
 devices_of first None h = first
 devices_of first (Some r) h = run_devices r h
 
 abbrev pub known_devices : Opening → List Entry → List Device
-known_devices o h = devices_of o.devices (last_good_run h) h
+known_devices o h = devices_of o.devices (last_run_without_fault h) h
 
-abbrev pub number_of : ℕ → Option ℕ → ℕ
-number_of first None = first
-number_of first (Some r) = r
+abbrev pub run_or : ℕ → Option ℕ → ℕ
+run_or first None = first
+run_or first (Some r) = r
 
-abbrev pub known_run : Opening → List Entry → ℕ
-known_run o h = number_of o.devices_run (last_good_run h)
+abbrev pub devices_run : Opening → List Entry → ℕ
+devices_run o h = run_or o.devices_run (last_run_without_fault h)
 
 -- a run is full where one of its Asks is
 abbrev pub is_full_kind : Kind → Bool
@@ -124,4 +124,4 @@ run_kind r h = if list_any (λ a. is_full_kind a.kind) (served r h) then Full el
 
 -- the UIDs that an incremental run starts from: those known when it began
 abbrev pub known_at_run : Opening → ℕ → List Entry → List ℕ
-known_at_run o r h = uids_of (known_devices o (before_run r h))
+known_at_run o r h = uids_of (known_devices o (entries_before_run r h))

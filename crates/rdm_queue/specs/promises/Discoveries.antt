@@ -1,7 +1,7 @@
 -- What clients are promised of discoveries, said of one log by its positions and counts.
 use Rattle.std.specs.Prelude.{◌≡◌, ◌≢◌, ◌⊎◌, ℕ, ◌<◌, ◌≤◌, true, false, List, ◌∷◌, ◌++◌, length, map, filter, Option}
 use Rattle.std.specs.Prelude.{Some, None, ◌==◌, slice_get}
-use Rattle.std.specs.List.{Contains, range_with_len}
+use Rattle.std.specs.List.{AllByRecursion, Contains, range_with_len}
 use Rattle.rdm_wire.specs.Uid.{has, IsDevice}
 use Rattle.rdm_wire.specs.Devices.{uids_of}
 use Rattle.rdm_wire.specs.Honest.{HonestTo, HonestTrace}
@@ -9,8 +9,8 @@ use Rattle.rdm_wire.specs.HonestOver.{HonestOver}
 use Rattle.rdm_agent.specs.Run.{IsReport}
 use Rattle.rdm_agent.specs.Statements.{IsInEach, IsInOne}
 use Rattle.rdm_agent.specs.declared.kind.Kind.{Kind}
+use Rattle.rdm_agent.specs.declared.kind.Kind.TheVariants as kinds
 use Rattle.rdm_agent.specs.declared.fault.AgentFault.{AgentFault}
-use Rattle.rdm_queue.specs.declared.entry.TheConstants.{MOST_ASKS, NEVER_ASKED}
 use Rattle.rdm_queue.specs.declared.entry.ClientId.{ClientId}
 use Rattle.rdm_queue.specs.declared.entry.Call.TheVariants as calls
 use Rattle.rdm_queue.specs.declared.entry.Cause.{Cause}
@@ -18,18 +18,19 @@ use Rattle.rdm_queue.specs.declared.entry.Opening.{Opening}
 use Rattle.rdm_queue.specs.declared.entry.Entry.{Entry}
 use Rattle.rdm_queue.specs.declared.entry.Entry.TheVariants.{Refuse, Ask, Answer}
 use Rattle.rdm_queue.specs.declared.fault.AskFault.TheVariants.{Full}
-use Rattle.rdm_queue.specs.log.Entries.{AskedFor, Answered, asks, answers}
+use Rattle.rdm_queue.specs.log.Entries.{AskedDiscovery, Answered, asks, answers}
 use Rattle.rdm_queue.specs.log.History.{awaited, is_closed, next_client, next_ask}
-use Rattle.rdm_queue.specs.log.Clients.{asks_by, answers_to, client_of_ask, outstanding_asks}
-use Rattle.rdm_queue.specs.log.Runs.{has_begun, before_run, run_exchanges, run_devices, answer_devices, known_devices}
-use Rattle.rdm_queue.specs.log.Runs.{served, last_good_run}
+use Rattle.rdm_queue.specs.log.Clients.{asks_by, answers_to, client_of_discovery, outstanding_discoveries}
+use Rattle.rdm_queue.specs.log.Runs.{has_begun, entries_before_run, run_exchanges, run_devices, answer_devices, known_devices}
+use Rattle.rdm_queue.specs.log.Runs.{served, run_kind, last_run_without_fault}
+use Rattle.rdm_queue.specs.log.MayAnswer.{Shows}
 use Rattle.rdm_queue.specs.log.Due.{has_answer}
 use Rattle.rdm_queue.specs.log.Refusals.{number_of_ask_fault}
 use Rattle.rdm_queue.specs.promises.Outcomes.{outcome_of}
 use Rattle.rdm_queue.specs.promises.Headline.{Begins}
 
 -- the numbers of the discoveries that were asked, and of some Answers, in order
-abbrev pub numbers_asked : List AskedFor → List ℕ
+abbrev pub numbers_asked : List AskedDiscovery → List ℕ
 numbers_asked some = map (λ a. a.number) some
 
 abbrev pub numbers_answered : List Answered → List ℕ
@@ -80,23 +81,34 @@ pub record TellsTheLine (o : Opening) (h : List Entry) : Type 0 where
       → has (uids_of (answer_devices r h)) u ≡ true → IsInOne u sets
   -- each device stands as the first acknowledgement of its mute in the run says it
   pub report : (r : ℕ) → IsReport (run_exchanges r h) (run_devices r h)
-  -- the devices known, until another run is answered without fault
-  pub known : (r : ℕ) (present : List ℕ) → last_good_run h ≡ Some r → HonestTrace present (run_exchanges r h)
+  -- the devices known are those of the last Answer without fault, of which all this holds; else the opening's
+  pub known_from : (r : ℕ) → last_run_without_fault h ≡ Some r
+      → (n : ℕ) × Contains h (Answer n r None) × (known_devices o h ≡ answer_devices r h)
+  pub known_before : last_run_without_fault h ≡ None → known_devices o h ≡ o.devices
+  -- and so, until another run is answered without fault, exactly the devices present
+  pub known : (r : ℕ) (present : List ℕ) → last_run_without_fault h ≡ Some r → HonestTrace present (run_exchanges r h)
       → uids_of (known_devices o h) ≡ present
 
--- One run answers the discoveries that were asked before it began, all alike.
+-- One run answers the discoveries that were asked before it began, all alike, with what it shows.
 pub record RunsAnswer (o : Opening) (h : List Entry) : Type 0 where
+  -- an Answer says what its run has shown: without fault the certificate, with a fault its cause
+  pub shows : (front back : List Entry) (n r : ℕ) (fault : Option AgentFault) → h ≡ front ++ Answer n r fault ∷ back
+      → r ≢ 0 → Shows o front r fault
+  -- a run is full where one of the discoveries that it serves is, else incremental
+  pub full : (r : ℕ) (a : AskedDiscovery) → Contains (served r h) a → a.kind ≡ kinds.Full → run_kind r h ≡ kinds.Full
+  pub incremental : (r : ℕ) → AllByRecursion (λ a. a.kind ≡ kinds.Incremental) (served r h)
+      → run_kind r h ≡ kinds.Incremental
   -- a run that an Answer names has begun
   pub begun : (front back : List Entry) (n r : ℕ) (fault : Option AgentFault) → h ≡ front ++ Answer n r fault ∷ back
       → r ≢ 0 → has_begun r front ≡ true
   -- and the discovery was asked before it did
   pub asked_first : (front back : List Entry) (n r : ℕ) (fault : Option AgentFault)
-      → h ≡ front ++ Answer n r fault ∷ back → r ≢ 0 → Contains (numbers_asked (asks (before_run r h))) n
+      → h ≡ front ++ Answer n r fault ∷ back → r ≢ 0 → Contains (numbers_asked (asks (entries_before_run r h))) n
   -- its Answers agree
   pub agree : (i j : ℕ) (a b : Answered) → slice_get (answers h) i ≡ Some a → slice_get (answers h) j ≡ Some b
       → a.run ≢ 0 → a.run ≡ b.run → a.fault ≡ b.fault
   -- where it has an Answer, all that it serves have one
-  pub all_served : (i : ℕ) (b : Answered) (a : AskedFor) → slice_get (answers h) i ≡ Some b
+  pub all_served : (i : ℕ) (b : Answered) (a : AskedDiscovery) → slice_get (answers h) i ≡ Some b
       → Contains (served b.run h) a → has_answer a.number h ≡ true
   -- after an Answer of it no frame is sent for it, and its outcome stays as it is
   pub ended : (front back : List Entry) (n r : ℕ) (fault : Option AgentFault) → h ≡ front ++ Answer n r fault ∷ back
@@ -109,19 +121,19 @@ pub record OwnDiscoveries (o : Opening) (h : List Entry) : Type 0 where
   pub own : (c n r : ℕ) (fault : Option AgentFault) → Contains (answers_to o c h) (Answer n r fault)
       → (client : ClientId) × (kind : Kind) × (client.0 ≡ c) × Contains h (Ask client n kind)
 
--- the client has as many discoveries outstanding as it may, or the numbers have run out, and no fault goes before that
-pub record IsFullOfAsks (o : Opening) (h : List Entry) (c : ℕ) : Type 0 where
+-- the client has four discoveries outstanding, or the numbers have run out, and no fault goes before that
+pub record HasMostDiscoveries (o : Opening) (h : List Entry) (c : ℕ) : Type 0 where
   pub not_closed : is_closed o h ≡ false
   pub known : c < next_client o h
-  pub full : (MOST_ASKS ≤ outstanding_asks o c h) ⊎ (NEVER_ASKED ≤ next_ask o h)
+  pub full : (4 ≤ outstanding_discoveries o c h) ⊎ (18446744073709551614 ≤ next_ask o h)
 
 -- A client with four discoveries outstanding is refused another, and no other client is.
-pub record FullRefusesAsks (o : Opening) (h : List Entry) : Type 0 where
+pub record FullRefusesDiscoveries (o : Opening) (h : List Entry) : Type 0 where
   pub refused : (front back : List Entry) (c : ClientId) (kind : Kind) (cause : Cause)
       → h ≡ front ++ Refuse (Some c) (calls.Discover kind) cause ∷ back → cause.0 ≡ number_of_ask_fault Full
-      → IsFullOfAsks o front c.0
+      → HasMostDiscoveries o front c.0
   pub accepted : (front back : List Entry) (c : ClientId) (n : ℕ) (kind : Kind)
-      → h ≡ front ++ Ask c n kind ∷ back → IsFullOfAsks o front c.0 → ⊥
+      → h ≡ front ++ Ask c n kind ∷ back → HasMostDiscoveries o front c.0 → ⊥
 
 -- All of it.
 pub record DiscoveriesPromised (o : Opening) (h : List Entry) : Type 0 where
@@ -130,4 +142,4 @@ pub record DiscoveriesPromised (o : Opening) (h : List Entry) : Type 0 where
   pub tells_the_line : TellsTheLine o h
   pub runs_answer : RunsAnswer o h
   pub own_discoveries : OwnDiscoveries o h
-  pub full_refuses : FullRefusesAsks o h
+  pub full_refuses : FullRefusesDiscoveries o h

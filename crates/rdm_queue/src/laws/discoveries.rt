@@ -4,7 +4,7 @@ ghost use Rattle.rdm_queue.specs.declared.entry.Opening.{Opening};
 ghost use Rattle.rdm_queue.specs.declared.entry.Entry.{Entry};
 ghost use Rattle.rdm_queue.specs.log.Legal.{Legal};
 ghost use Rattle.rdm_queue.specs.promises.Discoveries.{OneAnswer, AnsweredInOrder, TellsTheLine, RunsAnswer};
-ghost use Rattle.rdm_queue.specs.promises.Discoveries.{OwnDiscoveries, FullRefusesAsks, DiscoveriesPromised};
+ghost use Rattle.rdm_queue.specs.promises.Discoveries.{OwnDiscoveries, FullRefusesDiscoveries, DiscoveriesPromised};
 
 /// Each discovery that is asked has exactly one answer: never two, and one once the queue is closed and no reply is
 /// awaited.
@@ -37,7 +37,7 @@ pub fn own_discoveries()
 /// A discovery is refused as full only where its client has four outstanding or the numbers have run out, and is not
 /// accepted there.
 pub fn full_client_is_refused()
-    ensures { (o : Opening) (h : List Entry) → Legal o h → FullRefusesAsks o h }
+    ensures { (o : Opening) (h : List Entry) → Legal o h → FullRefusesDiscoveries o h }
 {}
 
 /// All that clients are promised of discoveries holds of each legal log.

@@ -9,9 +9,9 @@ ghost use Rattle.rdm_queue.specs.declared.entry.Owner.TheVariants.{Request, Run}
 ghost use Rattle.rdm_queue.specs.declared.entry.Entry.TheVariants.{Ask, Answer, Came, Close};
 ghost use Rattle.rdm_queue.specs.declared.fault.AskFault.TheVariants as ask_faults;
 ghost use Rattle.rdm_queue.specs.log.History.{unanswered, is_idle, reserved};
-ghost use Rattle.rdm_queue.specs.log.Clients.{outstanding_asks, uncollected};
+ghost use Rattle.rdm_queue.specs.log.Clients.{outstanding_discoveries, uncollected};
 ghost use Rattle.rdm_queue.specs.log.Runs.{open_run, unserved, served, run_exchanges, run_devices, run_kind};
-ghost use Rattle.rdm_queue.specs.log.Runs.{known_devices, known_run, known_at_run, next_run};
+ghost use Rattle.rdm_queue.specs.log.Runs.{known_devices, devices_run, known_at_run, next_run};
 ghost use Rattle.rdm_queue.specs.log.Refusals.{ask_fault};
 ghost use Rattle.rdm_queue.specs.log.MaySend.{MaySend};
 ghost use Rattle.rdm_queue.specs.log.Legal.{MayFollow, Legal};
@@ -41,7 +41,7 @@ pub fn runs_are_seen()
     ensures open_ { open_run (run_log 10) ≡ Some 1 }
     ensures still_open { open_run answered_first ≡ None }
     ensures known { known_devices sample_opening answered_first ≡ sample_device ∷ [] }
-    ensures known_run { known_run sample_opening answered_first ≡ 1 }
+    ensures devices_run { devices_run sample_opening answered_first ≡ 1 }
     ensures next { next_run sample_opening answered_first ≡ 2 }
     ensures outcome { outcome_of answered_both (Answer 1 1 None)
         ≡ Some (DiscoveryValue (Some 1) (record { run = 1; fault = None; devices = sample_device ∷ [] })) }
@@ -55,7 +55,7 @@ pub fn counts_of_discoveries()
     ensures serves { map (λ a. a.number) (served 1 asked_during) ≡ 0 ∷ [] }
     ensures not_begun { served 2 asked_during ≡ [] }
     ensures left { map (λ a. a.number) (unanswered answered_failed) ≡ 1 ∷ [] }
-    ensures outstanding { outstanding_asks sample_opening 0 answered_failed ≡ 2 }
+    ensures outstanding { outstanding_discoveries sample_opening 0 answered_failed ≡ 2 }
     ensures uncollected { uncollected sample_opening 0 answered_failed ≡ Answer 0 1 (Some LineFailed) ∷ [] }
     ensures reserved { reserved sample_opening answered_failed ≡ 4 }
     ensures none_known { known_devices sample_opening aborted_log ≡ [] }
