@@ -4,6 +4,7 @@ pub mod RingLemmas
 pub mod RingSteps
 pub mod FrontLemmas
 pub mod OutstandingLemmas
+pub mod RequestsAlone
 pub mod FieldLemmas
 pub mod HeardLemmas
 pub mod InvariantLemmas

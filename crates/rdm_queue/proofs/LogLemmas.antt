@@ -6,6 +6,9 @@ pub mod PushLemmas
 pub mod ExchangeLemmas
 pub mod RefusalLemmas
 pub mod LegalFacts
+pub mod AskFacts
+pub mod RunLemmas
+pub mod RunFacts
 pub mod KeepsLegal
 pub mod ClientLemmas
 pub mod ClientFacts

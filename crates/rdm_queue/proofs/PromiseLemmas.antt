@@ -7,6 +7,11 @@ pub mod OwnAnswers
 pub mod OwnRequests
 pub mod FullRefuses
 pub mod NothingAfterClose
+pub mod RunReports
+pub mod RunsAnswer
+pub mod TellsTheLine
+pub mod AnsweredInOrder
+pub mod OwnDiscoveries
 pub mod Promises
 pub mod BlockLemmas
 pub mod ExplainsLemmas

@@ -2,10 +2,12 @@
 pub mod Entries
 pub mod History
 pub mod Clients
+pub mod Runs
 pub mod Refusals
 pub mod Due
 pub mod MaySend
 pub mod MayFinish
+pub mod MayAnswer
 pub mod Legal
 pub mod Config
 pub mod LogState

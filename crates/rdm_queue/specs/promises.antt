@@ -3,4 +3,6 @@ pub mod Outcomes
 pub mod Blocks
 pub mod Explains
 pub mod Headline
+pub mod Discoveries
+pub mod Promised
 pub mod EventsHeadline

@@ -1,3 +1,4 @@
 -- Logs by hand, to compute with.
 pub mod Sample
 pub mod SampleParts
+pub mod SampleRuns

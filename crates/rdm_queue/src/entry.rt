@@ -1,7 +1,8 @@
 //! What a log holds.
 use arrayvec::ArrayVec;
+use rdm_agent::{AgentFault, Kind};
 use rdm_join::{LineEvent, Status};
-use rdm_wire::{Frame, Request, Uid};
+use rdm_wire::{DeviceSet, Frame, Request, Uid};
 
 /// How many clients may join (profile of this project).
 pub const MOST_CLIENTS: usize = 16;
@@ -9,6 +10,13 @@ pub const MOST_CLIENTS: usize = 16;
 /// The number that no request is given: where it would be the next one, the numbers have run out (profile of this
 /// project).
 pub const NEVER_GIVEN: u64 = u64::MAX;
+
+/// How many discoveries a client may have outstanding (profile of this project).
+pub const MOST_DISCOVERIES: usize = 4;
+
+/// The number that no discovery is given: where it would be the next one, the numbers have run out (profile of this
+/// project).
+pub const NEVER_GIVEN_TO_A_DISCOVERY: u64 = u64::MAX - 1;
 
 /// A client, numbered from 0 in the order of joining (profile of this project).
 #[derive(Clone, Copy, Debug, PartialEq, Eq)]
@@ -21,6 +29,8 @@ pub enum Call {
     Join(u8),
     /// A submit of this request.
     Submit(Request),
+    /// A discover of this kind.
+    Discover(Kind),
 }
 
 /// Whose a frame is (profile of this project).
@@ -28,6 +38,8 @@ pub enum Call {
 pub enum Owner {
     /// The request with this number.
     Request(u64),
+    /// The discovery run with this number. Runs are numbered from 1.
+    Run(u64),
 }
 
 /// The number of the fault that refused a call (profile of this project). The faults that leave an entry are numbered
@@ -63,6 +75,15 @@ pub enum Entry {
         /// What it asks.
         request: Request,
     },
+    /// A discovery was accepted.
+    Ask {
+        /// Who asked for it.
+        client: ClientId,
+        /// Its number.
+        number: u64,
+        /// What it asks for. A run is full where one of the discoveries that it serves asks for that.
+        kind: Kind,
+    },
     /// A frame was given for the line.
     Send {
         /// Whose it is.
@@ -85,6 +106,16 @@ pub enum Entry {
         /// How many bytes its joined data have; 0 for each status but Completed.
         len: usize,
     },
+    /// A discovery was answered. Its set is that of its run: each device whose mute was acknowledged in that run's
+    /// exchanges, as its first acknowledgement says it; of more than 1,024 the first 1,024.
+    Answer {
+        /// The discovery's number.
+        number: u64,
+        /// The run that served it; 0 where none was begun for it.
+        run: u64,
+        /// Why the run ended early; None where it ended without fault.
+        fault: Option<AgentFault>,
+    },
     /// A client was given its oldest outcome.
     Collect {
         /// The client.
@@ -106,7 +137,7 @@ pub struct Opening {
     pub source: Uid,
     /// How many places there are for all clients together.
     pub greatest: u16,
-    /// How many frames a discovery may take.
+    /// How many frames a discovery run may take.
     pub budget: u64,
     /// The places of each client that had joined.
     pub places: ArrayVec<u8, MOST_CLIENTS>,
@@ -114,8 +145,16 @@ pub struct Opening {
     pub paused: bool,
     /// Whether the queue was closed.
     pub closed: bool,
+    /// The devices of the last run without fault; none before the first.
+    pub devices: DeviceSet,
+    /// The run that gave the devices; 0 before the first.
+    pub devices_run: u64,
     /// The next request's number.
     pub next_request: u64,
+    /// The next discovery's number.
+    pub next_ask: u64,
+    /// The next run's number. A session's first run is number 1.
+    pub next_run: u64,
     /// The next frame's transaction number.
     pub next_tn: u8,
 }

@@ -53,6 +53,23 @@ pub enum SubmitFault {
     LogFull,
 }
 
+/// Why a discover is refused (profile of this project). LogFull is tested first, and then the others in this order.
+#[derive(Clone, Copy, Debug, PartialEq, Eq, Error)]
+pub enum AskFault {
+    /// 1: the queue is closed.
+    #[error("the queue is closed")]
+    Closed,
+    /// 2: no such client has joined.
+    #[error("no such client")]
+    UnknownClient,
+    /// 3: the client has four discoveries outstanding, or the numbers have run out.
+    #[error("the client has four discoveries outstanding")]
+    Full,
+    /// 4: the log has fewer than three free entries.
+    #[error("the log is full")]
+    LogFull,
+}
+
 impl JoinFault {
     ghost use Rattle.std.specs.Prelude.{◌≡◌};
     ghost use Rattle.rdm_queue.specs.log.Refusals.{number_of_join_fault};
@@ -84,6 +101,23 @@ impl SubmitFault {
             SubmitFault::UnknownClient => 2,
             SubmitFault::Full => 3,
             SubmitFault::LogFull => 4,
+        }
+    }
+}
+
+impl AskFault {
+    ghost use Rattle.std.specs.Prelude.{◌≡◌};
+    ghost use Rattle.rdm_queue.specs.log.Refusals.{number_of_ask_fault};
+
+    /// The fault's number, as an entry of the log has it; LogFull's stands in none.
+    pub fn number(self) -> u8
+        ensures { result ≡ number_of_ask_fault self }
+    {
+        match self {
+            AskFault::Closed => 1,
+            AskFault::UnknownClient => 2,
+            AskFault::Full => 3,
+            AskFault::LogFull => 4,
         }
     }
 }

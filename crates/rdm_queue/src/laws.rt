@@ -1,14 +1,20 @@
 //! What is proved of logs and of answers, beside the contracts of the calls.
 
 mod broken;
+mod discoveries;
 mod explained;
 mod headline;
 mod limits;
 mod logs;
+mod runs;
 
 pub use broken::{
     wrong_after_a_close, wrong_answers, wrong_collector, wrong_frames, wrong_order, wrong_parts,
     wrong_refusals, wrong_results,
+};
+pub use discoveries::{
+    answers_tell_the_line, exactly_one_answer, first_asked_first_answered, full_client_is_refused,
+    legal_keeps_discoveries, own_discoveries, runs_answer_what_was_asked,
 };
 pub use explained::{each_event_is_answered, not_explained, parts_are_joined, sample_is_explained};
 pub use headline::{
@@ -18,4 +24,8 @@ pub use headline::{
 pub use limits::limits_are;
 pub use logs::{
     counts_of_a_log, faults_in_order, log_grows, no_send_is_no_legal_send, rooms, sample_is_legal,
+};
+pub use runs::{
+    counts_of_discoveries, runs_are_legal, runs_are_seen, wrong_discovery_answers, wrong_kinds,
+    wrong_run_frames,
 };

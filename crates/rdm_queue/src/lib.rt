@@ -33,9 +33,11 @@ mod session;
 
 pub use config::{Config, MOST_PLACES};
 pub use controller::Controller;
-pub use entry::{Call, Cause, ClientId, Entry, MOST_CLIENTS, NEVER_GIVEN, Opening, Owner};
+pub use entry::{
+    Call, Cause, ClientId, Entry, MOST_DISCOVERIES, MOST_CLIENTS, NEVER_GIVEN_TO_A_DISCOVERY, NEVER_GIVEN, Opening, Owner,
+};
 pub use event::{Answer, Event};
-pub use fault::{JoinFault, LogFull, NoMemory, NotAsked, SubmitFault};
+pub use fault::{AskFault, JoinFault, LogFull, NoMemory, NotAsked, SubmitFault};
 pub use log::{LEAST_FREE, Log, MOST_FREE_ENTRIES};
 pub use outcome::{Completion, Outcome};
 pub use session::Session;

@@ -2,7 +2,7 @@
 use crate::entry::{Entry, Opening};
 use crate::fault::NoMemory;
 use arrayvec::ArrayVec;
-use rdm_wire::Uid;
+use rdm_wire::{DeviceSet, Uid};
 use std::alloc::Global;
 use std::marker::Model;
 
@@ -115,7 +115,11 @@ impl Log {
             places: ArrayVec::new(),
             paused: false,
             closed: false,
+            devices: DeviceSet::new(),
+            devices_run: 0,
             next_request: 0,
+            next_ask: 0,
+            next_run: 0,
             next_tn: 0,
         }
     }

@@ -12,7 +12,7 @@ use crate::log::{LEAST_FREE, Log};
 use crate::outcome::Outcome;
 use arrayvec::ArrayVec;
 use rdm_join::LineEvent;
-use rdm_wire::{Frame, Request};
+use rdm_wire::{DeviceSet, Frame, Request};
 use std::alloc::Global;
 use std::marker::Model;
 
@@ -297,7 +297,11 @@ fn opening_of(config: &Config) -> Opening
         places: ArrayVec::new(),
         paused: false,
         closed: false,
+        devices: DeviceSet::new(),
+        devices_run: 0,
         next_request: 0,
+        next_ask: 0,
+        next_run: 1,
         next_tn: 0,
     }
 }

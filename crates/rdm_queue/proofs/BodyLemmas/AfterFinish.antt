@@ -26,6 +26,7 @@ use Rattle.rdm_queue.proofs.LogLemmas.PushLemmas.{joins_same, is_paused-push, is
 use Rattle.rdm_queue.proofs.LogLemmas.ExchangeLemmas.{result_unsent}
 use Rattle.rdm_queue.proofs.LogLemmas.LegalFacts.{LogFacts, IsAwaited, legal_facts, later_unsent, unfinished_number}
 use Rattle.rdm_queue.proofs.LogLemmas.ClientFacts.{client_facts}
+use Rattle.rdm_queue.proofs.BodyLemmas.RequestsAlone.{NoneDue, alone_due, request_awaited}
 use Rattle.rdm_queue.proofs.BodyLemmas.DecidedLemmas.{result_complete, gives_complete, gives_fits}
 use Rattle.rdm_queue.proofs.BodyLemmas.AgreesSame.{same_work, stands_same}
 use Rattle.rdm_queue.proofs.BodyLemmas.AgreesWork.{oldest_awaited, stands_came, stands_finish}
@@ -67,7 +68,7 @@ came_amid o h s new event waits hears after = record { each = pushed o h (Came e
     sent = awaited_some s.awaited (pending_flag h s.awaited after.stands.awaited_is ∙ waits)
 
     w : IsAwaited h
-    w = facts.waits waits
+    w = request_awaited o h facts after.stands.requests_alone waits
 
     open_ : result_of (verdicts (oldest_number o h) h) ≡ None
     open_ = subst (λ (n : ℕ). result n h ≡ None) (oldest_awaited o h facts w) w.undecided
@@ -122,13 +123,16 @@ ends_right o h s n done number stands (Some own) is end = ends_decided o h n vs 
   where
     vs : List Judged
     vs = verdicts (oldest_number o h) h
-ends_right o h s n done number stands None is end = ends_unsent o h n done (record { closed = sym stands.closed_is ∙ closes.is_closed_; not_awaited = sym (pending_flag h s.awaited stands.awaited_is) ∙ closes.idle }) (ap (λ (m : ℕ). result m h) number ∙ undecided (result_of vs) vs s.decided s.joiner is stands.progress) closes.unsent
+ends_right o h s n done number stands None is end = ends_unsent o h n done (record { closed = sym stands.closed_is ∙ closes.is_closed_; not_awaited = sym (pending_flag h s.awaited stands.awaited_is) ∙ closes.idle; runs_answered = due.all_answered ∙ sym due.all_served }) (ap (λ (m : ℕ). result m h) number ∙ undecided (result_of vs) vs s.decided s.joiner is stands.progress) closes.unsent
   where
     vs : List Judged
     vs = verdicts (oldest_number o h) h
 
     closes : ClosesUnsent s.closed (is_some s.awaited) done
     closes = closes_unsent s.closed (is_some s.awaited) done end
+
+    due : NoneDue o h
+    due = alone_due o h stands.requests_alone
 
 pub finish_amid : (o : Opening) (h : List Entry) (s : QueueState) (d : OwedOutcome) → due s ≡ Some d → StandsAmid o h s → StandsAmid o (h ++ finish_of d ∷ []) (finishes_oldest s d)
 finish_amid o h s d is amid = rw was.owed_is (record {
@@ -177,14 +181,19 @@ nothing_due o h s is amid = by_test (none_due (end_of_oldest s) s.waiting is)
     facts : LogFacts o h
     facts = legal_facts o h amid.each
 
+    alone : NoneDue o h
+    alone = alone_due o h amid.stands.requests_alone
+
     by_test : (s.waiting ≡ []) ⊎ (end_of_oldest s ≡ None) → NothingDue o h
     by_test (inl none) =
         let empty : unfinished h ≡ [] = sym amid.stands.waiting_are ∙ none in
-        record { results_open = all_from_places (λ a. result a.number h ≡ None) (unfinished h) (λ i a at. absurd (no_request h empty i a at)); all_closed = λ closed idle. empty }
+        record { results_open = all_from_places (λ a. result a.number h ≡ None) (unfinished h) (λ i a at. absurd (no_request h empty i a at)); runs_answered = alone.settled.runs_answered; run_goes_on = alone.settled.run_goes_on; all_closed = λ closed idle. (empty, alone.all_answered) }
     by_test (inr end) =
         let open_ = open_end s.decided s.closed (is_some s.awaited) end in
         record {
           results_open = all_from_places (λ a. result a.number h ≡ None) (unfinished h) (results_open o h s facts amid.stands open_.0);
+          runs_answered = alone.settled.runs_answered;
+          run_goes_on = alone.settled.run_goes_on;
           all_closed = λ closed idle. absurd (open_.1 (amid.stands.closed_is ∙ closed) (pending_flag h s.awaited amid.stands.awaited_is ∙ idle));
         }
 

@@ -20,11 +20,13 @@ use Rattle.rdm_queue.specs.declared.entry.Owner.{Owner}
 use Rattle.rdm_queue.specs.declared.entry.Opening.{Opening}
 use Rattle.rdm_queue.specs.declared.entry.Entry.{Entry}
 use Rattle.rdm_queue.specs.declared.entry.Entry.TheVariants.{Join, Refuse, Accept, Send, Finish, Collect, Pause, Resume}
+use Rattle.rdm_queue.specs.declared.entry.Entry.TheVariants as discovery
 use Rattle.rdm_queue.specs.declared.fault.JoinFault.{JoinFault}
 use Rattle.rdm_queue.specs.declared.fault.JoinFault.TheVariants as join_faults
 use Rattle.rdm_queue.specs.declared.fault.SubmitFault.{SubmitFault}
 use Rattle.rdm_queue.specs.declared.fault.SubmitFault.TheVariants as submit_faults
-use Rattle.rdm_queue.specs.log.Entries.{Accepted, joins, accepts, sends, cames, finishes, collectors, traded, of_request, verdicts}
+use Rattle.rdm_queue.specs.log.Entries.{Accepted, joins, accepts, asks, sends, cames, finishes, answers, collectors, traded, of_request, verdicts}
+use Rattle.rdm_queue.specs.log.Runs.{last_run}
 use Rattle.rdm_queue.specs.log.History.{awaited, is_paused, is_closed, can_pause, can_resume}
 use Rattle.rdm_queue.specs.log.Clients.{is_answer_to, answers_to, uncollected, outstanding_requests}
 use Rattle.rdm_queue.specs.log.Refusals.{join_fault, submit_fault, IsRefused, number_of_join_fault, number_of_submit_fault}
@@ -41,7 +43,8 @@ use Rattle.rdm_queue.proofs.LogLemmas.LegalFacts.{LogFacts, legal_facts}
 use Rattle.rdm_queue.proofs.LogLemmas.ClientFacts.{ClientFacts, client_facts, outstanding_parts}
 use Rattle.rdm_queue.proofs.LogLemmas.PushLemmas.{joins_same, joins_more, is_paused-push, is_closed-push}
 use Rattle.rdm_queue.proofs.LogLemmas.KeepsLegal.{join_keeps, refuse_keeps, collect_keeps, pause_keeps, resume_keeps, accept_keeps, send_keeps}
-use Rattle.rdm_queue.proofs.BodyLemmas.OutcomeLemmas.{answers_passed}
+use Rattle.rdm_queue.proofs.BodyLemmas.RequestsAlone.{NoneDue, alone_due}
+use Rattle.rdm_queue.proofs.BodyLemmas.OutcomeLemmas.{answers_passed, length_uncollected}
 use Rattle.rdm_queue.proofs.BodyLemmas.AgreesSame.{SameWork, same_work, stands_same}
 use Rattle.rdm_queue.proofs.BodyLemmas.AgreesWork.{stands_accept, stands_send, stands_collect}
 
@@ -53,7 +56,7 @@ clients_after o h s after = client_facts o h after.legal.each
 
 -- a queue without calls
 pub first_after : (config : Config) → StandsAfter (opened config) [] (first_state config)
-unfolding joins accepts sends cames finishes collectors traded of_request verdicts awaited is_paused is_closed answers_to
+unfolding joins accepts asks sends cames finishes answers collectors traded of_request verdicts awaited is_paused is_closed answers_to last_run
 first_after config = record {
   legal = empty (opened config);
   stands = record {
@@ -70,6 +73,7 @@ first_after config = record {
     progress = (refl, refl);
     outcomes_are = λ c. refl;
     all_outcomes = refl;
+    requests_alone = record { no_ask = refl; no_answer = refl; no_run = refl };
   };
 }
 
@@ -109,13 +113,14 @@ submit_refused_after o h s c request fault refuses after = refused_after o h s (
 length_outcomes : (o : Opening) (c : ℕ) (h k : List Entry) (es : List Entry) → AllByRecursion (λ e. is_answer_to o c k e ≡ true) es → length (filter_map (outcome_of h) es) ≡ length es
 length_outcomes o c h k [] all = refl
 length_outcomes o c h k (Finish n status len ∷ es) all = rw (length_outcomes o c h k es all.1) refl
+length_outcomes o c h k (discovery.Answer n run fault ∷ es) all = rw (length_outcomes o c h k es all.1) refl
 length_outcomes o c h k (e ∷ es) all = absurd (false≢true all.0)
 
 length_owed : (o : Opening) (h : List Entry) (s : QueueState) (c : ℕ) → Agrees o h s → length (owed_to c s) ≡ length (uncollected o c h)
 length_owed o h s c stands = sym (length-map (owed_to c s) owed_value) ∙ ap length (stands.outcomes_are c) ∙ length_outcomes o c h h (uncollected o c h) (answers_passed o c h)
 
 outstanding_same : (o : Opening) (h : List Entry) (s : QueueState) (c : ℕ) → StandsAfter o h s → outstanding c s ≡ outstanding_requests o c h
-outstanding_same o h s c after = rw (outstanding_parts o h (clients_after o h s after) c, length_owed o h s c after.stands, after.stands.waiting_are) refl
+outstanding_same o h s c after = rw (outstanding_parts o h (clients_after o h s after) c, length_uncollected o c h (facts_after o h s after) after.stands.requests_alone, length_owed o h s c after.stands, after.stands.waiting_are) refl
 
 pub submit_fault_is : (o : Opening) (h : List Entry) (s : QueueState) (c : ℕ) → StandsAfter o h s → first_submit_fault s c ≡ submit_fault o h c
 submit_fault_is o h s c after = rw (after.stands.closed_is, outstanding_same o h s c after, after.stands.places_are, after.stands.next_request_is) refl
@@ -185,11 +190,16 @@ may_send o h s a frame next packed after = record {
   not_awaited = sym (pending_flag h s.awaited after.stands.awaited_is) ∙ next.free;
   not_closed = sym after.stands.closed_is ∙ next.open_;
   not_paused = sym after.stands.paused_is ∙ next.running;
+  no_run = alone.no_run;
   accepted = a;
   lowest = ap (λ l. slice_get l 0) (sym after.stands.waiting_are) ∙ next.oldest;
   number = refl;
+  turn = inr alone.all_served;
   packet = rw (after.stands.source_is, after.stands.next_tn_is) at packed;
 }
+  where
+    alone : NoneDue o h
+    alone = alone_due o h after.stands.requests_alone
 
 pub take_after : (o : Opening) (h : List Entry) (s : QueueState) (owner : Owner) (frame : ArrayVec ℕ) (new : QueueState) → IsGiven s owner frame new → StandsAfter o h s → IsSent o h owner frame new
 take_after o h s owner frame new given after =
@@ -210,6 +220,7 @@ told_first o c h k [] outcome all first = absurd (no first)
     no : None ≡ Some outcome → ⊥
     no h = cc
 told_first o c h k (Finish n status len ∷ es) outcome all first = (Finish n status len, refl, first)
+told_first o c h k (discovery.Answer n run fault ∷ es) outcome all first = (discovery.Answer n run fault, refl, first)
 told_first o c h k (e ∷ es) outcome all first = absurd (false≢true all.0)
 
 first_mapped : {X Y : Type 0} (f : X → Y) (xs : List X) → slice_get (map f xs) 0 ≡ option_map f (slice_get xs 0)

@@ -27,6 +27,7 @@ use Rattle.rdm_queue.proofs.LogLemmas.ExchangeLemmas.{verdicts_same, result_same
 use Rattle.rdm_queue.proofs.LogLemmas.LegalFacts.{LogFacts, IsAwaited, unfinished_number, unfinished_place}
 use Rattle.rdm_queue.proofs.LogLemmas.ClientLemmas.{answers_same, answers_accept, answers_finish_own, answers_finish_other, client_of_accepted}
 use Rattle.rdm_queue.proofs.LogLemmas.ClientFacts.{ClientFacts}
+use Rattle.rdm_queue.proofs.BodyLemmas.RequestsAlone.{alone_facts, alone_same, alone_sent, request_awaited}
 use Rattle.rdm_queue.proofs.BodyLemmas.OutcomeLemmas.{outcomes_agree, uncollected_below, uncollected_more, outcomes_rest, answers_passed}
 use Rattle.rdm_queue.proofs.BodyLemmas.TakenLemmas.{without_own, without_other, length-without}
 use Rattle.rdm_queue.proofs.BodyLemmas.AgreesSame.{pending_same}
@@ -45,8 +46,9 @@ stands_accept o h s c n request facts number stands = record {
   waiting_are = rw (unfinished_accept h c n request facts.finished_within, number) (ap (λ l. l ++ record { client = c.0; number = s.next_request; request = request } ∷ []) stands.waiting_are);
   awaited_is = pending_same h k s.awaited (sends_same h e refl) (awaited-push h e) stands.awaited_is;
   progress = rw (finishes_same h e refl, verdicts_same h k (oldest_number o h) (sends_same h e refl) (cames_same h e refl)) stands.progress;
-  outcomes_are = λ client. rw (answers_accept o client h facts c n request, collectors_same h e refl, outcomes_agree (oldest_number o h) h k (λ m below. result_same h k m (sends_same h e refl) (cames_same h e refl)) _ (uncollected_below o client h facts)) (stands.outcomes_are client);
+  outcomes_are = λ client. rw (answers_accept o client h facts (alone_facts o h stands.requests_alone) c n request, collectors_same h e refl, outcomes_agree (oldest_number o h) h k (λ m below. result_same h k m (sends_same h e refl) (cames_same h e refl)) _ (uncollected_below o client h facts stands.requests_alone)) (stands.outcomes_are client);
   all_outcomes = rw (collectors_same h e refl, finishes_same h e refl) stands.all_outcomes;
+  requests_alone = alone_same h e refl refl refl stands.requests_alone;
 }
   where
     e : Entry
@@ -72,8 +74,9 @@ stands_send o h s a frame facts free sent stands = record {
   waiting_are = stands.waiting_are ∙ sym (unfinished_same h k (accepts_same h e refl) (finishes_same h e refl));
   awaited_is = record { waits = awaited-push h e; earlier = sends h; last = x; sends_are = sends_more h e x refl; same = sent };
   progress = rw (finishes_same h e refl, verdicts_sent h (owners.Request a.number) frame (oldest_number o h) even) stands.progress;
-  outcomes_are = λ c. rw (answers_same o c h e refl refl, collectors_same h e refl, outcomes_agree (oldest_number o h) h k (λ m below. result_sent h (owners.Request a.number) frame m even) _ (uncollected_below o c h facts)) (stands.outcomes_are c);
+  outcomes_are = λ c. rw (answers_same o c h e refl refl, collectors_same h e refl, outcomes_agree (oldest_number o h) h k (λ m below. result_sent h (owners.Request a.number) frame m even) _ (uncollected_below o c h facts stands.requests_alone)) (stands.outcomes_are c);
   all_outcomes = rw (collectors_same h e refl, finishes_same h e refl) stands.all_outcomes;
+  requests_alone = alone_sent h a.number frame stands.requests_alone;
 }
   where
     e : Entry
@@ -121,8 +124,9 @@ stands_came o h s sent event decided joiner facts was progress stands = record {
   waiting_are = stands.waiting_are ∙ sym (unfinished_same h k (accepts_same h e refl) (finishes_same h e refl));
   awaited_is = awaited-push h e;
   progress = rw (finishes_same h e refl) (rw (came_verdicts o h sent event facts pending w) progress);
-  outcomes_are = λ c. rw (answers_same o c h e refl refl, collectors_same h e refl, outcomes_agree (oldest_number o h) h k (λ m below. result_came_other h x event m w.unanswered (other m below)) _ (uncollected_below o c h facts)) (stands.outcomes_are c);
+  outcomes_are = λ c. rw (answers_same o c h e refl refl, collectors_same h e refl, outcomes_agree (oldest_number o h) h k (λ m below. result_came_other h x event m w.unanswered (other m below)) _ (uncollected_below o c h facts stands.requests_alone)) (stands.outcomes_are c);
   all_outcomes = rw (collectors_same h e refl, finishes_same h e refl) stands.all_outcomes;
+  requests_alone = alone_same h e refl refl refl stands.requests_alone;
 }
   where
     e : Entry
@@ -135,7 +139,7 @@ stands_came o h s sent event decided joiner facts was progress stands = record {
     pending = rw was at stands.awaited_is
 
     w : IsAwaited h
-    w = facts.waits pending.waits
+    w = request_awaited o h facts stands.requests_alone pending.waits
 
     x : Sending
     x = record { owner = owners.Request w.accepted.number; frame = w.frame }
@@ -163,6 +167,7 @@ stands_finish o h s a rest done facts clients oldest completes stands = record {
   progress = rw (verdicts_unsent k (oldest_number o k) unsent) (refl, refl);
   outcomes_are = outcomes;
   all_outcomes = rw (collectors_same h e refl, finishes_more h e _ refl, length-append s.outcomes (owed_for done a ∷ []), length-append (finishes h) _) (omega (arith, stands.all_outcomes));
+  requests_alone = alone_same h e refl refl refl stands.requests_alone;
 }
   where
     e : Entry
@@ -197,7 +202,7 @@ stands_finish o h s a rest done facts clients oldest completes stands = record {
     outcomes c = rw (filter-append (λ (d : OwedOutcome). c == d.client) s.outcomes (owed_for done a ∷ [])) (by_client (cases_Bool (c == a.client)))
       where
         before : filter_map (outcome_of k) (uncollected o c h) ≡ map owed_value (owed_to c s)
-        before = outcomes_agree (oldest_number o h) h k (λ m below. results_same m) (uncollected o c h) (uncollected_below o c h facts) ∙ sym (stands.outcomes_are c)
+        before = outcomes_agree (oldest_number o h) h k (λ m below. results_same m) (uncollected o c h) (uncollected_below o c h facts stands.requests_alone) ∙ sym (stands.outcomes_are c)
 
         by_client : ((c == a.client) ≡ true) ⊎ ((c == a.client) ≡ false) → map owed_value (owed_to c s ++ filter (λ (d : OwedOutcome). c == d.client) (owed_for done a ∷ [])) ≡ filter_map (outcome_of k) (uncollected o c k)
         by_client (inl own) =
@@ -221,6 +226,7 @@ stands_collect o h s c d facts first stands = record {
   progress = rw (finishes_same h e refl, verdicts_same h k (oldest_number o h) (sends_same h e refl) (cames_same h e refl)) stands.progress;
   outcomes_are = outcomes;
   all_outcomes = rw (collectors_more h e c.0 refl, finishes_same h e refl, length-append (collectors h) (c.0 ∷ [])) (omega (arith, length-without c.0 s.outcomes d first, stands.all_outcomes));
+  requests_alone = alone_same h e refl refl refl stands.requests_alone;
 }
   where
     e : Entry
@@ -230,7 +236,7 @@ stands_collect o h s c d facts first stands = record {
     k = h ++ e ∷ []
 
     agree : (client : ℕ) → filter_map (outcome_of k) (uncollected o client h) ≡ filter_map (outcome_of h) (uncollected o client h)
-    agree client = outcomes_agree (oldest_number o h) h k (λ m below. result_same h k m (sends_same h e refl) (cames_same h e refl)) (uncollected o client h) (uncollected_below o client h facts)
+    agree client = outcomes_agree (oldest_number o h) h k (λ m below. result_same h k m (sends_same h e refl) (cames_same h e refl)) (uncollected o client h) (uncollected_below o client h facts stands.requests_alone)
 
     collects : (client : ℕ) → collects_by client k ≡ collects_by client h ++ filter (λ b. client == b) (c.0 ∷ [])
     collects client = ap (λ l. filter (λ b. client == b) l) (collectors_more h e c.0 refl) ∙ filter-append (λ b. client == b) (collectors h) (c.0 ∷ [])

@@ -4,8 +4,8 @@ use Rattle.std.proofs.lemmas.Bool.{ltb-false}
 use Rattle.rdm_queue.specs.declared.config.Config.{Config}
 use Rattle.rdm_queue.specs.declared.entry.Opening.{Opening}
 use Rattle.rdm_queue.specs.declared.entry.Entry.{Entry}
-use Rattle.rdm_queue.specs.declared.entry.Entry.TheVariants.{Finish}
-use Rattle.rdm_queue.specs.log.Entries.{accepts, finishes, collectors}
+use Rattle.rdm_queue.specs.declared.entry.Entry.TheVariants.{Finish, Answer}
+use Rattle.rdm_queue.specs.log.Entries.{accepts, asks, finishes, answers, collectors}
 use Rattle.rdm_queue.specs.log.History.{is_closed, awaited, reserved}
 use Rattle.rdm_queue.specs.log.LogState.{LogState, grown, free_entries, is_full_log, opened}
 use Rattle.rdm_queue.specs.promises.Blocks.{UnlessFull, is_result, AllResults}
@@ -42,6 +42,7 @@ free_of k free = ltb-false (free_entries k) 3 free
 -- a Finish takes nothing
 pub result_added : (e : Entry) → is_result e ≡ true → added e ≡ 0
 result_added (Finish n status len) is = refl
+result_added (Answer n run fault) is = refl
 result_added e is = absurd (no is)
   where
     no : false ≡ true → ⊥
@@ -75,5 +76,5 @@ all_results_more (x ∷ block) e all is = (all.0, all_results_more block e all.1
 
 -- a session that begins
 pub session_first : (s : QueueState) (config : Config) (room : ℕ) → 1 ≤ room → StandsAfter (opened config) [] s → SessionInvariant s (record { opening = opened config; entries = []; room = room })
-unfolding accepts finishes collectors awaited is_closed
+unfolding accepts asks finishes answers collectors awaited is_closed
 session_first s config room some after = record { after = after; room = omega (arith, some) }

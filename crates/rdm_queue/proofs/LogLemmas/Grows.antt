@@ -4,7 +4,8 @@ use Rattle.rdm_wire.specs.Lists.{EachAfter}
 use Rattle.rdm_wire.proofs.EachAfterLemmas.{EachAfter-push, EachAfter-front}
 use Rattle.rdm_queue.specs.declared.entry.Opening.{Opening}
 use Rattle.rdm_queue.specs.declared.entry.Entry.{Entry}
-use Rattle.rdm_queue.specs.log.Entries.{accepts, finishes}
+use Rattle.rdm_queue.specs.log.Entries.{accepts, asks, sends, finishes, answers}
+use Rattle.rdm_queue.specs.log.Runs.{last_run}
 use Rattle.rdm_queue.specs.log.Legal.{MayFollow, Legal}
 
 pub pushed : (o : Opening) (h : List Entry) (e : Entry) → EachAfter (MayFollow o) h → MayFollow o h e → EachAfter (MayFollow o) (h ++ e ∷ [])
@@ -18,8 +19,8 @@ no_element [] back e w = cc
 no_element (f ∷ front) back e w = cc
 
 pub empty : (o : Opening) → Legal o []
-unfolding accepts finishes
+unfolding accepts asks sends finishes answers last_run
 empty o = record {
   each = λ before back e w. absurd (no_element before back e w);
-  settled = record { results_open = tt; all_closed = λ closed waits. refl };
+  settled = record { results_open = tt; runs_answered = tt; run_goes_on = tt; all_closed = λ closed waits. (refl, refl) };
 }

@@ -10,8 +10,8 @@ use Rattle.rdm_queue.specs.declared.entry.ClientId.{ClientId}
 use Rattle.rdm_queue.specs.declared.entry.Opening.{Opening}
 use Rattle.rdm_queue.specs.declared.entry.Entry.{Entry}
 use Rattle.rdm_queue.specs.declared.entry.Entry.TheVariants.{Accept, Finish}
-use Rattle.rdm_queue.specs.log.Entries.{Accepted, Sending, Finished, join_of, accepted_of, sending_of, came_of, finished_of, collector_of, joins, accepts, sends, cames, finishes, collectors}
-use Rattle.rdm_queue.specs.log.History.{unfinished, awaits_after, paused_after, closed_after, awaited, is_paused, is_closed}
+use Rattle.rdm_queue.specs.log.Entries.{Accepted, AskedDiscovery, Sending, Finished, Answered, join_of, accepted_of, asked_of, sending_of, came_of, finished_of, answered_of, collector_of, joins, accepts, asks, sends, cames, finishes, answers, collectors}
+use Rattle.rdm_queue.specs.log.History.{unfinished, unanswered, awaits_after, paused_after, closed_after, awaited, is_paused, is_closed}
 use Rattle.rdm_queue.proofs.LogLemmas.Places.{filter_map_none, filter_map_some}
 
 -- of two parts: what the first says, and then what the second says
@@ -26,6 +26,14 @@ accepts-append h k = filter_map-append accepted_of h k
 pub sends-append : (h k : List Entry) → sends (h ++ k) ≡ sends h ++ sends k
 unfolding sends
 sends-append h k = filter_map-append sending_of h k
+
+pub asks-append : (h k : List Entry) → asks (h ++ k) ≡ asks h ++ asks k
+unfolding asks
+asks-append h k = filter_map-append asked_of h k
+
+pub answered-append : (h k : List Entry) → answers (h ++ k) ≡ answers h ++ answers k
+unfolding answers
+answered-append h k = filter_map-append answered_of h k
 
 pub finishes-append : (h k : List Entry) → finishes (h ++ k) ≡ finishes h ++ finishes k
 unfolding finishes
@@ -47,6 +55,22 @@ accepts_same h e other = filter_map_none accepted_of h e other
 pub accepts_more : (h : List Entry) (e : Entry) (a : Accepted) → accepted_of e ≡ Some a → accepts (h ++ e ∷ []) ≡ accepts h ++ a ∷ []
 unfolding accepts
 accepts_more h e a is = filter_map_some accepted_of h e a is
+
+pub asks_same : (h : List Entry) (e : Entry) → asked_of e ≡ None → asks (h ++ e ∷ []) ≡ asks h
+unfolding asks
+asks_same h e other = filter_map_none asked_of h e other
+
+pub asks_more : (h : List Entry) (e : Entry) (a : AskedDiscovery) → asked_of e ≡ Some a → asks (h ++ e ∷ []) ≡ asks h ++ a ∷ []
+unfolding asks
+asks_more h e a is = filter_map_some asked_of h e a is
+
+pub answered_same : (h : List Entry) (e : Entry) → answered_of e ≡ None → answers (h ++ e ∷ []) ≡ answers h
+unfolding answers
+answered_same h e other = filter_map_none answered_of h e other
+
+pub answered_more : (h : List Entry) (e : Entry) (b : Answered) → answered_of e ≡ Some b → answers (h ++ e ∷ []) ≡ answers h ++ b ∷ []
+unfolding answers
+answered_more h e b is = filter_map_some answered_of h e b is
 
 pub sends_same : (h : List Entry) (e : Entry) → sending_of e ≡ None → sends (h ++ e ∷ []) ≡ sends h
 unfolding sends
@@ -124,3 +148,10 @@ pub unfinished_finish : (h : List Entry) (n : ℕ) (status : Status) (len : ℕ)
 unfinished_finish h n status len =
     let f : Finished = record { number = n; status = status; len = len } in
     rw (accepts_same h (Finish n status len) refl, finishes_more h (Finish n status len) f refl, length_push (finishes h) f) (sym (drop-drop 1 (length (finishes h)) (accepts h)))
+
+-- the unanswered discoveries likewise
+pub unanswered_ask : (h : List Entry) (e : Entry) (a : AskedDiscovery) → asked_of e ≡ Some a → answered_of e ≡ None → length (answers h) ≤ length (asks h) → unanswered (h ++ e ∷ []) ≡ unanswered h ++ a ∷ []
+unanswered_ask h e a is other within = rw (asks_more h e a is, answered_same h e other) (drop-append-le (length (answers h)) (asks h) (a ∷ []) within)
+
+pub unanswered_answer : (h : List Entry) (e : Entry) (b : Answered) → asked_of e ≡ None → answered_of e ≡ Some b → unanswered (h ++ e ∷ []) ≡ drop 1 (unanswered h)
+unanswered_answer h e b other is = rw (asks_same h e other, answered_more h e b is, length_push (answers h) b) (sym (drop-drop 1 (length (answers h)) (asks h)))

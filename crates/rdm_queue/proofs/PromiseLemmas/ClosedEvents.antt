@@ -70,6 +70,7 @@ silent_take k (answers.Take (Ok (Some frame))) block closed adds = by_owner adds
   where
     by_owner : (owner : Owner) → MaySend k.opening k.entries owner frame → true ≡ false
     by_owner (owners.Request n) may = absurd (false≢true (sym may.not_closed ∙ closed))
+    by_owner (owners.Run r) may = absurd (false≢true (sym may.not_closed ∙ closed))
 silent_take k (answers.Take (Ok None)) block closed adds = refl
 silent_take k (answers.Take (Err x)) block closed adds = refl
 silent_take k _ block closed adds = absurd adds

@@ -11,7 +11,8 @@ use Rattle.rdm_wire.specs.declared.request.Request.{Request}
 use Rattle.rdm_queue.specs.declared.entry.ClientId.{ClientId}
 use Rattle.rdm_queue.specs.declared.entry.Opening.{Opening}
 use Rattle.rdm_queue.specs.declared.entry.Entry.{Entry}
-use Rattle.rdm_queue.specs.declared.entry.Entry.TheVariants.{Join, Refuse, Accept, Send, Came, Finish, Collect, Pause, Resume, Close}
+use Rattle.rdm_queue.specs.declared.entry.Entry.TheVariants.{Came, Finish, Collect, Pause, Resume, Close}
+use Rattle.rdm_queue.specs.declared.entry.Entry.TheVariants as discovery
 use Rattle.rdm_queue.specs.declared.outcome.Outcome.{Outcome}
 use Rattle.rdm_queue.specs.declared.event.Event.{Event}
 use Rattle.rdm_queue.specs.declared.event.Event.TheVariants as events
@@ -31,40 +32,15 @@ use Rattle.rdm_queue.specs.promises.EventsHeadline.{outcome_given, given_to, col
 use Rattle.rdm_queue.proofs.LogLemmas.Grows.{front}
 use Rattle.rdm_queue.proofs.LogLemmas.PushLemmas.{collectors_same, collectors_more}
 use Rattle.rdm_queue.proofs.LogLemmas.LegalFacts.{legal_facts}
-use Rattle.rdm_queue.proofs.LogLemmas.ClientLemmas.{client_of_unfinished, answers_same, answers_accept, answers_finish_own, answers_finish_other}
-use Rattle.rdm_queue.proofs.LogLemmas.ClientFacts.{client_facts}
-use Rattle.rdm_queue.proofs.PromiseLemmas.StableResults.{IsFinish, uncollected_finish}
+use Rattle.rdm_queue.proofs.LogLemmas.ClientLemmas.{answers_same}
+use Rattle.rdm_queue.proofs.LogLemmas.ClientSteps.{collected_step}
+use Rattle.rdm_queue.proofs.PromiseLemmas.StableResults.{IsFinish, oldest_finish}
 use Rattle.rdm_queue.proofs.PromiseLemmas.OwnAnswers.{finished_stays}
 use Rattle.rdm_queue.proofs.PromiseLemmas.ExplainsLemmas.{explained_grows}
 
 -- an entry that is no Collect leaves what was collected
 abbrev NoCollects : List Entry → Type 0
 NoCollects block = AllByRecursion (λ e. collector_of e ≡ None) block
-
-taken_same : (m : ℕ) (xs ys more : List Entry) → m ≤ length xs → ys ≡ xs ++ more → take m ys ≡ take m xs
-taken_same m xs ys more within is = rw is (take-append-le m xs more within)
-
-collected_step : (o : Opening) (c : ℕ) (h : List Entry) (e : Entry) → EachAfter (MayFollow o) h → MayFollow o h e → collector_of e ≡ None → collected o c (h ++ e ∷ []) ≡ collected o c h
-collected_step o c h (Accept d n request) each may none = rw (answers_accept o c h (legal_facts o h each) d n request, collectors_same h (Accept d n request) refl) refl
-collected_step o c h (Finish n status len) each may none = rw (collectors_same h (Finish n status len) refl) (by_client (cases_Bool (c == may.accepted.client)))
-  where
-    e : Entry
-    e = Finish n status len
-
-    client : client_of_request o h n ≡ Some may.accepted.client
-    client = rw may.number (client_of_unfinished o h (legal_facts o h each) 0 may.accepted may.oldest)
-
-    by_client : ((c == may.accepted.client) ≡ true) ⊎ ((c == may.accepted.client) ≡ false) → take (length (collects_by c h)) (answers_to o c (h ++ e ∷ [])) ≡ collected o c h
-    by_client (inl own) = taken_same (length (collects_by c h)) (answers_to o c h) (answers_to o c (h ++ e ∷ [])) (e ∷ []) ((client_facts o h each).collected_within c) (answers_finish_own o c h n status len may.accepted.client client own)
-    by_client (inr other) = rw (answers_finish_other o c h n status len may.accepted.client client other) refl
-collected_step o c h (Collect d) each may none = cc
-collected_step o c h (Join d n) each may none = rw (answers_same o c h (Join d n) refl refl, collectors_same h (Join d n) refl) refl
-collected_step o c h (Refuse d call cause) each may none = rw (answers_same o c h (Refuse d call cause) refl refl, collectors_same h (Refuse d call cause) refl) refl
-collected_step o c h (Send owner frame) each may none = rw (answers_same o c h (Send owner frame) refl refl, collectors_same h (Send owner frame) refl) refl
-collected_step o c h (Came event) each may none = rw (answers_same o c h (Came event) refl refl, collectors_same h (Came event) refl) refl
-collected_step o c h Pause each may none = rw (answers_same o c h Pause refl refl, collectors_same h Pause refl) refl
-collected_step o c h Resume each may none = rw (answers_same o c h Resume refl refl, collectors_same h Resume refl) refl
-collected_step o c h Close each may none = rw (answers_same o c h Close refl refl, collectors_same h Close refl) refl
 
 collected_block : (o : Opening) (c : ℕ) (h block : List Entry) → EachAfter (MayFollow o) (h ++ block) → NoCollects block → collected o c (h ++ block) ≡ collected o c h
 collected_block o c h [] each none = rw append-nil refl
@@ -99,6 +75,7 @@ switch_none false e block none is = rw is tt
 results_none : (block : List Entry) → AllByRecursion (λ r. is_result r ≡ true) block → NoCollects block
 results_none [] all = tt
 results_none (Finish n status len ∷ block) all = (refl, results_none block all.1)
+results_none (discovery.Answer n run fault ∷ block) all = (refl, results_none block all.1)
 results_none (_ ∷ block) all = absurd (false≢true all.0)
 
 with_results_none : (e : Entry) (block : List Entry) → collector_of e ≡ None → IsWithResults e block → NoCollects block
@@ -145,7 +122,7 @@ outcome_lasts : (o : Opening) (h more : List Entry) (c : ℕ) (outcome : Outcome
 outcome_lasts o h more c outcome each is = ap (outcome_of (h ++ more)) f.is ∙ ap (λ r. Some (RequestValue (Some f.number) (completion_of f.status r))) (finished_stays o h more f.number each f.finished) ∙ sym (ap (outcome_of h) f.is) ∙ is.told
   where
     f : IsFinish o h is.entry
-    f = uncollected_finish o h (legal_facts o h (front o h more each)) c 0 is.entry is.oldest
+    f = oldest_finish o h (legal_facts o h (front o h more each)) c outcome is
 
 -- what one event adds to a client's outcomes, as a later log has them
 one_collect : (k : LogState) (d : ClientId) (outcome : Outcome) (back log : List Entry) → log ≡ (k.entries ++ Collect d ∷ []) ++ back → EachAfter (MayFollow k.opening) log → IsOldest k.opening k.entries d.0 outcome

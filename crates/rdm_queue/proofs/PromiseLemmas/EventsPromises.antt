@@ -5,7 +5,7 @@ use Rattle.std.specs.List.{Contains}
 use Rattle.std.proofs.lemmas.List.Elements.{Contains-append_left, Contains-append_right}
 use Rattle.std.proofs.lemmas.List.{length-map}
 use Rattle.std.proofs.lemmas.Bool.{false≢true, eqb-true}
-use Rattle.std.proofs.lemmas.Option.{none-some, slice_get_within, get_or_from_slice_get, slice_get-get_or, slice_get-map, same_Some}
+use Rattle.std.proofs.lemmas.Option.{none-some, slice_get_within, slice_get-get_or, slice_get-map, same_Some}
 use Rattle.rdm_wire.specs.Lists.{EachAfter}
 use Rattle.rdm_wire.specs.declared.request.Request.{Request}
 use Rattle.rdm_queue.specs.declared.entry.ClientId.{ClientId}
@@ -20,7 +20,7 @@ use Rattle.rdm_queue.specs.declared.event.Event.TheVariants as events
 use Rattle.rdm_queue.specs.declared.event.Answer.{Answer}
 use Rattle.rdm_queue.specs.declared.event.Answer.TheVariants as answers
 use Rattle.rdm_queue.specs.log.Entries.{Accepted, accepted_of, accepts, result}
-use Rattle.rdm_queue.specs.log.Clients.{client_of_request, is_just, is_answer_to, answers_to, collects_by, uncollected}
+use Rattle.rdm_queue.specs.log.Clients.{client_of_request, is_client_of, is_answer_to, answers_to, collects_by, uncollected}
 use Rattle.rdm_queue.specs.log.Refusals.{submit_fault}
 use Rattle.rdm_queue.specs.promises.Outcomes.{outcome_of, completion_of, outcome_value}
 use Rattle.rdm_queue.specs.promises.Outcomes.OutcomeValue.{RequestValue}
@@ -35,7 +35,7 @@ use Rattle.rdm_queue.proofs.LogLemmas.Grows.{front}
 use Rattle.rdm_queue.proofs.LogLemmas.LegalFacts.{legal_facts}
 use Rattle.rdm_queue.proofs.LogLemmas.Places.{slice_get-drop, filter_map_has}
 use Rattle.rdm_queue.proofs.LogLemmas.ClientLemmas.{client_stays}
-use Rattle.rdm_queue.proofs.PromiseLemmas.StableResults.{filter_has, IsFinish, uncollected_finish}
+use Rattle.rdm_queue.proofs.PromiseLemmas.StableResults.{contains_from_get, client_is, filter_has, IsFinish, oldest_finish}
 use Rattle.rdm_queue.proofs.PromiseLemmas.OwnAnswers.{finished_stays}
 use Rattle.rdm_queue.proofs.PromiseLemmas.OneResult.{one_result}
 use Rattle.rdm_queue.proofs.PromiseLemmas.FullRefuses.{full_is_fault, fault_is_full, refusal_changes_nothing}
@@ -45,9 +45,6 @@ use Rattle.rdm_queue.proofs.PromiseLemmas.ClosedEvents.{closes, nothing_after, n
 use Rattle.rdm_queue.proofs.PromiseLemmas.QuietEvents.{idle_after}
 use Rattle.rdm_queue.proofs.PromiseLemmas.RisingNumbers.{numbers_rise}
 use Rattle.rdm_queue.proofs.PromiseLemmas.ExplainsLemmas.{IsPlaced, placed, one_answer_each, explained_grows, answered_at}
-
-contains_from_get : {X : Type 0} (xs : List X) (i : ℕ) (x : X) → slice_get xs i ≡ Some x → Contains xs x
-contains_from_get xs i x at = (i, slice_get_within xs i x at, get_or_from_slice_get xs i x x at)
 
 contains_last : {X : Type 0} (xs : List X) (x : X) → Contains (xs ++ x ∷ []) x
 contains_last xs x = Contains-append_right xs (x ∷ []) x (0, omega arith, refl)
@@ -110,10 +107,6 @@ unfolding answers_to
 answer_found o h c x oldest = filter_has (is_answer_to o c h) h (length (collects_by c h) + 0) x (sym (slice_get-drop (length (collects_by c h)) (answers_to o c h) 0) ∙ oldest)
 
 -- a client's oldest uncollected Finish, and its outcome in a later log
-just_is : (c : ℕ) (client : Option ℕ) → is_just c client ≡ true → client ≡ Some c
-just_is c None is = absurd (false≢true is)
-just_is c (Some d) is = ap (λ x. Some x) (sym (eqb-true c d is))
-
 own_outcome : (o : Opening) (h more : List Entry) (c : ℕ) (outcome : Outcome) → EachAfter (MayFollow o) (h ++ more) → IsOldest o h c outcome → IsOwnOutcome o (h ++ more) c outcome
 own_outcome o h more c outcome each is = record {
   number = f.number;
@@ -125,13 +118,13 @@ own_outcome o h more c outcome each is = record {
 }
   where
     f : IsFinish o h is.entry
-    f = uncollected_finish o h (legal_facts o h (front o h more each)) c 0 is.entry is.oldest
+    f = oldest_finish o h (legal_facts o h (front o h more each)) c outcome is
 
     found : (j : ℕ) × (slice_get h j ≡ Some is.entry) × (is_answer_to o c h is.entry ≡ true)
     found = answer_found o h c is.entry is.oldest
 
     client : client_of_request o h f.number ≡ Some c
-    client = just_is c (client_of_request o h f.number) (rw f.is at found.2)
+    client = client_is c (client_of_request o h f.number) (rw f.is at found.2)
 
     within : f.number - o.next_request < length (accepts h)
     within = omega (arith, slice_get_within (map (λ (a : Accepted). a.client) (accepts h)) (f.number - o.next_request) c client, length-map (accepts h) (λ (a : Accepted). a.client))

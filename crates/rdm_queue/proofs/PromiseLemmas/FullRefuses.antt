@@ -20,9 +20,10 @@ use Rattle.rdm_queue.specs.log.Refusals.{submit_fault, number_of_submit_fault}
 use Rattle.rdm_queue.specs.log.Legal.{MayFollow, Legal}
 use Rattle.rdm_queue.specs.promises.Headline.{IsFull, SameQueue, FullRefuses}
 use Rattle.rdm_queue.proofs.LogLemmas.Grows.{front}
-use Rattle.rdm_queue.proofs.LogLemmas.PushLemmas.{joins_same, accepts_same, finishes_same, sends_same, cames_same, unfinished_same, awaited-push, is_paused-push, is_closed-push}
+use Rattle.rdm_queue.proofs.LogLemmas.PushLemmas.{joins_same, accepts_same, asks_same, answered_same, finishes_same, sends_same, cames_same, unfinished_same, awaited-push, is_paused-push, is_closed-push}
 use Rattle.rdm_queue.proofs.LogLemmas.ExchangeLemmas.{result_same}
-use Rattle.rdm_queue.proofs.LogLemmas.ClientSteps.{uncollected_same, outstanding_same}
+use Rattle.rdm_queue.proofs.LogLemmas.RunLemmas.{SameRuns, same_runs, last_run_same, asked_before_same, known_same}
+use Rattle.rdm_queue.proofs.LogLemmas.ClientSteps.{uncollected_same, outstanding_same, outstanding_discoveries_same}
 
 -- of three tests in order the third decides
 first_two_pass : (closed unknown full : Bool) → (if closed then Some faults.Closed else (if unknown then Some faults.UnknownClient else (if full then Some faults.Full else None))) ≡ Some faults.Full → (closed ≡ false) × (unknown ≡ false) × (full ≡ true)
@@ -74,10 +75,25 @@ refusal_changes_nothing o h c call cause each = record {
   results = λ n. result_same h (h ++ e ∷ []) n (sends_same h e refl) (cames_same h e refl);
   uncollected_of = λ d. uncollected_same o d h e refl refl refl;
   outstanding = λ d. outstanding_same o d h e each refl refl;
+  next_discovery = rw (asks_same h e refl) refl;
+  asked = rw (asks_same h e refl, answered_same h e refl) refl;
+  unserved_ones = rw (asked_before_same h e refl, asks_same h e refl, answered_same h e refl) refl;
+  run = runs.same_open;
+  next_run_number = rw (last_run_same h k (sends_same h e refl)) refl;
+  exchanges = runs.same_exchanges;
+  devices = known_same o h k (answered_same h e refl) runs.same_exchanges;
+  devices_from = rw (answered_same h e refl) refl;
+  outstanding_asked = λ d. outstanding_discoveries_same o d h e each refl refl;
 }
   where
     e : Entry
     e = Refuse c call cause
+
+    k : List Entry
+    k = h ++ e ∷ []
+
+    runs : SameRuns h k
+    runs = same_runs h e refl refl refl
 
 pub full_refuses : (o : Opening) (h : List Entry) → Legal o h → FullRefuses o h
 full_refuses o h legal = record {

@@ -6,9 +6,9 @@ use Rattle.std.proofs.lemmas.List.{map-append, take-append-drop, length-take-le}
 use Rattle.std.proofs.lemmas.List.Elements.{filter-append}
 use Rattle.rdm_queue.specs.declared.entry.Opening.{Opening}
 use Rattle.rdm_queue.specs.declared.entry.Entry.{Entry}
-use Rattle.rdm_queue.specs.declared.entry.Entry.TheVariants.{Finish}
+use Rattle.rdm_queue.specs.declared.entry.Entry.TheVariants.{Finish, Answer}
 use Rattle.rdm_queue.specs.log.Entries.{Accepted, Finished, finished_of, accepts, finishes}
-use Rattle.rdm_queue.specs.log.Clients.{accepts_by, client_of_request, is_just, is_answer_to, answers_to}
+use Rattle.rdm_queue.specs.log.Clients.{accepts_by, client_of_request, client_of_discovery, is_client_of, is_answer_to, answers_to}
 use Rattle.rdm_queue.specs.log.Legal.{Legal}
 use Rattle.rdm_queue.specs.promises.Headline.{numbers_accepted, numbers_finished, Begins, InOrder}
 use Rattle.rdm_queue.proofs.PromiseLemmas.Numbers.{range_parts, numbers_by_place}
@@ -28,9 +28,9 @@ finished_first o h facts = record {
 }
 
 -- a client's Finishes, by the clients of their requests
-finishes_to : (o : Opening) (c : ℕ) (h k : List Entry) → filter_map finished_of (filter (is_answer_to o c h) k) ≡ filter (λ f. is_just c (client_of_request o h f.number)) (filter_map finished_of k)
+finishes_to : (o : Opening) (c : ℕ) (h k : List Entry) → filter_map finished_of (filter (is_answer_to o c h) k) ≡ filter (λ f. is_client_of c (client_of_request o h f.number)) (filter_map finished_of k)
 finishes_to o c h [] = refl
-finishes_to o c h (Finish n status len ∷ k) = by_test (is_just c (client_of_request o h n)) (finishes_to o c h k)
+finishes_to o c h (Finish n status len ∷ k) = by_test (is_client_of c (client_of_request o h n)) (finishes_to o c h k)
   where
     f : Finished
     f = record { number = n; status = status; len = len }
@@ -39,10 +39,21 @@ finishes_to o c h (Finish n status len ∷ k) = by_test (is_just c (client_of_re
     answers = filter (is_answer_to o c h) k
 
     own : List Finished
-    own = filter (λ g. is_just c (client_of_request o h g.number)) (filter_map finished_of k)
+    own = filter (λ g. is_client_of c (client_of_request o h g.number)) (filter_map finished_of k)
 
     by_test : (b : Bool) → filter_map finished_of answers ≡ own → filter_map finished_of (if b then Finish n status len ∷ answers else answers) ≡ (if b then f ∷ own else own)
     by_test true later = ap (λ l. f ∷ l) later
+    by_test false later = later
+finishes_to o c h (Answer n run fault ∷ k) = by_test (is_client_of c (client_of_discovery o h n)) (finishes_to o c h k)
+  where
+    answers : List Entry
+    answers = filter (is_answer_to o c h) k
+
+    own : List Finished
+    own = filter (λ g. is_client_of c (client_of_request o h g.number)) (filter_map finished_of k)
+
+    by_test : (b : Bool) → filter_map finished_of answers ≡ own → filter_map finished_of (if b then Answer n run fault ∷ answers else answers) ≡ own
+    by_test true later = later
     by_test false later = later
 finishes_to o c h (e ∷ k) = finishes_to o c h k
 
@@ -84,14 +95,14 @@ each_client o h facts c = record {
     even : length (finishes h) ≡ length earlier
     even = sym (length-take-le (length (finishes h)) (accepts h) facts.finished_within)
 
-    agree : (i : ℕ) (f : Finished) (a : Accepted) → slice_get (finishes h) i ≡ Some f → slice_get earlier i ≡ Some a → (f.number ≡ a.number) × (is_just c (client_of_request o h f.number) ≡ (c == a.client))
+    agree : (i : ℕ) (f : Finished) (a : Accepted) → slice_get (finishes h) i ≡ Some f → slice_get earlier i ≡ Some a → (f.number ≡ a.number) × (is_client_of c (client_of_request o h f.number) ≡ (c == a.client))
     agree i f a at_f at_a =
         let place = taken_place (length (finishes h)) (accepts h) i a at_a in
         let number : f.number ≡ a.number = facts.finish_numbers i f at_f ∙ sym (facts.accept_numbers i a place) in
         (number, rw (number, client_of_accepted o h facts i a place) refl)
 
-    paired : numbers_finished (filter (λ f. is_just c (client_of_request o h f.number)) (finishes h)) ≡ numbers_accepted (filter (λ a. c == a.client) earlier)
-    paired = same_numbers (λ f. is_just c (client_of_request o h f.number)) (λ a. c == a.client) (finishes h) earlier even agree
+    paired : numbers_finished (filter (λ f. is_client_of c (client_of_request o h f.number)) (finishes h)) ≡ numbers_accepted (filter (λ a. c == a.client) earlier)
+    paired = same_numbers (λ f. is_client_of c (client_of_request o h f.number)) (λ a. c == a.client) (finishes h) earlier even agree
 
 pub in_order : (o : Opening) (h : List Entry) → Legal o h → InOrder o h
 in_order o h legal = let facts = legal_facts o h legal.each in record { numbered = accepted_in_order o h facts; all = finished_first o h facts; each = each_client o h facts }

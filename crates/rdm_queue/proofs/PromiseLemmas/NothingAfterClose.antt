@@ -5,13 +5,13 @@ use Rattle.rdm_wire.specs.Lists.{EachAfter}
 use Rattle.rdm_queue.specs.declared.entry.Opening.{Opening}
 use Rattle.rdm_queue.specs.declared.entry.Owner.TheVariants as owners
 use Rattle.rdm_queue.specs.declared.entry.Entry.{Entry}
-use Rattle.rdm_queue.specs.declared.entry.Entry.TheVariants.{Join, Accept, Send, Close}
-use Rattle.rdm_queue.specs.log.Entries.{joins, accepts, sends}
+use Rattle.rdm_queue.specs.declared.entry.Entry.TheVariants.{Join, Accept, Ask, Send, Close}
+use Rattle.rdm_queue.specs.log.Entries.{joins, accepts, asks, sends}
 use Rattle.rdm_queue.specs.log.History.{closed_after, is_closed}
 use Rattle.rdm_queue.specs.log.Legal.{MayFollow, Legal}
 use Rattle.rdm_queue.specs.promises.Headline.{NothingStarts, NothingAfterClose}
-use Rattle.rdm_queue.proofs.LogLemmas.PushLemmas.{joins-append, accepts-append, sends-append, is_closed-push}
-use Rattle.rdm_queue.proofs.LogLemmas.RefusalLemmas.{join_passes, submit_passes}
+use Rattle.rdm_queue.proofs.LogLemmas.PushLemmas.{joins-append, accepts-append, asks-append, sends-append, is_closed-push}
+use Rattle.rdm_queue.proofs.LogLemmas.RefusalLemmas.{join_passes, submit_passes, ask_passes}
 
 stays_closed : (e : Entry) → closed_after true e ≡ true
 stays_closed Close = refl
@@ -25,20 +25,23 @@ starts_none : (e : Entry) (more : List Entry) → NothingStarts (e ∷ []) → N
 starts_none e more one rest = record {
   no_client = joins-append (e ∷ []) more ∙ rw (one.no_client, rest.no_client) refl;
   no_request = accepts-append (e ∷ []) more ∙ rw (one.no_request, rest.no_request) refl;
+  no_discovery = asks-append (e ∷ []) more ∙ rw (one.no_discovery, rest.no_discovery) refl;
   no_frame = sends-append (e ∷ []) more ∙ rw (one.no_frame, rest.no_frame) refl;
 }
 
 -- of an entry that may follow where the queue is closed
 one_after : (o : Opening) (h : List Entry) (e : Entry) → is_closed o h ≡ true → MayFollow o h e → NothingStarts (e ∷ [])
-unfolding joins accepts sends
+unfolding joins accepts asks sends
 one_after o h (Join c n) closed may = absurd (false≢true (sym (join_passes o h n may.1).not_closed ∙ closed))
 one_after o h (Accept c n request) closed may = absurd (false≢true (sym (submit_passes o h c.0 may.1).not_closed ∙ closed))
+one_after o h (Ask c n kind) closed may = absurd (false≢true (sym (ask_passes o h c.0 may.1).not_closed ∙ closed))
+one_after o h (Send (owners.Run r) frame) closed may = absurd (false≢true (sym may.1.not_closed ∙ closed))
 one_after o h (Send (owners.Request n) frame) closed may = absurd (false≢true (sym may.1.not_closed ∙ closed))
-one_after o h _ closed may = record { no_client = refl; no_request = refl; no_frame = refl }
+one_after o h _ closed may = record { no_client = refl; no_request = refl; no_discovery = refl; no_frame = refl }
 
 nothing_after : (o : Opening) (h more : List Entry) → is_closed o h ≡ true → EachAfter (MayFollow o) (h ++ more) → NothingStarts more
-unfolding joins accepts sends
-nothing_after o h [] closed each = record { no_client = refl; no_request = refl; no_frame = refl }
+unfolding joins accepts asks sends
+nothing_after o h [] closed each = record { no_client = refl; no_request = refl; no_discovery = refl; no_frame = refl }
 nothing_after o h (e ∷ more) closed each =
     starts_none e more (one_after o h e closed (each h more e refl)) (nothing_after o (h ++ e ∷ []) more (closed_more o h e closed) (rw (append_assoc h (e ∷ []) more) each))
 

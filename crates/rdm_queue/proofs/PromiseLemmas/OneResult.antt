@@ -15,11 +15,11 @@ use Rattle.rdm_queue.proofs.LogLemmas.LegalFacts.{LogFacts, legal_facts}
 use Rattle.rdm_queue.proofs.PromiseLemmas.InOrder.{accepted_in_order, finished_in_order}
 
 -- a number among the first m from a
-record IsAmong (a m n : ℕ) : Type 0 where
-  from : a ≤ n
-  to : n < a + m
+pub record IsAmong (a m n : ℕ) : Type 0 where
+  pub from : a ≤ n
+  pub to : n < a + m
 
-among : (a m n : ℕ) → IsAmong a m n ⊎ ((n < a) ⊎ (a + m ≤ n))
+pub among : (a m n : ℕ) → IsAmong a m n ⊎ ((n < a) ⊎ (a + m ≤ n))
 among a m n = by_tests (cases_lt n a) (cases_lt n (a + m))
   where
     by_tests : (n < a) ⊎ (a ≤ n) → (n < a + m) ⊎ (a + m ≤ n) → IsAmong a m n ⊎ ((n < a) ⊎ (a + m ≤ n))
@@ -27,10 +27,10 @@ among a m n = by_tests (cases_lt n a) (cases_lt n (a + m))
     by_tests (inr from) (inl to) = inl (record { from = from; to = to })
     by_tests (inr from) (inr above) = inr (inr above)
 
-contains_range : (a m n : ℕ) → IsAmong a m n → Contains (range_with_len a m) n
+pub contains_range : (a m n : ℕ) → IsAmong a m n → Contains (range_with_len a m) n
 contains_range a m n is = (n - a, omega (arith, length-range_with_len a m, is.from, is.to), get_or-range_with_len a m (n - a) n (omega (arith, is.from, is.to)) ∙ omega (arith, is.from))
 
-range_contains : (a m n : ℕ) → Contains (range_with_len a m) n → IsAmong a m n
+pub range_contains : (a m n : ℕ) → Contains (range_with_len a m) n → IsAmong a m n
 range_contains a m n has =
     let within : has.0 < m = omega (arith, has.1, length-range_with_len a m) in
     let is : n ≡ a + has.0 = sym has.2 ∙ get_or-range_with_len a m has.0 n within in
@@ -67,7 +67,7 @@ exactly_one o h legal closed idle n has = counted o h facts n (record { from = i
     is = range_contains o.next_request (length (accepts h)) n (rw (accepted_in_order o h facts) at has)
 
     all : length (accepts h) ≤ length (finishes h)
-    all = omega (arith, length-drop (length (finishes h)) (accepts h), ap length (legal.settled.all_closed closed idle))
+    all = omega (arith, length-drop (length (finishes h)) (accepts h), ap length (legal.settled.all_closed closed idle).0)
 
 pub one_result : (o : Opening) (h : List Entry) → Legal o h → OneResult o h
 one_result o h legal = let facts = legal_facts o h legal.each in record { at_most_one = at_most_one o h facts; accepted = was_accepted o h facts; exactly_one = exactly_one o h legal }

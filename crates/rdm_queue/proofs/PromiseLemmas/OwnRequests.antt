@@ -1,6 +1,6 @@
 -- Each exchange of a request carries that request.
 use Rattle.std.proofs.Common.{◌≡◌, ℕ, ◌+◌, length, zero, suc, true, List, [], ◌∷◌, ◌++◌, Some, None, slice_get, map, zip, refl, sym, ap, ◌∙◌}
-use Rattle.std.proofs.lemmas.Bool.{eqb-true}
+use Rattle.std.proofs.lemmas.Bool.{eqb-true, false≢true}
 use Rattle.std.proofs.lemmas.Option.{none-some, same_Some}
 use Rattle.arrayvec.specs.ArrayVec.{ArrayVec}
 use Rattle.rdm_wire.specs.Lists.{EachAfter}
@@ -76,9 +76,19 @@ carries_send o h n frame may before = rw (sends_more h e s refl) (each_place_pus
       packet = may.packet;
     }
 
+carries_run_send : (o : Opening) (h : List Entry) (r : ℕ) (frame : ArrayVec ℕ) → SendsCarry o h → SendsCarry o (h ++ Send (owners.Run r) frame ∷ [])
+carries_run_send o h r frame before = rw (sends_more h e s refl) (each_place_push (λ i x. (m : ℕ) → is_request m x.owner ≡ true → CarriesRequest o (h ++ e ∷ []) m x.frame.items) (sends h) s (λ i x at m own. carries_still o h (h ++ e ∷ []) m x.frame.items (accepts_same h e refl) (before i x at m own)) (λ m own. absurd (false≢true own)))
+  where
+    e : Entry
+    e = Send (owners.Run r) frame
+
+    s : Sending
+    s = record { owner = owners.Run r; frame = frame }
+
 carries_step : (o : Opening) (h : List Entry) (e : Entry) → EachAfter (MayFollow o) h → SendsCarry o h → MayFollow o h e → SendsCarry o (h ++ e ∷ [])
 carries_step o h (Accept c n request) each before may = carries_accept o h c n request before
 carries_step o h (Send (owners.Request n) frame) each before may = carries_send o h n frame may.1 before
+carries_step o h (Send (owners.Run r) frame) each before may = carries_run_send o h r frame before
 carries_step o h e each before may = carries_same o h (h ++ e ∷ []) (accepts_same h e refl) (sends_same h e refl) before
 
 carries_none : (o : Opening) → SendsCarry o []

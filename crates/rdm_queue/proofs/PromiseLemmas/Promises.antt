@@ -3,13 +3,14 @@ use Rattle.std.specs.Prelude.{List}
 use Rattle.rdm_queue.specs.declared.entry.Opening.{Opening}
 use Rattle.rdm_queue.specs.declared.entry.Entry.{Entry}
 use Rattle.rdm_queue.specs.log.Legal.{Legal}
-use Rattle.rdm_queue.specs.promises.Headline.{Promised}
+use Rattle.rdm_queue.specs.promises.Promised.{Promised}
 use Rattle.rdm_queue.proofs.PromiseLemmas.OneResult.{one_result}
 use Rattle.rdm_queue.proofs.PromiseLemmas.OwnRequests.{own_requests}
 use Rattle.rdm_queue.proofs.PromiseLemmas.OwnAnswers.{own_answers}
 use Rattle.rdm_queue.proofs.PromiseLemmas.InOrder.{in_order}
 use Rattle.rdm_queue.proofs.PromiseLemmas.FullRefuses.{full_refuses}
 use Rattle.rdm_queue.proofs.PromiseLemmas.NothingAfterClose.{after_close}
+use Rattle.rdm_queue.proofs.PromiseLemmas.OwnDiscoveries.{discoveries_promised}
 
 pub promised : (o : Opening) (h : List Entry) → Legal o h → Promised o h
 promised o h legal = record {
@@ -19,4 +20,5 @@ promised o h legal = record {
   in_order = in_order o h legal;
   full_refuses = full_refuses o h legal;
   nothing_after_close = after_close o h legal;
+  discoveries = discoveries_promised o h legal;
 }

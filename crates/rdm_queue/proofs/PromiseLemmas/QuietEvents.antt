@@ -9,6 +9,7 @@ use Rattle.rdm_queue.specs.declared.entry.Owner.{Owner}
 use Rattle.rdm_queue.specs.declared.entry.Owner.TheVariants as owners
 use Rattle.rdm_queue.specs.declared.entry.Entry.{Entry}
 use Rattle.rdm_queue.specs.declared.entry.Entry.TheVariants.{Came, Finish, Pause, Resume, Close}
+use Rattle.rdm_queue.specs.declared.entry.Entry.TheVariants as discovery
 use Rattle.rdm_queue.specs.declared.event.Event.{Event}
 use Rattle.rdm_queue.specs.declared.event.Event.TheVariants as events
 use Rattle.rdm_queue.specs.declared.event.Answer.{Answer}
@@ -33,6 +34,7 @@ quiet_block h (e ∷ block) idle quiet = rw (append_assoc h (e ∷ []) block) at
 results_quiet : (block : List Entry) → AllByRecursion (λ r. is_result r ≡ true) block → IsQuiet block
 results_quiet [] all = tt
 results_quiet (Finish n status len ∷ block) all = (refl, results_quiet block all.1)
+results_quiet (discovery.Answer n run fault ∷ block) all = (refl, results_quiet block all.1)
 results_quiet (_ ∷ block) all = absurd (false≢true all.0)
 
 with_results_quiet : (e : Entry) (block : List Entry) → awaits_after false e ≡ false → IsWithResults e block → IsQuiet block
@@ -65,6 +67,7 @@ quiet k events.Take (answers.Take (Ok (Some frame))) block closed adds = absurd 
   where
     by_owner : (owner : Owner) → MaySend k.opening k.entries owner frame → ⊥
     by_owner (owners.Request n) may = false≢true (sym may.not_closed ∙ closed)
+    by_owner (owners.Run r) may = false≢true (sym may.not_closed ∙ closed)
 quiet k events.Take (answers.Take (Ok None)) block closed adds = rw adds.1.1 tt
 quiet k events.Take (answers.Take (Err x)) block closed adds = rw adds.1 tt
 quiet k (events.Deliver event) (answers.Deliver (Ok x)) block closed adds = with_results_quiet (Came event) block refl adds.1

@@ -5,8 +5,9 @@ use Rattle.rdm_join.specs.declared.verdict.Sent.{Sent}
 use Rattle.rdm_join.specs.Verdict.{sent_by}
 use Rattle.rdm_queue.specs.declared.entry.Opening.{Opening}
 use Rattle.rdm_queue.specs.declared.entry.Entry.{Entry}
-use Rattle.rdm_queue.specs.log.Entries.{Sending, sends, finishes, collectors, verdicts}
+use Rattle.rdm_queue.specs.log.Entries.{Sending, asks, sends, finishes, answers, collectors, verdicts}
 use Rattle.rdm_queue.specs.log.History.{awaited, is_paused, is_closed, places, next_request, next_tn, unfinished}
+use Rattle.rdm_queue.specs.log.Runs.{last_run}
 use Rattle.rdm_queue.specs.log.Clients.{uncollected}
 use Rattle.rdm_wire.specs.Lists.{EachAfter}
 use Rattle.rdm_queue.specs.log.Legal.{MayFollow, Legal}
@@ -30,6 +31,12 @@ IsPending h (Some sent) = IsLastSent h sent
 abbrev pub oldest_number : Opening → List Entry → ℕ
 oldest_number o h = o.next_request + length (finishes h)
 
+-- no discovery was asked or answered, and no run began
+pub record NoDiscoveries (h : List Entry) : Type 0 where
+  pub no_ask : asks h ≡ []
+  pub no_answer : answers h ≡ []
+  pub no_run : last_run h ≡ None
+
 -- what a queue holds is what the log says
 pub record Agrees (o : Opening) (h : List Entry) (s : QueueState) : Type 0 where
   pub source_is : s.source ≡ o.source
@@ -45,6 +52,8 @@ pub record Agrees (o : Opening) (h : List Entry) (s : QueueState) : Type 0 where
   pub progress : IsProgress (verdicts (oldest_number o h) h) s.decided s.joiner
   pub outcomes_are : (c : ℕ) → map owed_value (owed_to c s) ≡ filter_map (outcome_of h) (uncollected o c h)
   pub all_outcomes : length s.outcomes + length (collectors h) ≡ length (finishes h)
+  -- the queue offers no discoveries
+  pub requests_alone : NoDiscoveries h
 
 -- a queue stands after a log that is legal
 pub record StandsAfter (o : Opening) (h : List Entry) (s : QueueState) : Type 0 where

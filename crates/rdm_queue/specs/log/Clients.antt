@@ -3,27 +3,35 @@ use Rattle.std.specs.Prelude.{ℕ, ◌-◌, Bool, false, List, length, take, dro
 use Rattle.std.specs.Prelude.{slice_get}
 use Rattle.rdm_queue.specs.declared.entry.Opening.{Opening}
 use Rattle.rdm_queue.specs.declared.entry.Entry.{Entry}
-use Rattle.rdm_queue.specs.declared.entry.Entry.TheVariants.{Finish}
-use Rattle.rdm_queue.specs.log.Entries.{Accepted, accepts, finishes, collectors}
+use Rattle.rdm_queue.specs.declared.entry.Entry.TheVariants.{Finish, Answer}
+use Rattle.rdm_queue.specs.log.Entries.{Accepted, AskedDiscovery, accepts, asks, finishes, answers, collectors}
 
--- Accepts of a client
+-- Accepts and Asks of a client
 abbrev pub accepts_by : ℕ → List Entry → List Accepted
 accepts_by c h = filter (λ a. c == a.client) (accepts h)
 
--- the client of a request: numbers rise by one from the opening's, so a number gives the place among the Accepts
+abbrev pub asks_by : ℕ → List Entry → List AskedDiscovery
+asks_by c h = filter (λ a. c == a.client) (asks h)
+
+-- the client of a request, and of a discovery: numbers rise by one from the opening's, so a number gives the place
+-- among the Accepts, and among the Asks
 abbrev pub client_of_request : Opening → List Entry → ℕ → Option ℕ
 client_of_request o h n = slice_get (map (λ a. a.client) (accepts h)) (n - o.next_request)
 
-abbrev pub is_just : ℕ → Option ℕ → Bool
-is_just c None = false
-is_just c (Some d) = c == d
+abbrev pub client_of_discovery : Opening → List Entry → ℕ → Option ℕ
+client_of_discovery o h n = slice_get (map (λ a. a.client) (asks h)) (n - o.next_ask)
 
--- a Finish of the client's request
+abbrev pub is_client_of : ℕ → Option ℕ → Bool
+is_client_of c None = false
+is_client_of c (Some d) = c == d
+
+-- a Finish of the client's request, or an Answer to its discovery
 abbrev pub is_answer_to : Opening → ℕ → List Entry → Entry → Bool
-is_answer_to o c h (Finish n status len) = is_just c (client_of_request o h n)
+is_answer_to o c h (Finish n status len) = is_client_of c (client_of_request o h n)
+is_answer_to o c h (Answer n run fault) = is_client_of c (client_of_discovery o h n)
 is_answer_to o c h _ = false
 
--- a client's Finishes, in order, and the first of them, which it has collected
+-- a client's Finishes and Answers, in order, and the first of them, which it has collected
 unfoldable pub answers_to : Opening → ℕ → List Entry → List Entry
 answers_to o c h = filter (is_answer_to o c h) h
 
@@ -36,6 +44,9 @@ collected o c h = take (length (collects_by c h)) (answers_to o c h)
 abbrev pub uncollected : Opening → ℕ → List Entry → List Entry
 uncollected o c h = drop (length (collects_by c h)) (answers_to o c h)
 
--- a client's requests, less those whose Finish it collected
+-- a client's requests, and its discoveries, less those whose Finish or Answer it collected
 abbrev pub outstanding_requests : Opening → ℕ → List Entry → ℕ
 outstanding_requests o c h = length (accepts_by c h) - length (finishes (collected o c h))
+
+abbrev pub outstanding_discoveries : Opening → ℕ → List Entry → ℕ
+outstanding_discoveries o c h = length (asks_by c h) - length (answers (collected o c h))

@@ -1,5 +1,5 @@
--- A log's entries, oldest first, as lists: what was accepted, sent, and so on, and a request's exchanges.
-use Rattle.std.specs.Prelude.{ℕ, Bool, List, map, filter, zip, Option, Some, None, ◌==◌, filter_map}
+-- A log's entries, oldest first, as lists: what was accepted, asked, sent, and so on, and a request's exchanges.
+use Rattle.std.specs.Prelude.{ℕ, Bool, false, List, map, filter, zip, Option, Some, None, ◌==◌, filter_map}
 use Rattle.arrayvec.specs.ArrayVec.{ArrayVec}
 use Rattle.rdm_wire.specs.declared.request.Request.{Request}
 use Rattle.rdm_join.specs.declared.event.LineEvent.{LineEvent}
@@ -7,15 +7,22 @@ use Rattle.rdm_join.specs.declared.status.Status.{Status}
 use Rattle.rdm_join.specs.declared.verdict.Judged.{Judged}
 use Rattle.rdm_join.specs.Verdict.{verdict, sent_by}
 use Rattle.rdm_join.specs.Result.{Joined, result_of}
+use Rattle.rdm_agent.specs.declared.kind.Kind.{Kind}
+use Rattle.rdm_agent.specs.declared.fault.AgentFault.{AgentFault}
 use Rattle.rdm_queue.specs.declared.entry.Owner.{Owner}
 use Rattle.rdm_queue.specs.declared.entry.Owner.TheVariants as owners
 use Rattle.rdm_queue.specs.declared.entry.Entry.{Entry}
-use Rattle.rdm_queue.specs.declared.entry.Entry.TheVariants.{Join, Accept, Send, Came, Finish, Collect}
+use Rattle.rdm_queue.specs.declared.entry.Entry.TheVariants.{Join, Accept, Ask, Send, Came, Finish, Answer, Collect}
 
 pub record Accepted : Type 0 where
   pub client : ℕ
   pub number : ℕ
   pub request : Request
+
+pub record AskedDiscovery : Type 0 where
+  pub client : ℕ
+  pub number : ℕ
+  pub kind : Kind
 
 pub record Sending : Type 0 where
   pub owner : Owner
@@ -26,6 +33,11 @@ pub record Finished : Type 0 where
   pub status : Status
   pub len : ℕ
 
+pub record Answered : Type 0 where
+  pub number : ℕ
+  pub run : ℕ
+  pub fault : Option AgentFault
+
 abbrev pub join_of : Entry → Option ℕ
 join_of (Join c places) = Some places
 join_of _ = None
@@ -33,6 +45,10 @@ join_of _ = None
 abbrev pub accepted_of : Entry → Option Accepted
 accepted_of (Accept c n request) = Some (record { client = c.0; number = n; request = request })
 accepted_of _ = None
+
+abbrev pub asked_of : Entry → Option AskedDiscovery
+asked_of (Ask c n kind) = Some (record { client = c.0; number = n; kind = kind })
+asked_of _ = None
 
 abbrev pub sending_of : Entry → Option Sending
 sending_of (Send owner frame) = Some (record { owner = owner; frame = frame })
@@ -46,16 +62,24 @@ abbrev pub finished_of : Entry → Option Finished
 finished_of (Finish n status len) = Some (record { number = n; status = status; len = len })
 finished_of _ = None
 
+abbrev pub answered_of : Entry → Option Answered
+answered_of (Answer n run fault) = Some (record { number = n; run = run; fault = fault })
+answered_of _ = None
+
 abbrev pub collector_of : Entry → Option ℕ
 collector_of (Collect c) = Some c.0
 collector_of _ = None
 
--- in order: the places joined with, the Accepts, Sends, events that came, Finishes, and the clients of the Collects
+-- in order: the places joined with, the Accepts, Asks, Sends, events that came, Finishes, Answers, and the clients of
+-- the Collects
 unfoldable pub joins : List Entry → List ℕ
 joins h = filter_map join_of h
 
 unfoldable pub accepts : List Entry → List Accepted
 accepts h = filter_map accepted_of h
+
+unfoldable pub asks : List Entry → List AskedDiscovery
+asks h = filter_map asked_of h
 
 unfoldable pub sends : List Entry → List Sending
 sends h = filter_map sending_of h
@@ -65,6 +89,9 @@ cames h = filter_map came_of h
 
 unfoldable pub finishes : List Entry → List Finished
 finishes h = filter_map finished_of h
+
+unfoldable pub answers : List Entry → List Answered
+answers h = filter_map answered_of h
 
 unfoldable pub collectors : List Entry → List ℕ
 collectors h = filter_map collector_of h
@@ -83,6 +110,11 @@ traded h = map traded_of (zip (sends h) (cames h))
 
 abbrev pub is_request : ℕ → Owner → Bool
 is_request n (owners.Request m) = n == m
+is_request n (owners.Run r) = false
+
+abbrev pub is_run : ℕ → Owner → Bool
+is_run r (owners.Request n) = false
+is_run r (owners.Run q) = r == q
 
 -- the exchanges of a request, and their verdicts
 unfoldable pub of_request : ℕ → List Entry → List Traded

@@ -1,10 +1,12 @@
 -- What a log says so far: its flags, the next numbers, what is unfinished, and its room.
 use Rattle.std.specs.Prelude.{ℕ, ◌+◌, ◌-◌, ◌*◌, ◌%◌, Bool, true, false, ◌&&◌, ◌||◌, not, List, ◌++◌, length, drop}
-use Rattle.std.specs.Prelude.{fold, ◌==◌, if◌then◌else◌}
+use Rattle.std.specs.Prelude.{fold, filter, ◌==◌, if◌then◌else◌}
+use Rattle.std.specs.List.{list_any}
 use Rattle.rdm_queue.specs.declared.entry.Opening.{Opening}
 use Rattle.rdm_queue.specs.declared.entry.Entry.{Entry}
 use Rattle.rdm_queue.specs.declared.entry.Entry.TheVariants.{Send, Came, Pause, Resume, Close}
-use Rattle.rdm_queue.specs.log.Entries.{Accepted, joins, accepts, sends, finishes, collectors}
+use Rattle.rdm_queue.specs.log.Entries.{Accepted, AskedDiscovery, joins, accepts, asks, sends, finishes, answers}
+use Rattle.rdm_queue.specs.log.Entries.{collectors, is_request}
 
 -- an entry turns a flag on, off, or leaves it
 abbrev pub awaits_after : Bool → Entry → Bool
@@ -50,29 +52,43 @@ next_client o h = length (places o h)
 abbrev pub next_request : Opening → List Entry → ℕ
 next_request o h = o.next_request + length (accepts h)
 
+abbrev pub next_ask : Opening → List Entry → ℕ
+next_ask o h = o.next_ask + length (asks h)
+
 abbrev pub frames_sent : Opening → List Entry → ℕ
 frames_sent o h = o.next_tn + length (sends h)
 
 abbrev pub next_tn : Opening → List Entry → ℕ
 next_tn o h = frames_sent o h % 256
 
--- the Accepts without a Finish: first in, first out
+-- the Accepts without a Finish, and the Asks without an Answer: first in, first out
 abbrev pub unfinished : List Entry → List Accepted
 unfinished h = drop (length (finishes h)) (accepts h)
 
--- how many Finishes aren't collected
+abbrev pub unanswered : List Entry → List AskedDiscovery
+unanswered h = drop (length (answers h)) (asks h)
+
+-- the requests under way: a frame was sent of each, and it isn't finished
+abbrev pub was_sent : ℕ → List Entry → Bool
+was_sent n h = list_any (λ s. is_request n s.owner) (sends h)
+
+abbrev pub under_way : List Entry → List Accepted
+under_way h = filter (λ a. was_sent a.number h) (unfinished h)
+
+-- how many Finishes and Answers aren't collected
 abbrev pub uncollected_count : List Entry → ℕ
-uncollected_count h = length (finishes h) - length (collectors h)
+uncollected_count h = length (finishes h) + length (answers h) - length (collectors h)
 
--- nothing waits, is under way or is uncollected
+-- nothing waits, is under way, is asked or is uncollected
 abbrev pub is_idle : List Entry → Bool
-is_idle h = (length (unfinished h) == 0) && (uncollected_count h == 0)
+is_idle h = (length (unfinished h) == 0) && (length (unanswered h) == 0) && (uncollected_count h == 0)
 
--- the entries that are reserved: one for a close, one for a reply, two for each request that isn't finished, one for
--- each that is finished and not collected
+-- the entries that are reserved: one for a close, one for a reply, two for each request that isn't finished and each
+-- discovery that isn't answered, one for each that is and isn't collected
 abbrev pub reserved : Opening → List Entry → ℕ
 reserved o h =
-    (if is_closed o h then 0 else 1) + (if awaited h then 1 else 0) + 2 * length (unfinished h) + uncollected_count h
+    (if is_closed o h then 0 else 1) + (if awaited h then 1 else 0)
+    + 2 * (length (unfinished h) + length (unanswered h)) + uncollected_count h
 
 -- the entries that are free
 abbrev pub free_room : ℕ → Opening → List Entry → ℕ

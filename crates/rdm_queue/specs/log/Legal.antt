@@ -3,20 +3,24 @@ use Rattle.std.specs.Prelude.{◌≡◌, ◌≢◌, true, false, List, [], None}
 use Rattle.rdm_wire.specs.Lists.{EachAfter}
 use Rattle.rdm_queue.specs.declared.entry.Opening.{Opening}
 use Rattle.rdm_queue.specs.declared.entry.Entry.{Entry}
-use Rattle.rdm_queue.specs.declared.entry.Entry.TheVariants.{Join, Refuse, Accept, Send, Came, Finish, Collect, Pause}
-use Rattle.rdm_queue.specs.declared.entry.Entry.TheVariants.{Resume, Close}
+use Rattle.rdm_queue.specs.declared.entry.Entry.TheVariants.{Join, Refuse, Accept, Ask, Send, Came, Finish}
+use Rattle.rdm_queue.specs.declared.entry.Entry.TheVariants.{Answer, Collect, Pause, Resume, Close}
 use Rattle.rdm_queue.specs.log.History.{awaited, is_closed, can_pause, can_resume, next_client, next_request}
+use Rattle.rdm_queue.specs.log.History.{next_ask}
 use Rattle.rdm_queue.specs.log.Clients.{uncollected}
-use Rattle.rdm_queue.specs.log.Refusals.{join_fault, submit_fault, IsRefused}
+use Rattle.rdm_queue.specs.log.Refusals.{join_fault, submit_fault, ask_fault, IsRefused}
 use Rattle.rdm_queue.specs.log.Due.{NothingDue}
 use Rattle.rdm_queue.specs.log.MaySend.{MaySend}
 use Rattle.rdm_queue.specs.log.MayFinish.{MayFinish}
+use Rattle.rdm_queue.specs.log.MayAnswer.{MayAnswer}
 
--- a Finish may stand after h where it is right; any other entry also only where nothing is due
+-- a Finish or an Answer may stand after h where it is right; any other entry also only where nothing is due
 abbrev pub MayFollow : Opening → List Entry → Entry → Type 0
 MayFollow o h (Finish n status len) = MayFinish o h n status len
+MayFollow o h (Answer n r fault) = MayAnswer o h n r fault
 MayFollow o h (Join c n) = NothingDue o h × (join_fault o h n ≡ None) × (c.0 ≡ next_client o h)
 MayFollow o h (Accept c n request) = NothingDue o h × (submit_fault o h c.0 ≡ None) × (n ≡ next_request o h)
+MayFollow o h (Ask c n kind) = NothingDue o h × (ask_fault o h c.0 ≡ None) × (n ≡ next_ask o h)
 MayFollow o h (Refuse c call cause) = NothingDue o h × IsRefused o h c call cause.0
 MayFollow o h (Send owner frame) = NothingDue o h × MaySend o h owner frame
 MayFollow o h (Came event) = NothingDue o h × (awaited h ≡ true)

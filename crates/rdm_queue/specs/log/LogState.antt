@@ -32,10 +32,19 @@ blank_opening = record {
   places = record { items = [] };
   paused = false;
   closed = false;
+  devices = [];
+  devices_run = 0;
   next_request = 0;
+  next_ask = 0;
+  next_run = 0;
   next_tn = 0;
 }
 
--- what a session stands after that is set up so
+-- what a session stands after that is set up so; its first run is number 1
 abbrev pub opened : Config → Opening
-opened config = record blank_opening { source = config.source; greatest = config.places; budget = config.budget }
+opened config = record blank_opening {
+  source = config.source;
+  greatest = config.places;
+  budget = config.budget;
+  next_run = 1;
+}

@@ -6,12 +6,14 @@ use Rattle.rdm_join.specs.Result.{Joined}
 use Rattle.rdm_queue.specs.declared.entry.Opening.{Opening}
 use Rattle.rdm_queue.specs.declared.entry.Entry.{Entry}
 use Rattle.rdm_queue.specs.log.Entries.{Accepted, result}
-use Rattle.rdm_queue.specs.log.History.{awaited, is_closed, unfinished}
+use Rattle.rdm_queue.specs.log.History.{awaited, is_closed, unfinished, unanswered}
+use Rattle.rdm_queue.specs.log.Runs.{unserved}
 
--- a close finishes what is left: no reply is awaited
+-- a close ends what is left: no reply is awaited, and each discovery that a run serves has its Answer
 pub record IsClosing (o : Opening) (h : List Entry) : Type 0 where
   pub closed : is_closed o h ≡ true
   pub not_awaited : awaited h ≡ false
+  pub runs_answered : unanswered h ≡ unserved h
 
 -- a status and a length tell a joined result: its own, or want of memory for its data
 abbrev pub Tells : Joined → Status → ℕ → Type 0

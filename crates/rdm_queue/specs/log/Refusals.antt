@@ -1,5 +1,5 @@
--- Why a join or a submit is refused: of the faults that a log shows, the first that stands. That memory is wanted or
--- the log is full it doesn't show.
+-- Why a join, a submit or a discover is refused: of the faults that a log shows, the first that stands. That memory is
+-- wanted or the log is full it doesn't show.
 use Rattle.std.specs.Prelude.{◌≡◌, ℕ, ◌+◌, Bool, ◌||◌, List, length, sum, Option, Some, None, option_map, unwrap_or}
 use Rattle.std.specs.Prelude.{nat_lt, nat_le, if◌then◌else◌, slice_index}
 use Rattle.rdm_queue.specs.declared.entry.TheConstants.{MOST_CLIENTS, NEVER_GIVEN}
@@ -12,8 +12,10 @@ use Rattle.rdm_queue.specs.declared.fault.JoinFault.{JoinFault}
 use Rattle.rdm_queue.specs.declared.fault.JoinFault.TheVariants as join_faults
 use Rattle.rdm_queue.specs.declared.fault.SubmitFault.{SubmitFault}
 use Rattle.rdm_queue.specs.declared.fault.SubmitFault.TheVariants as submit_faults
-use Rattle.rdm_queue.specs.log.History.{is_closed, places, next_request}
-use Rattle.rdm_queue.specs.log.Clients.{outstanding_requests}
+use Rattle.rdm_queue.specs.declared.fault.AskFault.{AskFault}
+use Rattle.rdm_queue.specs.declared.fault.AskFault.TheVariants as ask_faults
+use Rattle.rdm_queue.specs.log.History.{is_closed, places, next_request, next_ask}
+use Rattle.rdm_queue.specs.log.Clients.{outstanding_requests, outstanding_discoveries}
 
 -- of a join with n places, where the clients have these places, of so many
 abbrev pub join_fault_at : Bool → List ℕ → ℕ → ℕ → Option JoinFault
@@ -36,6 +38,17 @@ submit_fault_at closed places outstanding next c =
 abbrev pub submit_fault : Opening → List Entry → ℕ → Option SubmitFault
 submit_fault o h c = submit_fault_at (is_closed o h) (places o h) (outstanding_requests o c h) (next_request o h) c
 
+-- of a discover by client c, with this many discoveries outstanding: it has four, or the numbers have run out
+abbrev pub ask_fault_at : Bool → List ℕ → ℕ → ℕ → ℕ → Option AskFault
+ask_fault_at closed places outstanding next c =
+    if closed then Some ask_faults.Closed
+    else (if nat_le (length places) c then Some ask_faults.UnknownClient
+    else (if nat_le 4 outstanding || nat_le 18446744073709551614 next then Some ask_faults.Full
+    else None))
+
+abbrev pub ask_fault : Opening → List Entry → ℕ → Option AskFault
+ask_fault o h c = ask_fault_at (is_closed o h) (places o h) (outstanding_discoveries o c h) (next_ask o h) c
+
 -- the faults' numbers
 abbrev pub number_of_join_fault : JoinFault → ℕ
 number_of_join_fault join_faults.Closed = 1
@@ -50,6 +63,12 @@ number_of_submit_fault submit_faults.UnknownClient = 2
 number_of_submit_fault submit_faults.Full = 3
 number_of_submit_fault submit_faults.LogFull = 4
 
+abbrev pub number_of_ask_fault : AskFault → ℕ
+number_of_ask_fault ask_faults.Closed = 1
+number_of_ask_fault ask_faults.UnknownClient = 2
+number_of_ask_fault ask_faults.Full = 3
+number_of_ask_fault ask_faults.LogFull = 4
+
 -- this call of this client is refused with this number: the first fault's; a join's for want of memory only
 -- where no other stands
 abbrev pub IsRefused : Opening → List Entry → Option ClientId → Call → ℕ → Type 0
@@ -57,5 +76,6 @@ IsRefused o h None (calls.Join n) cause =
     cause ≡ number_of_join_fault (unwrap_or (join_fault o h n) join_faults.NoMemory)
 IsRefused o h (Some c) (calls.Submit request) cause =
     option_map number_of_submit_fault (submit_fault o h c.0) ≡ Some cause
+IsRefused o h (Some c) (calls.Discover kind) cause = option_map number_of_ask_fault (ask_fault o h c.0) ≡ Some cause
 -- a client makes no join, and each other call is a client's
 IsRefused o h _ _ cause = ⊥

@@ -10,8 +10,8 @@ use Rattle.rdm_queue.specs.declared.entry.Call.TheVariants as calls
 use Rattle.rdm_queue.specs.declared.entry.Owner.{Owner}
 use Rattle.rdm_queue.specs.declared.entry.Opening.{Opening}
 use Rattle.rdm_queue.specs.declared.entry.Entry.{Entry}
-use Rattle.rdm_queue.specs.declared.entry.Entry.TheVariants.{Join, Refuse, Accept, Send, Came, Finish, Collect, Pause}
-use Rattle.rdm_queue.specs.declared.entry.Entry.TheVariants.{Resume, Close}
+use Rattle.rdm_queue.specs.declared.entry.Entry.TheVariants.{Join, Refuse, Accept, Send, Came, Finish, Answer}
+use Rattle.rdm_queue.specs.declared.entry.Entry.TheVariants.{Collect, Pause, Resume, Close}
 use Rattle.rdm_queue.specs.declared.fault.JoinFault.{JoinFault}
 use Rattle.rdm_queue.specs.declared.fault.JoinFault.TheVariants as join_faults
 use Rattle.rdm_queue.specs.declared.fault.SubmitFault.{SubmitFault}
@@ -38,15 +38,16 @@ submit_refused c request fault =
 abbrev pub RefusesJoin : Option JoinFault → JoinFault → Type 0
 RefusesJoin first fault = fault ≡ unwrap_or first join_faults.NoMemory
 
--- a Finish
+-- a Finish or an Answer
 abbrev pub is_result : Entry → Bool
 is_result (Finish n status len) = true
+is_result (Answer n run fault) = true
 is_result _ = false
 
 abbrev pub AllResults : List Entry → Type 0
 AllResults block = AllByRecursion (λ r. is_result r ≡ true) block
 
--- the entry, and then Finishes
+-- the entry, and then Finishes and Answers
 pub record IsWithResults (e : Entry) (block : List Entry) : Type 0 where
   pub results : List Entry
   pub whole : block ≡ e ∷ results

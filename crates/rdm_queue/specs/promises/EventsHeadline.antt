@@ -23,7 +23,8 @@ use Rattle.rdm_queue.specs.promises.Outcomes.OutcomeValue.{RequestValue}
 use Rattle.rdm_queue.specs.log.LogState.{LogState, grown, is_full_log}
 use Rattle.rdm_queue.specs.promises.Blocks.{submit_refused}
 use Rattle.rdm_queue.specs.promises.Explains.{IsAnswered, Explains}
-use Rattle.rdm_queue.specs.promises.Headline.{IsFull, SameQueue, result_count, Promised}
+use Rattle.rdm_queue.specs.promises.Headline.{IsFull, SameQueue, result_count}
+use Rattle.rdm_queue.specs.promises.Promised.{Promised}
 
 -- event i was answered so: the log stood at before, and then at after
 pub record AnsweredAt (old : LogState) (es : List Event) (rs : List Answer) (new : LogState) (i : ℕ) (event : Event)

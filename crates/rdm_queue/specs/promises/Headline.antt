@@ -18,11 +18,13 @@ use Rattle.rdm_queue.specs.declared.entry.Opening.{Opening}
 use Rattle.rdm_queue.specs.declared.entry.Entry.{Entry}
 use Rattle.rdm_queue.specs.declared.entry.Entry.TheVariants.{Refuse, Accept, Finish, Close}
 use Rattle.rdm_queue.specs.declared.fault.SubmitFault.TheVariants.{Full}
-use Rattle.rdm_queue.specs.log.Entries.{Accepted, Finished, Traded, joins, accepts, sends, finishes, of_request}
-use Rattle.rdm_queue.specs.log.Entries.{verdicts, result}
+use Rattle.rdm_queue.specs.log.Entries.{Accepted, Finished, Traded, joins, accepts, asks, sends, finishes}
+use Rattle.rdm_queue.specs.log.Entries.{of_request, verdicts, result}
 use Rattle.rdm_queue.specs.log.History.{awaited, is_paused, is_closed, places, next_client, next_request, frames_sent}
-use Rattle.rdm_queue.specs.log.History.{unfinished}
+use Rattle.rdm_queue.specs.log.History.{unfinished, unanswered, next_ask}
+use Rattle.rdm_queue.specs.log.Runs.{unserved, open_run, next_run, run_exchanges, known_devices, devices_run}
 use Rattle.rdm_queue.specs.log.Clients.{accepts_by, answers_to, uncollected, outstanding_requests}
+use Rattle.rdm_queue.specs.log.Clients.{outstanding_discoveries}
 use Rattle.rdm_queue.specs.log.Refusals.{number_of_submit_fault}
 
 -- the numbers of the accepted requests, and of some Finishes, in order
@@ -110,6 +112,15 @@ pub record SameQueue (o : Opening) (h k : List Entry) : Type 0 where
   pub results : (n : ℕ) → result n k ≡ result n h
   pub uncollected_of : (c : ℕ) → uncollected o c k ≡ uncollected o c h
   pub outstanding : (c : ℕ) → outstanding_requests o c k ≡ outstanding_requests o c h
+  pub next_discovery : next_ask o k ≡ next_ask o h
+  pub asked : unanswered k ≡ unanswered h
+  pub unserved_ones : unserved k ≡ unserved h
+  pub run : open_run k ≡ open_run h
+  pub next_run_number : next_run o k ≡ next_run o h
+  pub exchanges : (r : ℕ) → run_exchanges r k ≡ run_exchanges r h
+  pub devices : known_devices o k ≡ known_devices o h
+  pub devices_from : devices_run o k ≡ devices_run o h
+  pub outstanding_asked : (c : ℕ) → outstanding_discoveries o c k ≡ outstanding_discoveries o c h
 
 -- A full queue refuses, and nothing but the refusal's entry tells of it.
 pub record FullRefuses (o : Opening) (h : List Entry) : Type 0 where
@@ -124,22 +135,14 @@ pub record FullRefuses (o : Opening) (h : List Entry) : Type 0 where
   pub unchanged : (front back : List Entry) (c : Option ClientId) (call : Call) (cause : Cause)
       → h ≡ front ++ Refuse c call cause ∷ back → SameQueue o front (front ++ Refuse c call cause ∷ [])
 
--- nobody joins, no request is accepted, and no frame is sent
+-- nobody joins, no request and no discovery is accepted, and no frame is sent
 pub record NothingStarts (h : List Entry) : Type 0 where
   pub no_client : joins h ≡ []
   pub no_request : accepts h ≡ []
+  pub no_discovery : asks h ≡ []
   pub no_frame : sends h ≡ []
 
 -- Nothing starts after a close.
 pub record NothingAfterClose (o : Opening) (h : List Entry) : Type 0 where
   pub after : (front back : List Entry) → h ≡ front ++ Close ∷ back → NothingStarts back
   pub closed_before : o.closed ≡ true → NothingStarts h
-
--- All of it.
-pub record Promised (o : Opening) (h : List Entry) : Type 0 where
-  pub one_result : OneResult o h
-  pub own_requests : OwnRequests o h
-  pub own_answers : OwnAnswers o h
-  pub in_order : InOrder o h
-  pub full_refuses : FullRefuses o h
-  pub nothing_after_close : NothingAfterClose o h

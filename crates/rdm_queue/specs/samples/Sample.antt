@@ -29,7 +29,11 @@ sample_opening = record {
   places = record { items = [] };
   paused = false;
   closed = false;
+  devices = [];
+  devices_run = 0;
   next_request = 0;
+  next_ask = 0;
+  next_run = 1;
   next_tn = 0;
 }
 

@@ -8,7 +8,8 @@ ghost use Rattle.rdm_queue.specs.log.Legal.{Legal};
 ghost use Rattle.rdm_queue.specs.log.LogState.{LogState};
 ghost use Rattle.rdm_queue.specs.promises.Explains.{Explains};
 ghost use Rattle.rdm_queue.specs.promises.Headline.{OneResult, OwnRequests, OwnAnswers, InOrder, FullRefuses};
-ghost use Rattle.rdm_queue.specs.promises.Headline.{NothingAfterClose, Promised};
+ghost use Rattle.rdm_queue.specs.promises.Headline.{NothingAfterClose};
+ghost use Rattle.rdm_queue.specs.promises.Promised.{Promised};
 ghost use Rattle.rdm_queue.specs.promises.EventsHeadline.{EventsPromised};
 
 /// Each accepted request is finished with exactly one result: never with two, and with one once the queue is closed

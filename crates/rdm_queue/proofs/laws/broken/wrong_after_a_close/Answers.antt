@@ -1,13 +1,14 @@
 use Rattle.std.proofs.Common.{sym}
 use Rattle.std.proofs.lemmas.Bool.{false≢true}
-use Rattle.rdm_queue.specs.log.Entries.{joins, accepts, sends, finishes, collectors}
+use Rattle.rdm_queue.specs.log.Entries.{joins, accepts, sends, finishes, collectors, asks, answers}
+use Rattle.rdm_queue.specs.log.Runs.{has_begun, entries_before_run, last_run, run_exchanges}
 use Rattle.rdm_queue.specs.log.History.{awaited, is_paused, is_closed}
 use Rattle.rdm_queue.specs.log.Clients.{answers_to}
 use Rattle.rdm_queue.proofs.SampleLemmas.SampleLegal.{may_send}
 use Rattle.rdm_queue.proofs.laws.broken.wrong_after_a_close.Goals as goal
 
 pub returns : goal.returns
-unfolding joins accepts finishes collectors sends awaited is_paused is_closed answers_to
+unfolding joins accepts finishes collectors sends awaited is_paused is_closed answers_to asks answers has_begun entries_before_run last_run run_exchanges
 returns c = record {
   waits = may_send.1;
   sent = λ may. false≢true (sym may.not_closed);

@@ -1,13 +1,14 @@
 use Rattle.std.proofs.Common.{refl}
 use Rattle.std.proofs.lemmas.Option.{none-some}
-use Rattle.rdm_queue.specs.log.Entries.{joins, accepts, sends, cames, finishes, collectors, traded, of_request, verdicts, result}
+use Rattle.rdm_queue.specs.log.Entries.{joins, accepts, sends, cames, finishes, collectors, traded, of_request, verdicts, result, asks, answers}
+use Rattle.rdm_queue.specs.log.Runs.{has_begun, entries_before_run, last_run, run_exchanges}
 use Rattle.rdm_queue.specs.log.History.{awaited, is_closed}
 use Rattle.rdm_queue.specs.log.Clients.{answers_to}
 use Rattle.rdm_queue.proofs.SampleLemmas.SampleLegal.{due_accept, due_closed}
 use Rattle.rdm_queue.proofs.laws.broken.wrong_refusals.Goals as goal
 
 pub returns : goal.returns
-unfolding joins accepts finishes collectors sends cames traded of_request verdicts result awaited is_closed answers_to
+unfolding joins accepts finishes collectors sends cames traded of_request verdicts result awaited is_closed answers_to asks answers has_begun entries_before_run last_run run_exchanges
 returns c = record {
   accepted = λ may. let none = may.1 in cc;
   refused = (due_accept, refl);

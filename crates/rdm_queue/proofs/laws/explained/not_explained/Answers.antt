@@ -1,6 +1,7 @@
 use Rattle.std.proofs.Common.{◌≡◌, [], ap, ◌∙◌}
 use Rattle.std.proofs.lemmas.Bool.{false≢true}
-use Rattle.rdm_queue.specs.log.Entries.{joins, accepts, sends, finishes, collectors}
+use Rattle.rdm_queue.specs.log.Entries.{joins, accepts, sends, finishes, collectors, asks, answers}
+use Rattle.rdm_queue.specs.log.Runs.{has_begun, entries_before_run, last_run, run_exchanges}
 use Rattle.rdm_queue.specs.log.History.{awaited, is_paused, is_closed}
 use Rattle.rdm_queue.specs.log.Clients.{answers_to}
 use Rattle.rdm_queue.specs.declared.entry.Owner.TheVariants as owners
@@ -10,7 +11,7 @@ use Rattle.rdm_queue.proofs.SampleLemmas.SampleLegal.{may_send}
 use Rattle.rdm_queue.proofs.laws.explained.not_explained.Goals as goal
 
 pub returns : goal.returns
-unfolding joins accepts finishes sends collectors awaited is_paused is_closed answers_to
+unfolding joins accepts finishes sends collectors awaited is_paused is_closed answers_to asks answers has_begun entries_before_run last_run run_exchanges
 returns c = record {
   full = λ new is. let fault = is.1.adds.0 in cc;
   log_full = λ new is. let fault = is.1.adds.0 in cc;

@@ -1,5 +1,6 @@
 use Rattle.std.proofs.Common.{[], ◌∷◌, refl}
-use Rattle.rdm_queue.specs.log.Entries.{joins, accepts, sends, cames, finishes, collectors, traded, of_request, verdicts, result}
+use Rattle.rdm_queue.specs.log.Entries.{joins, accepts, sends, cames, finishes, collectors, traded, of_request, verdicts, result, asks, answers}
+use Rattle.rdm_queue.specs.log.Runs.{has_begun, entries_before_run, last_run, run_exchanges}
 use Rattle.rdm_queue.specs.log.History.{awaited, is_paused, is_closed}
 use Rattle.rdm_queue.specs.log.Clients.{answers_to}
 use Rattle.rdm_queue.specs.declared.entry.Owner.TheVariants as owners
@@ -11,7 +12,7 @@ use Rattle.rdm_queue.proofs.SampleLemmas.SampleLegal.{may_send}
 use Rattle.rdm_queue.proofs.laws.explained.sample_is_explained.Goals as goal
 
 pub returns : goal.returns
-unfolding joins accepts finishes sends cames collectors traded of_request verdicts result awaited is_paused is_closed answers_to
+unfolding joins accepts finishes sends cames collectors traded of_request verdicts result awaited is_paused is_closed answers_to asks answers has_begun entries_before_run last_run run_exchanges
 returns c = λ none empty. (
   logged_with join_only,
   record { block = Join (record { 0 = 0 }) 1 ∷ []; adds = (refl, refl, refl); grows = refl },
