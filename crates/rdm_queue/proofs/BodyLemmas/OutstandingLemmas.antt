@@ -2,7 +2,7 @@
 use Rattle.std.proofs.Common.{◌≡◌, ℕ, suc, ◌+◌, ◌-◌, ◌<◌, ◌≤◌, Bool, true, false, cond, List, [], ◌∷◌, ◌++◌, length, drop, get_or, set, Some, slice_get, refl, sym, ap, ◌∙◌, subst, inl, inr, length-append, filter, map, sum, arith}
 use Rattle.std.specs.Prelude.{◌⊎◌, ◌≢◌, ◌==◌, count_by, slice_index}
 use Rattle.std.proofs.lemmas.Bool.{eq-eqb, ne_eqb, cases_eq, cases_lt}
-use Rattle.std.proofs.lemmas.List.{append-nil, length-map, get_or-set_same, get_or-set_other, get_or_past}
+use Rattle.std.proofs.lemmas.List.{length-map, get_or-set_same, get_or-set_other, get_or_past}
 use Rattle.std.proofs.lemmas.List.Sums.{sum_by-set, get_or-le-sum_by, length-filter}
 use Rattle.std.proofs.lemmas.List.Elements.{filter-append}
 use Rattle.rdm_queue.specs.declared.queue.Waiting.{Waiting}
