@@ -1,3 +1,4 @@
 -- The sample logs are legal.
 pub mod SampleLegal
 pub mod PartsLegal
+pub mod RunsLegal

@@ -26,6 +26,6 @@ pub use logs::{
     counts_of_a_log, faults_in_order, log_grows, no_send_is_no_legal_send, rooms, sample_is_legal,
 };
 pub use runs::{
-    counts_of_discoveries, runs_are_legal, runs_are_seen, wrong_discovery_answers, wrong_kinds,
-    wrong_run_frames,
+    counts_of_discoveries, order_at_a_close, runs_are_legal, runs_are_seen,
+    wrong_discovery_answers, wrong_kinds, wrong_run_frames,
 };

@@ -34,7 +34,8 @@ mod session;
 pub use config::{Config, MOST_PLACES};
 pub use controller::Controller;
 pub use entry::{
-    Call, Cause, ClientId, Entry, MOST_DISCOVERIES, MOST_CLIENTS, NEVER_GIVEN_TO_A_DISCOVERY, NEVER_GIVEN, Opening, Owner,
+    Call, Cause, ClientId, Entry, MOST_CLIENTS, MOST_DISCOVERIES, NEVER_GIVEN,
+    NEVER_GIVEN_TO_A_DISCOVERY, Opening, Owner,
 };
 pub use event::{Answer, Event};
 pub use fault::{AskFault, JoinFault, LogFull, NoMemory, NotAsked, SubmitFault};

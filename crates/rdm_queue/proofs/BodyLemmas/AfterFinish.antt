@@ -1,5 +1,5 @@
 -- A queue stands amid a block that grows by a close, a reply or a Finish that is due, and after it once nothing is due.
-use Rattle.std.proofs.Common.{◌≡◌, ℕ, zero, suc, ◌+◌, ◌<◌, Bool, true, false, List, [], ◌∷◌, ◌++◌, length, drop, Option, Some, None, slice_get, refl, sym, ap, ◌∙◌, subst, inl, inr, arith}
+use Rattle.std.proofs.Common.{◌≡◌, ℕ, zero, suc, ◌<◌, Bool, true, false, List, [], ◌∷◌, ◌++◌, length, Option, Some, None, slice_get, refl, sym, ap, ◌∙◌, subst, inl, inr, arith}
 use Rattle.std.specs.Prelude.{◌⊎◌, ◌&&◌, not, is_some, if◌then◌else◌}
 use Rattle.std.proofs.lemmas.Bool.{false≢true}
 use Rattle.std.proofs.lemmas.Option.{none-some, same_Some}
@@ -12,8 +12,8 @@ use Rattle.rdm_join.specs.Result.{Joined, result_of, ended, or_if_open}
 use Rattle.rdm_join.specs.JoinerStanding.{JoinerStanding, StandsAt}
 use Rattle.rdm_queue.specs.declared.entry.Opening.{Opening}
 use Rattle.rdm_queue.specs.declared.entry.Entry.{Entry}
-use Rattle.rdm_queue.specs.declared.entry.Entry.TheVariants.{Came, Finish, Close}
-use Rattle.rdm_queue.specs.log.Entries.{Accepted, finishes, verdicts, result}
+use Rattle.rdm_queue.specs.declared.entry.Entry.TheVariants.{Came, Close}
+use Rattle.rdm_queue.specs.log.Entries.{Accepted, verdicts, result}
 use Rattle.rdm_queue.specs.log.History.{awaited, is_closed, unfinished}
 use Rattle.rdm_queue.specs.log.MayFinish.{IsClosing, FitsResult}
 use Rattle.rdm_queue.specs.log.Due.{NothingDue}

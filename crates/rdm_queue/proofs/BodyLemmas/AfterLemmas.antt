@@ -1,5 +1,5 @@
 -- A queue stands after a log that grows by what each call adds: the calls that finish nothing.
-use Rattle.std.proofs.Common.{◌≡◌, ℕ, Bool, true, false, List, [], ◌∷◌, ◌++◌, length, map, Option, Some, None, refl, sym, ap, ◌∙◌, inl, inr, append-nil, append_assoc, arith, filter_map}
+use Rattle.std.proofs.Common.{◌≡◌, ℕ, Bool, true, false, List, [], ◌∷◌, ◌++◌, length, map, Option, Some, None, refl, sym, ap, ◌∙◌, inl, inr, append_assoc, arith, filter_map}
 use Rattle.std.specs.Prelude.{◌⊎◌, ◌≢◌, ◌==◌, ◌||◌, option_map, is_some, slice_get, if◌then◌else◌}
 use Rattle.std.specs.List.{AllByRecursion}
 use Rattle.std.proofs.lemmas.Bool.{cases_Bool, false≢true, or_parts}
@@ -22,9 +22,7 @@ use Rattle.rdm_queue.specs.declared.entry.Entry.{Entry}
 use Rattle.rdm_queue.specs.declared.entry.Entry.TheVariants.{Join, Refuse, Accept, Send, Finish, Collect, Pause, Resume}
 use Rattle.rdm_queue.specs.declared.entry.Entry.TheVariants as discovery
 use Rattle.rdm_queue.specs.declared.fault.JoinFault.{JoinFault}
-use Rattle.rdm_queue.specs.declared.fault.JoinFault.TheVariants as join_faults
 use Rattle.rdm_queue.specs.declared.fault.SubmitFault.{SubmitFault}
-use Rattle.rdm_queue.specs.declared.fault.SubmitFault.TheVariants as submit_faults
 use Rattle.rdm_queue.specs.log.Entries.{Accepted, joins, accepts, asks, sends, cames, finishes, answers, collectors, traded, of_request, verdicts}
 use Rattle.rdm_queue.specs.log.Runs.{last_run}
 use Rattle.rdm_queue.specs.log.History.{awaited, is_paused, is_closed, can_pause, can_resume}

@@ -7,14 +7,15 @@ use Rattle.rdm_queue.specs.declared.entry.ClientId.{ClientId}
 use Rattle.rdm_queue.specs.declared.entry.Owner.{Owner}
 use Rattle.rdm_queue.specs.declared.entry.Opening.{Opening}
 use Rattle.rdm_queue.specs.declared.entry.Entry.{Entry}
-use Rattle.rdm_queue.specs.declared.entry.Entry.TheVariants.{Join, Accept, Send, Collect}
+use Rattle.rdm_queue.specs.declared.entry.Entry.TheVariants.{Join, Accept, Send, Collect, Close}
+use Rattle.rdm_queue.specs.log.History.{is_closed}
 use Rattle.rdm_queue.specs.declared.fault.JoinFault.{JoinFault}
 use Rattle.rdm_queue.specs.declared.fault.SubmitFault.{SubmitFault}
 use Rattle.rdm_queue.specs.declared.outcome.Outcome.{Outcome}
-use Rattle.rdm_queue.specs.log.MaySend.{MaySend, NoSend}
-use Rattle.rdm_queue.specs.log.Refusals.{join_fault, submit_fault}
+use Rattle.rdm_queue.specs.log.MaySend.{MaySend}
+use Rattle.rdm_queue.specs.log.Refusals.{join_fault}
 use Rattle.rdm_queue.specs.promises.Outcomes.{outcome_value}
-use Rattle.rdm_queue.specs.promises.Blocks.{RefusesJoin, join_refused, submit_refused, JoinAdds, SubmitAdds, SwitchAdds, TakeAdds, CollectAdds, IsWithResults, is_result}
+use Rattle.rdm_queue.specs.promises.Blocks.{RefusesJoin, join_refused, submit_refused, JoinAdds, SubmitAdds, SwitchAdds, CloseAdds, CollectAdds, IsWithResults, is_result}
 use Rattle.rdm_queue.specs.body.State.{QueueState, first_join_fault, first_submit_fault, accepts_request, IsGiven, owed_to, owed_value, without_first, due, IsFinished}
 use Rattle.rdm_queue.specs.body.Agrees.{StandsAfter, StandsAmid, StandsWith, ForEachLog, ForEachBlock, AddsToEach, FinishesAll}
 use Rattle.rdm_queue.proofs.BodyLemmas.AfterLemmas.{join_fault_is, join_after, join_refused_after, submit_fault_is, submit_after, submit_refused_after, take_after, oldest_after, collect_after, none_owed_after}
@@ -74,3 +75,6 @@ settled_each None s new is = ((λ o h amid. settled_after o h s is.0 amid), is.1
 -- an entry and the Finishes that are due then
 pub with_results : (o : Opening) (h : List Entry) (e : Entry) (new : QueueState) → FinishesAll o (h ++ e ∷ []) new → StandsWith o h (IsWithResults e) new
 with_results o h e new all = record { block = e ∷ all.results; adds = record { results = all.results; whole = refl; each = all.each }; after = rw (append_assoc h (e ∷ []) all.results) at all.after }
+
+pub close_adds : (o : Opening) (h : List Entry) (new : QueueState) → is_closed o h ≡ false → FinishesAll o (h ++ Close ∷ []) new → StandsWith o h (CloseAdds o h) new
+close_adds o h new open_ all = let with = with_results o h Close new all in record { block = with.block; adds = rw open_ with.adds; after = with.after }

@@ -1,5 +1,5 @@
 -- What holds of a log without discoveries.
-use Rattle.std.proofs.Common.{◌≡◌, ℕ, true, List, [], ◌∷◌, ◌++◌, length, Option, Some, None, slice_get, refl, sym, ap, ◌∙◌, inl, inr, arith, fold}
+use Rattle.std.proofs.Common.{◌≡◌, ℕ, true, List, [], ◌∷◌, ◌++◌, Some, None, refl, sym, ◌∙◌, inl, inr, arith}
 use Rattle.std.specs.Prelude.{◌⊎◌}
 use Rattle.std.proofs.lemmas.List.Sums.{fold_push}
 use Rattle.std.proofs.lemmas.Option.{none-some}
@@ -8,12 +8,11 @@ use Rattle.rdm_queue.specs.declared.entry.Owner.TheVariants as owners
 use Rattle.rdm_queue.specs.declared.entry.Opening.{Opening}
 use Rattle.rdm_queue.specs.declared.entry.Entry.{Entry}
 use Rattle.rdm_queue.specs.declared.entry.Entry.TheVariants.{Send}
-use Rattle.rdm_queue.specs.log.Entries.{AskedDiscovery, Answered, Sending, asked_of, sending_of, answered_of, asks, answers, sends}
+use Rattle.rdm_queue.specs.log.Entries.{Sending, asked_of, sending_of, answered_of, sends}
 use Rattle.rdm_queue.specs.log.History.{awaited, unanswered}
 use Rattle.rdm_queue.specs.log.Runs.{run_of_owner, last_run, open_run, unserved}
 use Rattle.rdm_queue.specs.body.Agrees.{NoDiscoveries}
 use Rattle.rdm_queue.proofs.LogLemmas.PushLemmas.{asks_same, answered_same, sends_same}
-use Rattle.rdm_queue.proofs.LogLemmas.ExchangeLemmas.{IsUnanswered}
 use Rattle.rdm_queue.proofs.LogLemmas.LegalFacts.{LogFacts, IsAwaited, IsRunAwaited}
 use Rattle.rdm_queue.proofs.LogLemmas.AskFacts.{AskFacts}
 use Rattle.rdm_queue.proofs.LogLemmas.RunLemmas.{last_run_same, last_run_sent}

@@ -1,8 +1,7 @@
 -- A session's log keeps its room, and its controller stands after it.
-use Rattle.std.proofs.Common.{◌≡◌, ℕ, ◌+◌, ◌≤◌, Bool, true, false, List, [], ◌∷◌, ◌++◌, length, append_assoc, append-nil, length-append, refl, sym, ap, ◌∙◌, arith}
+use Rattle.std.proofs.Common.{◌≡◌, ℕ, ◌+◌, ◌≤◌, Bool, true, false, List, [], ◌∷◌, ◌++◌, length, append_assoc, append-nil, length-append, refl, sym, ap, arith}
 use Rattle.std.proofs.lemmas.Bool.{ltb-false}
 use Rattle.rdm_queue.specs.declared.config.Config.{Config}
-use Rattle.rdm_queue.specs.declared.entry.Opening.{Opening}
 use Rattle.rdm_queue.specs.declared.entry.Entry.{Entry}
 use Rattle.rdm_queue.specs.declared.entry.Entry.TheVariants.{Finish, Answer}
 use Rattle.rdm_queue.specs.log.Entries.{accepts, asks, finishes, answers, collectors}
@@ -11,7 +10,7 @@ use Rattle.rdm_queue.specs.log.LogState.{LogState, grown, free_entries, is_full_
 use Rattle.rdm_queue.specs.promises.Blocks.{UnlessFull, is_result, AllResults}
 use Rattle.rdm_queue.specs.body.State.{QueueState}
 use Rattle.rdm_queue.specs.body.Agrees.{StandsAfter, StandsAmid}
-use Rattle.rdm_queue.specs.body.SessionInvariant.{HasRoom, SessionInvariant, SessionAmid, FinishesDue}
+use Rattle.rdm_queue.specs.body.SessionInvariant.{HasRoom, SessionInvariant, SessionAmid}
 use Rattle.rdm_wire.specs.Lists.{EachAfter}
 use Rattle.rdm_queue.specs.log.Legal.{MayFollow}
 use Rattle.rdm_queue.proofs.LogLemmas.RoomLemmas.{added, added_by, taken_block}

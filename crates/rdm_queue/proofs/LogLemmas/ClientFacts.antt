@@ -1,10 +1,10 @@
 -- What holds of each client in a log in which each entry may follow those before it.
-use Rattle.std.proofs.Common.{◌≡◌, ℕ, suc, min, filter_map, ◌+◌, ◌≤◌, Bool, true, false, List, [], ◌∷◌, ◌++◌, length, drop, take, filter, map, Option, Some, None, if◌then◌else◌, refl, ap, ◌∙◌, append-nil, length-append, length-drop, length-take, arith, inl, inr, sym}
+use Rattle.std.proofs.Common.{◌≡◌, ℕ, filter_map, ◌+◌, ◌≤◌, Bool, true, false, List, [], ◌∷◌, ◌++◌, length, drop, take, filter, map, Option, Some, None, if◌then◌else◌, refl, ap, ◌∙◌, append-nil, length-append, arith, inl, inr}
 use Rattle.std.specs.Prelude.{◌≢◌, ◌⊎◌, ◌==◌}
 use Rattle.std.specs.List.{AllByRecursion}
 use Rattle.std.proofs.lemmas.Bool.{cases_Bool, eqb-true, false≢true}
 use Rattle.std.proofs.lemmas.List.{length_push, length-map, length-take-le, take-append-drop}
-use Rattle.std.proofs.lemmas.List.Elements.{filter-append, All-take, recursion_from_All, filter_passes}
+use Rattle.std.proofs.lemmas.List.Elements.{filter-append, recursion_from_All, filter_passes}
 use Rattle.rdm_wire.specs.Lists.{EachAfter}
 use Rattle.rdm_wire.specs.declared.request.Request.{Request}
 use Rattle.rdm_join.specs.declared.status.Status.{Status}

@@ -1,13 +1,12 @@
 -- What a call adds keeps a log legal.
-use Rattle.std.proofs.Common.{◌≡◌, ℕ, ◌+◌, ◌<◌, ◌≤◌, true, false, List, [], ◌∷◌, ◌++◌, length, drop, Option, Some, None, slice_get, refl, sym, ap, ◌∙◌, append_assoc, append-nil, arith, inl, inr}
+use Rattle.std.proofs.Common.{◌≡◌, ℕ, ◌<◌, ◌≤◌, true, false, List, [], ◌∷◌, ◌++◌, length, Option, Some, None, slice_get, refl, sym, ap, ◌∙◌, arith, inl, inr}
 use Rattle.std.specs.Prelude.{◌≢◌, ◌⊎◌, ◌==◌, MatchOption}
 use Rattle.std.specs.List.{AllByRecursion}
 use Rattle.rdm_wire.specs.Honest.Asked.{Unmute}
 use Rattle.std.proofs.lemmas.Bool.{false≢true, cases_Bool, eqb-true, eq-eqb, ne_eqb}
-use Rattle.std.proofs.lemmas.List.{length_push}
 use Rattle.arrayvec.specs.ArrayVec.{ArrayVec}
-use Rattle.rdm_wire.specs.Lists.{EachAfter}
 use Rattle.rdm_wire.specs.declared.request.Request.{Request}
+use Rattle.rdm_agent.specs.declared.kind.Kind.{Kind}
 use Rattle.rdm_queue.specs.declared.entry.ClientId.{ClientId}
 use Rattle.rdm_queue.specs.declared.entry.Call.{Call}
 use Rattle.rdm_queue.specs.declared.entry.Cause.{Cause}
@@ -15,12 +14,12 @@ use Rattle.rdm_queue.specs.declared.entry.Owner.{Owner}
 use Rattle.rdm_queue.specs.declared.entry.Owner.TheVariants as owners
 use Rattle.rdm_queue.specs.declared.entry.Opening.{Opening}
 use Rattle.rdm_queue.specs.declared.entry.Entry.{Entry}
-use Rattle.rdm_queue.specs.declared.entry.Entry.TheVariants.{Join, Refuse, Accept, Send, Collect, Pause, Resume}
+use Rattle.rdm_queue.specs.declared.entry.Entry.TheVariants.{Join, Refuse, Accept, Ask, Send, Collect, Pause, Resume}
 use Rattle.rdm_queue.specs.log.Entries.{Accepted, Answered, asks, sends, cames, answers, result}
 use Rattle.rdm_queue.specs.log.Runs.{has_begun, entries_before_run, open_run, served, run_exchanges}
-use Rattle.rdm_queue.specs.log.History.{awaited, is_closed, can_pause, can_resume, unfinished, next_client, next_request}
+use Rattle.rdm_queue.specs.log.History.{awaited, is_closed, can_pause, can_resume, unfinished, next_client, next_request, next_ask}
 use Rattle.rdm_queue.specs.log.Clients.{uncollected}
-use Rattle.rdm_queue.specs.log.Refusals.{join_fault, submit_fault, IsRefused}
+use Rattle.rdm_queue.specs.log.Refusals.{join_fault, submit_fault, ask_fault, IsRefused}
 use Rattle.rdm_queue.specs.log.Due.{NothingDue, AllAnswered, GoesOn}
 use Rattle.rdm_queue.specs.log.MaySend.{MaySendRequest, MayBegin, MaySendRun, NoSend}
 use Rattle.rdm_queue.specs.log.Legal.{MayFollow, Legal}
@@ -30,7 +29,7 @@ use Rattle.rdm_queue.proofs.LogLemmas.PushLemmas.{unfinished_accept, SameRequest
 use Rattle.rdm_queue.proofs.LogLemmas.ExchangeLemmas.{result_unsent, result_same, result_sent}
 use Rattle.rdm_queue.proofs.LogLemmas.RunLemmas.{SameRuns, same_runs, same_runs_sent, last_begun, entries_before_run_stays, served_same, served_stays, run_exchanges_sent, no_exchanges}
 use Rattle.rdm_queue.proofs.LogLemmas.RunFacts.{RunFacts, run_facts, open_is, after_begin, opened_by}
-use Rattle.rdm_queue.proofs.LogLemmas.RefusalLemmas.{submit_passes}
+use Rattle.rdm_queue.proofs.LogLemmas.RefusalLemmas.{submit_passes, ask_passes}
 use Rattle.rdm_queue.proofs.LogLemmas.LegalFacts.{sent_evenly, LogFacts, legal_facts, unaccepted_unsent}
 
 -- nothing is due: each unfinished request's result is open
@@ -143,6 +142,16 @@ accept_keeps o h c n request legal passes next = record {
 
     same : (m : ℕ) → result m k ≡ result m h
     same m = result_same h k m (sends_same h e refl) (cames_same h e refl)
+
+-- a discovery that isn't refused, under the next number
+pub ask_keeps : (o : Opening) (h : List Entry) (c : ClientId) (n : ℕ) (kind : Kind) → Legal o h → ask_fault o h c.0 ≡ None → n ≡ next_ask o h → Legal o (h ++ Ask c n kind ∷ [])
+ask_keeps o h c n kind legal passes next = record {
+  each = pushed o h e legal.each (legal.settled, passes, next);
+  settled = settled_open o (h ++ e ∷ []) (is_closed-push o h e ∙ (ask_passes o h c.0 passes).not_closed) (runs_settled o h (h ++ e ∷ []) (same_runs h e refl refl refl) legal.settled) (rw (accepts_same h e refl, finishes_same h e refl) (λ i a at. result_same h (h ++ e ∷ []) a.number (sends_same h e refl) (cames_same h e refl) ∙ due_at o h legal.settled i a at));
+}
+  where
+    e : Entry
+    e = Ask c n kind
 
 -- a frame that may be sent
 pub send_keeps : (o : Opening) (h : List Entry) (n : ℕ) (frame : ArrayVec ℕ) → Legal o h → MaySendRequest o h n frame → Legal o (h ++ Send (owners.Request n) frame ∷ [])

@@ -1,5 +1,5 @@
 -- What holds of the runs of a log in which each entry may follow those before it.
-use Rattle.std.proofs.Common.{◌≡◌, ℕ, suc, ◌+◌, ◌≤◌, ◌<◌, Bool, true, false, List, [], ◌∷◌, ◌++◌, length, Option, Some, None, slice_get, refl, sym, ap, ◌∙◌, inl, inr, arith, cond, if◌then◌else◌}
+use Rattle.std.proofs.Common.{◌≡◌, ℕ, suc, ◌+◌, ◌≤◌, ◌<◌, Bool, true, false, List, [], ◌∷◌, ◌++◌, length, Option, Some, None, slice_get, refl, sym, ap, ◌∙◌, inl, inr, arith, if◌then◌else◌}
 use Rattle.std.specs.Prelude.{◌⊎◌, ◌≢◌, ◌||◌, ◌==◌}
 use Rattle.std.specs.List.{AllByRecursion, list_any}
 use Rattle.std.proofs.lemmas.Bool.{cases_Bool, false≢true, eqb-true, eq-eqb}
@@ -18,10 +18,10 @@ use Rattle.rdm_queue.specs.declared.entry.Entry.{Entry}
 use Rattle.rdm_queue.specs.declared.entry.Entry.TheVariants.{Send, Came, Answer}
 use Rattle.rdm_queue.specs.log.Entries.{Sending, Answered, sending_of, came_of, answered_of, sends, cames, traded, answers, is_run}
 use Rattle.rdm_queue.specs.log.History.{awaits_after, awaited}
-use Rattle.rdm_queue.specs.log.Runs.{sends_run, has_begun, last_run, run_of_owner, number_after, next_run, is_answered, unless_answered, open_run, served, seen_of, run_exchanges}
+use Rattle.rdm_queue.specs.log.Runs.{has_begun, last_run, next_run, is_answered, unless_answered, open_run, served, run_exchanges}
 use Rattle.rdm_queue.specs.log.Due.{GoesOn, NothingDue}
 use Rattle.rdm_queue.specs.log.MaySend.{MayBegin, MaySendRun}
-use Rattle.rdm_queue.specs.log.MayAnswer.{MayAnswer, MayAnswerByRun}
+use Rattle.rdm_queue.specs.log.MayAnswer.{MayAnswer}
 use Rattle.rdm_queue.specs.log.Legal.{MayFollow}
 use Rattle.rdm_queue.proofs.LogLemmas.PushLemmas.{sends_same, sends_more, cames_same, answered_same, answered_more, awaited-push}
 use Rattle.rdm_queue.proofs.LogLemmas.ExchangeLemmas.{IsUnanswered}

@@ -1,8 +1,8 @@
 -- What a log says of its runs, as it grows.
-use Rattle.std.proofs.Common.{◌≡◌, ℕ, ◌≤◌, arith, Bool, true, false, cond, List, [], ◌∷◌, ◌++◌, length, filter, filter_map, map, Option, Some, None, fold, ◌+◌, take, not, one-add, refl, sym, ap, ◌∙◌, append-nil, inl, inr, if◌then◌else◌}
-use Rattle.std.specs.Prelude.{◌⊎◌, ◌||◌, ◌==◌, zip}
+use Rattle.std.proofs.Common.{◌≡◌, ℕ, ◌≤◌, arith, Bool, true, false, cond, List, [], ◌∷◌, ◌++◌, length, filter, filter_map, map, Option, Some, None, fold, ◌+◌, take, not, one-add, refl, sym, ap, ◌∙◌, append-nil, inl, inr}
+use Rattle.std.specs.Prelude.{◌⊎◌, ◌||◌, zip}
 use Rattle.std.specs.List.{list_any, before_first, position_or_len}
-use Rattle.std.proofs.lemmas.Bool.{cases_Bool, false≢true, eq-eqb, eqb-true, or_parts}
+use Rattle.std.proofs.lemmas.Bool.{cases_Bool, false≢true, eq-eqb, or_parts}
 use Rattle.std.proofs.lemmas.List.{map-append}
 use Rattle.std.proofs.lemmas.List.Folds.{list_any-append}
 use Rattle.std.proofs.lemmas.List.Sums.{fold_push}
@@ -16,10 +16,9 @@ use Rattle.rdm_queue.specs.declared.entry.Owner.TheVariants as owners
 use Rattle.rdm_queue.specs.declared.entry.Opening.{Opening}
 use Rattle.rdm_queue.specs.declared.entry.Entry.{Entry}
 use Rattle.rdm_queue.specs.declared.entry.Entry.TheVariants.{Send, Came}
-use Rattle.rdm_queue.specs.log.Entries.{AskedDiscovery, Answered, Sending, Traded, traded_of, sending_of, came_of, answered_of, asks, answers, sends, cames, traded, is_run}
-use Rattle.rdm_queue.specs.log.History.{unanswered}
-use Rattle.rdm_queue.specs.log.Runs.{sends_run, has_begun, entries_before_run, run_of_owner, last_run, is_answered, unless_answered, open_run, asked_before, unserved, served, seen_of, run_exchanges, run_frames, last_run_without_fault, devices_of, known_devices}
-use Rattle.rdm_queue.proofs.LogLemmas.PushLemmas.{sends_more, sends_same, cames_same, answered_same, asks-append}
+use Rattle.rdm_queue.specs.log.Entries.{Sending, Traded, traded_of, sending_of, came_of, answered_of, asks, answers, sends, cames, traded, is_run}
+use Rattle.rdm_queue.specs.log.Runs.{sends_run, has_begun, entries_before_run, run_of_owner, last_run, unless_answered, open_run, asked_before, served, seen_of, run_exchanges, run_frames, last_run_without_fault, devices_of, known_devices}
+use Rattle.rdm_queue.proofs.LogLemmas.PushLemmas.{sends_more, sends_same, cames_same, answered_same}
 use Rattle.rdm_queue.proofs.LogLemmas.ExchangeLemmas.{IsUnanswered, traded_sent, traded_came}
 
 -- which run began last

@@ -1,13 +1,12 @@
 -- A client is given the outcomes of its Finishes once, in order.
-use Rattle.std.proofs.Common.{◌≡◌, ℕ, zero, suc, ◌≤◌, Bool, true, false, List, [], ◌∷◌, ◌++◌, length, take, drop, Option, Some, None, if◌then◌else◌, slice_get, refl, sym, ap, ◌∙◌, append_assoc, append-nil, add-one, inl, inr, filter_map}
+use Rattle.std.proofs.Common.{◌≡◌, ℕ, zero, suc, Bool, true, false, List, [], ◌∷◌, ◌++◌, length, take, drop, Option, Some, None, if◌then◌else◌, slice_get, refl, sym, ap, ◌∙◌, append_assoc, append-nil, add-one, inl, inr, filter_map}
 use Rattle.std.specs.Prelude.{◌⊎◌, ◌==◌, Ok, Err}
 use Rattle.std.specs.List.{AllByRecursion, cons_option}
 use Rattle.std.proofs.lemmas.Bool.{eq-eqb, cases_Bool, false≢true, eqb-true}
-use Rattle.std.proofs.lemmas.List.{length_push, take-append-le}
+use Rattle.std.proofs.lemmas.List.{length_push}
 use Rattle.std.proofs.lemmas.List.Elements.{filter-append, filter_map-append}
 use Rattle.std.proofs.lemmas.Option.{same_Some}
 use Rattle.rdm_wire.specs.Lists.{EachAfter}
-use Rattle.rdm_wire.specs.declared.request.Request.{Request}
 use Rattle.rdm_queue.specs.declared.entry.ClientId.{ClientId}
 use Rattle.rdm_queue.specs.declared.entry.Opening.{Opening}
 use Rattle.rdm_queue.specs.declared.entry.Entry.{Entry}
@@ -20,7 +19,7 @@ use Rattle.rdm_queue.specs.declared.event.Answer.{Answer}
 use Rattle.rdm_queue.specs.declared.event.Answer.TheVariants as answers
 use Rattle.rdm_queue.specs.log.Entries.{collector_of, collectors}
 use Rattle.rdm_queue.specs.log.History.{is_closed, can_pause, can_resume}
-use Rattle.rdm_queue.specs.log.Clients.{client_of_request, answers_to, collects_by, collected, uncollected}
+use Rattle.rdm_queue.specs.log.Clients.{answers_to, collects_by, collected, uncollected}
 use Rattle.rdm_queue.specs.log.Legal.{MayFollow}
 use Rattle.rdm_queue.specs.promises.Outcomes.{OutcomeValue, outcome_value, outcome_of, completion_of}
 use Rattle.rdm_queue.specs.promises.Outcomes.OutcomeValue.{RequestValue}
@@ -30,7 +29,7 @@ use Rattle.rdm_queue.specs.promises.Explains.{Adds, IsAnswered, Explains}
 use Rattle.rdm_queue.proofs.PromiseLemmas.BlockLemmas.{join_ok, submit_ok, join_refusal, submit_refusal}
 use Rattle.rdm_queue.specs.promises.EventsHeadline.{outcome_given, given_to, collected_outcomes}
 use Rattle.rdm_queue.proofs.LogLemmas.Grows.{front}
-use Rattle.rdm_queue.proofs.LogLemmas.PushLemmas.{collectors_same, collectors_more}
+use Rattle.rdm_queue.proofs.LogLemmas.PushLemmas.{collectors_more}
 use Rattle.rdm_queue.proofs.LogLemmas.LegalFacts.{legal_facts}
 use Rattle.rdm_queue.proofs.LogLemmas.ClientLemmas.{answers_same}
 use Rattle.rdm_queue.proofs.LogLemmas.ClientSteps.{collected_step}

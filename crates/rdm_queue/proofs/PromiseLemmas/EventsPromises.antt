@@ -1,10 +1,9 @@
 -- What is promised of a list of events.
-use Rattle.std.proofs.Common.{◌≡◌, ℕ, ◌+◌, ◌-◌, ◌<◌, true, false, List, [], ◌∷◌, ◌++◌, length, map, Option, Some, None, slice_get, refl, sym, ap, ◌∙◌, append_assoc, arith}
+use Rattle.std.proofs.Common.{◌≡◌, ℕ, ◌+◌, ◌-◌, ◌<◌, true, false, List, [], ◌∷◌, ◌++◌, length, map, Some, slice_get, refl, sym, ap, ◌∙◌, append_assoc, arith}
 use Rattle.std.specs.Prelude.{Ok, Err, option_map}
 use Rattle.std.specs.List.{Contains}
 use Rattle.std.proofs.lemmas.List.Elements.{Contains-append_left, Contains-append_right}
 use Rattle.std.proofs.lemmas.List.{length-map}
-use Rattle.std.proofs.lemmas.Bool.{false≢true, eqb-true}
 use Rattle.std.proofs.lemmas.Option.{none-some, slice_get_within, slice_get-get_or, slice_get-map, same_Some}
 use Rattle.rdm_wire.specs.Lists.{EachAfter}
 use Rattle.rdm_wire.specs.declared.request.Request.{Request}
@@ -20,7 +19,7 @@ use Rattle.rdm_queue.specs.declared.event.Event.TheVariants as events
 use Rattle.rdm_queue.specs.declared.event.Answer.{Answer}
 use Rattle.rdm_queue.specs.declared.event.Answer.TheVariants as answers
 use Rattle.rdm_queue.specs.log.Entries.{Accepted, accepted_of, accepts, result}
-use Rattle.rdm_queue.specs.log.Clients.{client_of_request, is_client_of, is_answer_to, answers_to, collects_by, uncollected}
+use Rattle.rdm_queue.specs.log.Clients.{client_of_request, is_answer_to, answers_to, collects_by, uncollected}
 use Rattle.rdm_queue.specs.log.Refusals.{submit_fault}
 use Rattle.rdm_queue.specs.promises.Outcomes.{outcome_of, completion_of, outcome_value}
 use Rattle.rdm_queue.specs.promises.Outcomes.OutcomeValue.{RequestValue}

@@ -1,9 +1,9 @@
 -- A client is answered what it asked, and refused only where it has four discoveries outstanding.
-use Rattle.std.proofs.Common.{◌≡◌, ℕ, ◌-◌, ◌≤◌, ◌<◌, Bool, true, false, List, [], ◌∷◌, ◌++◌, length, map, Option, Some, None, slice_get, filter_map, if◌then◌else◌, refl, sym, ap, ◌∙◌, inl, inr, arith, zero, suc}
-use Rattle.std.specs.Prelude.{◌⊎◌, ◌||◌, ◌==◌, option_map, nat_le}
+use Rattle.std.proofs.Common.{◌≡◌, ℕ, ◌-◌, ◌≤◌, Bool, true, false, List, [], ◌∷◌, map, Option, Some, None, slice_get, filter_map, if◌then◌else◌, refl, sym, ap, ◌∙◌, inl, inr, arith, zero, suc}
+use Rattle.std.specs.Prelude.{◌⊎◌, ◌||◌, option_map, nat_le}
 use Rattle.std.specs.List.{Contains, cons_option}
-use Rattle.std.proofs.lemmas.Bool.{false≢true, leb-true, leb-false, le-leb, lt-leb, or_cases, or_left, or_right}
-use Rattle.std.proofs.lemmas.Option.{none-some, same_Some, slice_get-map, slice_get-get_or}
+use Rattle.std.proofs.lemmas.Bool.{leb-true, leb-false, le-leb, lt-leb, or_cases, or_left, or_right}
+use Rattle.std.proofs.lemmas.Option.{none-some, same_Some, slice_get-get_or}
 use Rattle.rdm_agent.specs.declared.kind.Kind.{Kind}
 use Rattle.rdm_agent.specs.declared.fault.AgentFault.{AgentFault}
 use Rattle.rdm_queue.specs.declared.entry.ClientId.{ClientId}
@@ -16,7 +16,7 @@ use Rattle.rdm_queue.specs.declared.fault.AskFault.TheVariants as faults
 use Rattle.rdm_queue.specs.log.History.{is_closed, next_client, next_ask}
 use Rattle.rdm_queue.specs.log.Refusals.{ask_fault, number_of_ask_fault}
 use Rattle.rdm_queue.specs.log.Entries.{AskedDiscovery, asked_of, answered_of, asks, answers}
-use Rattle.rdm_queue.specs.log.Clients.{answers_to, outstanding_discoveries, client_of_discovery, is_client_of, is_answer_to}
+use Rattle.rdm_queue.specs.log.Clients.{answers_to, outstanding_discoveries, client_of_discovery, is_answer_to}
 use Rattle.rdm_queue.specs.log.Legal.{Legal}
 use Rattle.rdm_queue.specs.promises.Discoveries.{HasMostDiscoveries, OwnDiscoveries, FullRefusesDiscoveries, DiscoveriesPromised}
 use Rattle.rdm_queue.proofs.LogLemmas.AskFacts.{AskFacts, ask_facts}

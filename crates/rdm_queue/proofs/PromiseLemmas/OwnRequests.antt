@@ -1,5 +1,5 @@
 -- Each exchange of a request carries that request.
-use Rattle.std.proofs.Common.{◌≡◌, ℕ, ◌+◌, length, zero, suc, true, List, [], ◌∷◌, ◌++◌, Some, None, slice_get, map, zip, refl, sym, ap, ◌∙◌}
+use Rattle.std.proofs.Common.{◌≡◌, ℕ, ◌+◌, length, zero, suc, true, List, [], ◌∷◌, ◌++◌, Some, slice_get, map, zip, refl, sym, ◌∙◌}
 use Rattle.std.proofs.lemmas.Bool.{eqb-true, false≢true}
 use Rattle.std.proofs.lemmas.Option.{none-some, same_Some}
 use Rattle.arrayvec.specs.ArrayVec.{ArrayVec}
@@ -11,7 +11,7 @@ use Rattle.rdm_queue.specs.declared.entry.Owner.TheVariants as owners
 use Rattle.rdm_queue.specs.declared.entry.Opening.{Opening}
 use Rattle.rdm_queue.specs.declared.entry.Entry.{Entry}
 use Rattle.rdm_queue.specs.declared.entry.Entry.TheVariants.{Accept, Send}
-use Rattle.rdm_queue.specs.log.Entries.{Accepted, Sending, Traded, traded_of, accepted_of, sending_of, accepts, sends, cames, finishes, traded, of_request, is_request}
+use Rattle.rdm_queue.specs.log.Entries.{Accepted, Sending, Traded, traded_of, accepts, sends, cames, finishes, traded, of_request, is_request}
 use Rattle.rdm_queue.specs.log.History.{next_tn}
 use Rattle.rdm_queue.specs.log.MaySend.{MaySendRequest}
 use Rattle.rdm_queue.specs.log.Legal.{MayFollow, Legal}

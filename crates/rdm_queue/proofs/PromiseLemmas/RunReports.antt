@@ -1,9 +1,9 @@
 -- The devices that exchanges report: the acknowledged ones, each as its first acknowledgement says it.
-use Rattle.std.proofs.Common.{◌≡◌, ℕ, Bool, true, false, List, [], ◌∷◌, Option, Some, None, filter_map, take, refl, sym, ap, ◌∙◌, inl, inr}
+use Rattle.std.proofs.Common.{◌≡◌, ℕ, true, false, List, [], ◌∷◌, Some, None, filter_map, take, refl, sym, ap, ◌∙◌, inl, inr}
 use Rattle.std.specs.Prelude.{◌⊎◌, ◌==◌}
 use Rattle.std.specs.List.{AllByRecursion, cons_option}
-use Rattle.std.proofs.lemmas.Bool.{cases_Bool, false≢true, eqb-true, eq-eqb}
-use Rattle.rdm_wire.specs.Uid.{has, set_of}
+use Rattle.std.proofs.lemmas.Bool.{cases_Bool, false≢true, eqb-true}
+use Rattle.rdm_wire.specs.Uid.{has}
 use Rattle.rdm_wire.specs.Devices.{uids_of, device_with}
 use Rattle.rdm_wire.specs.Lists.{once}
 use Rattle.rdm_wire.specs.declared.device.Device.{Device}
@@ -11,7 +11,7 @@ use Rattle.rdm_wire.specs.declared.uid_set.TheConstants.{MOST_DEVICES}
 use Rattle.rdm_wire.specs.Honest.{Asked, Heard, Seen}
 use Rattle.rdm_wire.specs.Honest.Asked.{Unmute, Branch, Mute, Other}
 use Rattle.rdm_wire.specs.Honest.Heard.{Failed, Silent, One, Acked, Noise}
-use Rattle.rdm_agent.specs.Run.{acked_uid, acked_device, acked_in, devices_in, reported, AsFirstAcked, IsReport}
+use Rattle.rdm_agent.specs.Run.{acked_uid, acked_device, acked_in, devices_in, reported, IsReport}
 use Rattle.rdm_agent.proofs.Sets.{each_member, has-set_of, has-once, has-take}
 use Rattle.rdm_queue.specs.log.Runs.{reported_devices}
 

@@ -1,9 +1,9 @@
 -- One run answers the discoveries that were asked before it began, all alike.
-use Rattle.std.proofs.Common.{◌≡◌, ℕ, ◌+◌, Bool, true, false, List, [], ◌∷◌, ◌++◌, length, map, Option, Some, None, slice_get, refl, sym, ap, ◌∙◌, inl, inr, append_assoc, append-nil, if◌then◌else◌}
+use Rattle.std.proofs.Common.{◌≡◌, ℕ, ◌+◌, Bool, true, false, List, [], ◌∷◌, ◌++◌, length, Option, Some, slice_get, refl, sym, ap, ◌∙◌, inl, inr, append_assoc, append-nil}
 use Rattle.std.specs.Prelude.{◌⊎◌, ◌≢◌, ◌==◌, ◌||◌, ◌-◌}
 use Rattle.std.specs.List.{AllByRecursion, Contains, list_any}
 use Rattle.std.proofs.lemmas.Bool.{cases_Bool, false≢true, eqb-true, eq-eqb}
-use Rattle.std.proofs.lemmas.Option.{none-some, same_Some, slice_get-map, slice_get-get_or}
+use Rattle.std.proofs.lemmas.Option.{slice_get-map, slice_get-get_or}
 use Rattle.std.proofs.lemmas.List.Folds.{list_any-append, list_any_at}
 use Rattle.rdm_wire.specs.Lists.{EachAfter}
 use Rattle.rdm_wire.specs.declared.device.Device.{Device}
@@ -14,13 +14,12 @@ use Rattle.rdm_queue.specs.declared.entry.Owner.TheVariants as owners
 use Rattle.rdm_queue.specs.declared.entry.Opening.{Opening}
 use Rattle.rdm_queue.specs.declared.entry.Entry.{Entry}
 use Rattle.rdm_queue.specs.declared.entry.Entry.TheVariants.{Send, Came, Answer}
-use Rattle.rdm_queue.specs.log.Entries.{AskedDiscovery, Answered, Sending, asks, answers, is_run, sending_of, came_of}
+use Rattle.rdm_queue.specs.log.Entries.{AskedDiscovery, Answered, Sending, asks, answers, is_run}
 use Rattle.rdm_queue.specs.log.History.{awaited, unanswered}
 use Rattle.rdm_queue.specs.log.Runs.{has_begun, entries_before_run, is_answered, open_run, last_run, asked_before, unserved, served, run_exchanges, is_full_kind, run_kind, answer_devices}
 use Rattle.rdm_queue.specs.log.Due.{has_answer, AllAnswered}
-use Rattle.rdm_queue.specs.log.MayAnswer.{Shows, MayAnswer}
+use Rattle.rdm_queue.specs.log.MayAnswer.{MayAnswer}
 use Rattle.rdm_queue.specs.log.Legal.{MayFollow, Legal}
-use Rattle.rdm_queue.specs.promises.Outcomes.{outcome_of, OutcomeValue, discovered_by}
 use Rattle.rdm_queue.specs.promises.Outcomes.OutcomeValue.{DiscoveryValue}
 use Rattle.rdm_queue.specs.promises.Discoveries.{RunsAnswer, numbers_asked}
 use Rattle.rdm_queue.proofs.LogLemmas.Grows.{front}
@@ -29,7 +28,7 @@ use Rattle.rdm_queue.proofs.LogLemmas.PushLemmas.{answered-append, answered_more
 use Rattle.rdm_queue.proofs.LogLemmas.ExchangeLemmas.{IsUnanswered}
 use Rattle.rdm_queue.proofs.LogLemmas.LegalFacts.{legal_facts, IsAwaited, IsRunAwaited, sent_evenly}
 use Rattle.rdm_queue.proofs.LogLemmas.RunLemmas.{entries_before_run_stays, run_exchanges_same, run_exchanges_sent, run_exchanges_came_other}
-use Rattle.rdm_queue.proofs.LogLemmas.RunFacts.{RunFacts, run_facts, open_is, any_from_place}
+use Rattle.rdm_queue.proofs.LogLemmas.RunFacts.{run_facts, open_is, any_from_place}
 use Rattle.rdm_queue.proofs.PromiseLemmas.StableResults.{contains_from_get}
 
 -- an Answer's run has begun

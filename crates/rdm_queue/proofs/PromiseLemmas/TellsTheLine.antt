@@ -1,5 +1,5 @@
 -- The devices of an Answer are those that the line showed in its run.
-use Rattle.std.proofs.Common.{◌≡◌, ℕ, suc, zero, Bool, true, false, List, [], ◌∷◌, ◌++◌, length, take, drop, Option, Some, None, slice_get, filter_map, refl, sym, ap, ◌∙◌, inl, inr, if◌then◌else◌, fold}
+use Rattle.std.proofs.Common.{◌≡◌, ℕ, suc, zero, true, false, List, [], ◌∷◌, ◌++◌, take, drop, Option, Some, None, slice_get, filter_map, refl, sym, ap, ◌∙◌, inl, inr, fold}
 use Rattle.std.specs.Prelude.{◌⊎◌, ◌≢◌, ◌==◌}
 use Rattle.std.specs.List.{Contains, cons_option}
 use Rattle.std.proofs.lemmas.Bool.{cases_Bool, false≢true, eqb-true, eq-eqb}
@@ -13,7 +13,7 @@ use Rattle.rdm_wire.specs.Honest.Asked.{Unmute}
 use Rattle.rdm_wire.specs.HonestOver.{HonestOver}
 use Rattle.rdm_agent.specs.Run.{acked_in}
 use Rattle.rdm_agent.specs.Certificate.{Certificate}
-use Rattle.rdm_agent.specs.Statements.{IsInEach, IsInOne}
+use Rattle.rdm_agent.specs.Statements.{IsInEach}
 use Rattle.rdm_agent.specs.declared.kind.Kind.{Kind}
 use Rattle.rdm_agent.specs.declared.fault.AgentFault.{AgentFault}
 use Rattle.rdm_agent.specs.declared.fault.AgentFault.TheVariants.{Aborted}
@@ -25,12 +25,11 @@ use Rattle.rdm_queue.specs.declared.entry.Opening.{Opening}
 use Rattle.rdm_queue.specs.declared.entry.Entry.{Entry}
 use Rattle.rdm_queue.specs.declared.entry.Entry.TheVariants.{Answer}
 use Rattle.rdm_queue.specs.log.Entries.{Answered, answered_of, answers}
-use Rattle.rdm_queue.specs.log.Runs.{run_kind, known_at_run, run_exchanges, run_devices, reported_devices, answer_devices, if_without_fault, last_run_without_fault, devices_of, known_devices}
-use Rattle.rdm_queue.specs.log.Due.{IsDone}
+use Rattle.rdm_queue.specs.log.Runs.{run_kind, known_at_run, run_exchanges, run_devices, answer_devices, if_without_fault, last_run_without_fault, known_devices}
 use Rattle.rdm_queue.specs.log.MayAnswer.{MayAnswer}
 use Rattle.rdm_queue.specs.log.Legal.{MayFollow, Legal}
 use Rattle.rdm_queue.specs.promises.Discoveries.{TellsTheLine}
-use Rattle.rdm_queue.proofs.LogLemmas.RunFacts.{RunFacts, run_facts}
+use Rattle.rdm_queue.proofs.LogLemmas.RunFacts.{run_facts}
 use Rattle.rdm_queue.proofs.PromiseLemmas.StableResults.{contains_from_get}
 use Rattle.rdm_queue.proofs.PromiseLemmas.RunReports.{reports, device_acked}
 use Rattle.rdm_queue.proofs.PromiseLemmas.RunsAnswer.{ended}

@@ -4,7 +4,7 @@ use Rattle.std.proofs.lemmas.Bool.{false≢true}
 use Rattle.rdm_join.specs.declared.event.LineEvent.TheVariants.{Reply}
 use Rattle.rdm_queue.specs.declared.entry.Entry.TheVariants.{Came, Finish}
 use Rattle.rdm_join.specs.declared.status.Status.TheVariants.{Completed}
-use Rattle.rdm_queue.specs.log.Entries.{Accepted, joins, accepts, sends, cames, finishes, collectors, traded, of_request, verdicts, result, asks, answers}
+use Rattle.rdm_queue.specs.log.Entries.{joins, accepts, sends, cames, finishes, collectors, traded, of_request, verdicts, result, asks, answers}
 use Rattle.rdm_queue.specs.log.Runs.{has_begun, entries_before_run, last_run, run_exchanges}
 use Rattle.rdm_queue.specs.log.History.{awaited, is_paused, is_closed}
 use Rattle.rdm_queue.specs.log.Clients.{answers_to}

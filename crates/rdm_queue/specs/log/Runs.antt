@@ -14,7 +14,7 @@ use Rattle.rdm_queue.specs.declared.entry.Owner.TheVariants as owners
 use Rattle.rdm_queue.specs.declared.entry.Opening.{Opening}
 use Rattle.rdm_queue.specs.declared.entry.Entry.{Entry}
 use Rattle.rdm_queue.specs.declared.entry.Entry.TheVariants.{Send}
-use Rattle.rdm_queue.specs.log.Entries.{AskedDiscovery, Answered, Sending, Traded, asks, answers, sends, traded, is_run}
+use Rattle.rdm_queue.specs.log.Entries.{AskedDiscovery, Answered, Traded, asks, answers, sends, traded, is_run}
 use Rattle.rdm_queue.specs.log.History.{unanswered}
 
 -- the entry is a Send of the run

@@ -10,7 +10,9 @@ use Rattle.rdm_queue.specs.declared.entry.ClientId.{ClientId}
 use Rattle.rdm_queue.specs.declared.entry.Opening.{Opening}
 use Rattle.rdm_queue.specs.declared.entry.Owner.TheVariants as owners
 use Rattle.rdm_queue.specs.declared.entry.Entry.{Entry}
-use Rattle.rdm_queue.specs.declared.entry.Entry.TheVariants.{Join, Accept, Ask, Send, Came, Answer, Pause, Resume, Close}
+use Rattle.rdm_queue.specs.declared.entry.Entry.TheVariants.{Join, Accept, Ask, Send, Came, Finish, Answer, Pause}
+use Rattle.rdm_queue.specs.declared.entry.Entry.TheVariants.{Resume, Close}
+use Rattle.rdm_join.specs.declared.status.Status.TheVariants.{FailedToSend}
 use Rattle.rdm_queue.specs.samples.Sample.{sample_opening, sample_request}
 
 abbrev pub first_client : ClientId
@@ -125,3 +127,19 @@ known_traffic =
 -- run 2 with that traffic, for a discovery of this kind
 abbrev pub second_run : Kind → List (List ℕ × List ℕ) → List Entry
 second_run kind traffic = Join first_client 1 ∷ Ask first_client 0 kind ∷ logged_traffic 2 traffic
+
+-- a close finds a run amid its frames, a request that waits and a discovery asked during the run; then silence comes
+abbrev pub closed_amid : List Entry
+closed_amid =
+    begun_run ++ Ask first_client 1 Full ∷ Accept first_client 0 sample_request ∷ Close ∷ came_with [] ∷ []
+
+-- and there the run is aborted, and then the request isn't sent
+abbrev pub aborted_first : List Entry
+aborted_first = closed_amid ++ Answer 0 1 (Some Aborted) ∷ []
+
+abbrev pub then_unsent : List Entry
+then_unsent = aborted_first ++ Finish 0 FailedToSend 0 ∷ []
+
+-- the line fails after a close
+abbrev pub failed_late : List Entry
+failed_late = begun_run ++ Close ∷ Came Failed ∷ []

@@ -1,12 +1,12 @@
 //! Logs with discovery runs: some that are legal, and some that break a rule each, so that none of them is.
 ghost use Rattle.std.specs.Prelude.{◌≡◌, [], ◌∷◌, ◌++◌, take, map, Some, None};
 ghost use Rattle.rdm_wire.specs.CommandFrames.{unmute_frame};
-ghost use Rattle.rdm_join.specs.declared.event.LineEvent.TheVariants.{Failed};
+ghost use Rattle.rdm_join.specs.declared.status.Status.TheVariants.{FailedToSend};
 ghost use Rattle.rdm_agent.specs.declared.kind.Kind.TheVariants.{Full, Incremental};
-ghost use Rattle.rdm_agent.specs.declared.fault.AgentFault.TheVariants.{LineFailed, Aborted};
+ghost use Rattle.rdm_agent.specs.declared.fault.AgentFault.TheVariants.{LineFailed, Exhausted, Aborted};
 ghost use Rattle.rdm_agent.specs.SampleRun.{sample_run, sample_device};
 ghost use Rattle.rdm_queue.specs.declared.entry.Owner.TheVariants.{Request, Run};
-ghost use Rattle.rdm_queue.specs.declared.entry.Entry.TheVariants.{Ask, Answer, Came, Close};
+ghost use Rattle.rdm_queue.specs.declared.entry.Entry.TheVariants.{Ask, Finish, Answer, Pause, Close};
 ghost use Rattle.rdm_queue.specs.declared.fault.AskFault.TheVariants as ask_faults;
 ghost use Rattle.rdm_queue.specs.log.History.{unanswered, is_idle, reserved};
 ghost use Rattle.rdm_queue.specs.log.Clients.{outstanding_discoveries, uncollected};
@@ -23,6 +23,8 @@ ghost use Rattle.rdm_queue.specs.samples.SampleRuns.{first_client, source, tenth
 ghost use Rattle.rdm_queue.specs.samples.SampleRuns.{waiting_log, run_log, answered_first, answered_both, request_sent};
 ghost use Rattle.rdm_queue.specs.samples.SampleRuns.{asked_one, begun_run, asked_during, failed_run, answered_failed};
 ghost use Rattle.rdm_queue.specs.samples.SampleRuns.{aborted_log, closed_run, known_opening, second_run};
+ghost use Rattle.rdm_queue.specs.samples.SampleRuns.{closed_amid, aborted_first, then_unsent, failed_late};
+ghost use Rattle.rdm_queue.specs.samples.SampleRuns.{came_with, whole_branch};
 
 /// Two discoveries are asked while sending is paused. One full run of ten frames answers both alike, and then the
 /// request that waited goes out. That is legal, and so is a run whose line fails, with a discovery asked during it
@@ -66,17 +68,28 @@ pub fn counts_of_discoveries()
         ≡ Some ask_faults.Full }
 {}
 
-/// No run begins between two parts of a request, and none is sent a frame after its answer; a request waits for a
-/// discovery that is asked.
+/// No run begins between two parts of a request, nor while sending is paused, and none is sent a frame after its answer;
+/// a request waits for a discovery that is asked. An open run's frames are sent also while sending is paused.
 pub fn wrong_run_frames()
     ensures between_parts { MaySend wide_opening (came_part ++ Ask first_client 0 Full ∷ [])
         (Run 1) (record { items = unmute_frame source 1 }) → ⊥ }
     ensures answered { MaySend sample_opening answered_both (Run 1) (record { items = unmute_frame source 10 }) → ⊥ }
     ensures waits { MaySend sample_opening waiting_log (Request 0) (record { items = tenth_frame }) → ⊥ }
+    ensures skipped { MaySend sample_opening (answered_both ++ Ask first_client 2 Full ∷ [])
+        (Run 3) (record { items = unmute_frame source 10 }) → ⊥ }
+    ensures paused { MaySend sample_opening (asked_one ++ Pause ∷ [])
+        (Run 1) (record { items = unmute_frame source 0 }) → ⊥ }
+    ensures goes_on { MaySend sample_opening (begun_run ++ came_with [] ∷ Pause ∷ [])
+        (Run 1) (record { items = unmute_frame source 1 }) }
+    // The fourth unmute, a branch in place of the first one, and a frame more than the budget allows.
+    ensures fourth { MaySend sample_opening (run_log 3) (Run 1) (record { items = unmute_frame source 3 }) → ⊥ }
+    ensures first { MaySend sample_opening asked_one (Run 1) (record { items = whole_branch 0 }) → ⊥ }
+    ensures over_budget { MaySend (record sample_opening { budget = 1 }) (begun_run ++ came_with [] ∷ [])
+        (Run 1) (record { items = unmute_frame source 1 }) → ⊥ }
 {}
 
 /// A discovery asked during a run isn't served by that run. One that a run serves isn't answered as if none had begun
-/// for it, and none is forgotten at a close.
+/// for it, and none is forgotten at a close. A fault has its cause.
 pub fn wrong_discovery_answers()
     ensures asked_during { MayFollow sample_opening answered_failed (Answer 1 1 (Some LineFailed)) → ⊥ }
     ensures aborted { MayFollow sample_opening closed_run (Answer 0 1 (Some Aborted)) }
@@ -84,7 +97,23 @@ pub fn wrong_discovery_answers()
     ensures forgotten { Legal sample_opening (asked_one ++ Close ∷ []) → ⊥ }
     ensures unasked { MayFollow sample_opening failed_run (Answer 0 1 (Some Aborted)) → ⊥ }
     ensures no_fault { MayFollow sample_opening failed_run (Answer 0 1 None) → ⊥ }
+    ensures failed_before { MayFollow sample_opening failed_late (Answer 0 1 (Some Aborted)) → ⊥ }
+    ensures budget_left { MayFollow sample_opening closed_run (Answer 0 1 (Some Exhausted)) → ⊥ }
+    // One of two discoveries that a run serves is left, and a run that isn't done yet.
     ensures one_left { Legal sample_opening answered_first → ⊥ }
+    ensures too_early { MayFollow sample_opening (run_log 9) (Answer 0 1 None) → ⊥ }
+    ensures done { MayFollow sample_opening (run_log 10) (Answer 0 1 None) }
+    ensures done_in_vain { MayFollow sample_opening (run_log 10) (Answer 0 1 (Some Exhausted)) → ⊥ }
+{}
+
+/// At a close the discoveries of an aborted run are answered first, then all requests are finished, and then the
+/// discoveries are answered that no run has begun for.
+pub fn order_at_a_close()
+    ensures first { MayFollow sample_opening closed_amid (Answer 0 1 (Some Aborted)) }
+    ensures then { MayFollow sample_opening aborted_first (Finish 0 FailedToSend 0) }
+    ensures last { MayFollow sample_opening then_unsent (Answer 1 0 (Some Aborted)) }
+    ensures request_first { MayFollow sample_opening closed_amid (Finish 0 FailedToSend 0) → ⊥ }
+    ensures request_last { MayFollow sample_opening aborted_first (Answer 1 0 (Some Aborted)) → ⊥ }
 {}
 
 /// A full discovery isn't served by an incremental run, nor an incremental one from no devices where one is known.

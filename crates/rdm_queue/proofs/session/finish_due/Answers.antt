@@ -1,4 +1,4 @@
-use Rattle.std.proofs.Common.{◌++◌, ◌∷◌, [], ap, ◌∙◌, arith}
+use Rattle.std.proofs.Common.{◌++◌, ◌∷◌, [], ap, ◌∙◌}
 use Rattle.rdm_queue.specs.log.LogState.{grown}
 use Rattle.rdm_queue.proofs.BodyLemmas.SessionLemmas.{amid_grown, result_added, grown_twice, all_results_more}
 use Rattle.rdm_queue.proofs.session.finish_due.Goals as goal

@@ -3,7 +3,6 @@ use Rattle.rdm_queue.specs.declared.entry.Entry.{Entry}
 use Rattle.rdm_queue.specs.log.LogState.{grown}
 use Rattle.rdm_queue.specs.promises.Blocks.{AllResults}
 use Rattle.rdm_queue.specs.body.SessionInvariant.{SessionAmid}
-use Rattle.rdm_queue.specs.body.State.{QueueState}
 use Rattle.rdm_queue.proofs.session.finish_due.Given as goal
 
 -- the entries so far are Finishes

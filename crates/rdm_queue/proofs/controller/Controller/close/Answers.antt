@@ -2,11 +2,10 @@ use Rattle.std.proofs.Common.{◌≡◌, false, [], ◌∷◌, ◌++◌, sym, ap
 use Rattle.rdm_queue.specs.declared.entry.Entry.TheVariants.{Close}
 use Rattle.rdm_queue.specs.log.History.{is_closed}
 use Rattle.rdm_queue.specs.body.State.{QueueState}
-use Rattle.rdm_queue.proofs.BodyLemmas.CallLemmas.{with_results}
+use Rattle.rdm_queue.proofs.BodyLemmas.CallLemmas.{close_adds}
 use Rattle.rdm_queue.proofs.controller.Controller.close.Goals as goal
 
 pub returns-then-not-is_closed-clause-adds : goal.returns-then-not-is_closed-clause-adds
 returns-then-not-is_closed-clause-adds c = λ o h after.
     let open_ : is_closed o h ≡ false = sym after.stands.closed_is ∙ ap (λ (s : QueueState). s.closed) (sym c.self.view_is) ∙ sym c.is_closed.ensures ∙ c.if-not-is_closed.true in
-    let with = with_results o h Close _ (c.finish_due.ensures o (h ++ Close ∷ []) (c.shut.ensures o h after open_)) in
-    record { block = with.block; adds = rw open_ with.adds; after = with.after }
+    close_adds o h _ open_ (c.finish_due.ensures o (h ++ Close ∷ []) (c.shut.ensures o h after open_))

@@ -1,4 +1,4 @@
-use Rattle.std.proofs.Common.{◌≡◌, ◌++◌, ◌∷◌, [], sym, ◌∙◌, refl, Some}
+use Rattle.std.proofs.Common.{◌≡◌, ◌++◌, ◌∷◌, [], sym, refl, Some}
 use Rattle.rdm_queue.specs.promises.Outcomes.{completion_value}
 use Rattle.rdm_queue.proofs.BodyLemmas.HeardLemmas.{heard_done}
 use Rattle.rdm_queue.proofs.queue.Queue.hear.Goals as goal
