@@ -3,7 +3,6 @@ use Rattle.std.specs.Prelude.{ℕ, ◌≤◌, ◌++◌, ◌∷◌, [], List, map
 use Rattle.std.specs.List.{AllByRecursion}
 use Rattle.rdm_wire.specs.Uid.{IsDevice, IsAscending}
 use Rattle.rdm_queue.specs.declared.client.Client.{Client}
-use Rattle.rdm_queue.specs.declared.config.TheConstants.{MOST_PLACES}
 use Rattle.rdm_join.specs.JoinerStanding.{IsOpen}
 use Rattle.rdm_queue.specs.body.Rings.{HasRings}
 use Rattle.rdm_queue.specs.body.Merged.{AreShares}
@@ -18,7 +17,7 @@ numbers s = map (λ d. d.number) s.outcomes ++ (map (λ a. a.number) s.waiting +
 -- verdicts
 pub record StateInvariant (s : QueueState) : Type 0 where
   pub source : IsDevice s.source
-  pub greatest : s.greatest ≤ MOST_PLACES
+  pub greatest : s.greatest ≤ 4080
   pub budget : 1 ≤ s.budget
   pub few_places : sum s.places ≤ s.greatest
   pub few : (c : ℕ) → outstanding c s ≤ slice_index s.places c

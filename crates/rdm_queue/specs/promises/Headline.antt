@@ -11,7 +11,6 @@ use Rattle.rdm_join.specs.declared.status.Status.{Status}
 use Rattle.rdm_join.specs.declared.status.Status.TheVariants.{Completed, FailedToSend, NoMemory}
 use Rattle.rdm_join.specs.Result.{Joined, IsResult}
 use Rattle.rdm_queue.specs.log.MayFinish.{Tells}
-use Rattle.rdm_queue.specs.declared.entry.TheConstants.{NEVER_GIVEN}
 use Rattle.rdm_queue.specs.declared.entry.ClientId.{ClientId}
 use Rattle.rdm_queue.specs.declared.entry.Owner.TheVariants as owners
 use Rattle.rdm_queue.specs.declared.entry.Call.{Call}
@@ -106,7 +105,7 @@ pub record InOrder (o : Opening) (h : List Entry) : Type 0 where
 pub record IsFull (o : Opening) (h : List Entry) (c : ℕ) : Type 0 where
   pub not_closed : is_closed o h ≡ false
   pub known : c < next_client o h
-  pub full : (slice_index (places o h) c ≤ outstanding_requests o c h) ⊎ (NEVER_GIVEN ≤ next_request o h)
+  pub full : (slice_index (places o h) c ≤ outstanding_requests o c h) ⊎ (18446744073709551615 ≤ next_request o h)
 
 -- k says of the queue what h says
 pub record SameQueue (o : Opening) (h k : List Entry) : Type 0 where
