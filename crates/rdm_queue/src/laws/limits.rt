@@ -1,7 +1,8 @@
 //! The numbers of the limits.
 ghost use Rattle.std.specs.Prelude.{◌≡◌};
 ghost use Rattle.rdm_queue.specs.declared.config.TheConstants.{MOST_PLACES};
-ghost use Rattle.rdm_queue.specs.declared.entry.TheConstants.{MOST_DISCOVERIES, MOST_CLIENTS, NEVER_GIVEN_TO_A_DISCOVERY, NEVER_GIVEN};
+ghost use Rattle.rdm_queue.specs.declared.entry.TheConstants.{MOST_DISCOVERIES, MOST_CLIENTS};
+ghost use Rattle.rdm_queue.specs.declared.entry.TheConstants.{NEVER_GIVEN_TO_A_DISCOVERY, NEVER_GIVEN};
 ghost use Rattle.rdm_queue.specs.declared.log.TheConstants.{LEAST_FREE, MOST_FREE_ENTRIES};
 
 /// The limits that definitions cite by name.
