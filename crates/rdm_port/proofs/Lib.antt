@@ -1,1 +1,3 @@
 pub mod WordsLemmas
+pub mod DiscoveryLemmas
+pub mod SceneRuns

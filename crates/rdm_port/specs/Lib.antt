@@ -1,3 +1,5 @@
 pub mod Fault
 pub mod Words
 pub mod Outcome
+pub mod Discovery
+pub mod SceneDiscovery

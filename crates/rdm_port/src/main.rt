@@ -4,6 +4,7 @@
 ghost use Rattle.std.specs.Prelude.{◌≡◌, IfOk, map, string_bytes};
 ghost use Rattle.rdm_port.specs.Words.{texts_of};
 
+mod discovery;
 mod fault;
 mod job;
 mod laws;
