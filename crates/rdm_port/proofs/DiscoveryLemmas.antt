@@ -1,5 +1,5 @@
 -- An agent's exchanges with a line, one more after another.
-use Rattle.std.proofs.Common.{◌≡◌, ◌≢◌, ℕ, suc, ◌+◌, ◌%◌, ◌≤◌, Result, false, List, [], ◌∷◌, ◌++◌, length, map, Some, refl, sym, ap, ◌∙◌, subst, length-append, arith}
+use Rattle.std.proofs.Common.{◌≡◌, ℕ, suc, ◌+◌, ◌%◌, ◌≤◌, Result, false, List, [], ◌∷◌, ◌++◌, length, map, Some, refl, sym, ap, ◌∙◌, subst, length-append, arith}
 use Rattle.std.proofs.lemmas.List.{map-append}
 use Rattle.rdm_wire.specs.declared.device.Device.{Device}
 use Rattle.rdm_join.specs.Exchange.{seen_event}
@@ -34,7 +34,7 @@ one_driven L step source kind known budget n old line new a b before e = record 
   many = length-append before.exchanges (e.exchange ∷ []) ∙ ap (λ k. k + 1) before.many;
   drives = drives_more L step source 0 n (start kind known budget) a b old line new before.exchanges (omega (arith, before.many)) before.drives e;
   run = subst (λ seen. HasRun kind known budget false seen b) (sym (map-append seen_event before.exchanges (e.exchange ∷ [])))
-    (hears-has_run a b (seen_event e.exchange) (next_asked a e.goes_on ∙ ap Some (sym e.asked)) e.hears kind known budget false (map seen_event before.exchanges) before.run);
+      (hears-has_run a b (seen_event e.exchange) (next_asked a e.goes_on ∙ ap Some (sym e.asked)) e.hears kind known budget false (map seen_event before.exchanges) before.run);
 }
 
 -- as many are seen as are made

@@ -1,15 +1,15 @@
 -- Discovery runs on a simulated line are runs of that line, and so honest.
-use Rattle.std.proofs.Common.{◌≡◌, ◌≢◌, ℕ, zero, suc, ◌+◌, ◌<◌, ◌≤◌, ◌^◌, Bool, true, false, cond, List, [], ◌∷◌, length, map, Result, Ok, Err, Option, Some, None, refl, sym, ap, ◌∙◌, subst, inl, inr, replicate, arith, true≢false}
-use Rattle.std.specs.Prelude.{◌⊎◌, ◌&&◌, ◌==◌, MatchBool, IfOk, IfErr, IsOkAnd, nat_lt}
+use Rattle.std.proofs.Common.{◌≡◌, ◌≢◌, ℕ, zero, suc, ◌+◌, ◌<◌, ◌≤◌, ◌^◌, Bool, true, false, cond, List, [], ◌∷◌, length, map, Result, Option, Some, None, refl, sym, ap, ◌∙◌, subst, inl, inr, replicate, arith, true≢false}
+use Rattle.std.specs.Prelude.{◌&&◌, ◌==◌, MatchBool, IfOk, IfErr, IsOkAnd, nat_lt}
 use Rattle.std.specs.List.{AllByRecursion}
 use Rattle.std.specs.List.Sorted.{IsPermutation}
-use Rattle.std.proofs.lemmas.Bool.{and_parts, lt-ltb}
+use Rattle.std.proofs.lemmas.Bool.{lt-ltb}
 use Rattle.std.proofs.lemmas.List.{length-map}
 use Rattle.std.proofs.lemmas.List.Sorted.{list_any-IsPermutation, length_permutation}
 use Rattle.rdm_wire.specs.Uid.{has, IsDeviceSet}
 use Rattle.rdm_wire.specs.Devices.{uids_of}
 use Rattle.rdm_wire.specs.declared.device.Device.{Device}
-use Rattle.rdm_wire.specs.Honest.{Asked, Heard, Seen, HonestTrace}
+use Rattle.rdm_wire.specs.Honest.{Asked, Seen, HonestTrace}
 use Rattle.rdm_wire.specs.Honest.Asked.{Unmute, Branch, Mute, Other}
 use Rattle.rdm_wire.specs.Honest.Heard.{Failed}
 use Rattle.rdm_wire.specs.HonestOver.{HonestOver}
@@ -20,7 +20,7 @@ use Rattle.rdm_wire.specs.declared.mute_ack.MuteAck.{MuteAck}
 use Rattle.rdm_wire.proofs.HonestOverLemmas.{trace-over}
 use Rattle.rdm_join.specs.Exchange.{seen_event, bytes_heard}
 use Rattle.rdm_agent.specs.Machine.{AgentState, Runs, start, next_of, fault_of, found_uids}
-use Rattle.rdm_agent.specs.Calls.{run_result, next_op}
+use Rattle.rdm_agent.specs.Calls.{run_result}
 use Rattle.rdm_agent.specs.Bound.{enough_for, IsCalm}
 use Rattle.rdm_agent.specs.Statements.{IsInEach, IsInOne}
 use Rattle.rdm_agent.specs.declared.kind.Kind.{Kind}
@@ -39,8 +39,8 @@ use Rattle.rdm_line.proofs.StepLemmas.{keeps_numbers}
 use Rattle.rdm_line.proofs.HonestRuns.{honest_run}
 use Rattle.rdm_line.proofs.LossLemmas.{few_losses}
 use Rattle.rdm_line.proofs.PresenceLemmas.{all_present}
-use Rattle.rdm_port.specs.Discovery.{GoesOn, Drives, IsDiscovery}
-use Rattle.rdm_port.specs.SceneDiscovery.{IsStartOf, IsSceneDiscovery, IsAlwaysPresent, WasPresent, IsTrueReport, FindsAllOf, HasNoFault, IsHonestReport}
+use Rattle.rdm_port.specs.Discovery.{Drives, IsDiscovery}
+use Rattle.rdm_port.specs.SceneDiscovery.{IsStartOf, IsSceneDiscovery, WasPresent, IsTrueReport, FindsAllOf, HasNoFault, IsHonestReport}
 
 -- the steps that the line made
 pub record IsTraced (s : SimState) (xs : List Exchange) (new : SimState) : Type 0 where
@@ -225,11 +225,11 @@ module _ (scene : Scene) (kind : Kind) (known : List ℕ) (budget : ℕ) (found 
   true_report : LosesFew d.steps → IsTrueReport scene.devices n found
   true_report few = record {
     finds_staying = λ u always. subst (λ r. IfOk r (λ s. has (uids_of s) u ≡ true)) (sym d.discovery.report)
-      (ok_of (fault_of last.phase) last.found (λ s. has (uids_of s) u ≡ true) (λ fault. finds_staying kind known budget seen last set runs (present_during scene.devices 0 n) u end fault (over few) (in_each scene.devices u 0 n (λ k low high. let below : k < 0 + n = high in always k (omega arith)))));
+        (ok_of (fault_of last.phase) last.found (λ s. has (uids_of s) u ≡ true) (λ fault. finds_staying kind known budget seen last set runs (present_during scene.devices 0 n) u end fault (over few) (in_each scene.devices u 0 n (λ k low high. let below : k < 0 + n = high in always k (omega arith)))));
     no_stranger = λ u. subst (λ r. IfOk r (λ s. has (uids_of s) u ≡ true → WasPresent scene.devices n u)) (sym d.discovery.report)
-      (ok_of (fault_of last.phase) last.found (λ s. has (uids_of s) u ≡ true → WasPresent scene.devices n u) (λ fault here. was u here));
+        (ok_of (fault_of last.phase) last.found (λ s. has (uids_of s) u ≡ true → WasPresent scene.devices n u) (λ fault here. was u here));
     no_stranger_in_fault = λ u. subst (λ r. IfErr r (λ e. has (uids_of e.1) u ≡ true → WasPresent scene.devices n u)) (sym d.discovery.report)
-      (err_of (fault_of last.phase) last.found (λ e. has (uids_of e.1) u ≡ true → WasPresent scene.devices n u) (λ fault here. was u here));
+        (err_of (fault_of last.phase) last.found (λ e. has (uids_of e.1) u ≡ true → WasPresent scene.devices n u) (λ fault here. was u here));
   }
     where
       set : IsDeviceSet known

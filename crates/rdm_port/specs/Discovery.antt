@@ -13,7 +13,8 @@ use Rattle.rdm_line.specs.Events.{Exchange}
 
 -- the agent a goes on: what it asks stands in a frame from this source with this transaction number, the line makes its
 -- step with that frame, and a hears what came
-pub record GoesOn (L : Type 0) (step : L → Exchange → L → Type 0) (source tn : ℕ) (a : AgentState) (old : L) (b : AgentState) (new : L) : Type 0 where
+pub record GoesOn (L : Type 0) (step : L → Exchange → L → Type 0) (source tn : ℕ) (a : AgentState) (old : L)
+    (b : AgentState) (new : L) : Type 0 where
   pub exchange : Exchange
   pub goes_on : next_op a ≢ End
   pub frame : exchange.0.items ≡ op_frame (next_op a) source tn
@@ -23,14 +24,16 @@ pub record GoesOn (L : Type 0) (step : L → Exchange → L → Type 0) (source 
 
 -- the agent a makes these exchanges with the line, one after another, and becomes b; its frames are from this source
 -- and numbered from n on, modulo 256
-abbrev pub Drives : (L : Type 0) → (L → Exchange → L → Type 0) → ℕ → ℕ → AgentState → L → List Exchange → AgentState → L → Type 0
+abbrev pub Drives : (L : Type 0) → (L → Exchange → L → Type 0) → ℕ → ℕ → AgentState → L → List Exchange → AgentState → L
+    → Type 0
 Drives L step source n a old [] b new = (b ≡ a) × (new ≡ old)
 Drives L step source n a old (x ∷ xs) b new =
     (after : AgentState) × (line : L) × (e : GoesOn L step source (n % 256) a old after line) × (e.exchange ≡ x)
     × Drives L step source (n + 1) after line xs b new
 
 -- an agent that was started so stands so after n exchanges with the line
-pub record HasDriven (L : Type 0) (step : L → Exchange → L → Type 0) (source : ℕ) (kind : Kind) (known : List ℕ) (budget : ℕ) (old : L) (n : ℕ) (a : AgentState) (line : L) : Type 0 where
+pub record HasDriven (L : Type 0) (step : L → Exchange → L → Type 0) (source : ℕ) (kind : Kind) (known : List ℕ)
+    (budget : ℕ) (old : L) (n : ℕ) (a : AgentState) (line : L) : Type 0 where
   pub exchanges : List Exchange
   pub many : length exchanges ≡ n
   pub drives : Drives L step source 0 (start kind known budget) old exchanges a line
@@ -38,7 +41,8 @@ pub record HasDriven (L : Type 0) (step : L → Exchange → L → Type 0) (sour
   pub run : HasRun kind known budget false (map seen_event exchanges) a
 
 -- what a run on the line reports, and after how many exchanges
-pub record IsDiscovery (L : Type 0) (step : L → Exchange → L → Type 0) (source : ℕ) (kind : Kind) (known : List ℕ) (budget : ℕ) (old new : L) (found : Result (List Device) (AgentFault × List Device)) (frames : ℕ) : Type 0 where
+pub record IsDiscovery (L : Type 0) (step : L → Exchange → L → Type 0) (source : ℕ) (kind : Kind) (known : List ℕ)
+    (budget : ℕ) (old new : L) (found : Result (List Device) (AgentFault × List Device)) (frames : ℕ) : Type 0 where
   pub last : AgentState
   pub driven : HasDriven L step source kind known budget old frames last new
   pub ended : next_op last ≡ End

@@ -3,3 +3,7 @@ pub mod Words
 pub mod Outcome
 pub mod Discovery
 pub mod SceneDiscovery
+pub mod Forms
+pub mod SceneFiles
+pub mod Report
+pub mod Input

@@ -1,4 +1,4 @@
-use Rattle.rdm_port.specs.SceneDiscovery.{IsStartOf, IsSceneDiscovery}
+use Rattle.rdm_port.specs.SceneDiscovery.{IsSceneDiscovery}
 use Rattle.rdm_port.proofs.SceneRuns.{on_scene, loses_few, honest_report}
 use Rattle.rdm_port.proofs.discovery.discover_in.Goals as goal
 
