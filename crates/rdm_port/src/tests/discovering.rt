@@ -4,15 +4,6 @@ use crate::perform::perform;
 use std::alloc::Global;
 use std::test::Fail;
 
-#[derive(Clone, Copy, Drop)]
-struct Row {
-    name: &'static str,
-    scene: &'static str,
-    incremental: bool,
-    lines: &'static str,
-    status: u8,
-}
-
 // What is printed of a file with these bytes, and the status.
 pub(super) fn printed(alloc: Global, text: &[u8], incremental: bool) -> (Vec<u8>, u8) {
     let mut written = Vec::new(alloc);
@@ -27,110 +18,110 @@ pub(super) fn printed(alloc: Global, text: &[u8], incremental: bool) -> (Vec<u8>
 
 #[test]
 fn discovers_the_devices_of_scenes(rt: HostRuntime) {
-    let rows = [
-        Row {
-            name: "an empty line",
-            scene: "{\"source\":\"7a70:00000100\"}",
-            incremental: false,
-            lines: "frames 8\n",
-            status: 0,
-        },
-        Row {
-            name: "two devices side by side",
-            scene: "{\"source\":\"7a70:00000100\",\"devices\":[{\"uid\":\"0000:00000000\"},{\"uid\":\"0000:00000001\"}],\"collisions\":[{\"bytes\":\"ff\"}]}",
-            incremental: false,
-            lines: "0000:00000000\n0000:00000001\nframes 300\n",
-            status: 0,
-        },
-        Row {
-            name: "a collision that spells nobody",
-            scene: "{\"source\":\"7a70:00000100\",\"devices\":[{\"uid\":\"1234:00000001\"},{\"uid\":\"9abc:00000002\"}],\"collisions\":[{\"uid\":\"5555:00000003\"}]}",
-            incremental: false,
-            lines: "1234:00000001\n9abc:00000002\nframes 23\n",
-            status: 0,
-        },
-        Row {
-            name: "a collision that spells a device",
-            scene: "{\"source\":\"7a70:00000100\",\"devices\":[{\"uid\":\"1234:00000001\"},{\"uid\":\"9abc:00000002\"}],\"collisions\":[{\"uid\":\"1234:00000001\"}]}",
-            incremental: false,
-            lines: "1234:00000001\n9abc:00000002\nframes 12\n",
-            status: 0,
-        },
-        Row {
-            name: "known devices, and a loss",
-            scene: "{\"source\":\"7a70:00000100\",\"devices\":[{\"uid\":\"1234:00000001\"},{\"uid\":\"9abc:00000002\"}],\"known\":[\"1234:00000001\",\"5678:00000009\"],\"losses\":[3]}",
-            incremental: true,
-            lines: "1234:00000001\n9abc:00000002\nframes 17\n",
-            status: 0,
-        },
-        Row {
-            name: "a budget that suffices",
-            scene: "{\"source\":\"7a70:00000100\",\"budget\":8}",
-            incremental: false,
-            lines: "frames 8\n",
-            status: 0,
-        },
-        Row {
-            name: "one that does not",
-            scene: "{\"source\":\"7a70:00000100\",\"budget\":7}",
-            incremental: false,
-            lines: "fault 3\nframes 7\n",
-            status: 1,
-        },
-        Row {
-            name: "a collision that spells a broadcast UID",
-            scene: "{\"source\":\"7a70:00000100\",\"devices\":[{\"uid\":\"1234:00000001\"},{\"uid\":\"9abc:00000002\"}],\"collisions\":[{\"uid\":\"7a70:ffffffff\"}]}",
-            incremental: false,
-            lines: "1234:00000001\n9abc:00000002\nframes 18\n",
-            status: 0,
-        },
-        Row {
-            name: "a collision that spells a found device",
-            scene: "{\"source\":\"7a70:00000100\",\"devices\":[{\"uid\":\"1234:00000001\"},{\"uid\":\"9abc:00000002\"},{\"uid\":\"9abc:00000003\"}],\"collisions\":[{\"bytes\":\"ff\"},{\"uid\":\"1234:00000001\"}]}",
-            incremental: false,
-            lines: "1234:00000001\n9abc:00000002\n9abc:00000003\nframes 302\n",
-            status: 0,
-        },
-        Row {
-            name: "a failure",
-            scene: "{\"source\":\"7a70:00000100\",\"devices\":[{\"uid\":\"1234:00000001\"},{\"uid\":\"9abc:00000002\"}],\"collisions\":[{\"uid\":\"5555:00000003\"}],\"fails\":[3]}",
-            incremental: false,
-            lines: "fault 4\nframes 4\n",
-            status: 1,
-        },
-        Row {
-            name: "a device that is bound",
-            scene: "{\"source\":\"7a70:00000100\",\"devices\":[{\"uid\":\"1234:00000001\",\"control\":\"0002\",\"binding\":\"1234:00000005\"}]}",
-            incremental: false,
-            lines: "1234:00000001 0002 1234:00000005\nframes 10\n",
-            status: 0,
-        },
-        Row {
-            name: "a device that comes",
-            scene: "{\"source\":\"7a70:00000100\",\"devices\":[{\"uid\":\"1234:00000001\"},{\"uid\":\"9abc:00000002\",\"from\":5}]}",
-            incremental: false,
-            lines: "1234:00000001\n9abc:00000002\nframes 12\n",
-            status: 0,
-        },
-        Row {
-            name: "one that comes and leaves later",
-            scene: "{\"source\":\"7a70:00000100\",\"devices\":[{\"uid\":\"1234:00000001\"},{\"uid\":\"9abc:00000002\",\"from\":5,\"until\":7}]}",
-            incremental: false,
-            lines: "1234:00000001\n9abc:00000002\nframes 12\n",
-            status: 0,
-        },
-        Row {
-            name: "one that comes and leaves at once",
-            scene: "{\"source\":\"7a70:00000100\",\"devices\":[{\"uid\":\"1234:00000001\"},{\"uid\":\"9abc:00000002\",\"from\":5,\"until\":6}]}",
-            incremental: false,
-            lines: "1234:00000001\nframes 21\n",
-            status: 0,
-        },
+    let rows: [(&str, &str, bool, &str, u8); 14] = [
+        (
+            "an empty line",
+            "{\"source\":\"7a70:00000100\"}",
+            false,
+            "frames 8\n",
+            0,
+        ),
+        (
+            "two devices side by side",
+            "{\"source\":\"7a70:00000100\",\"devices\":[{\"uid\":\"0000:00000000\"},{\"uid\":\"0000:00000001\"}],\"collisions\":[{\"bytes\":\"ff\"}]}",
+            false,
+            "0000:00000000\n0000:00000001\nframes 300\n",
+            0,
+        ),
+        (
+            "a collision that spells nobody",
+            "{\"source\":\"7a70:00000100\",\"devices\":[{\"uid\":\"1234:00000001\"},{\"uid\":\"9abc:00000002\"}],\"collisions\":[{\"uid\":\"5555:00000003\"}]}",
+            false,
+            "1234:00000001\n9abc:00000002\nframes 23\n",
+            0,
+        ),
+        (
+            "a collision that spells a device",
+            "{\"source\":\"7a70:00000100\",\"devices\":[{\"uid\":\"1234:00000001\"},{\"uid\":\"9abc:00000002\"}],\"collisions\":[{\"uid\":\"1234:00000001\"}]}",
+            false,
+            "1234:00000001\n9abc:00000002\nframes 12\n",
+            0,
+        ),
+        (
+            "known devices, and a loss",
+            "{\"source\":\"7a70:00000100\",\"devices\":[{\"uid\":\"1234:00000001\"},{\"uid\":\"9abc:00000002\"}],\"known\":[\"1234:00000001\",\"5678:00000009\"],\"losses\":[3]}",
+            true,
+            "1234:00000001\n9abc:00000002\nframes 17\n",
+            0,
+        ),
+        (
+            "a budget that suffices",
+            "{\"source\":\"7a70:00000100\",\"budget\":8}",
+            false,
+            "frames 8\n",
+            0,
+        ),
+        (
+            "one that does not",
+            "{\"source\":\"7a70:00000100\",\"budget\":7}",
+            false,
+            "fault 3\nframes 7\n",
+            1,
+        ),
+        (
+            "a collision that spells a broadcast UID",
+            "{\"source\":\"7a70:00000100\",\"devices\":[{\"uid\":\"1234:00000001\"},{\"uid\":\"9abc:00000002\"}],\"collisions\":[{\"uid\":\"7a70:ffffffff\"}]}",
+            false,
+            "1234:00000001\n9abc:00000002\nframes 18\n",
+            0,
+        ),
+        (
+            "a collision that spells a found device",
+            "{\"source\":\"7a70:00000100\",\"devices\":[{\"uid\":\"1234:00000001\"},{\"uid\":\"9abc:00000002\"},{\"uid\":\"9abc:00000003\"}],\"collisions\":[{\"bytes\":\"ff\"},{\"uid\":\"1234:00000001\"}]}",
+            false,
+            "1234:00000001\n9abc:00000002\n9abc:00000003\nframes 302\n",
+            0,
+        ),
+        (
+            "a failure",
+            "{\"source\":\"7a70:00000100\",\"devices\":[{\"uid\":\"1234:00000001\"},{\"uid\":\"9abc:00000002\"}],\"collisions\":[{\"uid\":\"5555:00000003\"}],\"fails\":[3]}",
+            false,
+            "fault 4\nframes 4\n",
+            1,
+        ),
+        (
+            "a device that is bound",
+            "{\"source\":\"7a70:00000100\",\"devices\":[{\"uid\":\"1234:00000001\",\"control\":\"0002\",\"binding\":\"1234:00000005\"}]}",
+            false,
+            "1234:00000001 0002 1234:00000005\nframes 10\n",
+            0,
+        ),
+        (
+            "a device that comes",
+            "{\"source\":\"7a70:00000100\",\"devices\":[{\"uid\":\"1234:00000001\"},{\"uid\":\"9abc:00000002\",\"from\":5}]}",
+            false,
+            "1234:00000001\n9abc:00000002\nframes 12\n",
+            0,
+        ),
+        (
+            "one that comes and leaves later",
+            "{\"source\":\"7a70:00000100\",\"devices\":[{\"uid\":\"1234:00000001\"},{\"uid\":\"9abc:00000002\",\"from\":5,\"until\":7}]}",
+            false,
+            "1234:00000001\n9abc:00000002\nframes 12\n",
+            0,
+        ),
+        (
+            "one that comes and leaves at once",
+            "{\"source\":\"7a70:00000100\",\"devices\":[{\"uid\":\"1234:00000001\"},{\"uid\":\"9abc:00000002\",\"from\":5,\"until\":6}]}",
+            false,
+            "1234:00000001\nframes 21\n",
+            0,
+        ),
     ];
-    for row in &rows {
-        let (written, status) = printed(rt.alloc(), row.scene.as_bytes(), row.incremental);
-        assert_eq!(rt; written.as_slice(), row.lines.as_bytes(), "{}", row.name);
-        assert_eq!(rt; status, row.status, "{}", row.name);
+    for (name, scene, incremental, lines, due) in rows {
+        let (written, status) = printed(rt.alloc(), scene.as_bytes(), incremental);
+        assert_eq!(rt; written.as_slice(), lines.as_bytes(), "{name}");
+        assert_eq!(rt; status, due, "{name}");
     }
 }
 

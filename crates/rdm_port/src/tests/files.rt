@@ -1,12 +1,12 @@
 //! What is refused of files, and for which reasons.
-use crate::input::MOST_BYTES;
 use crate::job::Job;
 use crate::perform::carry_out;
 use crate::reason::Reason;
+use crate::scene::Mismatch;
 use crate::tests::discovering::printed;
 use std::alloc::Global;
 use std::io;
-use std::io::Read;
+use std::io::{Read, Write};
 use std::test::Fail;
 
 const FILE: Job<'static> = Job::Discover {
@@ -22,9 +22,23 @@ fn refused(alloc: Global, text: &[u8]) -> Option<Reason> {
     reason
 }
 
+// What is told of the mismatch in a file with these bytes.
+fn mismatch_of(alloc: Global, text: &[u8]) -> Option<Vec<u8>> {
+    let mut told = Vec::new(alloc);
+    match &refused(alloc, text)? {
+        Reason::NoScene(mismatch) => tell(&mut told, mismatch),
+        _ => return None,
+    }
+    Some(told)
+}
+
+fn tell(told: &mut Vec<u8>, mismatch: &Mismatch) {
+    let _ = write!(told, "{mismatch}");
+}
+
 #[test]
 fn tells_what_is_no_scene(rt: HostRuntime) -> Result<(), Fail> {
-    let rows = [
+    let rows: [(&str, &str); 21] = [
         ("[]", "the file: expected an object, found a list of 0"),
         ("{}", "source: expected a value, found nothing"),
         (
@@ -111,11 +125,8 @@ fn tells_what_is_no_scene(rt: HostRuntime) -> Result<(), Fail> {
             (b"fault: scene\n".as_slice(), 1),
             "{text}"
         );
-        let Some(Reason::NoScene(mismatch)) = refused(rt.alloc(), text.as_bytes()) else {
-            return Err(Fail::from("a reason"));
-        };
-        let reason = format!(in rt.alloc(); "{mismatch}")?;
-        assert_eq!(rt; reason.as_str(), told);
+        let reason = mismatch_of(rt.alloc(), text.as_bytes()).ok_or("a reason")?;
+        assert_eq!(rt; reason.as_slice(), told.as_bytes());
     }
     Ok(())
 }
@@ -143,20 +154,27 @@ fn ignores_unknown_keys_and_takes_the_last_of_a_repeated_one(rt: HostRuntime) {
     assert_eq!(rt; (written.as_slice(), status), (b"frames 8\n".as_slice(), 0));
 }
 
-#[test]
-fn reads_no_more_than_a_file_may_have(rt: HostRuntime) -> Result<(), Fail> {
-    let mut text = Vec::from_slice(rt.alloc(), b"{\"source\":\"7a70:00000100\"}")?;
-    for _ in text.len()..MOST_BYTES {
+// A scene in a file of this length.
+fn padded(alloc: Global, len: usize) -> Result<Vec<u8>, Fail> {
+    let mut text = Vec::from_slice(alloc, b"{\"source\":\"7a70:00000100\"}")?;
+    for _ in text.len()..len {
         text.push(b' ')?;
     }
-    let (written, status) = printed(rt.alloc(), &text, false);
-    assert_eq!(rt; (written.as_slice(), status), (b"frames 8\n".as_slice(), 0));
-    text.push(b' ')?;
-    let (written, status) = printed(rt.alloc(), &text, false);
-    assert_eq!(rt;
-        (written.as_slice(), status),
-        (b"fault: file\n".as_slice(), 1)
-    );
+    Ok(text)
+}
+
+#[test]
+fn reads_no_more_than_a_file_may_have(rt: HostRuntime) -> Result<(), Fail> {
+    let rows: [(usize, &str, u8); 2] = [
+        (1_048_576, "frames 8\n", 0),
+        (1_048_577, "fault: file\n", 1),
+    ];
+    for (len, line, due) in rows {
+        let text = padded(rt.alloc(), len)?;
+        let (written, status) = printed(rt.alloc(), &text, false);
+        assert_eq!(rt; written.as_slice(), line.as_bytes(), "{len}");
+        assert_eq!(rt; status, due, "{len}");
+    }
     Ok(())
 }
 
