@@ -1,5 +1,5 @@
 use Rattle.std.proofs.Common.{◌∙◌, ap, sym, Ok}
-use Rattle.rdm_port.proofs.perform.decode.Goals as goal
+use Rattle.rdm_port.proofs.branch.decode.Goals as goal
 
 pub returns-in-Ok-clause-ok : goal.returns-in-Ok-clause-ok
 returns-in-Ok-clause-ok c = (
