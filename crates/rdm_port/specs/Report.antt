@@ -1,5 +1,6 @@
 -- What is printed of a discovery run.
-use Rattle.std.specs.Prelude.{ℕ, List, [], ◌∷◌, ◌++◌, Option, Some, None, Result, Ok, Err, codes, decimal, flat_map, ◌==◌, if◌then◌else◌}
+use Rattle.std.specs.Prelude.{ℕ, List, [], ◌∷◌, ◌++◌, Option, Some, None, Result, Ok, Err, codes, decimal, flat_map}
+use Rattle.std.specs.Prelude.{◌==◌, if◌then◌else◌}
 use Rattle.hex.specs.Hex.{encode_lower}
 use Rattle.rdm_wire.specs.Bytes.{two_bytes}
 use Rattle.rdm_wire.specs.UidText.{uid_text}

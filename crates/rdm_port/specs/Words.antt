@@ -1,8 +1,10 @@
 -- What the words of a command line ask for, as `clap` reads them.
-use Rattle.std.specs.Prelude.{◌≡◌, ◌==◌, Bool, not, List, [], ◌∷◌, Option, Some, None, bytes_eq, codes, map, option_and_then, if◌then◌else◌, true, false}
+use Rattle.std.specs.Prelude.{◌≡◌, ◌==◌, Bool, not, List, [], ◌∷◌, Option, Some, None, bytes_eq, codes, map}
+use Rattle.std.specs.Prelude.{option_and_then, if◌then◌else◌, true, false}
 use Rattle.std.specs.Borrow.{Bor}
 use Rattle.std.specs.Option.{option_map_or}
-use Rattle.clap.specs.Words.{App, Row, Text, new_app, new_rule, with_rule, with_subcommand, subcommand_of, first_of, fault_of}
+use Rattle.clap.specs.Words.{App, Row, Text, new_app, new_rule, with_rule, with_subcommand, subcommand_of, first_of}
+use Rattle.clap.specs.Words.{fault_of}
 use Rattle.clap.specs.declared.builder.action.ArgAction.TheVariants.{SetTrue}
 use Rattle.rdm_port.specs.declared.job.Job.{Job}
 use Rattle.rdm_port.specs.declared.job.Job.TheVariants.{Decode, Encode, Discover}
@@ -10,7 +12,9 @@ use Rattle.rdm_port.specs.declared.job.Job.TheVariants.{Decode, Encode, Discover
 -- a command with one argument
 abbrev pub one_argument : Text → Text → App
 one_argument name argument =
-    with_rule (record (new_app name) { top = record (new_app name).top { disable_help_flag = true } }) (record (new_rule argument) { required = true })
+    with_rule
+    (record (new_app name) { top = record (new_app name).top { disable_help_flag = true } })
+    (record (new_rule argument) { required = true })
 
 -- the program's command line, before its commands
 abbrev pub bare : App
@@ -26,12 +30,18 @@ bare = record (new_app (codes "rdm_port")) {
 -- the command with a file and a flag
 abbrev pub discover_words : App
 discover_words =
-    with_rule (one_argument (codes "discover") (codes "file")) (record (new_rule (codes "incremental")) { long = Some (codes "incremental"); action = Some SetTrue })
+    with_rule
+    (one_argument (codes "discover") (codes "file"))
+    (record (new_rule (codes "incremental")) { long = Some (codes "incremental"); action = Some SetTrue })
 
 -- the program's commands
 abbrev pub commands : App
 commands =
-    with_subcommand (with_subcommand (with_subcommand bare (one_argument (codes "decode") (codes "hex")).top) (one_argument (codes "encode") (codes "uid")).top) discover_words.top
+    with_subcommand
+    (with_subcommand
+    (with_subcommand bare (one_argument (codes "decode") (codes "hex")).top)
+    (one_argument (codes "encode") (codes "uid")).top)
+    discover_words.top
 
 -- the argument of the command of this name, if that was given
 abbrev pub value_of : Text → Text → Text × List Row → Option Text

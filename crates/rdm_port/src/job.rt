@@ -2,7 +2,8 @@
 ghost use Rattle.std.specs.Prelude.{◌≡◌, ◌≢◌, IfOk, IfSome, IfNone, Err, false, option_map};
 ghost use Rattle.clap.specs.Words.{app_of, with_subcommand, found_of, rows_of, subcommand_rows_of, kind_of};
 ghost use Rattle.clap.specs.declared.builder.command.Command.TheViews.{out-Command as fields_of};
-ghost use Rattle.rdm_port.specs.Words.{Asks, AsksNothing, IsGiven, bare, commands, one_argument, discover_words, is_set, file_of, texts_of};
+ghost use Rattle.rdm_port.specs.Words.{Asks, AsksNothing, IsGiven, bare, commands, one_argument, discover_words};
+ghost use Rattle.rdm_port.specs.Words.{is_set, file_of, texts_of};
 
 use clap::error::ErrorKind;
 use clap::{Arg, ArgAction, ArgMatches, Command, Error};

@@ -1,7 +1,8 @@
 //! What is printed of a discovery run.
 ghost use Rattle.std.specs.Prelude.{◌≡◌, ◌++◌, ◌∷◌, IfOk, OnOk, flat_map};
 ghost use Rattle.rdm_wire.specs.UidText.{uid_text};
-ghost use Rattle.rdm_port.specs.Report.{report_text, found_text, fault_text, device_line, details, four_digits, line_of};
+ghost use Rattle.rdm_port.specs.Report.{report_text, found_text, fault_text, device_line, details, four_digits};
+ghost use Rattle.rdm_port.specs.Report.{line_of};
 
 use crate::discovery::Discovery;
 use itoa::Buffer;
