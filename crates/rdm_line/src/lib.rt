@@ -2,7 +2,7 @@
 #![tactic(auto)]
 
 mod collision;
-mod laws;
+pub mod laws;
 mod line;
 mod overlay;
 mod parameter;
@@ -14,7 +14,6 @@ mod tape;
 mod tests;
 
 pub use collision::{Collision, CollisionBytes};
-pub use laws::{devices_may_stay, few_losses_suffice, simulated_line_is_honest};
 pub use line::{Line, LineFault};
 pub use parameter::{Parameter, ParameterPart, Parameters};
 pub use scene::{NoMemory, Scene, SceneDevice};
