@@ -21,7 +21,8 @@ use Rattle.rdm_queue.specs.declared.fault.AskFault.TheVariants.{Full}
 use Rattle.rdm_queue.specs.log.Entries.{AskedDiscovery, Answered, asks, answers}
 use Rattle.rdm_queue.specs.log.History.{awaited, is_closed, next_client, next_ask}
 use Rattle.rdm_queue.specs.log.Clients.{asks_by, answers_to, outstanding_discoveries}
-use Rattle.rdm_queue.specs.log.Runs.{has_begun, entries_before_run, run_exchanges, run_devices, answer_devices, known_devices}
+use Rattle.rdm_queue.specs.log.Runs.{has_begun, entries_before_run, run_exchanges, run_devices}
+use Rattle.rdm_queue.specs.log.Runs.{answer_devices, known_devices}
 use Rattle.rdm_queue.specs.log.Runs.{served, run_kind, last_run_without_fault}
 use Rattle.rdm_queue.specs.log.MayAnswer.{Shows}
 use Rattle.rdm_queue.specs.log.Due.{has_answer}

@@ -2,7 +2,8 @@
 use Rattle.std.specs.Prelude.{List}
 use Rattle.rdm_queue.specs.declared.entry.Opening.{Opening}
 use Rattle.rdm_queue.specs.declared.entry.Entry.{Entry}
-use Rattle.rdm_queue.specs.promises.Headline.{OneResult, OwnRequests, OwnAnswers, InOrder, FullRefuses, NothingAfterClose}
+use Rattle.rdm_queue.specs.promises.Headline.{OneResult, OwnRequests, OwnAnswers, InOrder, FullRefuses}
+use Rattle.rdm_queue.specs.promises.Headline.{NothingAfterClose}
 use Rattle.rdm_queue.specs.promises.Discoveries.{DiscoveriesPromised}
 
 pub record Promised (o : Opening) (h : List Entry) : Type 0 where

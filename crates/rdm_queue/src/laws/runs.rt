@@ -68,8 +68,8 @@ pub fn counts_of_discoveries()
         ≡ Some ask_faults.Full }
 {}
 
-/// No run begins between two parts of a request, nor while sending is paused, and none is sent a frame after its answer;
-/// a request waits for a discovery that is asked. An open run's frames are sent also while sending is paused.
+/// No run begins between two parts of a request, nor while sending is paused, and no frame is sent for one after its
+/// answer. A request waits for a discovery that is asked. An open run's frames are sent also while sending is paused.
 pub fn wrong_run_frames()
     ensures between_parts { MaySend wide_opening (came_part ++ Ask first_client 0 Full ∷ [])
         (Run 1) (record { items = unmute_frame source 1 }) → ⊥ }
