@@ -108,9 +108,11 @@ pub record RunsAnswer (o : Opening) (h : List Entry) : Type 0 where
   -- its Answers agree
   pub agree : (i j : ℕ) (a b : Answered) → slice_get (answers h) i ≡ Some a → slice_get (answers h) j ≡ Some b
       → a.run ≢ 0 → a.run ≡ b.run → a.fault ≡ b.fault
-  -- where it has an Answer, all that it serves have one
+  -- where it has an Answer, all that it serves have one, and no other run answers them
   pub all_served : (i : ℕ) (b : Answered) (a : AskedDiscovery) → slice_get (answers h) i ≡ Some b
       → Contains (served b.run h) a → has_answer a.number h ≡ true
+  pub by_one : (r i : ℕ) (b : Answered) (a : AskedDiscovery) → slice_get (answers h) i ≡ Some b
+      → Contains (served r h) a → b.number ≡ a.number → b.run ≡ r
   -- after an Answer of it no frame is sent for it, and its outcome stays as it is
   pub ended : (front back : List Entry) (n r : ℕ) (fault : Option AgentFault) → h ≡ front ++ Answer n r fault ∷ back
       → run_exchanges r h ≡ run_exchanges r front
