@@ -10,6 +10,7 @@
 //!   A close, and the reply after it, finish all that wait in one pass.
 //! - `join_client` adds up the places of the clients, 16 at most, and reserves the memory for all of them.
 //! - The other calls take constant time. So does each entry of a [`Log`], whose memory is reserved when it is made.
+//! - A log's opening holds a set of devices, 32 KB large. It is filled when a log is made and when a session begins.
 //! - A [`Session`] copies each request and each frame once, into its log; `answer` and `run`, which are lent their
 //!   events, copy each request and each event once more. The joined data of a request are copied once,
 //!   into its outcome.

@@ -119,10 +119,12 @@ pub record RunsAnswer (o : Opening) (h : List Entry) : Type 0 where
   pub stays : (front back : List Entry) (n r : ℕ) (fault : Option AgentFault) → h ≡ front ++ Answer n r fault ∷ back
       → outcome_of h (Answer n r fault) ≡ outcome_of front (Answer n r fault)
 
--- A client is answered what it asked.
+-- A client is answered what it asked, and its outcomes stay as they are.
 pub record OwnDiscoveries (o : Opening) (h : List Entry) : Type 0 where
   pub own : (c n r : ℕ) (fault : Option AgentFault) → Contains (answers_to o c h) (Answer n r fault)
       → (client : ClientId) × (kind : Kind) × (client.0 ≡ c) × Contains h (Ask client n kind)
+  pub lasts : (front back : List Entry) (c i : ℕ) (x : Entry) → h ≡ front ++ back
+      → slice_get (answers_to o c front) i ≡ Some x → outcome_of h x ≡ outcome_of front x
 
 -- the client has four discoveries outstanding, or the numbers have run out, and no fault goes before that
 pub record HasMostDiscoveries (o : Opening) (h : List Entry) (c : ℕ) : Type 0 where
