@@ -10,3 +10,4 @@ pub mod PresenceLemmas
 pub mod HonestSteps
 pub mod HonestRuns
 pub mod LossLemmas
+pub mod KeepsLemmas

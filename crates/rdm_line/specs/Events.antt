@@ -1,5 +1,5 @@
 -- Exchanges of a frame and an event, and how a line's failures count.
-use Rattle.std.specs.Prelude.{◌≡◌, ℕ, ◌+◌, Result, Ok, Err}
+use Rattle.std.specs.Prelude.{◌≡◌, ℕ, ◌+◌, List, [], ◌∷◌, Result, Ok, Err}
 use Rattle.arrayvec.specs.ArrayVec.{ArrayVec}
 use Rattle.rdm_join.specs.declared.event.LineEvent.{LineEvent}
 use Rattle.rdm_join.specs.declared.event.LineEvent.TheVariants.{Reply, Failed}
@@ -14,7 +14,12 @@ abbrev pub event_of : Result (ArrayVec ℕ) LineFault → LineEvent
 event_of (Ok reply) = Reply reply
 event_of (Err fault) = Failed
 
--- a failure counts, and nothing else does
+-- each failure counts one, and nothing else counts
 abbrev pub CountsFailure : LineEvent → ℕ → ℕ → Type 0
 CountsFailure Failed old new = new ≡ old + 1
 CountsFailure (Reply reply) old new = new ≡ old
+
+-- a line makes these exchanges one after another, each by its own step
+abbrev pub Makes : (L : Type 0) → (L → Exchange → L → Type 0) → L → List Exchange → L → Type 0
+Makes L step old [] new = new ≡ old
+Makes L step old (x ∷ xs) new = (next : L) × step old x next × Makes L step next xs new

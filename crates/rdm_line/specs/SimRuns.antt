@@ -1,5 +1,5 @@
 -- Runs of exchanges on the simulated line.
-use Rattle.std.specs.Prelude.{◌≡◌, ◌≢◌, ℕ, ◌+◌, ◌<◌, List, [], ◌∷◌, ◌++◌, length, Some, None, true}
+use Rattle.std.specs.Prelude.{◌≡◌, ◌≢◌, ◌↔◌, ℕ, ◌+◌, ◌<◌, List, [], ◌∷◌, ◌++◌, length, Some, None, true}
 use Rattle.std.specs.List.{AllByRecursion}
 use Rattle.rdm_wire.specs.Uid.{has}
 use Rattle.rdm_wire.specs.Span.{Span}
@@ -7,6 +7,7 @@ use Rattle.rdm_wire.specs.Commands.{command_read}
 use Rattle.rdm_wire.specs.declared.command.Command.TheVariants.{Branch, Mute}
 use Rattle.rdm_wire.specs.Honest.{Seen}
 use Rattle.rdm_join.specs.Exchange.{seen_event}
+use Rattle.rdm_join.specs.declared.event.LineEvent.TheVariants.{Failed}
 use Rattle.rdm_line.specs.Events.{Exchange}
 use Rattle.rdm_line.specs.Scenes.{present_at, device_at}
 use Rattle.rdm_line.specs.Sim.{SimState, SimStep, is_among, answering}
@@ -31,6 +32,16 @@ seen_in x = seen_event x.exchange
 abbrev pub is_lost : Step → Type 0
 is_lost x = is_among x.before.exchanges x.before.losses ≡ true
 
+-- what no exchange changes of a scene: which devices are present when, and which exchanges are lost and fail
+pub record KeepsScene (s new : SimState) : Type 0 where
+  pub present : (i : ℕ) → present_at new.devices i ≡ present_at s.devices i
+  pub losses : new.losses ≡ s.losses
+  pub fails : new.fails ≡ s.fails
+
+-- the exchange fails exactly when its number is one of these
+abbrev pub FailsAsNamed : List ℕ → Step → Type 0
+FailsAsNamed fails x = (x.exchange.1 ≡ Failed) ↔ (is_among x.before.exchanges fails ≡ true)
+
 -- a branch that a device is due to answer is lost
 pub record LosesBranch (x : Step) : Type 0 where
   pub range : Span
@@ -54,7 +65,7 @@ abbrev pub NeverFive : (Step → Type 0) → List Step → Type 0
 NeverFive P xs =
     (front five back : List Step) → xs ≡ front ++ five ++ back → length five ≡ 5 → AllByRecursion P five → ⊥
 
--- what is demanded of a scene's losses
+-- what is demanded of the losses of a run
 pub record LosesFew (xs : List Step) : Type 0 where
   pub branches : NeverFive LosesBranch xs
   pub mutes : NeverFive LosesMute xs

@@ -1,9 +1,13 @@
 //! Laws of the simulated line, each the contract of a function that does nothing. The definitions stand in `specs`.
-ghost use Rattle.std.specs.Prelude.{◌≡◌, ℕ, List, map};
+ghost use Rattle.std.specs.Prelude.{◌≡◌, ◌≢◌, ℕ, List, [], map};
+ghost use Rattle.rdm_wire.specs.Honest.{HonestTrace};
+ghost use Rattle.rdm_wire.specs.Honest.Heard.{Failed};
 ghost use Rattle.rdm_wire.specs.HonestOver.{HonestOver};
-ghost use Rattle.rdm_line.specs.Sim.{SimState};
-ghost use Rattle.rdm_line.specs.SimRuns.{Step, IsRun, LosesFew, NoFiveSuccessive, present_in, seen_in};
-ghost use Rattle.rdm_line.specs.Scenes.{Stays, present_at, uids_of_scene};
+ghost use Rattle.rdm_line.specs.Events.{Exchange, Makes};
+ghost use Rattle.rdm_line.specs.Sim.{SimState, SimStep};
+ghost use Rattle.rdm_line.specs.SimRuns.{Step, IsRun, LosesFew, NoFiveSuccessive, KeepsScene, FailsAsNamed};
+ghost use Rattle.rdm_line.specs.SimRuns.{present_in, seen_in};
+ghost use Rattle.rdm_line.specs.Scenes.{IsScene, Stays, present_at, uids_of_scene};
 ghost use Rattle.rdm_line.specs.declared.scene.SceneDevice.{SceneDevice};
 ghost use Rattle.std.specs.List.{AllByRecursion};
 
@@ -14,6 +18,34 @@ ghost use Rattle.std.specs.List.{AllByRecursion};
 pub fn simulated_line_is_honest()
     ensures { (s new : SimState) (steps : List Step) →
         IsRun s steps new → LosesFew steps → HonestOver (map present_in steps) (map seen_in steps) }
+{}
+
+/// A line whose devices stay, from the first exchange on and for good, is honest towards them: the premise of the
+/// promises on lines with fixed devices.
+pub fn staying_line_is_honest()
+    ensures { (s new : SimState) (steps : List Step) → IsScene s.devices → AllByRecursion Stays s.devices →
+        IsRun s steps new → LosesFew steps → HonestTrace (uids_of_scene s.devices) (map seen_in steps) }
+{}
+
+/// An exchange fails exactly when the scene names its number; where it names none, none fails.
+pub fn fails_are_named()
+    ensures named { (s new : SimState) (steps : List Step) →
+        IsRun s steps new → AllByRecursion (FailsAsNamed s.fails) steps }
+    ensures none { (s new : SimState) (steps : List Step) →
+        IsRun s steps new → s.fails ≡ [] → AllByRecursion (λ x. (seen_in x).heard ≢ Failed) steps }
+{}
+
+/// No exchange changes which devices are present when, nor which exchanges are lost and fail.
+pub fn scene_is_kept()
+    ensures after { (s new : SimState) (steps : List Step) → IsRun s steps new → KeepsScene s new }
+    ensures amid { (s new : SimState) (steps : List Step) →
+        IsRun s steps new → AllByRecursion (λ x. KeepsScene s x.before) steps }
+{}
+
+/// The exchanges that a simulated line makes one after another are a run.
+pub fn exchanges_are_a_run()
+    ensures { (s new : SimState) (xs : List Exchange) → Makes SimState SimStep s xs new →
+        (steps : List Step) × IsRun s steps new × (map (λ x. x.exchange) steps ≡ xs) }
 {}
 
 /// Losses of which no five have successive numbers are as they are demanded, whatever the frames are.

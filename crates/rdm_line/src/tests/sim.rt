@@ -249,3 +249,48 @@ fn refuses_repeated_devices(rt: HostRuntime) -> Result<(), Fail> {
     assert_eq!(rt; again, Err(AddFault::Repeated));
     Ok(())
 }
+
+#[test]
+fn makes_a_line_of_a_large_scene(rt: HostRuntime) -> Result<(), Fail> {
+    let mut scene = scene(rt.alloc());
+    for number in 0..1024 {
+        let mut late = device(rt.alloc(), plain(Uid::new(0x1234, number)));
+        late.from = 1_000_000_000;
+        add(&rt, &mut scene, late).map_err(|_| "add")?;
+    }
+    let one_more = add(&rt, &mut scene, device(rt.alloc(), plain(second())));
+    assert_eq!(rt; one_more, Err(AddFault::Full));
+    for number in 0..2000 {
+        scene.losses.push(number)?;
+        scene.fails.push(4000 - number)?;
+    }
+    let mut line = line_of(&rt, scene)?;
+    answers(&rt, rt.alloc(), &mut line, &whole_branch(0), "")?;
+    assert_eq!(rt; line.failures(), 0);
+    Ok(())
+}
+
+#[test]
+fn a_parameter_has_512_parts(rt: HostRuntime) -> Result<(), Fail> {
+    let mut parts = Vec::new(rt.alloc());
+    for number in 0..512_u16 {
+        parts.push(part(&rt, &[(number % 256) as u8]))?;
+    }
+    assert_eq!(rt; parts.len(), 512);
+    let mut params = Vec::new(rt.alloc());
+    params.push(Parameter::new(0x0060, parts))?;
+    let mut scene = scene(rt.alloc());
+    let mut there = device(rt.alloc(), plain(first()));
+    there.params = Parameters::new(params);
+    add(&rt, &mut scene, there).map_err(|_| "add")?;
+    let mut line = line_of(&rt, scene)?;
+    let get = encode_request(&request(ReqClass::Get, 0x0060), controller(), 0);
+    for number in 0..511_u16 {
+        let reply = line.exchange(&get).map_err(|_| "failed")?;
+        assert_eq!(rt; reply.get(16), Some(&3));
+        assert_eq!(rt; reply.get(24), Some(&((number % 256) as u8)));
+    }
+    let last = line.exchange(&get).map_err(|_| "failed")?;
+    assert_eq!(rt; (last.get(16), last.get(24)), (Some(&0), Some(&255)));
+    Ok(())
+}
