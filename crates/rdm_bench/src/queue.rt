@@ -36,8 +36,8 @@ const ANSWERS: [Answer; 3] = [
     },
 ];
 
-// How many places a client may have.
-const MOST_PLACES_EACH: usize = 255;
+// How many clients share the queue, however many requests wait.
+const CLIENTS: u8 = 16;
 
 const ENTRIES_BESIDE: usize = 32;
 
@@ -98,7 +98,6 @@ struct Turns<'a, S> {
     length: usize,
     // The next frame's transaction number.
     tn: u8,
-    clients: u8,
     // Whose outcome is next.
     collector: u8,
     // Who submits next.
@@ -106,15 +105,13 @@ struct Turns<'a, S> {
 }
 
 impl<'a, S: Serving> Turns<'a, S> {
-    // As few clients as have places for the requests that wait.
     fn new(
         alloc: Global,
         serving: &'a mut S,
         waiting: usize,
         answer: &Answer,
     ) -> Result<Turns<'a, S>, Fault> {
-        let clients = (waiting.div_ceil(MOST_PLACES_EACH)).clamp(1, 16) as u8;
-        for _ in 0..clients {
+        for _ in 0..CLIENTS {
             serving.join(alloc, u8::MAX)?;
         }
         let mut turns = Turns {
@@ -125,7 +122,6 @@ impl<'a, S: Serving> Turns<'a, S> {
             last: Replies::new(alloc, Part::Last, answer.length)?,
             length: usize::from(answer.length).wrapping_mul(answer.parts),
             tn: 0,
-            clients,
             collector: 0,
             submitter: 0,
         };
@@ -137,7 +133,7 @@ impl<'a, S: Serving> Turns<'a, S> {
 
     fn submit(&mut self) -> Result<(), Fault> {
         self.serving.submit(ClientId(self.submitter), request(0)?)?;
-        self.submitter = self.after(self.submitter);
+        self.submitter = after(self.submitter);
         Ok(())
     }
 
@@ -145,13 +141,8 @@ impl<'a, S: Serving> Turns<'a, S> {
         if self.serving.collect(ClientId(self.collector))? != self.length {
             return Err(Fault::Unexpected("next_outcome"));
         }
-        self.collector = self.after(self.collector);
+        self.collector = after(self.collector);
         Ok(())
-    }
-
-    fn after(&self, client: u8) -> u8 {
-        let next = client.wrapping_add(1);
-        if next < self.clients { next } else { 0 }
     }
 
     fn exchange(&mut self, part: Part) -> Result<(), Fault> {
@@ -166,6 +157,11 @@ impl<'a, S: Serving> Turns<'a, S> {
         self.tn = self.tn.wrapping_add(1);
         self.serving.deliver(self.alloc, reply)
     }
+}
+
+// The client whose turn is next.
+fn after(client: u8) -> u8 {
+    client.wrapping_add(1) % CLIENTS
 }
 
 impl<S: Serving> Sample for Turns<'_, S> {

@@ -1,11 +1,16 @@
 -- Faults of a command line: where each stands, and what tells it.
-use Rattle.std.specs.Prelude.{◌≡◌, ℕ, List, codes, Result, Ok, Err, ⊤, IsErr}
+use Rattle.std.specs.Prelude.{◌≡◌, ◌⊎◌, ℕ, List, Option, Some, None, codes, Result, Ok, Err, ⊤, IsErr, IsUtf8}
 use Rattle.hex.specs.Hex.{decode_of}
+use Rattle.serde_json.specs.Data.{Data}
+use Rattle.serde_json.specs.Read.{read}
 use Rattle.rdm_wire.specs.UidText.{UidText}
+use Rattle.rdm_port.specs.Input.{IsContent}
+use Rattle.rdm_port.specs.SceneFiles.{IsSceneFile}
+use Rattle.rdm_port.specs.declared.scene.file.SceneFile.{SceneFile}
 use Rattle.rdm_port.specs.declared.fault.Fault.{Fault}
-use Rattle.rdm_port.specs.declared.fault.Fault.TheVariants.{CommandLine, Hex, Uid, Memory}
+use Rattle.rdm_port.specs.declared.fault.Fault.TheVariants.{CommandLine, Hex, Uid, File, Json, Scene, Memory}
 use Rattle.rdm_port.specs.declared.job.Job.{Job}
-use Rattle.rdm_port.specs.declared.job.Job.TheVariants.{Decode, Encode}
+use Rattle.rdm_port.specs.declared.job.Job.TheVariants.{Decode, Encode, Discover}
 use Rattle.rdm_port.specs.declared.job.WordsFault.{WordsFault}
 use Rattle.rdm_port.specs.declared.job.WordsFault.TheVariants.{Words, NoMemory}
 
@@ -14,6 +19,9 @@ abbrev pub fault_line : Fault → List ℕ
 fault_line CommandLine = codes "fault: command line"
 fault_line Hex = codes "fault: hex"
 fault_line Uid = codes "fault: uid"
+fault_line File = codes "fault: file"
+fault_line Json = codes "fault: json"
+fault_line Scene = codes "fault: scene"
 fault_line Memory = codes "fault: memory"
 
 -- the program's status with it
@@ -21,6 +29,9 @@ abbrev pub fault_status : Fault → ℕ
 fault_status CommandLine = 2
 fault_status Hex = 1
 fault_status Uid = 1
+fault_status File = 1
+fault_status Json = 1
+fault_status Scene = 1
 fault_status Memory = 1
 
 -- the fault of words that ask for nothing
@@ -28,18 +39,54 @@ abbrev pub fault_of_words : WordsFault → Fault
 fault_of_words Words = CommandLine
 fault_of_words NoMemory = Memory
 
--- where a job has a fault: only bytes that are decoded take memory
-abbrev pub HasFault : Job → Fault → Type 0
-HasFault (Decode text) Hex = IsErr (decode_of text.now)
-HasFault (Decode text) Memory = ⊤
-HasFault (Decode text) Uid = ⊥
-HasFault (Decode text) CommandLine = ⊥
-HasFault (Encode text) Uid = (u : ℕ) → UidText text.now u → ⊥
-HasFault (Encode text) Hex = ⊥
-HasFault (Encode text) Memory = ⊥
-HasFault (Encode text) CommandLine = ⊥
+-- digits that aren't decoded; only this takes memory
+abbrev pub IsDecodeFault : List ℕ → Fault → Type 0
+IsDecodeFault digits Hex = IsErr (decode_of digits)
+IsDecodeFault digits Memory = ⊤
+IsDecodeFault digits _ = ⊥
+
+-- a text that is no UID
+abbrev pub IsEncodeFault : List ℕ → Fault → Type 0
+IsEncodeFault text Uid = (u : ℕ) → UidText text u → ⊥
+IsEncodeFault text _ = ⊥
+
+-- the bytes say this scene
+pub record SaysScene (bytes : List ℕ) (file : SceneFile) : Type 0 where
+  pub value : Data
+  pub json : read bytes ≡ Some value
+  pub scene : IsSceneFile value file
+
+-- the reader's file says it
+pub record ReadsScene (known : Option (List ℕ)) (file : SceneFile) : Type 0 where
+  pub bytes : List ℕ
+  pub content : IsContent known bytes
+  pub says : SaysScene bytes file
+
+-- bytes that are JSON, but no scene's
+pub record IsNoScene (bytes : List ℕ) : Type 0 where
+  pub value : Data
+  pub json : read bytes ≡ Some value
+  pub none : (file : SceneFile) → IsSceneFile value file → ⊥
+
+-- bytes that say no scene
+abbrev pub IsTextFault : List ℕ → Fault → Type 0
+IsTextFault bytes Json = IsUtf8 bytes → read bytes ≡ None
+IsTextFault bytes Scene = IsNoScene bytes
+IsTextFault bytes Memory = ⊤
+IsTextFault bytes _ = ⊥
+
+-- a file that says none; each may be unreadable
+abbrev pub IsFileFault : Option (List ℕ) → Fault → Type 0
+IsFileFault known File = ⊤
+IsFileFault known fault = (bytes : List ℕ) × IsContent known bytes × IsTextFault bytes fault
+
+-- the faults of a job, whose file has these bytes, where they are known
+abbrev pub HasFault : Job → Option (List ℕ) → Fault → Type 0
+HasFault (Decode digits) known fault = IsDecodeFault digits.now fault
+HasFault (Encode uid) known fault = IsEncodeFault uid.now fault
+HasFault (Discover file incremental) known fault = (fault ≡ Memory) ⊎ IsFileFault known fault
 
 -- the faults of a command line
-abbrev pub IsFaultOf : Result Job WordsFault → Fault → Type 0
-IsFaultOf (Ok job) fault = HasFault job fault
-IsFaultOf (Err refusal) fault = fault ≡ fault_of_words refusal
+abbrev pub IsFaultOf : Result Job WordsFault → Option (List ℕ) → Fault → Type 0
+IsFaultOf (Ok job) known fault = HasFault job known fault
+IsFaultOf (Err refusal) known fault = fault ≡ fault_of_words refusal

@@ -1,3 +1,9 @@
 pub mod Fault
 pub mod Words
 pub mod Outcome
+pub mod Discovery
+pub mod SceneDiscovery
+pub mod Forms
+pub mod SceneFiles
+pub mod Report
+pub mod Input

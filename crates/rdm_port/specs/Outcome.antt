@@ -1,16 +1,31 @@
 -- What is printed for a command line, and the status.
-use Rattle.std.specs.Prelude.{◌≡◌, ◌≢◌, ◌⊎◌, ◌++◌, ◌∷◌, [], ℕ, List, Option, codes, Result, Ok}
+use Rattle.std.specs.Prelude.{◌≡◌, ◌≢◌, ◌⊎◌, ◌++◌, [], ℕ, Bool, true, false, List, Option, codes, Result, Ok}
 use Rattle.std.specs.Io.KnownBytes.{Appends}
 use Rattle.hex.specs.Hex.{decode_of, encode_lower}
 use Rattle.rdm_wire.specs.UidText.{UidText, uid_text}
 use Rattle.rdm_wire.specs.BranchText.{ReadsAs, branch_text}
 use Rattle.rdm_wire.specs.declared.branch.BranchReply.{BranchReply}
 use Rattle.rdm_wire.specs.declared.branch.BranchReply.TheVariants.{One, Silent, Collision}
+use Rattle.rdm_wire.specs.declared.device.Device.{Device}
+use Rattle.rdm_agent.specs.declared.fault.AgentFault.{AgentFault}
+use Rattle.rdm_agent.specs.declared.kind.Kind.{Kind}
+use Rattle.rdm_agent.specs.declared.kind.Kind.TheVariants.{Full, Incremental}
+use Rattle.rdm_line.specs.SimRuns.{NoFiveSuccessive}
 use Rattle.rdm_port.specs.declared.job.Job.{Job}
-use Rattle.rdm_port.specs.declared.job.Job.TheVariants.{Decode, Encode}
+use Rattle.rdm_port.specs.declared.job.Job.TheVariants.{Decode, Encode, Discover}
 use Rattle.rdm_port.specs.declared.job.WordsFault.{WordsFault}
-use Rattle.rdm_port.specs.Fault.{IsFaultOf, fault_line, fault_status}
+use Rattle.rdm_port.specs.declared.answer.Answer.{Answer}
+use Rattle.rdm_port.specs.declared.answer.Answer.TheVariants.{Line, Lines}
+use Rattle.rdm_port.specs.declared.scene.file.SceneFile.{SceneFile}
 use Rattle.rdm_port.specs.declared.fault.Fault.{Fault}
+use Rattle.rdm_port.specs.Fault.{ReadsScene, IsFaultOf, fault_line, fault_status}
+use Rattle.rdm_port.specs.Report.{line_of, report_text, report_status}
+use Rattle.rdm_port.specs.SceneDiscovery.{IsSceneDiscovery, IsHonestReport}
+
+-- the bytes of an answer
+abbrev pub answer_bytes : Answer → List ℕ
+answer_bytes (Line line) = line.items
+answer_bytes (Lines lines) = lines.items
 
 -- how a reply to a branch is told
 abbrev pub reply_text : BranchReply → List ℕ
@@ -18,25 +33,51 @@ reply_text (One u) = uid_text u
 reply_text Silent = codes "silent"
 reply_text Collision = codes "collision"
 
--- the text answers the job
-abbrev pub Answers : Job → List ℕ → Type 0
-Answers (Decode digits) text = (bytes : List ℕ) × (reply : BranchReply) × (decode_of digits.now ≡ Ok bytes) × ReadsAs bytes reply × (text ≡ reply_text reply)
-Answers (Encode uid) text = (u : ℕ) × UidText uid.now u × (text ≡ encode_lower (branch_text u 7))
+-- the text tells what the bytes with these digits say
+abbrev pub Decodes : List ℕ → List ℕ → Type 0
+Decodes digits text =
+    (bytes : List ℕ) × (reply : BranchReply) × (decode_of digits ≡ Ok bytes) × ReadsAs bytes reply
+    × (text ≡ line_of (reply_text reply))
 
--- a line, with its end
-abbrev pub line_of : List ℕ → List ℕ
-line_of text = text ++ 10 ∷ []
+-- the text is the reply of the device with this UID, with seven preamble bytes
+abbrev pub Encodes : List ℕ → List ℕ → Type 0
+Encodes uid text = (u : ℕ) × UidText uid u × (text ≡ line_of (encode_lower (branch_text u 7)))
+
+abbrev pub kind_of : Bool → Kind
+kind_of false = Full
+kind_of true = Incremental
+
+-- the text reports a run on the line of the scene that the file's bytes say
+pub record Discovers (incremental : Bool) (known : Option (List ℕ)) (text : List ℕ) (status : ℕ) : Type 0 where
+  pub file : SceneFile
+  pub reads : ReadsScene known file
+  pub found : Result (List Device) (AgentFault × List Device)
+  pub frames : ℕ
+  pub run : IsSceneDiscovery file.scene (kind_of incremental) file.known file.budget found frames
+  -- as long as no five exchanges are lost in succession, it finds the devices
+  pub honest : NoFiveSuccessive file.scene.losses.items
+      → IsHonestReport file.scene (kind_of incremental) file.known file.budget found frames
+  pub prints : text ≡ report_text found frames
+  pub ends : status ≡ report_status found
+
+-- the text and the status answer the job, whose file has these bytes, where they are known
+abbrev pub Answers : Job → Option (List ℕ) → List ℕ → ℕ → Type 0
+Answers (Decode digits) known text status = Decodes digits.now text × (status ≡ 0)
+Answers (Encode uid) known text status = Encodes uid.now text × (status ≡ 0)
+Answers (Discover file incremental) known text status = Discovers incremental known text status
 
 -- the text and the status that a command line is answered with
-abbrev pub IsOutcome : Result Job WordsFault → List ℕ → ℕ → Type 0
-IsOutcome command text status =
-    ((job : Job) × (command ≡ Ok job) × Answers job text × (status ≡ 0))
-    ⊎ ((fault : Fault) × IsFaultOf command fault × (text ≡ fault_line fault) × (status ≡ fault_status fault))
+abbrev pub IsOutcome : Result Job WordsFault → Option (List ℕ) → List ℕ → ℕ → Type 0
+IsOutcome command known text status =
+    ((job : Job) × (command ≡ Ok job) × Answers job known text status)
+    ⊎ ((fault : Fault) × IsFaultOf command known fault × (text ≡ line_of (fault_line fault))
+    × (status ≡ fault_status fault))
 
--- a writer that had old has new, which is old and a front of the line, but not all of it
+-- a writer that had old has new, which is old and a front of the text, but not all of it
 abbrev pub IsCutShort : Option (List ℕ) → Option (List ℕ) → List ℕ → Type 0
-IsCutShort old new line = (front rest : List ℕ) × (line ≡ front ++ rest) × (rest ≢ []) × Appends old new front
+IsCutShort old new text = (front rest : List ℕ) × (text ≡ front ++ rest) × (rest ≢ []) × Appends old new front
 
--- the line is written, and the result is its status; or the writer failed before the line's end, and the result is 1
+-- the text is written, and the result is its status; or the writer failed before the text's end, and the result is 1
 abbrev pub IsPrinted : Option (List ℕ) → Option (List ℕ) → List ℕ → ℕ → ℕ → Type 0
-IsPrinted old new text status result = ((result ≡ status) × Appends old new (line_of text)) ⊎ ((result ≡ 1) × IsCutShort old new (line_of text))
+IsPrinted old new text status result =
+    ((result ≡ status) × Appends old new text) ⊎ ((result ≡ 1) × IsCutShort old new text)

@@ -1,9 +1,11 @@
 -- What the words of a command line ask for, as `clap` reads them.
-use Rattle.std.specs.Prelude.{◌≡◌, ◌==◌, Bool, not, List, [], ◌∷◌, Option, Some, None, bytes_eq, codes, map, option_and_then, if◌then◌else◌, true}
+use Rattle.std.specs.Prelude.{◌≡◌, ◌==◌, Bool, not, List, [], ◌∷◌, Option, Some, None, bytes_eq, codes, map, option_and_then, if◌then◌else◌, true, false}
 use Rattle.std.specs.Borrow.{Bor}
+use Rattle.std.specs.Option.{option_map_or}
 use Rattle.clap.specs.Words.{App, Row, Text, new_app, new_rule, with_rule, with_subcommand, subcommand_of, first_of, fault_of}
+use Rattle.clap.specs.declared.builder.action.ArgAction.TheVariants.{SetTrue}
 use Rattle.rdm_port.specs.declared.job.Job.{Job}
-use Rattle.rdm_port.specs.declared.job.Job.TheVariants.{Decode, Encode}
+use Rattle.rdm_port.specs.declared.job.Job.TheVariants.{Decode, Encode, Discover}
 
 -- a command with one argument
 abbrev pub one_argument : Text → Text → App
@@ -21,18 +23,41 @@ bare = record (new_app (codes "rdm_port")) {
   };
 }
 
+-- the command with a file and a flag
+abbrev pub discover_words : App
+discover_words =
+    with_rule (one_argument (codes "discover") (codes "file")) (record (new_rule (codes "incremental")) { long = Some (codes "incremental"); action = Some SetTrue })
+
 -- the program's commands
 abbrev pub commands : App
-commands = with_subcommand (with_subcommand bare (one_argument (codes "decode") (codes "hex")).top) (one_argument (codes "encode") (codes "uid")).top
+commands =
+    with_subcommand (with_subcommand (with_subcommand bare (one_argument (codes "decode") (codes "hex")).top) (one_argument (codes "encode") (codes "uid")).top) discover_words.top
 
 -- the argument of the command of this name, if that was given
 abbrev pub value_of : Text → Text → Text × List Row → Option Text
 value_of name argument given = if bytes_eq given.0 name then first_of argument given.1 else None
 
+-- whether a flag is among the arguments: its text is then "true"
+abbrev pub is_set : Text → List Row → Bool
+is_set flag given = option_map_or (λ text. bytes_eq text (codes "true")) (first_of flag given) false
+
+-- whether the command of this name was given with the flag
+abbrev pub flag_of : Text → Text → Text × List Row → Option Bool
+flag_of name flag given = if bytes_eq given.0 name then Some (is_set flag given.1) else None
+
 -- the job of a command with its arguments
 abbrev pub IsGiven : Option (Text × List Row) → Job → Type 0
 IsGiven given (Decode digits) = option_and_then (value_of (codes "decode") (codes "hex")) given ≡ Some digits.now
 IsGiven given (Encode uid) = option_and_then (value_of (codes "encode") (codes "uid")) given ≡ Some uid.now
+IsGiven given (Discover file incremental) =
+    (option_and_then (value_of (codes "discover") (codes "file")) given ≡ Some file.now)
+    × (option_and_then (flag_of (codes "discover") (codes "incremental")) given ≡ Some incremental)
+
+-- the path of the file that a job reads
+abbrev pub file_of : Job → Option Text
+file_of (Decode digits) = None
+file_of (Encode uid) = None
+file_of (Discover file incremental) = Some file.now
 
 abbrev pub texts_of : List (Bor Text) → List Text
 texts_of words = map (λ word. word.now) words

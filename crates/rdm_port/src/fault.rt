@@ -13,6 +13,12 @@ pub enum Fault {
     Hex,
     /// The UID isn't given as four hexadecimal digits, a colon and eight hexadecimal digits.
     Uid,
+    /// The file can't be opened or read, or has more than 1,048,576 bytes.
+    File,
+    /// The file is no JSON.
+    Json,
+    /// The file's JSON is no scene.
+    Scene,
     /// Memory was refused.
     Memory,
 }
@@ -26,6 +32,9 @@ impl Fault {
             Fault::CommandLine => "fault: command line",
             Fault::Hex => "fault: hex",
             Fault::Uid => "fault: uid",
+            Fault::File => "fault: file",
+            Fault::Json => "fault: json",
+            Fault::Scene => "fault: scene",
             Fault::Memory => "fault: memory",
         }
     }
@@ -36,7 +45,7 @@ impl Fault {
     {
         match self {
             Fault::CommandLine => 2,
-            Fault::Hex | Fault::Uid | Fault::Memory => 1,
+            Fault::Hex | Fault::Uid | Fault::File | Fault::Json | Fault::Scene | Fault::Memory => 1,
         }
     }
 }

@@ -1,11 +1,11 @@
 //! What the words of a command line ask for.
-ghost use Rattle.std.specs.Prelude.{◌≡◌, ◌≢◌, IfOk, IfSome, IfNone, Err, false};
-ghost use Rattle.clap.specs.Words.{app_of, subcommand_rows_of, kind_of};
+ghost use Rattle.std.specs.Prelude.{◌≡◌, ◌≢◌, IfOk, IfSome, IfNone, Err, false, option_map};
+ghost use Rattle.clap.specs.Words.{app_of, with_subcommand, found_of, rows_of, subcommand_rows_of, kind_of};
 ghost use Rattle.clap.specs.declared.builder.command.Command.TheViews.{out-Command as fields_of};
-ghost use Rattle.rdm_port.specs.Words.{Asks, AsksNothing, IsGiven, commands, one_argument, texts_of};
+ghost use Rattle.rdm_port.specs.Words.{Asks, AsksNothing, IsGiven, bare, commands, one_argument, discover_words, is_set, file_of, texts_of};
 
 use clap::error::ErrorKind;
-use clap::{Arg, ArgMatches, Command, Error};
+use clap::{Arg, ArgAction, ArgMatches, Command, Error};
 use std::alloc::{AllocError, Global};
 
 /// What a command line asks for.
@@ -15,6 +15,25 @@ pub enum Job<'a> {
     Decode(&'a str),
     /// Write the reply of the device with this UID to a branch.
     Encode(&'a str),
+    /// Tell which devices a run finds on the line of this file's scene.
+    Discover {
+        /// The file's path.
+        file: &'a str,
+        /// Whether the run mutes the scene's known devices first.
+        incremental: bool,
+    },
+}
+
+impl<'a> Job<'a> {
+    /// The path of the file that it reads, if it reads one.
+    pub fn file(&self) -> Option<&'a str>
+        ensures { option_map (λ f. f.now) result ≡ file_of self.now }
+    {
+        match self {
+            Job::Decode(_) | Job::Encode(_) => None,
+            Job::Discover { file, .. } => Some(*file),
+        }
+    }
 }
 
 /// Why a command line asks for nothing.
@@ -49,13 +68,30 @@ fn command<'a>(alloc: Global) -> Result<Command<'a>, AllocError>
 {
     let decode = subcommand(alloc, "decode", "hex")?;
     let encode = subcommand(alloc, "encode", "uid")?;
+    let discover = discover(alloc)?;
+    let command = with_command(bare(alloc), decode)?;
+    let command = with_command(command, encode)?;
+    with_command(command, discover)
+}
+
+// The command line with one more command.
+fn with_command<'a>(line: Command<'a>, command: Command<'a>) -> Result<Command<'a>, AllocError>
+    requires { (fields_of command).has_globals ≡ false }
+    ensures { IfOk result (λ r. app_of r ≡ with_subcommand (app_of line.entry) (app_of command.entry).top) }
+{
+    line.subcommand(command)
+}
+
+// The program's command line, before its commands.
+fn bare<'a>(alloc: Global) -> Command<'a>
+    ensures app { app_of result ≡ bare }
+    ensures local { (fields_of result).has_globals ≡ false }
+{
     Command::new(alloc, "rdm_port")
         .no_binary_name(true)
         .subcommand_required(true)
         .disable_help_flag(true)
         .disable_help_subcommand(true)
-        .subcommand(decode)?
-        .subcommand(encode)
 }
 
 // A command with one argument.
@@ -72,6 +108,17 @@ fn subcommand<'a>(
         .arg(Arg::new(alloc, argument).required(true))
 }
 
+// The command that discovers devices: a file, and the flag of an incremental run.
+fn discover<'a>(alloc: Global) -> Result<Command<'a>, AllocError>
+    ensures app { IfOk result (λ command. app_of command ≡ discover_words) }
+    ensures local { IfOk result (λ command. (fields_of command).has_globals ≡ false) }
+{
+    let flag = Arg::new(alloc, "incremental")
+        .long("incremental")
+        .action(ArgAction::SetTrue);
+    subcommand(alloc, "discover", "file")?.arg(flag)
+}
+
 // The job of the command that was given.
 fn given<'a>(matches: &ArgMatches<'a>) -> Option<Job<'a>>
     ensures some { IfSome result (λ job. IsGiven (subcommand_rows_of matches.now) job) }
@@ -81,7 +128,21 @@ fn given<'a>(matches: &ArgMatches<'a>) -> Option<Job<'a>>
     match name {
         "decode" => Some(Job::Decode(given.get_str("hex")?)),
         "encode" => Some(Job::Encode(given.get_str("uid")?)),
+        "discover" => Some(Job::Discover {
+            file: given.get_str("file")?,
+            incremental: has_flag(given, "incremental"),
+        }),
         _ => None,
+    }
+}
+
+// Whether a flag was given: `clap` gives it the text of a truth value.
+fn has_flag(given: &ArgMatches<'_>, flag: &str) -> bool
+    ensures { result ≡ is_set flag.now (rows_of (found_of given.now)) }
+{
+    match given.get_str(flag) {
+        Some(text) => text == "true",
+        None => false,
     }
 }
 

@@ -1,6 +1,12 @@
-//! What words ask for, as the contract of a function that does nothing. The definitions stand in `specs`.
-ghost use Rattle.std.specs.Prelude.{◌≡◌, ℕ, List, [], ◌∷◌, true, codes};
+//! Laws of words and of runs, each the contract of a function that does nothing. The definitions stand in `specs`.
+ghost use Rattle.std.specs.Prelude.{◌≡◌, ℕ, List, [], ◌∷◌, true, codes, Result};
 ghost use Rattle.std.specs.Borrow.{Bor};
+ghost use Rattle.rdm_wire.specs.declared.device.Device.{Device};
+ghost use Rattle.rdm_agent.specs.declared.fault.AgentFault.{AgentFault};
+ghost use Rattle.rdm_agent.specs.declared.kind.Kind.{Kind};
+ghost use Rattle.rdm_line.specs.SimRuns.{LosesFew};
+ghost use Rattle.rdm_line.specs.declared.scene.Scene.{Scene};
+ghost use Rattle.rdm_port.specs.SceneDiscovery.{IsSceneDiscovery, IsHonestReport};
 ghost use Rattle.rdm_port.specs.Words.{Asks, AsksNothing, is_plain};
 
 use crate::job::Job;
@@ -18,4 +24,13 @@ pub fn what_words_ask()
     ensures no_argument { AsksNothing (codes "decode" ∷ []) }
     ensures help { AsksNothing (codes "--help" ∷ []) }
     ensures help_of_command { AsksNothing (codes "decode" ∷ codes "--help" ∷ []) }
+{}
+
+/// A run on the line of a scene reports honestly, as long as no five replies of a kind were lost in succession in its
+/// steps: branches that a device was due to answer, and mutes of a present device.
+pub fn few_losses_are_honest()
+    ensures { (scene : Scene) (kind : Kind) (known : List ℕ) (budget : ℕ)
+        (found : Result (List Device) (AgentFault × List Device)) (frames : ℕ)
+        (run : IsSceneDiscovery scene kind known budget found frames)
+        → LosesFew run.steps → IsHonestReport scene kind known budget found frames }
 {}

@@ -1,39 +1,84 @@
-//! Reads and writes the replies of RDM devices to a branch of the discovery tree.
+//! Reads and writes the replies of RDM devices to a branch of the discovery tree, and discovers simulated devices.
 #![tactic(auto)]
 
 ghost use Rattle.std.specs.Prelude.{◌≡◌, IfOk, map, string_bytes};
 ghost use Rattle.rdm_port.specs.Words.{texts_of};
 
+mod answer;
+mod branch;
+mod discover;
+mod discovery;
 mod fault;
+mod input;
 mod job;
 mod laws;
 mod perform;
+mod reason;
+mod report;
+mod scene;
+mod tell;
 #[cfg(test)]
 mod tests;
 
 use crate::job::{Job, WordsFault, parse_words};
-use crate::perform::perform;
+use crate::perform::carry_out;
+use crate::tell::tell;
 use std::alloc::{AllocError, Global};
+use std::io::Read;
 use std::process::ExitCode;
-use std::{env, io};
+use std::{env, fs, io};
 
 fn main(rt: HostRuntime) -> ExitCode {
     let status = match args(&rt) {
-        Ok(args) => answer(&rt, &args),
+        Ok(args) => run(&rt, &args),
         Err(fault) => print(&rt, Err(fault)),
     };
     ExitCode::from(status)
 }
 
-fn answer(rt: &HostRuntime, args: &[String]) -> u8 {
+fn run(rt: &HostRuntime, args: &[String]) -> u8 {
     match words(rt.alloc(), args) {
         Ok(words) => print(rt, parse_words(rt.alloc(), &words)),
         Err(_) => print(rt, Err(WordsFault::NoMemory)),
     }
 }
 
+// Prints the answer on standard output, and the reason of what isn't done on standard error.
 fn print(rt: &HostRuntime, job: Result<Job<'_>, WordsFault>) -> u8 {
-    perform(rt.alloc(), job, &mut io::empty(), &mut io::writer(rt))
+    let file = match &job {
+        Ok(job) => job.file(),
+        Err(_) => None,
+    };
+    let Some(path) = file else {
+        return print_from(rt, job, &mut io::empty());
+    };
+    match fs::open(rt, path) {
+        Ok(mut file) => print_from(rt, job, &mut file),
+        Err(error) => print_from(rt, job, &mut Unopened(error.kind())),
+    }
+}
+
+fn print_from<R: Read>(rt: &HostRuntime, job: Result<Job<'_>, WordsFault>, reader: &mut R) -> u8 {
+    let (status, reason) = carry_out(rt.alloc(), job, reader, &mut io::writer(rt));
+    if let Some(reason) = reason {
+        // Where standard error fails too, the status tells of it.
+        let _ = tell(rt, &reason);
+    }
+    status
+}
+
+// A file that can't be opened: each read of it fails so.
+#[derive(Clone, Copy, Drop)]
+struct Unopened(io::ErrorKind);
+
+impl Read for Unopened {
+    fn read(&mut self, _bytes: &mut [u8]) -> io::Result<usize> {
+        // A read that was interrupted would be tried again.
+        match self.0 {
+            io::ErrorKind::Interrupted => Err(io::Error::from(io::ErrorKind::Other)),
+            kind => Err(io::Error::from(kind)),
+        }
+    }
 }
 
 // The words after the program's name. One that is no text fits no command.

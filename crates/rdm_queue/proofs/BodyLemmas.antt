@@ -1,4 +1,8 @@
 -- What the code holds agrees with the log after each call.
+pub mod MergedLemmas
+pub mod RingLemmas
+pub mod RingSteps
+pub mod FrontLemmas
 pub mod OutstandingLemmas
 pub mod RequestsAlone
 pub mod FieldLemmas

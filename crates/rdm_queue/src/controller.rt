@@ -57,11 +57,11 @@ impl Controller {
     /// Lets a client join, with so many places: how many requests it may have outstanding, from their acceptance
     /// until their outcomes are collected. The memory for them is reserved here.
     /// Err: the first fault that stands; nothing has changed.
-    pub fn join_client(&mut self, _alloc: Global, places: u8) -> Result<ClientId, JoinFault>
+    pub fn join_client(&mut self, alloc: Global, places: u8) -> Result<ClientId, JoinFault>
         ensures adds { AddsToEach self.old (λ o h. JoinAdds o h places result) self.new }
         ensures unchanged { OnErr result (self.new ≡ self.old) }
     {
-        self.queue.join_client(places)
+        self.queue.join_client(alloc, places)
     }
 
     /// Accepts a client's request, and gives its number. It takes a place until its outcome is collected.

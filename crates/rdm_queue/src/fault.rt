@@ -3,7 +3,7 @@ use thiserror::Error;
 
 /// There was no memory, and nothing has changed (profile of this project).
 #[derive(Clone, Copy, Debug, PartialEq, Eq, Error)]
-#[error("no memory")]
+#[error("out of memory")]
 pub struct NoMemory;
 
 /// The log has fewer than three free entries, and nothing has changed (profile of this project).
@@ -29,7 +29,7 @@ pub enum JoinFault {
     #[error("there are too few places")]
     NoPlaces,
     /// 4: there is no memory for what the client may have outstanding.
-    #[error("no memory")]
+    #[error("out of memory")]
     NoMemory,
     /// 5: the log has fewer than three free entries.
     #[error("the log is full")]

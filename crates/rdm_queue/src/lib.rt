@@ -2,22 +2,23 @@
 //!
 //! # What calls cost
 //!
-//! A [`Controller`] keeps one list of the requests that aren't finished and one of the outcomes that aren't collected,
-//! for all clients together.
+//! A [`Controller`] keeps two rings for each client: of its requests that aren't finished, and of its outcomes that
+//! aren't collected. The oldest request is the one with the lowest number among the rings' fronts.
 //!
-//! - `submit` and `next_outcome` look through those lists for the client: linear in the requests outstanding.
-//! - `deliver` and `next_outcome` move up what stands after an element taken from such a list: linear in them too.
-//!   A close, and the reply after it, finish all that wait in one pass.
-//! - `join_client` adds up the places of the clients, 16 at most, and reserves the memory for all of them.
+//! - `take` and `deliver` look at the clients' fronts, 16 at most; `submit` and `next_outcome` look at one client.
+//!   So none of them takes longer for the requests that wait.
+//! - `close`, and the reply after it, look at the fronts once for each request that they finish.
+//! - `join_client` adds up the places of the clients, 16 at most, and reserves the memory of the client's rings.
+//!   No later call allocates, but for the joined data of a request.
+//! - `is_idle`, and what a [`Session`] asks before a call, whether its log is full, add up what each client has.
 //! - The other calls take constant time. So does each entry of a [`Log`], whose memory is reserved when it is made.
 //! - A log's opening holds a set of devices, 32 KB large. It is filled when a log is made and when a session begins.
 //! - A [`Session`] copies each request and each frame once, into its log; `answer` and `run`, which are lent their
 //!   events, copy each request and each event once more. The joined data of a request are copied once,
 //!   into its outcome.
-//!
-//! Lists for each client will make all of these constant in what others have outstanding.
 #![tactic(auto)]
 
+mod client;
 mod config;
 mod controller;
 mod copies;

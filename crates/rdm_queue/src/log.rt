@@ -42,7 +42,7 @@ impl Log {
     /// everywhere, no places and no devices, is neither paused nor closed, and is written when a session begins.
     /// Err: there was no memory.
     pub fn new(alloc: Global, free: usize) -> Result<Log, NoMemory>
-        requires { free ≤ MOST_FREE_ENTRIES }
+        requires { free ≤ 1000000 }
         ensures { IfOk result (λ log. log ≡ record { opening = blank_opening; entries = []; room = free + 1 }) }
     {
         let room = free + 1;

@@ -1,10 +1,12 @@
 //! The requests that wait, and the outcomes that wait for their clients.
-ghost use Rattle.std.specs.Prelude.{◌≡◌, ◌⊎◌, ◌<◌, ◌≤◌, ◌==◌, length, count_by, position, vec_len, vec_capacity, OnOk};
+ghost use Rattle.std.specs.Prelude.{◌≡◌, ◌⊎◌, ◌<◌, length, IfSome, IfNone};
 ghost use Rattle.rdm_join.specs.Result.{ended};
 ghost use Rattle.rdm_join.specs.JoinerStanding.{head_of_standing};
 ghost use Rattle.rdm_join.specs.declared.status.Status.TheVariants.{NoMemory as NoMemoryLeft};
 ghost use Rattle.rdm_queue.specs.promises.Outcomes.{completion_value};
+ghost use Rattle.rdm_queue.specs.body.Rings.{NoneWaits, IsFirstInLine};
 
+use crate::client::{Client, Waiting};
 use crate::config::Config;
 use crate::entry::{ClientId, Entry, MOST_CLIENTS, NEVER_GIVEN, Owner};
 use crate::fault::{JoinFault, SubmitFault};
@@ -12,67 +14,29 @@ use crate::outcome::{Completion, Outcome};
 use arrayvec::ArrayVec;
 use rdm_join::{Joiner, LineEvent, Sent, Status, Step, judge};
 use rdm_wire::{Frame, Request, encode_request};
-use std::alloc::{AllocError, Global};
+use std::alloc::Global;
 use std::marker::Model;
-
-/// A request that isn't finished.
-#[derive(Debug, Drop)]
-struct Waiting {
-    client: ClientId,
-    number: u64,
-    request: Request,
-}
-
-/// An outcome that its client hasn't collected.
-#[derive(Debug, Drop)]
-struct Owed {
-    client: ClientId,
-    number: u64,
-    done: Completion,
-}
-
-impl Owed {
-    ghost use Rattle.std.specs.Prelude.{◌≡◌};
-    ghost use Rattle.rdm_queue.specs.body.Fields.{owed_is};
-    ghost use Rattle.rdm_queue.specs.body.State.{finish_of};
-
-    // The entry of its request's end.
-    fn entry(&self) -> Entry
-        ensures { result ≡ finish_of (owed_is self.now) }
-    {
-        Entry::Finish {
-            number: self.number,
-            status: self.done.status,
-            len: self.done.bytes.len(),
-        }
-    }
-}
 
 /// What a controller holds. Contracts see how it stands: the requests that aren't finished, what was sent, and the
 /// outcomes that aren't collected.
 #[derive(Debug, Drop)]
 pub(crate) struct Queue {
     config: Config,
-    /// Each client's places.
-    places: ArrayVec<u8, MOST_CLIENTS>,
+    /// The clients, each with the rings of what it has outstanding.
+    clients: ArrayVec<Client, MOST_CLIENTS, Global>,
     paused: bool,
     closed: bool,
     next_request: u64,
     next_tn: u8,
-    /// The requests that aren't finished, oldest first.
-    waiting: Vec<Waiting>,
     /// What was sent, while its reply is awaited.
     awaited: Option<Sent>,
     /// The replies of the oldest of those that wait.
     joiner: Joiner,
     /// How the oldest has ended, until it is finished.
     decided: Option<Completion>,
-    /// The outcomes that aren't collected, oldest first.
-    outcomes: Vec<Owed>,
 }
 
 impl Model for Queue {
-    ghost use Rattle.std.specs.Prelude.{vec_capacity};
     ghost use Rattle.rdm_queue.specs.body.State.{QueueState};
 
     ghost Value = { QueueState };
@@ -82,7 +46,7 @@ impl Model for Queue {
 
     ghost view = { state_of };
 
-    ghost invariant = { λ c. QueueInvariant (state_of c) (vec_capacity c.waiting) (vec_capacity c.outcomes) };
+    ghost invariant = { λ c. QueueInvariant (state_of c) c.clients.items };
 }
 
 impl Queue {
@@ -95,7 +59,7 @@ impl Queue {
     ghost use Rattle.rdm_join.specs.declared.verdict.Sent.{Sent};
     ghost use Rattle.rdm_queue.specs.promises.Outcomes.{outcome_value, completion_value};
     ghost use Rattle.rdm_queue.specs.promises.Blocks.{RefusesJoin};
-    ghost use Rattle.rdm_queue.specs.body.Fields.{owed_is};
+    ghost use Rattle.rdm_queue.specs.body.Fields.{accepted_is};
     ghost use Rattle.rdm_queue.specs.log.Config.{IsConfig};
     ghost use Rattle.rdm_queue.specs.log.Entries.{Accepted};
     ghost use Rattle.rdm_queue.specs.body.State.{QueueState, first_state, first_join_fault, first_submit_fault};
@@ -110,16 +74,14 @@ impl Queue {
     {
         Queue {
             config,
-            places: ArrayVec::new(),
+            clients: ArrayVec::new_in(alloc),
             paused: false,
             closed: false,
             next_request: 0,
             next_tn: 0,
-            waiting: Vec::new(alloc),
             awaited: None,
             joiner: Joiner::new(),
             decided: None,
-            outcomes: Vec::new(alloc),
         }
     }
 
@@ -129,7 +91,7 @@ impl Queue {
     {
         if self.closed {
             Some(JoinFault::Closed)
-        } else if self.places.is_full() {
+        } else if self.clients.is_full() {
             Some(JoinFault::TooManyClients)
         } else if self.given_places() + u16::from(places) > self.config.places {
             Some(JoinFault::NoPlaces)
@@ -142,11 +104,14 @@ impl Queue {
     fn given_places(&self) -> u16
         ensures { result ≡ sum self.now.places }
     {
-        self.places.iter().map(|places| u16::from(*places)).sum()
+        self.clients
+            .iter()
+            .map(|client| u16::from(client.places))
+            .sum()
     }
 
-    /// Lets a client join, whose room is reserved here.
-    pub(crate) fn join_client(&mut self, places: u8) -> Result<ClientId, JoinFault>
+    /// Lets a client join, whose memory is reserved here.
+    pub(crate) fn join_client(&mut self, alloc: Global, places: u8) -> Result<ClientId, JoinFault>
         ensures joined { IfOk result (λ c. (first_join_fault self.old places ≡ None) × (c.0 ≡ length self.old.places)
             × (self.new ≡ record self.old { places = self.old.places ++ places ∷ [] })) }
         ensures refused { IfErr result (λ fault. RefusesJoin (first_join_fault self.old places) fault) }
@@ -155,15 +120,12 @@ impl Queue {
         if let Some(fault) = self.join_fault(places) {
             return Err(fault);
         }
-        let all = usize::from(self.given_places()) + usize::from(places);
-        if reserve_up_to(&mut self.waiting, all).is_err()
-            || reserve_up_to(&mut self.outcomes, all).is_err()
-        {
+        let Ok(client) = Client::with_places(alloc, places) else {
             return Err(JoinFault::NoMemory);
-        }
-        let client = ClientId(self.places.len() as u8);
-        self.places.push(places);
-        Ok(client)
+        };
+        let number = ClientId(self.clients.len() as u8);
+        self.clients.push(client);
+        Ok(number)
     }
 
     // The first fault of a submit.
@@ -173,21 +135,14 @@ impl Queue {
         if self.closed {
             return Some(SubmitFault::Closed);
         }
-        let Some(places) = self.places.get(usize::from(client.0)) else {
+        let Some(own) = self.clients.get(usize::from(client.0)) else {
             return Some(SubmitFault::UnknownClient);
         };
-        if self.outstanding(client) >= usize::from(*places) || self.next_request == NEVER_GIVEN {
+        if own.outstanding() >= usize::from(own.places) || self.next_request == NEVER_GIVEN {
             Some(SubmitFault::Full)
         } else {
             None
         }
-    }
-
-    // How many requests of a client aren't finished or not collected.
-    fn outstanding(&self, client: ClientId) -> usize
-        ensures { result ≡ outstanding client.0 self.now }
-    {
-        waiting_by(client, &self.waiting) + owed_by(client, &self.outcomes)
     }
 
     /// Accepts a request, and gives its number.
@@ -205,11 +160,7 @@ impl Queue {
             return Err((fault, request));
         }
         let number = self.next_request;
-        self.waiting.push_reserved(Waiting {
-            client,
-            number,
-            request,
-        });
+        self.clients[usize::from(client.0)].accept(number, request);
         self.next_request = number + 1;
         Ok(number)
     }
@@ -236,8 +187,9 @@ impl Queue {
         if self.awaited.is_some() || self.closed || self.paused {
             return None;
         }
-        let oldest = self.waiting.first()?;
+        let (_, oldest) = self.oldest()?;
         let request = &oldest.request;
+        let owner = Owner::Request(oldest.number);
         let frame = encode_request(request, self.config.source, self.next_tn);
         self.awaited = Some(Sent {
             target: request.target,
@@ -247,9 +199,15 @@ impl Queue {
             class: request.class,
             pid: request.pid,
         });
-        let owner = Owner::Request(oldest.number);
         self.next_tn = self.next_tn.wrapping_add(1);
         Some((owner, frame))
+    }
+
+    // The oldest request, and where its client stands.
+    fn oldest(&self) -> Option<(usize, &Waiting)>
+        ensures { option_map (λ found. accepted_is found.0 found.1.now) result ≡ slice_get self.now.waiting 0 }
+    {
+        first_in_line(&self.clients)
     }
 
     /// Takes what the line answered to the last frame. The oldest request, which it is of, hasn't ended before.
@@ -274,11 +232,9 @@ impl Queue {
         ensures finished { IfSome result (λ entry. IsFinished self.old entry self.new) }
         ensures none { IfNone result ((due self.old ≡ None) × (self.new ≡ self.old)) }
     {
-        if self.waiting.is_empty() {
-            return None;
-        }
+        let (at, _) = self.oldest()?;
         let done = self.end_of_oldest()?;
-        Some(self.finish(done))
+        Some(self.finish(at, done))
     }
 
     // How the oldest request has ended, which is then no longer kept here.
@@ -291,29 +247,22 @@ impl Queue {
             return Some(done);
         }
         if self.closed && !self.awaits() {
-            return Some(failed(*self.outcomes.allocator(), Status::FailedToSend));
+            return Some(failed(*self.clients.allocator(), Status::FailedToSend));
         }
         None
     }
 
-    // Finishes the oldest request so, and gives the entry of its end.
-    fn finish(&mut self, done: Completion) -> Entry
-        requires some { 0 < length self.old.waiting }
+    // Finishes the oldest request so, which is this client's, and gives the entry of its end.
+    fn finish(&mut self, at: usize, done: Completion) -> Entry
+        requires oldest { (accepted : Accepted) × (slice_get self.old.waiting 0 ≡ Some accepted)
+            × (accepted.client ≡ at) }
         requires taken { self.old.decided ≡ None }
         ensures finished { (accepted : Accepted) × (slice_get self.old.waiting 0 ≡ Some accepted)
             × (result ≡ finish_of (owed_for (completion_value done) accepted))
             × (self.new ≡ finishes_oldest self.old (owed_for (completion_value done) accepted)) }
     {
-        let oldest = self.waiting.remove(0);
-        let owed = Owed {
-            client: oldest.client,
-            number: oldest.number,
-            done,
-        };
-        let entry = owed.entry();
         self.joiner.reset();
-        self.outcomes.push_reserved(owed);
-        entry
+        self.clients[at].finish_oldest(done)
     }
 
     /// Takes a client's oldest outcome out, which frees its place.
@@ -324,8 +273,7 @@ impl Queue {
             (self.new ≡ record self.old { outcomes = without_first client.0 self.old.outcomes }) }
         ensures none { IfNone result (self.new ≡ self.old) }
     {
-        let at = first_of(client, &self.outcomes)?;
-        let owed = self.outcomes.remove(at);
+        let owed = self.clients.get_mut(usize::from(client.0))?.collect()?;
         Some(Outcome::Request {
             number: Some(owed.number),
             done: owed.done,
@@ -336,20 +284,20 @@ impl Queue {
     pub(crate) fn waiting(&self) -> usize
         ensures { result ≡ length self.now.waiting }
     {
-        self.waiting.len()
+        self.clients.iter().map(|client| client.waiting()).sum()
     }
 
     /// How many outcomes aren't collected.
     pub(crate) fn uncollected(&self) -> usize
         ensures { result ≡ length self.now.outcomes }
     {
-        self.outcomes.len()
+        self.clients.iter().map(|client| client.uncollected()).sum()
     }
 
     pub(crate) fn is_idle(&self) -> bool
         ensures { result ≡ ((length self.now.waiting == 0) && (length self.now.outcomes == 0)) }
     {
-        self.waiting.is_empty() && self.outcomes.is_empty()
+        self.waiting() == 0 && self.uncollected() == 0
     }
 
     pub(crate) fn is_paused(&self) -> bool
@@ -372,43 +320,22 @@ impl Queue {
     }
 }
 
-// How many of these requests are the client's.
-fn waiting_by(client: ClientId, waiting: &[Waiting]) -> usize
-    ensures { result ≡ count_by (λ w. client.0 == w.client.0) waiting.now }
+// The first in line: of the clients' oldest requests the one with the lowest number, and where its client stands.
+fn first_in_line(clients: &[Client]) -> Option<(usize, &Waiting)>
+    ensures none { IfNone result (NoneWaits clients.now) }
+    ensures first { IfSome result (λ found. IsFirstInLine clients.now found.0 found.1.now) }
 {
-    waiting
-        .iter()
-        .filter(|request| client.0 == request.client.0)
-        .count()
-}
-
-// How many of these outcomes are the client's.
-fn owed_by(client: ClientId, outcomes: &[Owed]) -> usize
-    ensures { result ≡ count_by (λ d. client.0 == d.client.0) outcomes.now }
-{
-    outcomes
-        .iter()
-        .filter(|outcome| client.0 == outcome.client.0)
-        .count()
-}
-
-// Where the client's first outcome stands.
-fn first_of(client: ClientId, outcomes: &[Owed]) -> Option<usize>
-    ensures { result ≡ position (λ d. client.0 == d.client.0) outcomes.now }
-{
-    outcomes
-        .iter()
-        .position(|outcome| client.0 == outcome.client.0)
-}
-
-// Reserves memory for so many items, those that stand among them.
-fn reserve_up_to<T>(items: &mut Vec<T>, room: usize) -> Result<(), AllocError>
-    requires { vec_len items.old ≤ room }
-    ensures same { items.new.items ≡ items.old.items }
-    ensures more { vec_capacity items.old ≤ vec_capacity items.new }
-    ensures reserved { OnOk result (room ≤ vec_capacity items.new) }
-{
-    items.reserve(room - items.len())
+    let mut first: Option<(usize, &Waiting)> = None;
+    for (at, client) in clients.iter().enumerate() {
+        let Some(oldest) = client.oldest() else {
+            continue;
+        };
+        match first {
+            Some((_, lowest)) if lowest.number < oldest.number => {}
+            _ => first = Some((at, oldest)),
+        }
+    }
+    first
 }
 
 // A completion without an answer, which takes no memory.

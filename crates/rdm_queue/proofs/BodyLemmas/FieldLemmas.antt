@@ -1,45 +1,109 @@
--- What a controller's fields keep.
-use Rattle.std.proofs.Common.{◌≡◌, ℕ, ◌+◌, ◌≤◌, ◌<◌, List, [], ◌∷◌, ◌++◌, length, get_or, drop, sum, map, refl, arith}
-use Rattle.std.specs.Prelude.{count_by, ◌==◌, vec_len, remove}
-use Rattle.std.proofs.lemmas.List.{length-map, map-append}
-use Rattle.rdm_queue.specs.declared.queue.Waiting.{Waiting}
-use Rattle.rdm_queue.specs.declared.queue.Owed.{Owed}
-use Rattle.rdm_queue.specs.declared.queue.Queue.TheInside.{Inside}
-use Rattle.rdm_queue.specs.body.Fields.{accepted_is, owed_is}
-use Rattle.rdm_queue.specs.body.Fields.{state_of}
-use Rattle.rdm_queue.specs.body.QueueInvariant.{QueueInvariant}
-use Rattle.rdm_queue.specs.declared.outcome.Completion.{Completion}
-use Rattle.rdm_queue.specs.promises.Outcomes.{completion_value}
-use Rattle.rdm_queue.specs.body.State.{outstanding, owed_for}
-use Rattle.std.specs.Prelude.{Some, None, slice_get}
-use Rattle.rdm_wire.specs.declared.request.Request.{Request}
-use Rattle.rdm_queue.specs.body.State.{first_submit_fault}
-use Rattle.rdm_queue.proofs.BodyLemmas.InvariantLemmas.{room-accepts}
-use Rattle.rdm_queue.proofs.BodyLemmas.OutstandingLemmas.{all-outstanding, outstanding-fits, counted_waiting, counted_settled}
+-- The clients' rings, as the lists of a queue's state.
+use Rattle.std.proofs.Common.{◌≡◌, ℕ, ◌+◌, ◌<◌, ◌≤◌, true, false, List, [], ◌∷◌, ◌++◌, length, take, set, get_or, Some, None, slice_get, refl, sym, ap, ◌∙◌, inl, inr, arith}
+use Rattle.std.specs.Prelude.{◌⊎◌, ◌==◌, ◌||◌, nat_le, if◌then◌else◌}
+use Rattle.std.specs.List.{refill, sum_by}
+use Rattle.std.specs.VecDeque.{deque_len}
+use Rattle.std.proofs.lemmas.Bool.{le-leb, lt-leb, eq-eqb, ne_eqb, cases_eq}
+use Rattle.std.proofs.lemmas.Option.{slice_get-get_or}
+use Rattle.std.proofs.lemmas.List.{append-nil, drop_all, take_all, length-set, length-map}
+use Rattle.std.proofs.lemmas.List.Sums.{sum_by-cons}
+use Rattle.rdm_queue.specs.declared.client.Client.{Client}
+use Rattle.rdm_queue.specs.declared.config.Config.{Config}
+use Rattle.rdm_queue.specs.declared.fault.SubmitFault.TheVariants as submit_faults
+use Rattle.rdm_queue.specs.log.Config.{IsConfig}
+use Rattle.rdm_queue.specs.body.Merged.{merged}
+use Rattle.rdm_queue.specs.body.Fields.{accepted_is, owed_is, waiting_ring, outcome_ring, rings_from, waiting_rings, outcome_rings, places_of}
+use Rattle.rdm_queue.specs.body.QueueInvariant.{StateInvariant, QueueInvariant}
+use Rattle.rdm_queue.specs.body.State.{QueueState, first_state, first_submit_fault}
+use Rattle.rdm_queue.proofs.BodyLemmas.InvariantLemmas.{waiting_rises, outcomes_rise, has_place}
+use Rattle.rdm_queue.proofs.BodyLemmas.MergedLemmas.{merged_shares, length-put_all}
+use Rattle.rdm_queue.proofs.BodyLemmas.OutstandingLemmas.{all-outstanding}
+use Rattle.rdm_queue.proofs.BodyLemmas.OutcomeLemmas.{place_within}
+use Rattle.rdm_queue.proofs.BodyLemmas.RingSteps.{outstanding_count, places_at}
 
--- all that is outstanding has its places
-pub vectors-le : (c : Inside) (w d : ℕ) → QueueInvariant (state_of c) w d → vec_len c.waiting + vec_len c.outcomes ≤ sum c.places.items
-vectors-le c w d room = rw (c.waiting.ok.0, c.outcomes.ok.0, ← length-map c.waiting.items accepted_is, ← length-map c.outcomes.items owed_is) (all-outstanding (state_of c) w d room)
+pub waiting_are : (s : QueueState) (clients : List Client) → QueueInvariant s clients → merged (λ a. a.number) (waiting_rings clients) ≡ s.waiting
+waiting_are s clients held = merged_shares (λ a. a.client) (λ a. a.number) (waiting_rings clients) s.waiting (waiting_rises s held.state) held.rings.waiting
 
--- a client's requests, counted
-pub outstanding-counted : (c : Inside) (client : ℕ) → count_by (λ (r : Waiting). client == r.client.0) c.waiting.items + count_by (λ (d : Owed). client == d.client.0) c.outcomes.items ≡ outstanding client (state_of c)
-outstanding-counted c client = rw (counted_waiting client c.waiting.items, counted_settled client c.outcomes.items) refl
+pub outcomes_are : (s : QueueState) (clients : List Client) → QueueInvariant s clients → merged (λ d. d.number) (outcome_rings clients) ≡ s.outcomes
+outcomes_are s clients held = merged_shares (λ d. d.client) (λ d. d.number) (outcome_rings clients) s.outcomes (outcomes_rise s held.state) held.rings.outcomes
 
-pub counted-fits : (c : Inside) (w d : ℕ) → QueueInvariant (state_of c) w d → (client : ℕ) → count_by (λ (r : Waiting). client == r.client.0) c.waiting.items + count_by (λ (d : Owed). client == d.client.0) c.outcomes.items ≤ 4080
-counted-fits c w d room client = rw (outstanding-counted c client) (outstanding-fits (state_of c) w d room client)
+-- without clients
+pub first_kept : (config : Config) → IsConfig config → QueueInvariant (first_state config) []
+unfolding rings_from
+first_kept config is = record {
+  state = record {
+    source = is.source;
+    greatest = is.places;
+    budget = is.budget;
+    few_places = omega arith;
+    few = λ c. omega arith;
+    rising = (tt, tt);
+    open_ = tt;
+  };
+  rings = record { waiting = λ c. refl; outcomes = λ c. refl; sizes = tt };
+}
 
--- the oldest one taken out, and its outcome put after the others
-pub taken-waiting : (xs : List Waiting) → map accepted_is (remove xs 0) ≡ drop 1 (map accepted_is xs)
-taken-waiting [] = refl
-taken-waiting (x ∷ xs) = refl
+-- a list with one element written
+pub written : {X : Type 0} (xs ys : List X) (i : ℕ) (x : X) → ys ≡ xs → refill (length xs) xs (set ys i x) ≡ set xs i x
+written xs ys i x same =
+    let long : length (set ys i x) ≡ length xs = length-set ys i x ∙ ap (λ l. length l) same in
+    ap (λ n. take (length xs) (set ys i x ++ n)) (drop_all (length (set ys i x)) xs (omega arith))
+    ∙ (ap (λ l. take (length xs) l) (append-nil (set ys i x)) ∙ (take_all (length xs) (set ys i x) (omega arith) ∙ ap (λ l. set l i x) same))
 
-pub first-waiting : (xs : List Waiting) (x : Waiting) → x ≡ get_or xs 0 x → 0 < length xs → slice_get (map accepted_is xs) 0 ≡ Some (accepted_is x)
-first-waiting [] x at some = absurd (omega arith)
-first-waiting (y ∷ xs) x at some = rw at refl
+-- where an element was read
+pub read_at : {X : Type 0} (xs ys : List X) (i : ℕ) (d : X) → ys ≡ xs → i < length xs → slice_get xs i ≡ Some (get_or ys i d)
+read_at xs ys i d same within = slice_get-get_or xs i d within ∙ ap (λ l. Some (get_or l i d)) (sym same)
 
-pub put-outcome : (ds : List Owed) (x : Waiting) (done : Completion) → map owed_is (ds ++ record { client = x.client; number = x.number; done = done } ∷ []) ≡ map owed_is ds ++ owed_for (completion_value done) (accepted_is x) ∷ []
-put-outcome ds x done = map-append owed_is ds (record { client = x.client; number = x.number; done = done } ∷ [])
+-- where an element was found
+pub found_at : {X : Type 0} (xs ys : List X) (i : ℕ) (x : X) → ys ≡ xs → i < length ys → x ≡ get_or ys i x → slice_get xs i ≡ Some x
+found_at xs ys i x same within is = ap (λ l. slice_get l i) (sym same) ∙ (slice_get-get_or ys i x within ∙ ap (λ y. Some y) (sym is))
 
--- a request that no fault refuses has its room
-pub waiting-lt : (c : Inside) (client : ℕ) (request : Request) (w d : ℕ) → QueueInvariant (state_of c) w d → first_submit_fault (state_of c) client ≡ None → vec_len c.waiting < w
-waiting-lt c client request w d held passes = rw (c.waiting.ok.0, ← length-map c.waiting.items accepted_is) (room-accepts (state_of c) client request w d held passes)
+-- of a client that has joined, a submit's first fault but for a close
+pub fault_of : (s : QueueState) (clients : List Client) (c : ℕ) (k : Client) → QueueInvariant s clients → s.places ≡ places_of clients → slice_get clients c ≡ Some k → s.closed ≡ false
+    → first_submit_fault s c ≡ (if nat_le k.places (deque_len k.waiting + deque_len k.outcomes) || nat_le 18446744073709551615 s.next_request then Some submit_faults.Full else None)
+fault_of s clients c k held same at open_ =
+    rw (open_, known, outstanding_count s clients c k held.rings at, ← places_at clients c k at, ← same) refl
+  where
+    known : nat_le (length s.places) c ≡ false
+    known = let within = place_within clients c k at in let long = ap (λ ns. length ns) same ∙ length-map clients (λ l. l.places) in lt-leb (length s.places) c (omega arith)
+
+-- how many stand in all rings
+length-merged : {X : Type 0} (number : X → ℕ) (ring : ℕ → Client → List X) (count : Client → ℕ) → ((i : ℕ) (k : Client) → length (ring i k) ≡ count k) → (from : ℕ) (clients : List Client) → sum_by count clients ≡ length (merged number (rings_from ring from clients))
+unfolding merged rings_from
+length-merged number ring count counts from [] = refl
+length-merged number ring count counts from (k ∷ clients) =
+    let rest = length-merged number ring count counts (from + 1) clients in
+    let here = counts from k in
+    let whole = length-put_all number (ring from k) (merged number (rings_from ring (from + 1) clients)) in
+    sum_by-cons count k clients ∙ omega arith
+
+pub waiting_sum : (clients : List Client) → sum_by (λ k. deque_len k.waiting) clients ≡ length (merged (λ a. a.number) (waiting_rings clients))
+waiting_sum clients = length-merged (λ a. a.number) waiting_ring (λ k. deque_len k.waiting) (λ i k. length-map k.waiting.items (accepted_is i) ∙ sym k.waiting.ok.0) 0 clients
+
+pub outcomes_sum : (clients : List Client) → sum_by (λ k. deque_len k.outcomes) clients ≡ length (merged (λ d. d.number) (outcome_rings clients))
+outcomes_sum clients = length-merged (λ d. d.number) outcome_ring (λ k. deque_len k.outcomes) (λ i k. length-map k.outcomes.items (owed_is i) ∙ sym k.outcomes.ok.0) 0 clients
+
+-- all of them are few
+pub waiting_fit : (s : QueueState) → StateInvariant s → length s.waiting < 18446744073709551616
+waiting_fit s held = let all = all-outstanding s held in omega (arith, held.few_places, held.greatest)
+
+pub outcomes_fit : (s : QueueState) → StateInvariant s → length s.outcomes < 18446744073709551616
+outcomes_fit s held = let all = all-outstanding s held in omega (arith, held.few_places, held.greatest)
+
+-- a client whose submit isn't refused has joined
+pub known_client : (s : QueueState) (clients : List Client) (c : ℕ) → s.places ≡ places_of clients → first_submit_fault s c ≡ None → c < length clients
+known_client s clients c same passes =
+    let known : c < length s.places = (has_place s c passes).joined in
+    let long = ap (λ ns. length ns) same ∙ length-map clients (λ k. k.places) in
+    omega arith
+
+-- whether a submit finds its client's places taken, or the numbers run out
+pub full_by_places : (places count next : ℕ) → places ≤ count → (nat_le places count || nat_le 18446744073709551615 next) ≡ true
+full_by_places places count next full = rw (le-leb places count full) refl
+
+pub full_by_number : (places count next : ℕ) → count < places → next < 18446744073709551616 → (nat_le places count || nat_le 18446744073709551615 next) ≡ (next == 18446744073709551615)
+full_by_number places count next free fits = rw (lt-leb places count free) (by_case (cases_eq next 18446744073709551615))
+  where
+    by_case : (next ≡ 18446744073709551615) ⊎ (next ≡ 18446744073709551615 → ⊥) → nat_le 18446744073709551615 next ≡ (next == 18446744073709551615)
+    by_case (inl last) = rw (eq-eqb next 18446744073709551615 last) (le-leb 18446744073709551615 next (omega arith))
+    by_case (inr other) = rw (ne_eqb next 18446744073709551615 other) (lt-leb 18446744073709551615 next (omega arith))

@@ -26,7 +26,7 @@ below_places bound (Finish n status len ∷ h) at none = (at 0 (record { number 
 below_places bound (Answer n run fault ∷ h) at none = cc
 below_places bound (e ∷ h) at none = (tt, below_places bound h at none)
 
-place_within : {X : Type 0} (xs : List X) (i : ℕ) (x : X) → slice_get xs i ≡ Some x → i < length xs
+pub place_within : {X : Type 0} (xs : List X) (i : ℕ) (x : X) → slice_get xs i ≡ Some x → i < length xs
 place_within [] i x at = cc
 place_within (y ∷ xs) zero x at = omega arith
 place_within (y ∷ xs) (suc i) x at = let rest = place_within xs i x at in omega arith

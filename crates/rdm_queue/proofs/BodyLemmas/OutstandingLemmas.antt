@@ -1,17 +1,14 @@
 -- What all clients have outstanding together.
-use Rattle.std.proofs.Common.{◌≡◌, ℕ, suc, ◌+◌, ◌-◌, ◌<◌, ◌≤◌, Bool, true, false, cond, List, [], ◌∷◌, ◌++◌, length, drop, get_or, set, Some, slice_get, refl, sym, ap, ◌∙◌, subst, inl, inr, length-append, filter, map, sum, arith}
-use Rattle.std.specs.Prelude.{◌⊎◌, ◌≢◌, ◌==◌, count_by, slice_index}
+use Rattle.std.proofs.Common.{◌≡◌, ℕ, suc, ◌+◌, ◌-◌, ◌<◌, ◌≤◌, Bool, true, false, cond, List, [], ◌∷◌, ◌++◌, length, drop, get_or, set, Some, slice_get, refl, sym, ap, subst, inl, inr, length-append, filter, map, sum, arith}
+use Rattle.std.specs.Prelude.{◌⊎◌, ◌≢◌, ◌==◌, slice_index}
 use Rattle.std.proofs.lemmas.Bool.{eq-eqb, ne_eqb, cases_eq, cases_lt}
 use Rattle.std.proofs.lemmas.List.{length-map, get_or-set_same, get_or-set_other, get_or_past}
-use Rattle.std.proofs.lemmas.List.Sums.{sum_by-set, get_or-le-sum_by, length-filter}
+use Rattle.std.proofs.lemmas.List.Sums.{sum_by-set}
 use Rattle.std.proofs.lemmas.List.Elements.{filter-append}
-use Rattle.rdm_queue.specs.declared.queue.Waiting.{Waiting}
-use Rattle.rdm_queue.specs.declared.queue.Owed.{Owed}
-use Rattle.rdm_queue.specs.body.Fields.{accepted_is, owed_is}
 use Rattle.rdm_queue.specs.log.Entries.{Accepted}
 use Rattle.rdm_queue.proofs.LogLemmas.Counts.{count}
 use Rattle.rdm_queue.proofs.LogLemmas.Places.{slice_get_first}
-use Rattle.rdm_queue.specs.body.QueueInvariant.{QueueInvariant}
+use Rattle.rdm_queue.specs.body.QueueInvariant.{StateInvariant}
 use Rattle.rdm_join.specs.Result.{Joined}
 use Rattle.rdm_queue.specs.body.State.{OwedOutcome, QueueState, outstanding, owed_for, finishes_oldest}
 
@@ -73,29 +70,9 @@ outstanding-le s few = subst (λ (n : ℕ). n ≤ sum s.places) whole (few_in_al
     each : (c : ℕ) → count c clients ≤ get_or s.places c 0
     each c = rw (filter-append (λ d. c == d) waits owes, length-append (filter (λ d. c == d) waits) (filter (λ d. c == d) owes), length-filter_map (λ (a : Accepted). a.client) (λ d. c == d) s.waiting, length-filter_map (λ (d : OwedOutcome). d.client) (λ d. c == d) s.outcomes) (few c)
 
--- what a filter counts
-pub counted_waiting : (c : ℕ) (xs : List Waiting) → length (filter (λ (a : Accepted). c == a.client) (map accepted_is xs)) ≡ count_by (λ (w : Waiting). c == w.client.0) xs
-counted_waiting c xs = length-filter_map accepted_is (λ a. c == a.client) xs ∙ length-filter (λ w. c == w.client.0) xs
-
-pub counted_settled : (c : ℕ) (xs : List Owed) → length (filter (λ (d : OwedOutcome). c == d.client) (map owed_is xs)) ≡ count_by (λ (d : Owed). c == d.client.0) xs
-counted_settled c xs = length-filter_map owed_is (λ d. c == d.client) xs ∙ length-filter (λ d. c == d.client.0) xs
-
--- what the room for all places bounds
-pub outstanding-fits : (s : QueueState) (w d : ℕ) → QueueInvariant s w d → (c : ℕ) → outstanding c s ≤ 4080
-outstanding-fits s w d room c = by_place (cases_lt c (length s.places))
-  where
-    by_place : (c < length s.places) ⊎ (length s.places ≤ c) → outstanding c s ≤ 4080
-    by_place (inl here) = bounded (room.few c) (get_or-le-sum_by (λ n. n) s.places c 0 here) room.few_places room.greatest
-      where
-        bounded : {n m t g : ℕ} → n ≤ m → m ≤ t → t ≤ g → g ≤ 4080 → n ≤ 4080
-        bounded a b c d = omega arith
-    by_place (inr past) = none (room.few c) (get_or_past s.places c 0 past)
-      where
-        none : {n m : ℕ} → n ≤ m → m ≡ 0 → n ≤ 4080
-        none a b = omega arith
-
-pub all-outstanding : (s : QueueState) (w d : ℕ) → QueueInvariant s w d → length s.waiting + length s.outcomes ≤ sum s.places
-all-outstanding s w d room = outstanding-le s room.few
+-- all clients together have no more outstanding than all places
+pub all-outstanding : (s : QueueState) → StateInvariant s → length s.waiting + length s.outcomes ≤ sum s.places
+all-outstanding s room = outstanding-le s room.few
 
 -- a finish moves a request from those that wait to those that aren't collected
 moved : (c : ℕ) (j : Joined) (a : Accepted) (waits : List Accepted) (owes : List OwedOutcome)

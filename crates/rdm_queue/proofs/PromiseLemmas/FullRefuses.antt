@@ -4,7 +4,6 @@ use Rattle.std.specs.Prelude.{◌⊎◌, ◌||◌, option_map, nat_le}
 use Rattle.std.proofs.lemmas.Bool.{leb-true, leb-false, le-leb, lt-leb, or_cases, or_left, or_right}
 use Rattle.std.proofs.lemmas.Option.{same_Some}
 use Rattle.rdm_wire.specs.Lists.{EachAfter}
-use Rattle.rdm_queue.specs.declared.entry.TheConstants.{NEVER_GIVEN}
 use Rattle.rdm_queue.specs.declared.entry.ClientId.{ClientId}
 use Rattle.rdm_queue.specs.declared.entry.Call.{Call}
 use Rattle.rdm_queue.specs.declared.entry.Call.TheVariants as calls
@@ -40,19 +39,19 @@ full_is_fault o h c is = record { not_closed = tests.0; known = leb-false (next_
     places_taken = nat_le (slice_index (places o h) c) (outstanding_requests o c h)
 
     numbers_out : Bool
-    numbers_out = nat_le (NEVER_GIVEN) (next_request o h)
+    numbers_out = nat_le 18446744073709551615 (next_request o h)
 
     tests : (is_closed o h ≡ false) × (nat_le (next_client o h) c ≡ false) × ((places_taken || numbers_out) ≡ true)
     tests = first_two_pass (is_closed o h) (nat_le (next_client o h) c) (places_taken || numbers_out) is
 
-    by_test : (places_taken ≡ true) ⊎ (numbers_out ≡ true) → (slice_index (places o h) c ≤ outstanding_requests o c h) ⊎ (NEVER_GIVEN ≤ next_request o h)
+    by_test : (places_taken ≡ true) ⊎ (numbers_out ≡ true) → (slice_index (places o h) c ≤ outstanding_requests o c h) ⊎ (18446744073709551615 ≤ next_request o h)
     by_test (inl taken) = inl (leb-true (slice_index (places o h) c) (outstanding_requests o c h) taken)
-    by_test (inr out) = inr (leb-true (NEVER_GIVEN) (next_request o h) out)
+    by_test (inr out) = inr (leb-true 18446744073709551615 (next_request o h) out)
 
 pub fault_is_full : (o : Opening) (h : List Entry) (c : ℕ) → IsFull o h c → submit_fault o h c ≡ Some faults.Full
 fault_is_full o h c is = rw (is.not_closed, lt-leb (next_client o h) c is.known, is_true is.full) refl
   where
-    is_true : (slice_index (places o h) c ≤ outstanding_requests o c h) ⊎ (NEVER_GIVEN ≤ next_request o h) → (nat_le (slice_index (places o h) c) (outstanding_requests o c h) || nat_le (NEVER_GIVEN) (next_request o h)) ≡ true
+    is_true : (slice_index (places o h) c ≤ outstanding_requests o c h) ⊎ (18446744073709551615 ≤ next_request o h) → (nat_le (slice_index (places o h) c) (outstanding_requests o c h) || nat_le 0xffffffffffffffff (next_request o h)) ≡ true
     is_true (inl taken) = or_left _ _ (le-leb _ _ taken)
     is_true (inr out) = or_right _ _ (le-leb _ _ out)
 

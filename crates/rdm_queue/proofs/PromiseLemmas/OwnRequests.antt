@@ -1,6 +1,6 @@
--- Each exchange of a request carries that request.
-use Rattle.std.proofs.Common.{◌≡◌, ℕ, ◌+◌, length, zero, suc, true, List, [], ◌∷◌, ◌++◌, Some, slice_get, map, zip, refl, sym, ◌∙◌}
-use Rattle.std.proofs.lemmas.Bool.{eqb-true, false≢true}
+-- Each frame of a request carries that request.
+use Rattle.std.proofs.Common.{◌≡◌, ℕ, ◌+◌, ◌%◌, length, zero, suc, true, List, [], ◌∷◌, ◌++◌, Some, slice_get, map, zip, refl, sym, ◌∙◌}
+use Rattle.std.proofs.lemmas.Bool.{eqb-true, eq-eqb, false≢true}
 use Rattle.std.proofs.lemmas.Option.{none-some, same_Some}
 use Rattle.arrayvec.specs.ArrayVec.{ArrayVec}
 use Rattle.rdm_wire.specs.Lists.{EachAfter}
@@ -21,41 +21,39 @@ use Rattle.rdm_queue.proofs.LogLemmas.PushLemmas.{accepts_same, accepts_more, se
 use Rattle.rdm_queue.proofs.LogLemmas.LegalFacts.{along, unfinished_place}
 use Rattle.rdm_queue.proofs.PromiseLemmas.StableResults.{filter_has}
 
--- each frame that was sent for a request is its packet
+-- each frame that was sent for a request is its packet, numbered by its place
 abbrev SendsCarry : Opening → List Entry → Type 0
-SendsCarry o h = (i : ℕ) (s : Sending) → slice_get (sends h) i ≡ Some s → (n : ℕ) → is_request n s.owner ≡ true → CarriesRequest o h n s.frame.items
+SendsCarry o h = (i : ℕ) (s : Sending) → slice_get (sends h) i ≡ Some s → (n : ℕ) → is_request n s.owner ≡ true → CarriesRequest o h n ((o.next_tn + i) % 256) s.frame.items
 
-carries_later : (o : Opening) (h k : List Entry) (more : List Accepted) (n : ℕ) (frame : List ℕ) → accepts k ≡ accepts h ++ more → CarriesRequest o h n frame → CarriesRequest o k n frame
-carries_later o h k more n frame is carries = record {
+carries_later : (o : Opening) (h k : List Entry) (more : List Accepted) (n tn : ℕ) (frame : List ℕ) → accepts k ≡ accepts h ++ more → CarriesRequest o h n tn frame → CarriesRequest o k n tn frame
+carries_later o h k more n tn frame is carries = record {
   accepted = carries.accepted;
   place = carries.place;
   stands = rw is (slice_get-append_left (accepts h) more carries.place carries.accepted carries.stands);
   number = carries.number;
-  tn = carries.tn;
   packet = carries.packet;
 }
 
-carries_still : (o : Opening) (h k : List Entry) (n : ℕ) (frame : List ℕ) → accepts k ≡ accepts h → CarriesRequest o h n frame → CarriesRequest o k n frame
-carries_still o h k n frame is carries = record {
+carries_still : (o : Opening) (h k : List Entry) (n tn : ℕ) (frame : List ℕ) → accepts k ≡ accepts h → CarriesRequest o h n tn frame → CarriesRequest o k n tn frame
+carries_still o h k n tn frame is carries = record {
   accepted = carries.accepted;
   place = carries.place;
   stands = rw is carries.stands;
   number = carries.number;
-  tn = carries.tn;
   packet = carries.packet;
 }
 
 carries_same : (o : Opening) (h k : List Entry) → accepts k ≡ accepts h → sends k ≡ sends h → SendsCarry o h → SendsCarry o k
-carries_same o h k accepted sent before = λ i s at n own. carries_still o h k n s.frame.items accepted (before i s (rw sent at at) n own)
+carries_same o h k accepted sent before = λ i s at n own. carries_still o h k n _ s.frame.items accepted (before i s (rw sent at at) n own)
 
 carries_accept : (o : Opening) (h : List Entry) (c : ClientId) (n : ℕ) (request : Request) → SendsCarry o h → SendsCarry o (h ++ Accept c n request ∷ [])
 carries_accept o h c n request before =
     let e = Accept c n request in
     let a : Accepted = record { client = c.0; number = n; request = request } in
-    λ i s at m own. carries_later o h (h ++ e ∷ []) (a ∷ []) m s.frame.items (accepts_more h e a refl) (before i s (rw (sends_same h e refl) at at) m own)
+    λ i s at m own. carries_later o h (h ++ e ∷ []) (a ∷ []) m _ s.frame.items (accepts_more h e a refl) (before i s (rw (sends_same h e refl) at at) m own)
 
 carries_send : (o : Opening) (h : List Entry) (n : ℕ) (frame : ArrayVec ℕ) → MaySendRequest o h n frame → SendsCarry o h → SendsCarry o (h ++ Send (owners.Request n) frame ∷ [])
-carries_send o h n frame may before = rw (sends_more h e s refl) (each_place_push (λ i x. (m : ℕ) → is_request m x.owner ≡ true → CarriesRequest o (h ++ e ∷ []) m x.frame.items) (sends h) s earlier own_frame)
+carries_send o h n frame may before = rw (sends_more h e s refl) (each_place_push (λ i x. (m : ℕ) → is_request m x.owner ≡ true → CarriesRequest o (h ++ e ∷ []) m ((o.next_tn + i) % 256) x.frame.items) (sends h) s earlier own_frame)
   where
     e : Entry
     e = Send (owners.Request n) frame
@@ -63,21 +61,20 @@ carries_send o h n frame may before = rw (sends_more h e s refl) (each_place_pus
     s : Sending
     s = record { owner = owners.Request n; frame = frame }
 
-    earlier : (i : ℕ) (x : Sending) → slice_get (sends h) i ≡ Some x → (m : ℕ) → is_request m x.owner ≡ true → CarriesRequest o (h ++ e ∷ []) m x.frame.items
-    earlier i x at m own = carries_still o h (h ++ e ∷ []) m x.frame.items (accepts_same h e refl) (before i x at m own)
+    earlier : (i : ℕ) (x : Sending) → slice_get (sends h) i ≡ Some x → (m : ℕ) → is_request m x.owner ≡ true → CarriesRequest o (h ++ e ∷ []) m ((o.next_tn + i) % 256) x.frame.items
+    earlier i x at m own = carries_still o h (h ++ e ∷ []) m _ x.frame.items (accepts_same h e refl) (before i x at m own)
 
-    own_frame : (m : ℕ) → is_request m (owners.Request n) ≡ true → CarriesRequest o (h ++ e ∷ []) m frame.items
+    own_frame : (m : ℕ) → is_request m (owners.Request n) ≡ true → CarriesRequest o (h ++ e ∷ []) m (next_tn o h) frame.items
     own_frame m own = record {
       accepted = may.accepted;
       place = length (finishes h) + 0;
       stands = rw (accepts_same h e refl) (unfinished_place h 0 may.accepted may.lowest);
       number = sym may.number ∙ sym (eqb-true m n own);
-      tn = next_tn o h;
       packet = may.packet;
     }
 
 carries_run_send : (o : Opening) (h : List Entry) (r : ℕ) (frame : ArrayVec ℕ) → SendsCarry o h → SendsCarry o (h ++ Send (owners.Run r) frame ∷ [])
-carries_run_send o h r frame before = rw (sends_more h e s refl) (each_place_push (λ i x. (m : ℕ) → is_request m x.owner ≡ true → CarriesRequest o (h ++ e ∷ []) m x.frame.items) (sends h) s (λ i x at m own. carries_still o h (h ++ e ∷ []) m x.frame.items (accepts_same h e refl) (before i x at m own)) (λ m own. absurd (false≢true own)))
+carries_run_send o h r frame before = rw (sends_more h e s refl) (each_place_push (λ i x. (m : ℕ) → is_request m x.owner ≡ true → CarriesRequest o (h ++ e ∷ []) m ((o.next_tn + i) % 256) x.frame.items) (sends h) s (λ i x at m own. carries_still o h (h ++ e ∷ []) m _ x.frame.items (accepts_same h e refl) (before i x at m own)) (λ m own. absurd (false≢true own)))
   where
     e : Entry
     e = Send (owners.Run r) frame
@@ -109,7 +106,11 @@ traded_sent h j t at = sent_first (sends h) (cames h) j t at
 pub own_requests : (o : Opening) (h : List Entry) → Legal o h → OwnRequests o h
 unfolding of_request
 own_requests o h legal = record {
+  sent = λ i n frame at. sends_carry i (record { owner = owners.Request n; frame = frame }) at n (eq-eqb n n refl);
   carried = λ n i t at.
       let found = filter_has (λ (x : Traded). is_request n x.owner) (traded h) i t at in
-      along o (λ k. SendsCarry o k) (carries_none o) (carries_step o) h legal.each found.0 (record { owner = t.owner; frame = t.frame }) (traded_sent h found.0 t found.1) n found.2;
+      (_, sends_carry found.0 (record { owner = t.owner; frame = t.frame }) (traded_sent h found.0 t found.1) n found.2);
 }
+  where
+    sends_carry : SendsCarry o h
+    sends_carry = along o (λ k. SendsCarry o k) (carries_none o) (carries_step o) h legal.each

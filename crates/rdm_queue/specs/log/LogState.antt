@@ -1,7 +1,6 @@
 -- What a log and a session are seen as.
 use Rattle.std.specs.Prelude.{ℕ, Bool, false, List, [], ◌++◌, nat_lt}
 use Rattle.rdm_queue.specs.declared.config.Config.{Config}
-use Rattle.rdm_queue.specs.declared.log.TheConstants.{LEAST_FREE}
 use Rattle.rdm_queue.specs.declared.entry.Opening.{Opening}
 use Rattle.rdm_queue.specs.declared.entry.Entry.{Entry}
 use Rattle.rdm_queue.specs.log.History.{free_room}
@@ -21,7 +20,7 @@ free_entries k = free_room k.room k.opening k.entries
 
 -- so many entries have to be free for each call that a full log refuses
 abbrev pub is_full_log : LogState → Bool
-is_full_log k = nat_lt (free_entries k) LEAST_FREE
+is_full_log k = nat_lt (free_entries k) 3
 
 -- what a new log stands after
 abbrev pub blank_opening : Opening

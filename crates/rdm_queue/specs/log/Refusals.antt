@@ -2,7 +2,6 @@
 -- wanted or the log is full it doesn't show.
 use Rattle.std.specs.Prelude.{◌≡◌, ℕ, ◌+◌, Bool, ◌||◌, List, length, sum, Option, Some, None, option_map, unwrap_or}
 use Rattle.std.specs.Prelude.{nat_lt, nat_le, if◌then◌else◌, slice_index}
-use Rattle.rdm_queue.specs.declared.entry.TheConstants.{MOST_CLIENTS, NEVER_GIVEN}
 use Rattle.rdm_queue.specs.declared.entry.ClientId.{ClientId}
 use Rattle.rdm_queue.specs.declared.entry.Call.{Call}
 use Rattle.rdm_queue.specs.declared.entry.Call.TheVariants as calls
@@ -21,7 +20,7 @@ use Rattle.rdm_queue.specs.log.Clients.{outstanding_requests, outstanding_discov
 abbrev pub join_fault_at : Bool → List ℕ → ℕ → ℕ → Option JoinFault
 join_fault_at closed places greatest n =
     if closed then Some join_faults.Closed
-    else (if nat_le MOST_CLIENTS (length places) then Some join_faults.TooManyClients
+    else (if nat_le 16 (length places) then Some join_faults.TooManyClients
     else (if nat_lt greatest (sum places + n) then Some join_faults.NoPlaces else None))
 
 abbrev pub join_fault : Opening → List Entry → ℕ → Option JoinFault
@@ -32,7 +31,7 @@ abbrev pub submit_fault_at : Bool → List ℕ → ℕ → ℕ → ℕ → Optio
 submit_fault_at closed places outstanding next c =
     if closed then Some submit_faults.Closed
     else (if nat_le (length places) c then Some submit_faults.UnknownClient
-    else (if nat_le (slice_index places c) outstanding || nat_le NEVER_GIVEN next then Some submit_faults.Full
+    else (if nat_le (slice_index places c) outstanding || nat_le 18446744073709551615 next then Some submit_faults.Full
     else None))
 
 abbrev pub submit_fault : Opening → List Entry → ℕ → Option SubmitFault

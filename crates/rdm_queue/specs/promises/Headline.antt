@@ -1,5 +1,7 @@
 -- What clients are promised, said of one log by its positions and counts.
-use Rattle.std.specs.Prelude.{◌≡◌, ◌≢◌, ◌⊎◌, ℕ, ◌<◌, ◌≤◌, true, false, List, [], ◌∷◌, ◌++◌, length, map, filter}
+use Rattle.std.specs.Prelude.{◌≡◌, ◌≢◌, ◌⊎◌, ℕ, ◌+◌, ◌%◌, ◌<◌, ◌≤◌, true, false, List, [], ◌∷◌, ◌++◌, length, map}
+use Rattle.std.specs.Prelude.{filter}
+use Rattle.arrayvec.specs.ArrayVec.{ArrayVec}
 use Rattle.std.specs.Prelude.{Option, Some, ◌==◌, slice_index, slice_get}
 use Rattle.std.specs.List.{Contains, range_with_len}
 use Rattle.rdm_wire.specs.declared.request.Request.{Request}
@@ -9,8 +11,8 @@ use Rattle.rdm_join.specs.declared.status.Status.{Status}
 use Rattle.rdm_join.specs.declared.status.Status.TheVariants.{Completed, FailedToSend, NoMemory}
 use Rattle.rdm_join.specs.Result.{Joined, IsResult}
 use Rattle.rdm_queue.specs.log.MayFinish.{Tells}
-use Rattle.rdm_queue.specs.declared.entry.TheConstants.{NEVER_GIVEN}
 use Rattle.rdm_queue.specs.declared.entry.ClientId.{ClientId}
+use Rattle.rdm_queue.specs.declared.entry.Owner.TheVariants as owners
 use Rattle.rdm_queue.specs.declared.entry.Call.{Call}
 use Rattle.rdm_queue.specs.declared.entry.Call.TheVariants as calls
 use Rattle.rdm_queue.specs.declared.entry.Cause.{Cause}
@@ -48,18 +50,23 @@ pub record OneResult (o : Opening) (h : List Entry) : Type 0 where
   pub exactly_one : is_closed o h ≡ true → awaited h ≡ false → (n : ℕ) → Contains (numbers_accepted (accepts h)) n
       → result_count n h ≡ 1
 
--- the frame is the packet of the request that was accepted under this number
-pub record CarriesRequest (o : Opening) (h : List Entry) (n : ℕ) (frame : List ℕ) : Type 0 where
+-- the frame is the packet, with this transaction number, of the request that was accepted under number n
+pub record CarriesRequest (o : Opening) (h : List Entry) (n tn : ℕ) (frame : List ℕ) : Type 0 where
   pub accepted : Accepted
   pub place : ℕ
   pub stands : slice_get (accepts h) place ≡ Some accepted
   pub number : accepted.number ≡ n
-  pub tn : ℕ
   pub packet : Packet (request_fields accepted.request o.source tn) frame
 
--- A request's exchanges carry that request.
+-- A request's frames carry that request.
 pub record OwnRequests (o : Opening) (h : List Entry) : Type 0 where
-  pub carried : (n i : ℕ) (t : Traded) → slice_get (of_request n h) i ≡ Some t → CarriesRequest o h n t.frame.items
+  -- each that was sent, numbered by its place among all frames
+  pub sent : (i n : ℕ) (frame : ArrayVec ℕ)
+      → slice_get (sends h) i ≡ Some (record { owner = owners.Request n; frame = frame })
+      → CarriesRequest o h n ((o.next_tn + i) % 256) frame.items
+  -- and so each in the request's exchanges
+  pub carried : (n i : ℕ) (t : Traded) → slice_get (of_request n h) i ≡ Some t
+      → (tn : ℕ) × CarriesRequest o h n tn t.frame.items
 
 -- The joined answer of a request's own exchanges, as a Finish after h tells it.
 pub record OwnAnswer (o : Opening) (h : List Entry) (n : ℕ) (status : Status) (len : ℕ) : Type 0 where
@@ -98,7 +105,7 @@ pub record InOrder (o : Opening) (h : List Entry) : Type 0 where
 pub record IsFull (o : Opening) (h : List Entry) (c : ℕ) : Type 0 where
   pub not_closed : is_closed o h ≡ false
   pub known : c < next_client o h
-  pub full : (slice_index (places o h) c ≤ outstanding_requests o c h) ⊎ (NEVER_GIVEN ≤ next_request o h)
+  pub full : (slice_index (places o h) c ≤ outstanding_requests o c h) ⊎ (18446744073709551615 ≤ next_request o h)
 
 -- k says of the queue what h says
 pub record SameQueue (o : Opening) (h k : List Entry) : Type 0 where

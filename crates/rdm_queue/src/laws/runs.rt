@@ -68,7 +68,7 @@ pub fn counts_of_discoveries()
         ≡ Some ask_faults.Full }
 {}
 
-/// No run begins between two parts of a request, nor while sending is paused, and no frame is sent for one after its
+/// No run begins between two parts of a request, nor while sending is paused. No frame of a run is sent after its
 /// answer. A request waits for a discovery that is asked. An open run's frames are sent also while sending is paused.
 pub fn wrong_run_frames()
     ensures between_parts { MaySend wide_opening (came_part ++ Ask first_client 0 Full ∷ [])

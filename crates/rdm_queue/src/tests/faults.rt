@@ -9,7 +9,7 @@ fn tells_why_a_join_is_refused(rt: HostRuntime) -> Result<(), Fail> {
         (Closed, 1, "the queue is closed"),
         (TooManyClients, 2, "there are sixteen clients"),
         (NoPlaces, 3, "there are too few places"),
-        (NoMemory, 4, "no memory"),
+        (NoMemory, 4, "out of memory"),
         (LogFull, 5, "the log is full"),
     ];
     for (fault, number, text) in rows {
@@ -54,7 +54,10 @@ fn tells_why_a_discover_is_refused(rt: HostRuntime) -> Result<(), Fail> {
 #[test]
 fn tells_the_other_faults(rt: HostRuntime) -> Result<(), Fail> {
     let (memory, full, not_asked) = (NoMemory, LogFull, NotAsked);
-    assert_eq!(rt; format!(in rt.alloc(); "{memory}")?.as_str(), "no memory");
+    assert_eq!(rt;
+        format!(in rt.alloc(); "{memory}")?.as_str(),
+        "out of memory"
+    );
     assert_eq!(rt;
         format!(in rt.alloc(); "{full}")?.as_str(),
         "the log is full"

@@ -2,7 +2,7 @@
 use super::packets::{
     AMPLE, CLIENT, accepts, collected, delivers, get, session, session_of_one, silence, taken,
 };
-use crate::{ClientId, JoinFault, SubmitFault};
+use crate::{ClientId, JoinFault, Outcome, SubmitFault};
 use rdm_join::Status;
 use std::test::Fail;
 
@@ -46,6 +46,43 @@ fn a_seventeenth_client_is_refused(rt: HostRuntime) -> Result<(), Fail> {
         session.join_client(rt.alloc(), 1),
         Err(JoinFault::TooManyClients)
     );
+    Ok(())
+}
+
+#[test]
+fn the_oldest_request_of_all_clients_comes_first(rt: HostRuntime) -> Result<(), Fail> {
+    let other = ClientId(1);
+    let mut session = session(rt.alloc(), 4, AMPLE)?;
+    assert_eq!(rt; session.join_client(rt.alloc(), 2), Ok(CLIENT));
+    assert_eq!(rt; session.join_client(rt.alloc(), 2), Ok(other));
+    for (number, client) in [(0, other), (1, CLIENT), (2, other)] {
+        assert_eq!(rt; session.submit(client, get()).ok(), Some(number));
+    }
+    for (number, client) in [(0, other), (1, CLIENT), (2, other)] {
+        let _ = taken(&rt, &mut session);
+        delivers(&rt, rt.alloc(), &mut session, silence());
+        let Outcome::Request { number: own, .. } = session
+            .next_outcome(client)
+            .expect(&rt, "an outcome");
+        assert_eq!(rt; own, Some(number));
+    }
+    assert!(rt; session.is_idle());
+    Ok(())
+}
+
+#[test]
+fn places_are_used_again_and_again(rt: HostRuntime) -> Result<(), Fail> {
+    let mut session = session_of_one(&rt, rt.alloc(), 2)?;
+    accepts(&rt, &mut session, 0);
+    for number in 0..9 {
+        accepts(&rt, &mut session, number + 1);
+        let _ = taken(&rt, &mut session);
+        delivers(&rt, rt.alloc(), &mut session, silence());
+        assert_eq!(rt;
+            collected(&rt, &mut session, number).status,
+            Status::Timeout
+        );
+    }
     Ok(())
 }
 

@@ -1,34 +1,84 @@
-use Rattle.std.proofs.Common.{◌≡◌, ◌<◌, length, None, refl, ap, ◌∙◌, arith}
-use Rattle.rdm_queue.specs.body.Fields.{accepted_is, state_of}
-use Rattle.rdm_queue.specs.body.State.{QueueState}
+use Rattle.std.proofs.Common.{◌≡◌, ◌<◌, List, length, get_or, set, Some, None, slice_get, refl, sym, ap, ◌∙◌, subst, arith}
+use Rattle.rdm_queue.specs.declared.client.Client.{Client}
+use Rattle.rdm_queue.specs.declared.entry.Entry.TheVariants.{Finish}
+use Rattle.rdm_queue.specs.log.Entries.{Accepted}
 use Rattle.rdm_queue.specs.promises.Outcomes.{completion_value}
-use Rattle.rdm_queue.proofs.BodyLemmas.FieldLemmas.{vectors-le, taken-waiting, first-waiting, put-outcome}
-use Rattle.rdm_queue.proofs.BodyLemmas.InvariantLemmas.{held-finishes}
+use Rattle.rdm_queue.specs.body.Fields.{state_of, places_of}
+use Rattle.rdm_queue.specs.body.QueueInvariant.{QueueInvariant}
+use Rattle.rdm_queue.specs.body.State.{QueueState, finishes_oldest, owed_for}
+use Rattle.rdm_queue.proofs.BodyLemmas.FieldLemmas.{waiting_are, outcomes_are, written, read_at}
+use Rattle.rdm_queue.proofs.BodyLemmas.FrontLemmas.{oldest_within, some_waits}
+use Rattle.rdm_queue.proofs.BodyLemmas.RingLemmas.{places_stayed}
+use Rattle.rdm_queue.proofs.BodyLemmas.RingSteps.{room_for_outcome, kept-finish, entry-finish}
 use Rattle.rdm_queue.proofs.queue.Queue.finish.Goals as goal
 
-pub push_reserved-requires : goal.push_reserved-requires
-push_reserved-requires c =
-    let few = vectors-le c.self.inside _ _ c.self.invariant in
-    let room = c.self.invariant.outcome_room in
-    let length_is = c.remove-oldest.ensures.len in
+pub offset_bounds-deref_mut-at : goal.offset_bounds-deref_mut-at
+offset_bounds-deref_mut-at c =
+    let within : c.args.at < length c.self.inside.clients.items = oldest_within (state_of c.self.inside) c.self.inside.clients.items c.args.at c.self.invariant (rw (← c.self.view_is) at c.requires.oldest) in
+    let same = ap (λ l. length l) c.deref_mut.ensures.value in
+    omega (arith, c.deref_mut.type_inv)
+
+pub bounds-deref_mut-at : goal.bounds-deref_mut-at
+bounds-deref_mut-at c =
+    let within : c.args.at < length c.self.inside.clients.items = oldest_within (state_of c.self.inside) c.self.inside.clients.items c.args.at c.self.invariant (rw (← c.self.view_is) at c.requires.oldest) in
+    let same = ap (λ l. length l) c.deref_mut.ensures.value in
     omega arith
+
+pub finish_oldest-requires-clause-some : goal.finish_oldest-requires-clause-some
+finish_oldest-requires-clause-some c =
+    let s : QueueState = state_of c.self.inside in
+    let clients : List Client = c.self.inside.clients.items in
+    let a : Accepted = c.requires.oldest.0 in
+    let oldest : slice_get s.waiting 0 ≡ Some a = rw (← c.self.view_is) at c.requires.oldest.1 in
+    let within : c.args.at < length clients = oldest_within s clients c.args.at c.self.invariant (a, oldest, c.requires.oldest.2) in
+    let k : Client = get_or c.deref_mut.result.now c.args.at c.index-deref_mut-at.result in
+    let at : slice_get clients a.client ≡ Some k = ap (λ n. slice_get clients n) c.requires.oldest.2 ∙ read_at clients c.deref_mut.result.now c.args.at c.index-deref_mut-at.result c.deref_mut.ensures.value within in
+    some_waits s clients k a c.self.invariant oldest at
+
+pub finish_oldest-requires-clause-room : goal.finish_oldest-requires-clause-room
+finish_oldest-requires-clause-room c =
+    let s : QueueState = state_of c.self.inside in
+    let clients : List Client = c.self.inside.clients.items in
+    let a : Accepted = c.requires.oldest.0 in
+    let oldest : slice_get s.waiting 0 ≡ Some a = rw (← c.self.view_is) at c.requires.oldest.1 in
+    let within : c.args.at < length clients = oldest_within s clients c.args.at c.self.invariant (a, oldest, c.requires.oldest.2) in
+    let k : Client = get_or c.deref_mut.result.now c.args.at c.index-deref_mut-at.result in
+    let at : slice_get clients a.client ≡ Some k = ap (λ n. slice_get clients n) c.requires.oldest.2 ∙ read_at clients c.deref_mut.result.now c.args.at c.index-deref_mut-at.result c.deref_mut.ensures.value within in
+    room_for_outcome s clients a.client k c.self.invariant refl at
 
 pub invariant_of-self : goal.invariant_of-self
 invariant_of-self c =
-    let some : 0 < length c.self.inside.waiting.items = omega (arith, c.self.inside.waiting.ok.0, c.remove-oldest.ensures.len) in
-    let taken : (state_of c.self.inside).decided ≡ None = ap (λ (s : QueueState). s.decided) c.self.view_is ∙ c.requires.taken in
-    rw (c.push_reserved.ensures.items, c.remove-oldest.ensures.items, taken-waiting, put-outcome c.self.inside.outcomes.items c.remove-oldest.result c.args.done, c.reset.ensures.stands, taken)
-    (held-finishes (state_of c.self.inside) (completion_value c.args.done) (accepted_is c.remove-oldest.result) _ _ _ _ c.self.invariant (first-waiting c.self.inside.waiting.items c.remove-oldest.result c.remove-oldest.ensures.value some) (omega (arith, c.remove-oldest.ensures.capacity)) (omega (arith, c.push_reserved.ensures.capacity)))
+    let s : QueueState = state_of c.self.inside in
+    let clients : List Client = c.self.inside.clients.items in
+    let a : Accepted = c.requires.oldest.0 in
+    let oldest : slice_get s.waiting 0 ≡ Some a = rw (← c.self.view_is) at c.requires.oldest.1 in
+    let within : c.args.at < length clients = oldest_within s clients c.args.at c.self.invariant (a, oldest, c.requires.oldest.2) in
+    let k : Client = get_or c.deref_mut.result.now c.args.at c.index-deref_mut-at.result in
+    let at : slice_get clients a.client ≡ Some k = ap (λ n. slice_get clients n) c.requires.oldest.2 ∙ read_at clients c.deref_mut.result.now c.args.at c.index-deref_mut-at.result c.deref_mut.ensures.value within in
+    let l : Client = c.finish_oldest.new.self in
+    let kept : QueueInvariant (finishes_oldest s (owed_for (completion_value c.args.done) a)) (set clients c.args.at l) = subst (λ n. QueueInvariant (finishes_oldest s (owed_for (completion_value c.args.done) a)) (set clients n l)) c.requires.oldest.2 (kept-finish s clients k l c.args.done c.finish_oldest.result a c.self.invariant at c.finish_oldest.ensures oldest) in
+    let places : places_of (set clients c.args.at l) ≡ places_of clients = places_stayed clients c.args.at k l (ap (λ n. slice_get clients n) (sym c.requires.oldest.2) ∙ at) c.finish_oldest.ensures.rings.places in
+    let taken : s.decided ≡ None = ap (λ (t : QueueState). t.decided) c.self.view_is ∙ c.requires.taken in
+    rw (written clients c.deref_mut.result.now c.args.at l c.deref_mut.ensures.value, places, waiting_are _ (set clients c.args.at l) kept, outcomes_are _ (set clients c.args.at l) kept, c.reset.ensures.stands, taken) kept
 
 pub returns : goal.returns
 returns c =
-    let some : 0 < length c.self.inside.waiting.items = omega (arith, c.self.inside.waiting.ok.0, c.remove-oldest.ensures.len) in
-    let taken : (state_of c.self.inside).decided ≡ None = ap (λ (s : QueueState). s.decided) c.self.view_is ∙ c.requires.taken in
+    let s : QueueState = state_of c.self.inside in
+    let clients : List Client = c.self.inside.clients.items in
+    let a : Accepted = c.requires.oldest.0 in
+    let oldest : slice_get s.waiting 0 ≡ Some a = rw (← c.self.view_is) at c.requires.oldest.1 in
+    let within : c.args.at < length clients = oldest_within s clients c.args.at c.self.invariant (a, oldest, c.requires.oldest.2) in
+    let k : Client = get_or c.deref_mut.result.now c.args.at c.index-deref_mut-at.result in
+    let at : slice_get clients a.client ≡ Some k = ap (λ n. slice_get clients n) c.requires.oldest.2 ∙ read_at clients c.deref_mut.result.now c.args.at c.index-deref_mut-at.result c.deref_mut.ensures.value within in
+    let l : Client = c.finish_oldest.new.self in
+    let kept : QueueInvariant (finishes_oldest s (owed_for (completion_value c.args.done) a)) (set clients c.args.at l) = subst (λ n. QueueInvariant (finishes_oldest s (owed_for (completion_value c.args.done) a)) (set clients n l)) c.requires.oldest.2 (kept-finish s clients k l c.args.done c.finish_oldest.result a c.self.invariant at c.finish_oldest.ensures oldest) in
+    let places : places_of (set clients c.args.at l) ≡ places_of clients = places_stayed clients c.args.at k l (ap (λ n. slice_get clients n) (sym c.requires.oldest.2) ∙ at) c.finish_oldest.ensures.rings.places in
+    let taken : s.decided ≡ None = ap (λ (t : QueueState). t.decided) c.self.view_is ∙ c.requires.taken in
     record {
       finished = rw (← c.self.view_is) (
-        accepted_is c.remove-oldest.result,
-        first-waiting c.self.inside.waiting.items c.remove-oldest.result c.remove-oldest.ensures.value some,
-        c.entry-entry.ensures,
-        rw (c.push_reserved.ensures.items, c.remove-oldest.ensures.items, taken-waiting, put-outcome c.self.inside.outcomes.items c.remove-oldest.result c.args.done, c.reset.ensures.stands, taken) refl,
+        a,
+        oldest,
+        c.finish_oldest.ensures.entry_is ∙ ap (λ n. Finish n c.args.done.status (length c.args.done.bytes.items)) (sym (entry-finish s clients k l c.args.done c.finish_oldest.result a c.self.invariant.rings at c.finish_oldest.ensures oldest)),
+        rw (written clients c.deref_mut.result.now c.args.at l c.deref_mut.ensures.value, places, waiting_are _ (set clients c.args.at l) kept, outcomes_are _ (set clients c.args.at l) kept, c.reset.ensures.stands, taken) refl,
       );
     }

@@ -1,15 +1,34 @@
-use Rattle.std.proofs.Common.{arith}
-use Rattle.rdm_queue.proofs.BodyLemmas.FieldLemmas.{vectors-le}
+use Rattle.std.proofs.Common.{◌≡◌, List, [], ◌∷◌, ◌++◌, None, sym, ap, ◌∙◌, refl}
+use Rattle.std.proofs.lemmas.List.{map-append, length-map}
+use Rattle.rdm_queue.specs.declared.client.Client.{Client}
+use Rattle.rdm_queue.specs.body.Fields.{state_of, places_of}
+use Rattle.rdm_queue.specs.body.Rings.{IsNewClient}
+use Rattle.rdm_queue.specs.body.QueueInvariant.{QueueInvariant}
+use Rattle.rdm_queue.specs.body.State.{QueueState, first_join_fault}
+use Rattle.rdm_queue.proofs.BodyLemmas.FieldLemmas.{waiting_are, outcomes_are}
+use Rattle.rdm_queue.proofs.BodyLemmas.RingSteps.{kept-join}
 use Rattle.rdm_queue.proofs.queue.Queue.join_client.Goals as goal
 
-pub reserve_up_to-requires : goal.reserve_up_to-requires
-reserve_up_to-requires c =
-    let few = vectors-le c.self.inside _ _ c.self.invariant in
-    let given = rw (← c.self.view_is) at c.given_places.ensures in
-    omega arith
+pub invariant_of-self : goal.invariant_of-self
+invariant_of-self c =
+    let s : QueueState = state_of c.self.inside in
+    let clients : List Client = c.self.inside.clients.items in
+    let passes : first_join_fault s c.args.places ≡ None = rw (← c.self.view_is) at (sym c.join_fault.ensures ∙ c.in_default.is) in
+    let fresh : IsNewClient c.args.places c.in-Ok.client = c.in-Ok.ensures in
+    let kept : QueueInvariant (record s { places = s.places ++ c.args.places ∷ [] }) (clients ++ c.in-Ok.client ∷ []) = kept-join s clients c.in-Ok.client c.args.places c.self.invariant fresh passes in
+    let places : places_of (clients ++ c.in-Ok.client ∷ []) ≡ s.places ++ c.args.places ∷ [] = map-append (λ (k : Client). k.places) clients (c.in-Ok.client ∷ []) ∙ ap (λ n. places_of clients ++ n ∷ []) fresh.places_are in
+    rw (c.push.ensures.items, places, waiting_are _ (clients ++ c.in-Ok.client ∷ []) kept, outcomes_are _ (clients ++ c.in-Ok.client ∷ []) kept) kept
 
-pub reserve_up_to-requires-else-is_err : goal.reserve_up_to-requires-else-is_err
-reserve_up_to-requires-else-is_err c =
-    let few = vectors-le c.self.inside _ _ c.self.invariant in
-    let given = rw (← c.self.view_is) at c.given_places.ensures in
-    omega arith
+pub returns-clause-joined : goal.returns-clause-joined
+returns-clause-joined c =
+    let s : QueueState = state_of c.self.inside in
+    let clients : List Client = c.self.inside.clients.items in
+    let passes : first_join_fault s c.args.places ≡ None = rw (← c.self.view_is) at (sym c.join_fault.ensures ∙ c.in_default.is) in
+    let fresh : IsNewClient c.args.places c.in-Ok.client = c.in-Ok.ensures in
+    let kept : QueueInvariant (record s { places = s.places ++ c.args.places ∷ [] }) (clients ++ c.in-Ok.client ∷ []) = kept-join s clients c.in-Ok.client c.args.places c.self.invariant fresh passes in
+    let places : places_of (clients ++ c.in-Ok.client ∷ []) ≡ s.places ++ c.args.places ∷ [] = map-append (λ (k : Client). k.places) clients (c.in-Ok.client ∷ []) ∙ ap (λ n. places_of clients ++ n ∷ []) fresh.places_are in
+    rw (← c.self.view_is) (
+      passes,
+      c.len.ensures.value ∙ sym (length-map clients (λ (k : Client). k.places)),
+      rw (c.push.ensures.items, places, waiting_are _ (clients ++ c.in-Ok.client ∷ []) kept, outcomes_are _ (clients ++ c.in-Ok.client ∷ []) kept) refl,
+    )

@@ -1,4 +1,0 @@
-use Rattle.rdm_port.proofs.perform.encode.Goals as goal
-
-pub returns-in-Err-clause-fault : goal.returns-in-Err-clause-fault
-returns-in-Err-clause-fault c u text = let read = (c.in-Err.ensures.ok u).1 text in cc

@@ -1,0 +1,70 @@
+//! What is printed.
+ghost use Rattle.std.specs.Prelude.{◌≡◌, ◌≤◌, length};
+ghost use Rattle.rdm_port.specs.Report.{line_of};
+ghost use Rattle.rdm_port.specs.Outcome.{answer_bytes};
+
+use crate::reason::Reason;
+use arrayvec::ArrayVec;
+use rdm_wire::LONGEST_BRANCH_REPLY;
+
+/// How many characters one line has at most, its end not counted: those of a reply in hexadecimal.
+pub const LONGEST_TEXT: usize = 2 * LONGEST_BRANCH_REPLY;
+
+const LONGEST_LINE: usize = LONGEST_TEXT + 1;
+
+/// What is printed, with the ends of its lines.
+#[derive(Debug, Drop)]
+pub enum Answer {
+    /// One line, which takes no memory.
+    Line(ArrayVec<u8, LONGEST_LINE>),
+    /// Lines.
+    Lines(Vec<u8>),
+}
+
+impl Answer {
+    /// The text with the line's end.
+    pub fn line(text: &[u8]) -> Answer
+        requires { length text.now ≤ LONGEST_TEXT }
+        ensures { answer_bytes result ≡ line_of text.now }
+    {
+        let mut line = ArrayVec::new();
+        line.try_extend_from_slice(text).unwrap();
+        line.push(b'\n');
+        Answer::Line(line)
+    }
+
+    /// The bytes.
+    pub fn as_slice(&self) -> &[u8]
+        ensures { result.now ≡ answer_bytes self.now }
+    {
+        match self {
+            Answer::Line(line) => line.as_slice(),
+            Answer::Lines(lines) => lines.as_slice(),
+        }
+    }
+}
+
+/// What answers a command line, with its status, and the reason where the answer is a fault of its run.
+#[derive(Debug, Drop)]
+pub struct Answered {
+    /// What is printed.
+    pub text: Answer,
+    /// 0: done. 1: a run had a fault.
+    pub status: u8,
+    /// The reason of the fault.
+    pub reason: Option<Reason>,
+}
+
+impl Answered {
+    /// Done, with nothing more to tell.
+    pub fn done(text: Answer) -> Answered
+        ensures text { result.text ≡ text }
+        ensures status { result.status ≡ 0 }
+    {
+        Answered {
+            text,
+            status: 0,
+            reason: None,
+        }
+    }
+}

@@ -1,0 +1,127 @@
+//! A client's places, and the rings of what it has outstanding.
+ghost use Rattle.std.specs.Prelude.{◌≡◌, ◌+◌, ◌<◌, IfOk, option_map, slice_get};
+ghost use Rattle.std.specs.VecDeque.{deque_len, deque_capacity};
+
+use crate::entry::Entry;
+use crate::outcome::Completion;
+use rdm_wire::Request;
+use std::alloc::{AllocError, Global};
+use std::collections::VecDeque;
+use std::default::MadeWith;
+
+/// How many more outcomes than places a client has room for: those of discoveries, which take no place.
+const OUTCOMES_BESIDE: usize = 4;
+
+/// A request that isn't finished.
+#[derive(Debug, Drop)]
+pub(crate) struct Waiting {
+    pub(crate) number: u64,
+    pub(crate) request: Request,
+}
+
+/// An outcome that its client hasn't collected.
+#[derive(Debug, Drop)]
+pub(crate) struct Owed {
+    pub(crate) number: u64,
+    pub(crate) done: Completion,
+}
+
+/// A client, with memory for all that it may have outstanding.
+#[derive(Debug, Drop)]
+pub(crate) struct Client {
+    pub(crate) places: u8,
+    /// Its requests that aren't finished, oldest first.
+    waiting: VecDeque<Waiting>,
+    /// Its outcomes that it hasn't collected, oldest first.
+    outcomes: VecDeque<Owed>,
+}
+
+impl Client {
+    ghost use Rattle.rdm_queue.specs.body.Rings.{IsNewClient, ClientAccepts, ClientFinishes, ClientCollects};
+
+    /// A client without requests, whose memory is reserved here.
+    pub(crate) fn with_places(alloc: Global, places: u8) -> Result<Client, AllocError>
+        ensures { IfOk result (IsNewClient places) }
+    {
+        Ok(Client {
+            places,
+            waiting: VecDeque::with_capacity(alloc, usize::from(places))?,
+            outcomes: VecDeque::with_capacity(alloc, usize::from(places) + OUTCOMES_BESIDE)?,
+        })
+    }
+
+    /// How many of its requests aren't finished.
+    pub(crate) fn waiting(&self) -> usize
+        ensures { result ≡ deque_len self.now.waiting }
+    {
+        self.waiting.len()
+    }
+
+    /// How many of its outcomes aren't collected.
+    pub(crate) fn uncollected(&self) -> usize
+        ensures { result ≡ deque_len self.now.outcomes }
+    {
+        self.outcomes.len()
+    }
+
+    /// How many of its requests aren't finished, or not collected.
+    pub(crate) fn outstanding(&self) -> usize
+        ensures { result ≡ deque_len self.now.waiting + deque_len self.now.outcomes }
+    {
+        self.waiting.len() + self.outcomes.len()
+    }
+
+    /// Its oldest request that isn't finished.
+    pub(crate) fn oldest(&self) -> Option<&Waiting>
+        ensures { option_map (λ w. w.now) result ≡ slice_get self.now.waiting.items 0 }
+    {
+        self.waiting.front()
+    }
+
+    /// ClientAccepts a request, for which it has a place.
+    pub(crate) fn accept(&mut self, number: u64, request: Request)
+        requires { deque_len self.old.waiting < deque_capacity self.old.waiting }
+        ensures { ClientAccepts self.old number request self.new }
+    {
+        self.waiting.push_back_reserved(Waiting { number, request });
+    }
+
+    /// Finishes its oldest request so, and gives the entry of its end.
+    pub(crate) fn finish_oldest(&mut self, done: Completion) -> Entry
+        requires some { 0 < deque_len self.old.waiting }
+        requires room { deque_len self.old.outcomes < deque_capacity self.old.outcomes }
+        ensures { ClientFinishes self.old done result self.new }
+    {
+        let Some(oldest) = self.waiting.pop_front() else {
+            unreachable!();
+        };
+        let entry = Entry::Finish {
+            number: oldest.number,
+            status: done.status,
+            len: done.bytes.len(),
+        };
+        self.outcomes.push_back_reserved(Owed {
+            number: oldest.number,
+            done,
+        });
+        entry
+    }
+
+    /// Takes its oldest outcome out.
+    pub(crate) fn collect(&mut self) -> Option<Owed>
+        ensures { ClientCollects self.old result self.new }
+    {
+        self.outcomes.pop_front()
+    }
+}
+
+/// What fills the places of clients that haven't joined. It takes no memory.
+impl MadeWith<Global> for Client {
+    fn made_with(alloc: Global) -> Client {
+        Client {
+            places: 0,
+            waiting: VecDeque::new(alloc),
+            outcomes: VecDeque::new(alloc),
+        }
+    }
+}
