@@ -8,6 +8,7 @@ pub mod OwnRequests
 pub mod FullRefuses
 pub mod NothingAfterClose
 pub mod RunReports
+pub mod OneRunServes
 pub mod RunsAnswer
 pub mod TellsTheLine
 pub mod AnsweredInOrder

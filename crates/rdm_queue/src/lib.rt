@@ -12,6 +12,7 @@
 //!   No later call allocates, but for the joined data of a request.
 //! - `is_idle`, and what a [`Session`] asks before a call, whether its log is full, add up what each client has.
 //! - The other calls take constant time. So does each entry of a [`Log`], whose memory is reserved when it is made.
+//! - A log's opening holds a set of devices, 32 KB large. It is filled when a log is made and when a session begins.
 //! - A [`Session`] copies each request and each frame once, into its log; `answer` and `run`, which are lent their
 //!   events, copy each request and each event once more. The joined data of a request are copied once,
 //!   into its outcome.

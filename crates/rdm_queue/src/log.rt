@@ -38,8 +38,8 @@ impl Log {
     ghost use Rattle.std.specs.Prelude.{◌≡◌, ◌+◌, ◌<◌, ◌≤◌, [], ◌∷◌, IfOk, length};
     ghost use Rattle.rdm_queue.specs.log.LogState.{grown, blank_opening};
 
-    /// A log without entries, with room for so many, 0 to 1,000,000, and one more for a close. Its opening has 0
-    /// everywhere and no places, is neither paused nor closed, and is written when a session begins.
+    /// A log without entries, with room for this many, 0 to 1,000,000, and one more for a close. Its opening has 0
+    /// everywhere, no places and no devices, is neither paused nor closed, and is written when a session begins.
     /// Err: there was no memory.
     pub fn new(alloc: Global, free: usize) -> Result<Log, NoMemory>
         requires { free ≤ 1000000 }

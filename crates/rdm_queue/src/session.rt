@@ -46,9 +46,9 @@ impl Session {
     ghost use Rattle.rdm_queue.specs.promises.Blocks.{CloseAdds, DeliverAdds, CollectAdds, GrowsBy};
     ghost use Rattle.rdm_queue.specs.body.Agrees.{StandsAfter};
 
-    /// A session without clients, neither paused nor closed, whose numbers begin at 0. It writes the log's opening. The
-    /// controller's UID isn't broadcast, there are at most [`MOST_PLACES`](crate::MOST_PLACES) places, the budget is at
-    /// least 1, and the log has no entries.
+    /// A session without clients, neither paused nor closed, whose numbers begin at 0, and those of its discovery runs
+    /// at 1. It writes the log's opening. The controller's UID isn't broadcast, there are at most
+    /// [`MOST_PLACES`](crate::MOST_PLACES) places, the budget is at least 1, and the log has no entries.
     /// Err: there was no memory; the log comes back as it was.
     pub fn new(alloc: Global, config: Config, log: Log) -> Result<Session, (NoMemory, Log)>
         requires config_is { IsConfig config }

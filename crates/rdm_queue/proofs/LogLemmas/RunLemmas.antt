@@ -47,7 +47,7 @@ begun_same r h e other = has_begun_more r h e ∙ rw other (or_false (has_begun 
     or_false false = refl
 
 -- what stood before it began
-before_first-cons : {X : Type 0} (p : X → Bool) (x : X) (xs : List X) → before_first p (x ∷ xs) ≡ cond (p x) [] (x ∷ before_first p xs)
+pub before_first-cons : {X : Type 0} (p : X → Bool) (x : X) (xs : List X) → before_first p (x ∷ xs) ≡ cond (p x) [] (x ∷ before_first p xs)
 before_first-cons {X} p x xs = by_test (p x) (position_or_len p xs)
   where
     by_test : (b : Bool) (n : ℕ) → take (cond (not b) (1 + n) 0) (x ∷ xs) ≡ cond b [] (x ∷ take n xs)

@@ -1,5 +1,5 @@
 -- A client is given the outcomes of its Finishes once, in order.
-use Rattle.std.proofs.Common.{◌≡◌, ℕ, zero, suc, Bool, true, false, List, [], ◌∷◌, ◌++◌, length, take, drop, Option, Some, None, if◌then◌else◌, slice_get, refl, sym, ap, ◌∙◌, append_assoc, append-nil, add-one, inl, inr, filter_map}
+use Rattle.std.proofs.Common.{◌≡◌, ℕ, ◌+◌, zero, suc, Bool, true, false, List, [], ◌∷◌, ◌++◌, length, take, drop, Option, Some, None, if◌then◌else◌, slice_get, refl, sym, ap, ◌∙◌, append_assoc, append-nil, add-one, inl, inr, filter_map}
 use Rattle.std.specs.Prelude.{◌⊎◌, ◌==◌, Ok, Err}
 use Rattle.std.specs.List.{AllByRecursion, cons_option}
 use Rattle.std.proofs.lemmas.Bool.{eq-eqb, cases_Bool, false≢true, eqb-true}
@@ -21,8 +21,7 @@ use Rattle.rdm_queue.specs.log.Entries.{collector_of, collectors}
 use Rattle.rdm_queue.specs.log.History.{is_closed, can_pause, can_resume}
 use Rattle.rdm_queue.specs.log.Clients.{answers_to, collects_by, collected, uncollected}
 use Rattle.rdm_queue.specs.log.Legal.{MayFollow}
-use Rattle.rdm_queue.specs.promises.Outcomes.{OutcomeValue, outcome_value, outcome_of, completion_of}
-use Rattle.rdm_queue.specs.promises.Outcomes.OutcomeValue.{RequestValue}
+use Rattle.rdm_queue.specs.promises.Outcomes.{OutcomeValue, outcome_value, outcome_of}
 use Rattle.rdm_queue.specs.log.LogState.{LogState, grown}
 use Rattle.rdm_queue.specs.promises.Blocks.{join_refused, submit_refused, is_result, IsWithResults, IsOldest, SwitchAdds, CloseAddsWhere}
 use Rattle.rdm_queue.specs.promises.Explains.{Adds, IsAnswered, Explains}
@@ -30,11 +29,10 @@ use Rattle.rdm_queue.proofs.PromiseLemmas.BlockLemmas.{join_ok, submit_ok, join_
 use Rattle.rdm_queue.specs.promises.EventsHeadline.{outcome_given, given_to, collected_outcomes}
 use Rattle.rdm_queue.proofs.LogLemmas.Grows.{front}
 use Rattle.rdm_queue.proofs.LogLemmas.PushLemmas.{collectors_more}
-use Rattle.rdm_queue.proofs.LogLemmas.LegalFacts.{legal_facts}
 use Rattle.rdm_queue.proofs.LogLemmas.ClientLemmas.{answers_same}
 use Rattle.rdm_queue.proofs.LogLemmas.ClientSteps.{collected_step}
-use Rattle.rdm_queue.proofs.PromiseLemmas.StableResults.{IsFinish, oldest_finish}
-use Rattle.rdm_queue.proofs.PromiseLemmas.OwnAnswers.{finished_stays}
+use Rattle.rdm_queue.proofs.LogLemmas.Places.{slice_get-drop}
+use Rattle.rdm_queue.proofs.PromiseLemmas.OwnDiscoveries.{outcome_stays}
 use Rattle.rdm_queue.proofs.PromiseLemmas.ExplainsLemmas.{explained_grows}
 
 -- an entry that is no Collect leaves what was collected
@@ -116,12 +114,9 @@ gave k (events.Collect c) (answers.Collect (Some outcome)) block adds = inr (rec
 gave k (events.Collect c) (answers.Collect None) block adds = inl (record { none = rw adds.1 tt; nothing = λ d. refl })
 gave k _ _ block adds = absurd adds
 
--- the oldest uncollected Finish has its outcome also in a later log
+-- the oldest uncollected answer has its outcome also in a later log
 outcome_lasts : (o : Opening) (h more : List Entry) (c : ℕ) (outcome : Outcome) → EachAfter (MayFollow o) (h ++ more) → (is : IsOldest o h c outcome) → outcome_of (h ++ more) is.entry ≡ Some (outcome_value outcome)
-outcome_lasts o h more c outcome each is = ap (outcome_of (h ++ more)) f.is ∙ ap (λ r. Some (RequestValue (Some f.number) (completion_of f.status r))) (finished_stays o h more f.number each f.finished) ∙ sym (ap (outcome_of h) f.is) ∙ is.told
-  where
-    f : IsFinish o h is.entry
-    f = oldest_finish o h (legal_facts o h (front o h more each)) c outcome is
+outcome_lasts o h more c outcome each is = outcome_stays o h more each c (length (collects_by c h) + 0) is.entry (sym (slice_get-drop (length (collects_by c h)) (answers_to o c h) 0) ∙ is.oldest) ∙ is.told
 
 -- what one event adds to a client's outcomes, as a later log has them
 one_collect : (k : LogState) (d : ClientId) (outcome : Outcome) (back log : List Entry) → log ≡ (k.entries ++ Collect d ∷ []) ++ back → EachAfter (MayFollow k.opening) log → IsOldest k.opening k.entries d.0 outcome

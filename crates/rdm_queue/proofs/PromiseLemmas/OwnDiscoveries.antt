@@ -1,30 +1,38 @@
 -- A client is answered what it asked, and refused only where it has four discoveries outstanding.
-use Rattle.std.proofs.Common.{◌≡◌, ℕ, ◌-◌, ◌≤◌, Bool, true, false, List, [], ◌∷◌, map, Option, Some, None, slice_get, filter_map, if◌then◌else◌, refl, sym, ap, ◌∙◌, inl, inr, arith, zero, suc}
-use Rattle.std.specs.Prelude.{◌⊎◌, ◌||◌, option_map, nat_le}
-use Rattle.std.specs.List.{Contains, cons_option}
-use Rattle.std.proofs.lemmas.Bool.{leb-true, leb-false, le-leb, lt-leb, or_cases, or_left, or_right}
-use Rattle.std.proofs.lemmas.Option.{none-some, same_Some, slice_get-get_or}
+use Rattle.std.proofs.Common.{◌≡◌, ℕ, ◌-◌, ◌≤◌, Bool, true, false, List, [], ◌∷◌, map, Option, Some, None, slice_get, filter_map, if◌then◌else◌, refl, sym, ap, ◌∙◌, inl, inr, arith, zero, suc, ◌++◌}
+use Rattle.std.specs.Prelude.{◌⊎◌, ◌||◌, option_map, nat_le, ◌==◌}
+use Rattle.std.specs.List.{Contains, cons_option, list_any}
+use Rattle.std.proofs.lemmas.Bool.{eq-eqb, le-leb, leb-false, leb-true, lt-leb, or_cases, or_left, or_right}
+use Rattle.std.proofs.lemmas.List.Folds.{list_any_at}
+use Rattle.rdm_wire.specs.Lists.{EachAfter}
+use Rattle.std.proofs.lemmas.Option.{get_or_from_slice_get, none-some, same_Some, slice_get-get_or, slice_get_within}
 use Rattle.rdm_agent.specs.declared.kind.Kind.{Kind}
 use Rattle.rdm_agent.specs.declared.fault.AgentFault.{AgentFault}
 use Rattle.rdm_queue.specs.declared.entry.ClientId.{ClientId}
 use Rattle.rdm_queue.specs.declared.entry.Opening.{Opening}
 use Rattle.rdm_queue.specs.declared.entry.Entry.{Entry}
-use Rattle.rdm_queue.specs.declared.entry.Entry.TheVariants.{Refuse, Ask, Answer}
+use Rattle.rdm_queue.specs.declared.entry.Entry.TheVariants.{Refuse, Ask, Finish, Answer}
 use Rattle.rdm_queue.specs.declared.entry.Call.TheVariants as calls
 use Rattle.rdm_queue.specs.declared.fault.AskFault.{AskFault}
 use Rattle.rdm_queue.specs.declared.fault.AskFault.TheVariants as faults
 use Rattle.rdm_queue.specs.log.History.{is_closed, next_client, next_ask}
 use Rattle.rdm_queue.specs.log.Refusals.{ask_fault, number_of_ask_fault}
-use Rattle.rdm_queue.specs.log.Entries.{AskedDiscovery, asked_of, answered_of, asks, answers}
+use Rattle.rdm_queue.specs.log.Entries.{AskedDiscovery, Answered, asked_of, answered_of, asks, answers}
 use Rattle.rdm_queue.specs.log.Clients.{answers_to, outstanding_discoveries, client_of_discovery, is_answer_to}
-use Rattle.rdm_queue.specs.log.Legal.{Legal}
+use Rattle.rdm_queue.specs.log.Runs.{is_answered}
+use Rattle.rdm_queue.specs.log.Legal.{MayFollow, Legal}
+use Rattle.rdm_queue.specs.promises.Outcomes.{outcome_of, completion_of}
+use Rattle.rdm_queue.specs.promises.Outcomes.OutcomeValue.{RequestValue}
 use Rattle.rdm_queue.specs.promises.Discoveries.{HasMostDiscoveries, OwnDiscoveries, FullRefusesDiscoveries, DiscoveriesPromised}
 use Rattle.rdm_queue.proofs.LogLemmas.AskFacts.{AskFacts, ask_facts}
 use Rattle.rdm_queue.proofs.LogLemmas.Places.{filter_map_has}
-use Rattle.rdm_queue.proofs.PromiseLemmas.StableResults.{contains_from_get, filter_has, client_is}
+use Rattle.rdm_queue.proofs.PromiseLemmas.StableResults.{contains_from_get, IsFinish, IsReply, answer_at, filter_has, client_is}
+use Rattle.rdm_queue.proofs.PromiseLemmas.OwnAnswers.{finished_stays}
+use Rattle.rdm_queue.proofs.LogLemmas.LegalFacts.{legal_facts}
+use Rattle.rdm_queue.proofs.LogLemmas.Grows.{front}
 use Rattle.rdm_queue.proofs.PromiseLemmas.AnsweredInOrder.{one_answer, in_order}
 use Rattle.rdm_queue.proofs.PromiseLemmas.TellsTheLine.{tells_the_line}
-use Rattle.rdm_queue.proofs.PromiseLemmas.RunsAnswer.{runs_answer}
+use Rattle.rdm_queue.proofs.PromiseLemmas.RunsAnswer.{runs_answer, exchanges_stay}
 
 -- an Ask of the log
 record IsAskAt (h : List Entry) (a : AskedDiscovery) : Type 0 where
@@ -82,8 +90,40 @@ asked_by o h legal c n r fault has facts = (ask.client, a.0.kind, ask.same_clien
         by_place : (j : ℕ) × (slice_get (filter_map answered_of h) j ≡ Some (record { number = n; run = r; fault = fault })) → a.0.number ≡ n
         by_place found = omega (arith, facts.answer_numbers found.0 _ found.1, facts.ask_numbers (n - o.next_ask) a.0 a.1)
 
+-- a run that an Answer of the log names is answered
+answered_from : (h : List Entry) (j n r : ℕ) (fault : Option AgentFault) → slice_get h j ≡ Some (Answer n r fault) → is_answered r h ≡ true
+unfolding answers
+answered_from h j n r fault at = by_place (filter_map_has answered_of h j (Answer n r fault) b at refl)
+  where
+    b : Answered
+    b = record { number = n; run = r; fault = fault }
+
+    by_place : (i : ℕ) × (slice_get (filter_map answered_of h) i ≡ Some b) → list_any (λ x. x.run == r) (filter_map answered_of h) ≡ true
+    by_place found = list_any_at (λ x. x.run == r) (filter_map answered_of h) found.0 b (slice_get_within (filter_map answered_of h) found.0 b found.1) (rw (get_or_from_slice_get (filter_map answered_of h) found.0 b b found.1) (eq-eqb r r refl))
+
+-- the outcome of a client's answer stays
+pub outcome_stays : (o : Opening) (front back : List Entry) → EachAfter (MayFollow o) (front ++ back) → (c i : ℕ) (x : Entry) → slice_get (answers_to o c front) i ≡ Some x → outcome_of (front ++ back) x ≡ outcome_of front x
+unfolding answers_to
+outcome_stays o early back each c i x at = by_kind (answer_at o early (legal_facts o early (front o early back each)) c found.0 x found.1 found.2)
+  where
+    found : (j : ℕ) × (slice_get early j ≡ Some x) × (is_answer_to o c early x ≡ true)
+    found = filter_has (is_answer_to o c early) early i x at
+
+    of_finish : (f : IsFinish o early x) → outcome_of (early ++ back) (Finish f.number f.status f.len) ≡ outcome_of early (Finish f.number f.status f.len)
+    of_finish f = ap (λ r. Some (RequestValue (Some f.number) (completion_of f.status r))) (finished_stays o early back f.number each f.finished)
+
+    of_reply : (g : IsReply x) → outcome_of (early ++ back) (Answer g.number g.run g.fault) ≡ outcome_of early (Answer g.number g.run g.fault)
+    of_reply g = rw (exchanges_stay o early back g.run each (answered_from early found.0 g.number g.run g.fault (found.1 ∙ ap (λ (y : Entry). Some y) g.is))) refl
+
+    by_kind : IsFinish o early x ⊎ IsReply x → outcome_of (early ++ back) x ≡ outcome_of early x
+    by_kind (inl f) = ap (outcome_of (early ++ back)) f.is ∙ of_finish f ∙ sym (ap (outcome_of early) f.is)
+    by_kind (inr g) = ap (outcome_of (early ++ back)) g.is ∙ of_reply g ∙ sym (ap (outcome_of early) g.is)
+
 pub own_discoveries : (o : Opening) (h : List Entry) → Legal o h → OwnDiscoveries o h
-own_discoveries o h legal = record { own = λ c n r fault has. asked_by o h legal c n r fault has (ask_facts o h legal.each) }
+own_discoveries o h legal = record {
+  own = λ c n r fault has. asked_by o h legal c n r fault has (ask_facts o h legal.each);
+  lasts = λ front back c i x is at. rw is (outcome_stays o front back (rw is at legal.each) c i x at);
+}
 
 -- a client has as many discoveries as it may exactly when that is a discover's first fault
 first_two_pass : (closed unknown full : Bool) → (if closed then Some faults.Closed else (if unknown then Some faults.UnknownClient else (if full then Some faults.Full else None))) ≡ Some faults.Full → (closed ≡ false) × (unknown ≡ false) × (full ≡ true)

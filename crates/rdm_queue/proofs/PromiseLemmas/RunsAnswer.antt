@@ -29,6 +29,7 @@ use Rattle.rdm_queue.proofs.LogLemmas.ExchangeLemmas.{IsUnanswered}
 use Rattle.rdm_queue.proofs.LogLemmas.LegalFacts.{legal_facts, IsAwaited, IsRunAwaited, sent_evenly}
 use Rattle.rdm_queue.proofs.LogLemmas.RunLemmas.{entries_before_run_stays, run_exchanges_same, run_exchanges_sent, run_exchanges_came_other}
 use Rattle.rdm_queue.proofs.LogLemmas.RunFacts.{run_facts, open_is, any_from_place}
+use Rattle.rdm_queue.proofs.PromiseLemmas.OneRunServes.{served_by_one}
 use Rattle.rdm_queue.proofs.PromiseLemmas.StableResults.{contains_from_get}
 
 -- an Answer's run has begun
@@ -139,6 +140,7 @@ runs_answer o h legal = record {
   asked_first = asked_first o h legal.each;
   agree = (run_facts o h legal.each).agree;
   all_served = all_served o h legal;
+  by_one = served_by_one o h legal.each;
   ended = ended o h legal.each;
   stays = λ front back n r fault is. ap (λ (ds : List Device). Some (DiscoveryValue (Some n) (record { run = r; fault = fault; devices = ds }))) (devices_stay front h r (ended o h legal.each front back n r fault is));
 }

@@ -80,7 +80,7 @@ pub record IsReply (x : Entry) : Type 0 where
   pub fault : Option AgentFault
   pub is : x ≡ Answer number run fault
 
-answer_at : (o : Opening) (h : List Entry) → LogFacts o h → (c j : ℕ) (x : Entry) → slice_get h j ≡ Some x → is_answer_to o c h x ≡ true → IsFinish o h x ⊎ IsReply x
+pub answer_at : (o : Opening) (h : List Entry) → LogFacts o h → (c j : ℕ) (x : Entry) → slice_get h j ≡ Some x → is_answer_to o c h x ≡ true → IsFinish o h x ⊎ IsReply x
 unfolding finishes
 answer_at o h facts c j (Finish n status len) at answers = inl (record { number = n; status = status; len = len; is = refl; finished = by_place (filter_map_has finished_of h j (Finish n status len) (record { number = n; status = status; len = len }) at refl) })
   where

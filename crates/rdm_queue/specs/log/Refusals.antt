@@ -16,7 +16,7 @@ use Rattle.rdm_queue.specs.declared.fault.AskFault.TheVariants as ask_faults
 use Rattle.rdm_queue.specs.log.History.{is_closed, places, next_request, next_ask}
 use Rattle.rdm_queue.specs.log.Clients.{outstanding_requests, outstanding_discoveries}
 
--- of a join with n places, where the clients have these places, of so many
+-- of a join with n places, where the clients have these places, of this many
 abbrev pub join_fault_at : Bool → List ℕ → ℕ → ℕ → Option JoinFault
 join_fault_at closed places greatest n =
     if closed then Some join_faults.Closed
@@ -26,7 +26,7 @@ join_fault_at closed places greatest n =
 abbrev pub join_fault : Opening → List Entry → ℕ → Option JoinFault
 join_fault o h n = join_fault_at (is_closed o h) (places o h) o.greatest n
 
--- of a submit by client c, which has so many requests outstanding: its places are taken, or the numbers have run out
+-- of a submit by client c, with this many requests outstanding: its places are taken, or the numbers have run out
 abbrev pub submit_fault_at : Bool → List ℕ → ℕ → ℕ → ℕ → Option SubmitFault
 submit_fault_at closed places outstanding next c =
     if closed then Some submit_faults.Closed

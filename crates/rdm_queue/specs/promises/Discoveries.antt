@@ -21,8 +21,8 @@ use Rattle.rdm_queue.specs.declared.fault.AskFault.TheVariants.{Full}
 use Rattle.rdm_queue.specs.log.Entries.{AskedDiscovery, Answered, asks, answers}
 use Rattle.rdm_queue.specs.log.History.{awaited, is_closed, next_client, next_ask}
 use Rattle.rdm_queue.specs.log.Clients.{asks_by, answers_to, outstanding_discoveries}
-use Rattle.rdm_queue.specs.log.Runs.{has_begun, entries_before_run, run_exchanges, run_devices, answer_devices}
-use Rattle.rdm_queue.specs.log.Runs.{known_devices}
+use Rattle.rdm_queue.specs.log.Runs.{has_begun, entries_before_run, run_exchanges, run_devices}
+use Rattle.rdm_queue.specs.log.Runs.{answer_devices, known_devices}
 use Rattle.rdm_queue.specs.log.Runs.{served, run_kind, last_run_without_fault}
 use Rattle.rdm_queue.specs.log.MayAnswer.{Shows}
 use Rattle.rdm_queue.specs.log.Due.{has_answer}
@@ -108,19 +108,23 @@ pub record RunsAnswer (o : Opening) (h : List Entry) : Type 0 where
   -- its Answers agree
   pub agree : (i j : ℕ) (a b : Answered) → slice_get (answers h) i ≡ Some a → slice_get (answers h) j ≡ Some b
       → a.run ≢ 0 → a.run ≡ b.run → a.fault ≡ b.fault
-  -- where it has an Answer, all that it serves have one
+  -- where it has an Answer, all that it serves have one, and no other run answers them
   pub all_served : (i : ℕ) (b : Answered) (a : AskedDiscovery) → slice_get (answers h) i ≡ Some b
       → Contains (served b.run h) a → has_answer a.number h ≡ true
+  pub by_one : (r i : ℕ) (b : Answered) (a : AskedDiscovery) → slice_get (answers h) i ≡ Some b
+      → Contains (served r h) a → b.number ≡ a.number → b.run ≡ r
   -- after an Answer of it no frame is sent for it, and its outcome stays as it is
   pub ended : (front back : List Entry) (n r : ℕ) (fault : Option AgentFault) → h ≡ front ++ Answer n r fault ∷ back
       → run_exchanges r h ≡ run_exchanges r front
   pub stays : (front back : List Entry) (n r : ℕ) (fault : Option AgentFault) → h ≡ front ++ Answer n r fault ∷ back
       → outcome_of h (Answer n r fault) ≡ outcome_of front (Answer n r fault)
 
--- A client is answered what it asked.
+-- A client is answered what it asked, and its outcomes stay as they are.
 pub record OwnDiscoveries (o : Opening) (h : List Entry) : Type 0 where
   pub own : (c n r : ℕ) (fault : Option AgentFault) → Contains (answers_to o c h) (Answer n r fault)
       → (client : ClientId) × (kind : Kind) × (client.0 ≡ c) × Contains h (Ask client n kind)
+  pub lasts : (front back : List Entry) (c i : ℕ) (x : Entry) → h ≡ front ++ back
+      → slice_get (answers_to o c front) i ≡ Some x → outcome_of h x ≡ outcome_of front x
 
 -- the client has four discoveries outstanding, or the numbers have run out, and no fault goes before that
 pub record HasMostDiscoveries (o : Opening) (h : List Entry) (c : ℕ) : Type 0 where

@@ -71,7 +71,7 @@ waiting_log =
     Join first_client 1 ∷ Pause ∷ Accept first_client 0 sample_request ∷ Ask first_client 0 Full
     ∷ Ask first_client 1 Incremental ∷ Resume ∷ []
 
--- then so many exchanges of the run
+-- then this many exchanges of the run
 abbrev pub run_log : ℕ → List Entry
 run_log n = waiting_log ++ logged_traffic 1 (take n run_traffic)
 

@@ -1,5 +1,5 @@
 //! What the faults say.
-use crate::{JoinFault, LogFull, NoMemory, NotAsked, SubmitFault};
+use crate::{AskFault, JoinFault, LogFull, NoMemory, NotAsked, SubmitFault};
 use std::test::Fail;
 
 #[test]
@@ -26,6 +26,22 @@ fn tells_why_a_submit_is_refused(rt: HostRuntime) -> Result<(), Fail> {
         (Closed, 1, "the queue is closed"),
         (UnknownClient, 2, "no such client"),
         (Full, 3, "the client's places are taken"),
+        (LogFull, 4, "the log is full"),
+    ];
+    for (fault, number, text) in rows {
+        assert_eq!(rt; fault.number(), number);
+        assert_eq!(rt; format!(in rt.alloc(); "{fault}")?.as_str(), text);
+    }
+    Ok(())
+}
+
+#[test]
+fn tells_why_a_discover_is_refused(rt: HostRuntime) -> Result<(), Fail> {
+    use AskFault::*;
+    let rows = [
+        (Closed, 1, "the queue is closed"),
+        (UnknownClient, 2, "no such client"),
+        (Full, 3, "the client has four discoveries outstanding"),
         (LogFull, 4, "the log is full"),
     ];
     for (fault, number, text) in rows {
