@@ -103,6 +103,18 @@ fn reads_words(rt: HostRuntime) {
 }
 
 #[test]
+fn tells_why_words_ask_for_nothing(rt: HostRuntime) -> Result<(), Fail> {
+    let rows = [
+        (WordsFault::Words, "the words fit no command"),
+        (WordsFault::NoMemory, "out of memory"),
+    ];
+    for (fault, text) in rows {
+        assert_eq!(rt; format!(in rt.alloc(); "{fault}")?.as_str(), text);
+    }
+    Ok(())
+}
+
+#[test]
 fn tells_a_writer_that_fails(rt: HostRuntime) {
     let rows: [Result<Job<'_>, WordsFault>; 3] = [
         Ok(Job::Decode("fe")),
