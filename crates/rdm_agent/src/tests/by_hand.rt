@@ -51,6 +51,7 @@ fn one_device_too_many(rt: HostRuntime) {
     }
     assert_eq!(rt; agent.frames(), 2_053);
     assert_eq!(rt; agent.found().len(), 1024);
+    assert_eq!(rt; agent.next(), Op::End);
     assert_eq!(rt; agent.fault(), Some(AgentFault::TooMany));
     let Err((fault, found)) = ended(&rt, agent) else {
         panic!(rt; "it has no fault")
@@ -71,6 +72,7 @@ fn a_failure_and_an_abort(rt: HostRuntime) {
     );
     let mut aborted = begun(&rt);
     aborted.stop();
+    assert_eq!(rt; aborted.next(), Op::End);
     assert_eq!(rt; aborted.fault(), Some(AgentFault::Aborted));
     assert!(rt; aborted.found().is_empty());
     assert_eq!(rt; aborted.frames(), 3);
