@@ -2,3 +2,4 @@ pub mod LogLemmas
 pub mod SampleLemmas
 pub mod PromiseLemmas
 pub mod BodyLemmas
+pub mod BoundLemmas

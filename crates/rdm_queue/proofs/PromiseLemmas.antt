@@ -10,6 +10,7 @@ pub mod NothingAfterClose
 pub mod RunReports
 pub mod OneRunServes
 pub mod RunsAnswer
+pub mod StableOutcomes
 pub mod TellsTheLine
 pub mod AnsweredInOrder
 pub mod OwnDiscoveries
@@ -20,4 +21,6 @@ pub mod ClosedEvents
 pub mod QuietEvents
 pub mod RisingNumbers
 pub mod CollectedEvents
+pub mod OwnOutcomes
+pub mod DiscoverEvents
 pub mod EventsPromises

@@ -4,5 +4,6 @@ pub mod Blocks
 pub mod Explains
 pub mod Headline
 pub mod Discoveries
+pub mod InBound
 pub mod Promised
 pub mod EventsHeadline

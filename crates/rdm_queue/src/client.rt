@@ -1,16 +1,14 @@
 //! A client's places, and the rings of what it has outstanding.
-ghost use Rattle.std.specs.Prelude.{◌≡◌, ◌+◌, ◌<◌, IfOk, option_map, slice_get};
+ghost use Rattle.std.specs.Prelude.{◌≡◌, ◌+◌, ◌-◌, ◌<◌, ◌≤◌, IfOk, option_map, slice_get};
 ghost use Rattle.std.specs.VecDeque.{deque_len, deque_capacity};
 
-use crate::entry::Entry;
-use crate::outcome::Completion;
-use rdm_wire::Request;
+use crate::entry::{Entry, MOST_DISCOVERIES};
+use crate::outcome::{AskCompletion, Completion, Outcome};
+use rdm_agent::AgentFault;
+use rdm_wire::{DeviceSet, Request};
 use std::alloc::{AllocError, Global};
 use std::collections::VecDeque;
 use std::default::MadeWith;
-
-/// How many more outcomes than places a client has room for: those of discoveries, which take no place.
-const OUTCOMES_BESIDE: usize = 4;
 
 /// A request that isn't finished.
 #[derive(Debug, Drop)]
@@ -19,11 +17,18 @@ pub(crate) struct Waiting {
     pub(crate) request: Request,
 }
 
-/// An outcome that its client hasn't collected.
+/// An outcome that its client hasn't collected. The set of a discovery's stands apart, so that a request pays for none.
 #[derive(Debug, Drop)]
-pub(crate) struct Owed {
-    pub(crate) number: u64,
-    pub(crate) done: Completion,
+pub(crate) enum Owed {
+    Request {
+        number: u64,
+        done: Completion,
+    },
+    Discovery {
+        number: u64,
+        run: u64,
+        fault: Option<AgentFault>,
+    },
 }
 
 /// A client, with memory for all that it may have outstanding.
@@ -34,10 +39,13 @@ pub(crate) struct Client {
     waiting: VecDeque<Waiting>,
     /// Its outcomes that it hasn't collected, oldest first.
     outcomes: VecDeque<Owed>,
+    /// The sets of the discoveries among them, in the same order.
+    sets: VecDeque<DeviceSet>,
 }
 
 impl Client {
-    ghost use Rattle.rdm_queue.specs.body.Rings.{IsNewClient, ClientAccepts, ClientFinishes, ClientCollects};
+    ghost use Rattle.rdm_queue.specs.body.Rings.{IsNewClient, ClientAccepts, ClientFinishes, ClientAnswers};
+    ghost use Rattle.rdm_queue.specs.body.Rings.{ClientCollects, HasSets};
 
     /// A client without requests, whose memory is reserved here.
     pub(crate) fn with_places(alloc: Global, places: u8) -> Result<Client, AllocError>
@@ -46,7 +54,8 @@ impl Client {
         Ok(Client {
             places,
             waiting: VecDeque::with_capacity(alloc, usize::from(places))?,
-            outcomes: VecDeque::with_capacity(alloc, usize::from(places) + OUTCOMES_BESIDE)?,
+            outcomes: VecDeque::with_capacity(alloc, usize::from(places) + MOST_DISCOVERIES)?,
+            sets: VecDeque::with_capacity(alloc, MOST_DISCOVERIES)?,
         })
     }
 
@@ -66,9 +75,17 @@ impl Client {
 
     /// How many of its requests aren't finished, or not collected.
     pub(crate) fn outstanding(&self) -> usize
-        ensures { result ≡ deque_len self.now.waiting + deque_len self.now.outcomes }
+        requires { deque_len self.now.sets ≤ deque_len self.now.outcomes }
+        ensures { result ≡ deque_len self.now.waiting + (deque_len self.now.outcomes - deque_len self.now.sets) }
     {
-        self.waiting.len() + self.outcomes.len()
+        self.waiting.len() + (self.outcomes.len() - self.sets.len())
+    }
+
+    /// How many of its discoveries are answered and not collected.
+    pub(crate) fn answered(&self) -> usize
+        ensures { result ≡ deque_len self.now.sets }
+    {
+        self.sets.len()
     }
 
     /// Its oldest request that isn't finished.
@@ -78,7 +95,7 @@ impl Client {
         self.waiting.front()
     }
 
-    /// ClientAccepts a request, for which it has a place.
+    /// Accepts a request, for which it has a place.
     pub(crate) fn accept(&mut self, number: u64, request: Request)
         requires { deque_len self.old.waiting < deque_capacity self.old.waiting }
         ensures { ClientAccepts self.old number request self.new }
@@ -100,18 +117,51 @@ impl Client {
             status: done.status,
             len: done.bytes.len(),
         };
-        self.outcomes.push_back_reserved(Owed {
+        self.outcomes.push_back_reserved(Owed::Request {
             number: oldest.number,
             done,
         });
         entry
     }
 
+    /// Answers its discovery of this number so, with the devices found.
+    pub(crate) fn answer(
+        &mut self,
+        number: u64,
+        run: u64,
+        fault: Option<AgentFault>,
+        found: &DeviceSet,
+    )
+        requires sets { HasSets self.old }
+        requires room { deque_len self.old.outcomes < deque_capacity self.old.outcomes }
+        requires set_room { deque_len self.old.sets < deque_capacity self.old.sets }
+        ensures { ClientAnswers self.old number run fault found.now self.new }
+    {
+        self.outcomes
+            .push_back_reserved(Owed::Discovery { number, run, fault });
+        self.sets.push_back_reserved(found.copied());
+    }
+
     /// Takes its oldest outcome out.
-    pub(crate) fn collect(&mut self) -> Option<Owed>
+    pub(crate) fn collect(&mut self) -> Option<Outcome>
+        requires { HasSets self.old }
         ensures { ClientCollects self.old result self.new }
     {
-        self.outcomes.pop_front()
+        match self.outcomes.pop_front()? {
+            Owed::Request { number, done } => Some(Outcome::Request {
+                number: Some(number),
+                done,
+            }),
+            Owed::Discovery { number, run, fault } => {
+                let Some(set) = self.sets.pop_front() else {
+                    unreachable!();
+                };
+                Some(Outcome::Discovery {
+                    number: Some(number),
+                    done: AskCompletion { run, fault, set },
+                })
+            }
+        }
     }
 }
 
@@ -122,6 +172,7 @@ impl MadeWith<Global> for Client {
             places: 0,
             waiting: VecDeque::new(alloc),
             outcomes: VecDeque::new(alloc),
+            sets: VecDeque::new(alloc),
         }
     }
 }

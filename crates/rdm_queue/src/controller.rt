@@ -1,17 +1,19 @@
-//! The queue of requests on one RDM line.
+//! The queue of requests and discoveries on one RDM line.
 use crate::config::Config;
 use crate::entry::{ClientId, Entry, Owner};
-use crate::fault::{JoinFault, NoMemory, NotAsked, SubmitFault};
+use crate::fault::{AskFault, JoinFault, NoMemory, NotAsked, SubmitFault};
 use crate::outcome::Outcome;
 use crate::queue::Queue;
+use rdm_agent::Kind;
 use rdm_join::LineEvent;
-use rdm_wire::{Frame, Request};
+use rdm_wire::{DeviceSet, Frame, Request};
 use std::alloc::Global;
 use std::marker::Model;
 
-/// The queue of the requests of up to sixteen clients on one RDM line: one request at a time, the oldest first,
-/// whatever its client (profile of this project). It does no input or output: `take` gives each frame for the line,
-/// and `deliver` is given what the line answered.
+/// The queue of the requests and discoveries of up to sixteen clients on one RDM line (profile of this project). One
+/// request goes out at a time, the oldest first, whatever its client. All discoveries that are asked are served by one
+/// run, before the requests that wait, but not between two parts of a request. It does no input or output: `take` gives
+/// each frame for the line, and `deliver` is given what the line answered.
 ///
 /// Contracts say after which logs it stands, and what each call adds to such a log.
 #[derive(Debug, Drop)]
@@ -38,9 +40,12 @@ impl Controller {
     ghost use Rattle.rdm_queue.specs.log.Config.{IsConfig};
     ghost use Rattle.rdm_queue.specs.log.LogState.{opened};
     ghost use Rattle.rdm_queue.specs.promises.Blocks.{JoinAdds, SubmitAdds, PauseAdds, ResumeAdds, CloseAdds};
-    ghost use Rattle.rdm_queue.specs.promises.Blocks.{TakeAdds, DeliverAdds, CollectAdds, is_result, AllResults};
+    ghost use Rattle.rdm_queue.specs.promises.Blocks.{DiscoverAdds, TakeAdds, DeliverAdds, CollectAdds, is_result};
     ghost use Rattle.rdm_queue.specs.body.Agrees.{StandsAfter, StandsAmid, ForEachLog, ForEachBlock, AddsToEach};
     ghost use Rattle.rdm_queue.specs.body.Agrees.{FinishesAll};
+    ghost use Rattle.rdm_queue.specs.body.State.{unended, uncollected};
+    ghost use Rattle.rdm_queue.specs.promises.InBound.{FaultNeedsClose};
+    ghost use Rattle.rdm_queue.specs.log.Runs.{known_devices, devices_run};
 
     /// A controller without clients, neither paused nor closed, whose numbers begin at 0. Its UID isn't broadcast,
     /// there are at most [`MOST_PLACES`](crate::MOST_PLACES) places, and the budget is at least 1.
@@ -77,8 +82,18 @@ impl Controller {
         self.queue.submit(client, request)
     }
 
-    /// Sends nothing more until `resume`; a reply that is awaited is still taken. Without effect where it is paused
-    /// or closed.
+    /// Accepts a client's discovery, and gives its number. A run serves all discoveries that are asked when it begins: a
+    /// full one where one of them is, else an incremental one, which mutes the devices known first.
+    /// Err: the first fault that stands; nothing has changed.
+    pub fn discover(&mut self, client: ClientId, kind: Kind) -> Result<u64, AskFault>
+        ensures adds { AddsToEach self.old (λ o h. DiscoverAdds o h client kind result) self.new }
+        ensures unchanged { OnErr result (self.new ≡ self.old) }
+    {
+        self.queue.discover(client, kind)
+    }
+
+    /// Sends nothing more until `resume`; a run that has begun goes on, and a reply that is
+    /// awaited is still taken. Without effect where it is paused or closed.
     pub fn pause(&mut self)
         ensures adds { AddsToEach self.old PauseAdds self.new }
         ensures unchanged { ForEachLog self.old (λ o h. can_pause o h ≡ false → self.new ≡ self.old) }
@@ -98,8 +113,9 @@ impl Controller {
         }
     }
 
-    /// Refuses all later joins and submits, and sends nothing more. Where no reply is awaited, all that wait are
-    /// finished at once, in order, with status FailedToSend; else `deliver` does so. Without effect where it is
+    /// Refuses all later joins, submits and discovers, and sends nothing more. Where no reply is awaited, all is ended at
+    /// once; else `deliver` does so. In this order: the discoveries of a run that has begun, with Aborted; the requests
+    /// that wait, with status FailedToSend; the other discoveries, with Aborted and run 0. Without effect where it is
     /// closed.
     pub fn close(&mut self)
         ensures adds { AddsToEach self.old CloseAdds self.new }
@@ -111,9 +127,14 @@ impl Controller {
         }
     }
 
-    /// The next frame for the line: that of the oldest request that isn't finished, with the next transaction number,
-    /// modulo 256, and port id 1. None while a reply is awaited, where it is paused or closed, and where nothing
-    /// waits.
+    /// The next frame for the line, with the next transaction number, modulo 256, and port id 1. It is the first of these
+    /// that there is:
+    /// - what a run that has begun asks next;
+    /// - where sending isn't paused, the request that is between two parts;
+    /// - the first unmute of a run for all discoveries that are asked;
+    /// - the oldest request that isn't finished.
+    ///
+    /// None while a reply is awaited, where it is closed, and where there is none of these.
     pub fn take(&mut self) -> Option<Frame>
         ensures adds { AddsToEach self.old (λ o h. TakeAdds o h result) self.new }
         ensures unchanged { IfNone result (self.new ≡ self.old) }
@@ -122,9 +143,10 @@ impl Controller {
         Some(frame)
     }
 
-    /// Takes what the line answered to the last frame. The request is finished where that decides its result; where
-    /// its joined data find no memory, with status NoMemory. After a close, all others are then finished too, in
-    /// order, with status FailedToSend.
+    /// Takes what the line answered to the last frame. A request is finished where that decides its result; where its
+    /// joined data find no memory, with status NoMemory. A run that ends answers all its discoveries alike, in the order
+    /// asked, and without fault its devices are those that `devices` gives. After a close, all else is then ended too,
+    /// as `close` does it.
     /// Err: no reply is awaited; nothing has changed, and the event comes back.
     pub fn deliver(&mut self, alloc: Global, event: LineEvent) -> Result<(), (NotAsked, LineEvent)>
         ensures adds { AddsToEach self.old (λ o h. DeliverAdds h event result) self.new }
@@ -147,7 +169,21 @@ impl Controller {
         self.queue.next_outcome(client)
     }
 
-    /// Whether nothing waits, is under way or is uncollected.
+    /// The devices that the last run without fault found; none before the first.
+    pub fn devices(&self) -> &DeviceSet
+        ensures { ForEachLog self.now (λ o h. result.now ≡ known_devices o h) }
+    {
+        self.queue.devices()
+    }
+
+    /// The number of the run that found them; 0 before the first.
+    pub fn devices_run(&self) -> u64
+        ensures { ForEachLog self.now (λ o h. result ≡ devices_run o h) }
+    {
+        self.queue.devices_run()
+    }
+
+    /// Whether nothing waits, is under way, is asked or is uncollected.
     pub fn is_idle(&self) -> bool
         ensures { ForEachLog self.now (λ o h. result ≡ is_idle h) }
     {
@@ -212,18 +248,19 @@ impl Controller {
         self.queue.hear(alloc, event);
     }
 
-    /// Finishes what is due next, and gives its entry. None where nothing is due.
+    /// Ends what is due next, and gives its entry: a Finish or an Answer. None where nothing is due.
     pub(crate) fn finish_next(&mut self) -> Option<Entry>
         ensures finished { IfSome result (λ entry. (is_result entry ≡ true)
             × ForEachBlock self.old (λ o h. StandsAmid o (h ++ entry ∷ []) self.new)) }
-        ensures fewer { OnSome result (length self.new.waiting < length self.old.waiting) }
+        ensures fewer { OnSome result (unended self.new < unended self.old) }
+        ensures in_bound { IfSome result (λ entry. ForEachBlock self.old (λ o h. FaultNeedsClose o h entry)) }
         ensures settled { IfNone result (ForEachBlock self.old (λ o h. StandsAfter o h self.old)
             × (self.new ≡ self.old)) }
     {
         self.queue.finish_next()
     }
 
-    // Finishes all that is due.
+    // Ends all that is due.
     fn finish_due(&mut self)
         ensures { ForEachBlock self.old (λ o h. FinishesAll o h self.new) }
     {
@@ -237,9 +274,16 @@ impl Controller {
         self.queue.waiting()
     }
 
+    /// How many discoveries aren't answered.
+    pub(crate) fn asked(&self) -> usize
+        ensures { result ≡ length self.now.asked }
+    {
+        self.queue.asked()
+    }
+
     /// How many outcomes aren't collected.
     pub(crate) fn uncollected(&self) -> usize
-        ensures { result ≡ length self.now.outcomes }
+        ensures { result ≡ uncollected self.now }
     {
         self.queue.uncollected()
     }

@@ -3,6 +3,7 @@ use arrayvec::ArrayVec;
 use rdm_agent::{AgentFault, Kind};
 use rdm_join::{LineEvent, Status};
 use rdm_wire::{DeviceSet, Frame, Request, Uid};
+use std::mem::size_of;
 
 /// How many clients may join (profile of this project).
 pub const MOST_CLIENTS: usize = 16;
@@ -128,6 +129,8 @@ pub enum Entry {
     /// The queue was closed.
     Close,
 }
+
+const _: () = prove!(size_of::<Entry>() == 296);
 
 /// What a log stands after: how the queue stood before its first entry. A number that is "next" is the one that will
 /// be given next (profile of this project).

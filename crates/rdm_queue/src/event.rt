@@ -1,9 +1,11 @@
 //! What is asked of a session, as one value, and what it answers.
 use crate::entry::ClientId;
-use crate::fault::{JoinFault, LogFull, NotAsked, SubmitFault};
+use crate::fault::{AskFault, JoinFault, LogFull, NotAsked, SubmitFault};
 use crate::outcome::Outcome;
+use rdm_agent::Kind;
 use rdm_join::LineEvent;
 use rdm_wire::{Frame, Request};
+use std::mem::size_of;
 
 /// A call of a session (profile of this project).
 #[derive(Debug, Drop)]
@@ -12,6 +14,8 @@ pub enum Event {
     Join(u8),
     /// A client submits a request.
     Submit(ClientId, Request),
+    /// A client asks for a discovery.
+    Discover(ClientId, Kind),
     /// Sending is paused.
     Pause,
     /// Sending is resumed.
@@ -26,13 +30,16 @@ pub enum Event {
     Collect(ClientId),
 }
 
-/// What a session answers: the result of the call of that name (profile of this project).
+/// What a session answers: the result of the call of that name (profile of this project). It has room for the set of a
+/// discovery.
 #[derive(Debug, Drop)]
 pub enum Answer {
     /// The client, or why it may not join.
     Join(Result<ClientId, JoinFault>),
     /// The request's number, or why it isn't accepted, with the request.
     Submit(Result<u64, (SubmitFault, Request)>),
+    /// The discovery's number, or why it isn't accepted.
+    Discover(Result<u64, AskFault>),
     /// Done, or the log is full.
     Pause(Result<(), LogFull>),
     /// Done, or the log is full.
@@ -46,3 +53,5 @@ pub enum Answer {
     /// The outcome, or None where there is none.
     Collect(Option<Outcome>),
 }
+
+const _: () = prove!(size_of::<Answer>() == 32_848);

@@ -41,7 +41,7 @@ pub use entry::{
 pub use event::{Answer, Event};
 pub use fault::{AskFault, JoinFault, LogFull, NoMemory, NotAsked, SubmitFault};
 pub use log::{LEAST_FREE, Log, MOST_FREE_ENTRIES};
-pub use outcome::{Completion, Outcome};
+pub use outcome::{AskCompletion, Completion, Outcome};
 pub use session::Session;
 
 #[cfg(test)]

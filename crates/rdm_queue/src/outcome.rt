@@ -1,5 +1,8 @@
 //! What a client is given for its calls.
+use rdm_agent::AgentFault;
 use rdm_join::{ReplyHead, Status};
+use rdm_wire::DeviceSet;
+use std::mem::size_of;
 
 /// How a request ended, and what was answered (profile of this project).
 #[derive(Debug, Drop)]
@@ -12,6 +15,18 @@ pub struct Completion {
     pub bytes: Vec<u8>,
 }
 
+/// How a discovery ended, and what its run found (profile of this project). The set makes it 32 KB large.
+#[derive(Debug, Drop)]
+pub struct AskCompletion {
+    /// The run that served it; 0 where none was begun for it.
+    pub run: u64,
+    /// Why the run ended early; None where it ended without fault.
+    pub fault: Option<AgentFault>,
+    /// The devices whose mute was acknowledged in the run, as each first acknowledgement says it. Without fault these
+    /// are all that the run's certificate vouches for; none for run 0.
+    pub set: DeviceSet,
+}
+
 /// What a client collects (profile of this project).
 #[derive(Debug, Drop)]
 pub enum Outcome {
@@ -22,4 +37,13 @@ pub enum Outcome {
         /// How it ended.
         done: Completion,
     },
+    /// A discovery has ended.
+    Discovery {
+        /// Its number. A controller gives none without one; None is for a discovery that was never accepted.
+        number: Option<u64>,
+        /// How it ended.
+        done: AskCompletion,
+    },
 }
+
+const _: () = prove!(size_of::<Outcome>() == 32_832);

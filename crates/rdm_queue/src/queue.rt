@@ -1,4 +1,5 @@
-//! The requests that wait, and the outcomes that wait for their clients.
+//! The requests that wait, the discoveries that are asked, the run that serves them, and the outcomes that wait for their
+//! clients.
 ghost use Rattle.std.specs.Prelude.{◌≡◌, ◌⊎◌, ◌<◌, length, IfSome, IfNone};
 ghost use Rattle.rdm_join.specs.Result.{ended};
 ghost use Rattle.rdm_join.specs.JoinerStanding.{head_of_standing};
@@ -8,14 +9,77 @@ ghost use Rattle.rdm_queue.specs.body.Rings.{NoneWaits, IsFirstInLine};
 
 use crate::client::{Client, Waiting};
 use crate::config::Config;
-use crate::entry::{ClientId, Entry, MOST_CLIENTS, NEVER_GIVEN, Owner};
-use crate::fault::{JoinFault, SubmitFault};
+use crate::entry::{
+    ClientId, Entry, MOST_CLIENTS, MOST_DISCOVERIES, NEVER_GIVEN, NEVER_GIVEN_TO_A_DISCOVERY, Owner,
+};
+use crate::fault::{AskFault, JoinFault, SubmitFault};
 use crate::outcome::{Completion, Outcome};
 use arrayvec::ArrayVec;
+use rdm_agent::{Agent, AgentFault, Kind, Op};
 use rdm_join::{Joiner, LineEvent, Sent, Status, Step, judge};
-use rdm_wire::{Frame, Request, encode_request};
+use rdm_wire::{DeviceSet, Frame, Request, UidSet, encode_request};
 use std::alloc::Global;
+use std::default::MadeWith;
 use std::marker::Model;
+
+/// How many discoveries all clients together have outstanding, at most.
+const MOST_ASKED: usize = 64;
+
+/// A discovery that isn't answered.
+#[derive(Clone, Copy, Debug, Drop)]
+pub(crate) struct Asked {
+    client: ClientId,
+    number: u64,
+    kind: Kind,
+}
+
+/// What fills the places of discoveries that aren't asked.
+impl MadeWith<Global> for Asked {
+    fn made_with(_alloc: Global) -> Asked {
+        Asked {
+            client: ClientId(0),
+            number: 0,
+            kind: Kind::Full,
+        }
+    }
+}
+
+/// A run that has begun, until all discoveries that it serves are answered.
+#[derive(Clone, Copy, Debug)]
+pub(crate) struct Running {
+    number: u64,
+    /// It serves this many of the oldest discoveries that aren't answered.
+    left: usize,
+}
+
+impl Running {
+    ghost use Rattle.std.specs.Prelude.{option_map};
+    ghost use Rattle.rdm_queue.specs.body.Fields.{run_is};
+    ghost use Rattle.rdm_queue.specs.body.Ending.{one_less};
+
+    // The run with one discovery less to answer; None where that was the last.
+    fn one_less(&self) -> Option<Running>
+        ensures { option_map run_is result ≡ one_less (run_is self.now) }
+    {
+        if self.left > 1 {
+            Some(Running {
+                number: self.number,
+                left: self.left - 1,
+            })
+        } else {
+            None
+        }
+    }
+}
+
+/// What awaits its reply.
+#[derive(Clone, Copy, Debug)]
+pub(crate) enum Awaited {
+    /// A request, of which this was sent.
+    Request(Sent),
+    /// The agent's next operation, which was sent with this transaction number.
+    Run(u8),
+}
 
 /// What a controller holds. Contracts see how it stands: the requests that aren't finished, what was sent, and the
 /// outcomes that aren't collected.
@@ -29,11 +93,23 @@ pub(crate) struct Queue {
     next_request: u64,
     next_tn: u8,
     /// What was sent, while its reply is awaited.
-    awaited: Option<Sent>,
+    awaited: Option<Awaited>,
+    /// Whether a frame of the oldest of those that wait was sent.
+    under_way: bool,
     /// The replies of the oldest of those that wait.
     joiner: Joiner,
     /// How the oldest has ended, until it is finished.
     decided: Option<Completion>,
+    next_ask: u64,
+    next_run: u64,
+    /// The discoveries that aren't answered, oldest first.
+    asked: ArrayVec<Asked, MOST_ASKED, Global>,
+    run: Option<Running>,
+    /// The agent of the run that began last.
+    agent: Agent,
+    /// The devices of the last run without fault, and that run; none and 0 before the first.
+    devices: DeviceSet,
+    devices_run: u64,
 }
 
 impl Model for Queue {
@@ -52,20 +128,27 @@ impl Model for Queue {
 impl Queue {
     ghost use Rattle.std.specs.Prelude.{◌≡◌, ◌<◌, ◌+◌, ◌++◌, ◌∷◌, [], ℕ, Bool, ◌==◌, ◌&&◌, false, true, List, length};
     ghost use Rattle.std.specs.Prelude.{drop, sum, map, IfOk, IfErr, IfSome, IfNone, OnOk, OnErr, OnSome, Some, None};
-    ghost use Rattle.std.specs.Prelude.{is_some, option_map, slice_get, if◌then◌else◌};
-    ghost use Rattle.rdm_join.specs.JoinerStanding.{StandsAt};
-    ghost use Rattle.rdm_join.specs.Verdict.{verdict};
-    ghost use Rattle.rdm_join.specs.declared.verdict.Judged.{Judged};
+    ghost use Rattle.std.specs.Prelude.{is_some, option_map, slice_get, if◌then◌else◌, ◌≢◌, ◌≤◌};
     ghost use Rattle.rdm_join.specs.declared.verdict.Sent.{Sent};
+    ghost use Rattle.rdm_wire.specs.Devices.{uids_of};
+    ghost use Rattle.rdm_agent.specs.Calls.{next_op, HasRun};
+    ghost use Rattle.rdm_agent.specs.declared.op.Op.TheVariants.{End};
     ghost use Rattle.rdm_queue.specs.promises.Outcomes.{outcome_value, completion_value};
     ghost use Rattle.rdm_queue.specs.promises.Blocks.{RefusesJoin};
-    ghost use Rattle.rdm_queue.specs.body.Fields.{accepted_is};
+    ghost use Rattle.rdm_queue.specs.body.Fields.{accepted_is, run_is};
     ghost use Rattle.rdm_queue.specs.log.Config.{IsConfig};
-    ghost use Rattle.rdm_queue.specs.log.Entries.{Accepted};
+    ghost use Rattle.rdm_queue.specs.log.Entries.{Accepted, AskedDiscovery};
     ghost use Rattle.rdm_queue.specs.body.State.{QueueState, first_state, first_join_fault, first_submit_fault};
-    ghost use Rattle.rdm_queue.specs.body.State.{outstanding, end_of_oldest, due, IsFinished, owed_for, finish_of};
-    ghost use Rattle.rdm_queue.specs.body.State.{finishes_oldest, accepts_request, next_to_send, IsGiven, Hears};
-    ghost use Rattle.rdm_queue.specs.body.State.{without_first, owed_to, owed_value};
+    ghost use Rattle.rdm_queue.specs.body.State.{first_ask_fault, asked_of, end_of_oldest, due, IsFinished, owed_for};
+    ghost use Rattle.rdm_queue.specs.body.State.{finish_of, finishes_oldest, joins_client, accepts_request};
+    ghost use Rattle.rdm_queue.specs.body.State.{asks_discovery, collects_oldest, owed_to, uncollected, is_closing};
+    ghost use Rattle.rdm_queue.specs.body.State.{HearsRequest};
+    ghost use Rattle.rdm_queue.specs.body.Sending.{to_send, request_to_send, run_to_send, IsGiven, GivesRequest};
+    ghost use Rattle.rdm_queue.specs.body.Sending.{GivesRun, begun, kind_of, hears_run};
+    ghost use Rattle.rdm_queue.specs.body.Ending.{IsEnded, AnswersByRun, AnswersUnserved, HasNothingDue};
+    ghost use Rattle.rdm_queue.specs.body.Ending.{HasRunUnderWay, HasNoneUnserved, agent_at_end, devices_after};
+    ghost use Rattle.rdm_queue.specs.body.Ending.{devices_run_after, answer_of, answers_oldest, one_less};
+    ghost use Rattle.rdm_queue.specs.declared.queue.Awaited.TheVariants as awaiting;
 
     /// A queue without clients, neither paused nor closed, whose numbers begin at 0.
     pub(crate) fn new(alloc: Global, config: Config) -> Queue
@@ -80,8 +163,16 @@ impl Queue {
             next_request: 0,
             next_tn: 0,
             awaited: None,
+            under_way: false,
             joiner: Joiner::new(),
             decided: None,
+            next_ask: 0,
+            next_run: 1,
+            asked: ArrayVec::new_in(alloc),
+            run: None,
+            agent: Agent::start(Kind::Full, &UidSet::new(), config.budget),
+            devices: DeviceSet::new(),
+            devices_run: 0,
         }
     }
 
@@ -113,7 +204,7 @@ impl Queue {
     /// Lets a client join, whose memory is reserved here.
     pub(crate) fn join_client(&mut self, alloc: Global, places: u8) -> Result<ClientId, JoinFault>
         ensures joined { IfOk result (λ c. (first_join_fault self.old places ≡ None) × (c.0 ≡ length self.old.places)
-            × (self.new ≡ record self.old { places = self.old.places ++ places ∷ [] })) }
+            × (self.new ≡ joins_client self.old places)) }
         ensures refused { IfErr result (λ fault. RefusesJoin (first_join_fault self.old places) fault) }
         ensures unchanged { OnErr result (self.new ≡ self.old) }
     {
@@ -165,6 +256,55 @@ impl Queue {
         Ok(number)
     }
 
+    // The first fault of a discover.
+    fn ask_fault(&self, client: ClientId) -> Option<AskFault>
+        ensures { result ≡ first_ask_fault self.now client.0 }
+    {
+        if self.closed {
+            return Some(AskFault::Closed);
+        }
+        let Some(own) = self.clients.get(usize::from(client.0)) else {
+            return Some(AskFault::UnknownClient);
+        };
+        let outstanding = self.asked_by(client) + own.answered();
+        if outstanding >= MOST_DISCOVERIES || self.next_ask >= NEVER_GIVEN_TO_A_DISCOVERY {
+            Some(AskFault::Full)
+        } else {
+            None
+        }
+    }
+
+    // How many discoveries of the client aren't answered.
+    fn asked_by(&self, client: ClientId) -> usize
+        ensures value { result ≡ length (asked_of client.0 self.now) }
+        ensures fits { result ≤ 64 }
+    {
+        self.asked
+            .iter()
+            .filter(|asked| client.0 == asked.client.0)
+            .count()
+    }
+
+    /// Accepts a discovery, and gives its number.
+    pub(crate) fn discover(&mut self, client: ClientId, kind: Kind) -> Result<u64, AskFault>
+        ensures accepted { IfOk result (λ n. (first_ask_fault self.old client.0 ≡ None) × (n ≡ self.old.next_ask)
+            × (self.new ≡ asks_discovery self.old client.0 kind)) }
+        ensures refused { IfErr result (λ fault. first_ask_fault self.old client.0 ≡ Some fault) }
+        ensures unchanged { OnErr result (self.new ≡ self.old) }
+    {
+        if let Some(fault) = self.ask_fault(client) {
+            return Err(fault);
+        }
+        let number = self.next_ask;
+        self.asked.push(Asked {
+            client,
+            number,
+            kind,
+        });
+        self.next_ask = number + 1;
+        Ok(number)
+    }
+
     /// Pauses sending, or resumes it.
     pub(crate) fn set_paused(&mut self, paused: bool)
         ensures { self.new ≡ record self.old { paused = paused } }
@@ -181,26 +321,91 @@ impl Queue {
 
     /// The next frame for the line, and whose it is.
     pub(crate) fn take(&mut self) -> Option<(Owner, Frame)>
-        ensures none { IfNone result ((next_to_send self.old ≡ None) × (self.new ≡ self.old)) }
+        ensures none { IfNone result ((to_send self.old ≡ None) × (self.new ≡ self.old)) }
         ensures frame { IfSome result (λ given. IsGiven self.old given.0 given.1 self.new) }
     {
-        if self.awaited.is_some() || self.closed || self.paused {
+        if self.awaited.is_some() || self.closed {
             return None;
         }
+        if self.run.is_none() {
+            if self.paused {
+                return None;
+            }
+            if self.under_way || self.asked.is_empty() {
+                return self.take_request();
+            }
+            self.begin_run();
+        }
+        self.take_run()
+    }
+
+    // The frame of the oldest request, which is then under way.
+    fn take_request(&mut self) -> Option<(Owner, Frame)>
+        ensures none { IfNone result ((request_to_send self.old ≡ None) × (self.new ≡ self.old)) }
+        ensures frame { IfSome result (λ given. GivesRequest self.old given.0 given.1 self.new) }
+    {
         let (_, oldest) = self.oldest()?;
         let request = &oldest.request;
         let owner = Owner::Request(oldest.number);
         let frame = encode_request(request, self.config.source, self.next_tn);
-        self.awaited = Some(Sent {
+        self.awaited = Some(Awaited::Request(Sent {
             target: request.target,
             source: self.config.source,
             tn: self.next_tn,
             sub_device: request.sub_device,
             class: request.class,
             pid: request.pid,
-        });
+        }));
         self.next_tn = self.next_tn.wrapping_add(1);
+        self.under_way = true;
         Some((owner, frame))
+    }
+
+    // Begins a run for all discoveries that are asked: full where one of them is, else from the devices that are known.
+    fn begin_run(&mut self)
+        requires none { self.old.run ≡ None }
+        requires some { 0 < length self.old.asked }
+        ensures begun { self.new ≡ begun self.old }
+        ensures starts { HasRun (kind_of self.old.asked) (uids_of self.old.devices) self.old.budget false []
+            (begun self.old).agent }
+    {
+        self.run = Some(Running {
+            number: self.next_run,
+            left: self.asked.len(),
+        });
+        self.next_run += 1;
+        self.agent = Agent::start(self.asked_kind(), &self.devices.uids(), self.config.budget);
+    }
+
+    // Full where one of the discoveries that are asked is.
+    fn asked_kind(&self) -> Kind
+        ensures { result ≡ kind_of self.now.asked }
+    {
+        if self
+            .asked
+            .iter()
+            .any(|asked| matches!(asked.kind, Kind::Full))
+        {
+            Kind::Full
+        } else {
+            Kind::Incremental
+        }
+    }
+
+    // The frame of the run's next operation; None where no run is open, or its agent has ended.
+    fn take_run(&mut self) -> Option<(Owner, Frame)>
+        ensures none { IfNone result ((run_to_send self.old ≡ None) × (self.new ≡ self.old)) }
+        ensures frame { IfSome result (λ given. GivesRun self.old given.0 given.1 self.new) }
+    {
+        let run = self.run?;
+        let op = self.agent.next();
+        if op == Op::End {
+            return None;
+        }
+        let frame = op.frame(self.config.source, self.next_tn);
+        self.awaited = Some(Awaited::Run(self.next_tn));
+        self.next_tn = self.next_tn.wrapping_add(1);
+        Some((Owner::Run(run.number), frame))
     }
 
     // The oldest request, and where its client stands.
@@ -210,25 +415,165 @@ impl Queue {
         first_in_line(&self.clients)
     }
 
-    /// Takes what the line answered to the last frame. The oldest request, which it is of, hasn't ended before.
+    /// Takes what the line answered to the last frame. It is of the oldest request, which hasn't ended before, or of the
+    /// run, whose agent hasn't.
     pub(crate) fn hear(&mut self, alloc: Global, event: &LineEvent)
         ensures free { self.new.awaited ≡ None }
-        ensures heard { (sent : Sent) (vs : List Judged) → self.old.awaited ≡ Some sent → self.old.decided ≡ None
-            → StandsAt vs self.old.joiner → Hears (vs ++ verdict sent event.now ∷ []) self.old self.new }
+        ensures heard { (sent : Sent) → self.old.awaited ≡ Some (awaiting.Request sent)
+            → HearsRequest sent event.now self.old self.new }
+        ensures heard_by_run { (tn : ℕ) → self.old.awaited ≡ Some (awaiting.Run tn) → next_op self.old.agent ≢ End
+            → self.new ≡ hears_run tn event.now self.old }
     {
-        let Some(sent) = self.awaited.take() else {
-            return;
-        };
-        if let Step::Done(status) = self.joiner.add(judge(&sent, event)) {
+        match self.awaited.take() {
+            None => {}
+            Some(Awaited::Request(sent)) => self.hear_request(alloc, &sent, event),
+            Some(Awaited::Run(tn)) => self.hear_run(tn, event),
+        }
+    }
+
+    // Takes what the line answered to this frame of the oldest request.
+    fn hear_request(&mut self, alloc: Global, sent: &Sent, event: &LineEvent)
+        requires { self.old.awaited ≡ None }
+        ensures free { self.new.awaited ≡ None }
+        ensures heard { HearsRequest sent.now event.now self.old self.new }
+    {
+        if let Step::Done(status) = self.joiner.add(judge(sent, event)) {
             let done = completion_of(&self.joiner, alloc, status);
             self.decided = Some(done);
             self.joiner.reset();
         }
     }
 
-    /// Finishes the oldest request, where it has ended, or where the queue is closed and awaits no reply. Gives the
-    /// entry of its end; None where there is no such request.
+    // Takes what the line answered to the agent's next operation, which was sent with this transaction number.
+    fn hear_run(&mut self, tn: u8, event: &LineEvent)
+        requires { self.old.awaited ≡ None }
+        ensures free { self.new.awaited ≡ None }
+        ensures heard { next_op self.old.agent ≢ End → self.new ≡ hears_run tn event.now self.old }
+    {
+        let op = self.agent.next();
+        if op == Op::End {
+            return;
+        }
+        let bytes = match event {
+            LineEvent::Reply(bytes) => Some(bytes.as_slice()),
+            LineEvent::Failed => None,
+        };
+        let reply = op.read_reply(self.config.source, tn, bytes);
+        self.agent.hear(reply);
+    }
+
+    /// Ends what is due next, and gives the entry of its end; None where nothing is due. Due are: the discoveries of a
+    /// run that has ended, and a request that has. Where the queue is closed and awaits no reply, also a run that
+    /// hasn't ended, then the requests that wait, and last the discoveries that no run serves.
     pub(crate) fn finish_next(&mut self) -> Option<Entry>
+        ensures ended { IfSome result (λ entry. IsEnded self.old entry self.new) }
+        ensures none { IfNone result (HasNothingDue self.old × (self.new ≡ self.old)) }
+    {
+        if self.run.is_some() {
+            return self.answer_by_run();
+        }
+        match self.finish_oldest() {
+            Some(entry) => Some(entry),
+            None => self.answer_unserved(),
+        }
+    }
+
+    // Answers the oldest discovery by its run, where that has ended, or by a close. None where none has.
+    fn answer_by_run(&mut self) -> Option<Entry>
+        requires { is_some self.old.run ≡ true }
+        ensures ended { IfSome result (λ entry. AnswersByRun self.old entry self.new) }
+        ensures none { IfNone result (HasRunUnderWay self.old × (self.new ≡ self.old)) }
+    {
+        self.stop_at_close();
+        let run = self.run?;
+        if self.agent.next() != Op::End {
+            return None;
+        }
+        let fault = self.agent.fault();
+        self.keep_devices(run.number, fault);
+        Some(self.answer_served(&run, &fault))
+    }
+
+    // Stops the run where the queue is closed and awaits no reply.
+    fn stop_at_close(&mut self)
+        ensures { self.new ≡ record self.old { agent = agent_at_end self.old } }
+    {
+        if self.is_closing() {
+            self.agent.stop();
+        }
+    }
+
+    // The devices that are known are those that this run has found, unless it has a fault.
+    fn keep_devices(&mut self, run: u64, fault: Option<AgentFault>)
+        ensures { self.new ≡ record self.old {
+          devices = devices_after fault self.old.agent.found self.old.devices;
+          devices_run = devices_run_after fault run self.old.devices_run;
+        } }
+    {
+        if fault.is_none() {
+            self.devices.copy_from(self.agent.found());
+            self.devices_run = run;
+        }
+    }
+
+    // Answers the oldest discovery by the run that serves it, with this fault and what its agent has found.
+    fn answer_served(&mut self, run: &Running, fault: &Option<AgentFault>) -> Entry
+        requires { self.old.run ≡ Some (run_is run.now) }
+        ensures { (a : AskedDiscovery) × (slice_get self.old.asked 0 ≡ Some a)
+            × (result ≡ answer_of a run.now.number fault.now)
+            × (self.new ≡ record (answers_oldest self.old a run.now.number fault.now self.old.agent.found) {
+              run = one_less (run_is run.now);
+            }) }
+    {
+        self.run = run.one_less();
+        let asked = self.asked.remove(0);
+        let entry = Entry::Answer {
+            number: asked.number,
+            run: run.number,
+            fault: *fault,
+        };
+        self.clients[usize::from(asked.client.0)].answer(
+            asked.number,
+            run.number,
+            *fault,
+            self.agent.found(),
+        );
+        entry
+    }
+
+    // Answers the oldest discovery, which no run serves, by a close. None where none is due.
+    fn answer_unserved(&mut self) -> Option<Entry>
+        requires { self.old.run ≡ None }
+        ensures ended { IfSome result (λ entry. AnswersUnserved self.old entry self.new) }
+        ensures none { IfNone result (HasNoneUnserved self.old × (self.new ≡ self.old)) }
+    {
+        if !self.is_closing() || self.asked.is_empty() {
+            return None;
+        }
+        let asked = self.asked.remove(0);
+        self.clients[usize::from(asked.client.0)].answer(
+            asked.number,
+            0,
+            Some(AgentFault::Aborted),
+            &DeviceSet::new(),
+        );
+        Some(Entry::Answer {
+            number: asked.number,
+            run: 0,
+            fault: Some(AgentFault::Aborted),
+        })
+    }
+
+    // Whether it is closed and awaits no reply, so that all is to be ended.
+    fn is_closing(&self) -> bool
+        ensures { result ≡ is_closing self.now }
+    {
+        self.closed && !self.awaits()
+    }
+
+    // Finishes the oldest request, where it has ended, or by a close. None where none is due.
+    fn finish_oldest(&mut self) -> Option<Entry>
+        requires { self.old.run ≡ None }
         ensures finished { IfSome result (λ entry. IsFinished self.old entry self.new) }
         ensures none { IfNone result ((due self.old ≡ None) × (self.new ≡ self.old)) }
     {
@@ -246,7 +591,7 @@ impl Queue {
         if let Some(done) = self.decided.take() {
             return Some(done);
         }
-        if self.closed && !self.awaits() {
+        if self.is_closing() {
             return Some(failed(*self.clients.allocator(), Status::FailedToSend));
         }
         None
@@ -262,22 +607,31 @@ impl Queue {
             × (self.new ≡ finishes_oldest self.old (owed_for (completion_value done) accepted)) }
     {
         self.joiner.reset();
+        self.under_way = false;
         self.clients[at].finish_oldest(done)
     }
 
     /// Takes a client's oldest outcome out, which frees its place.
     pub(crate) fn next_outcome(&mut self, client: ClientId) -> Option<Outcome>
-        ensures outcome { option_map outcome_value result
-            ≡ option_map owed_value (slice_get (owed_to client.0 self.old) 0) }
-        ensures taken { OnSome result
-            (self.new ≡ record self.old { outcomes = without_first client.0 self.old.outcomes }) }
+        ensures outcome { option_map outcome_value result ≡ slice_get (owed_to client.0 self.old) 0 }
+        ensures taken { OnSome result (self.new ≡ collects_oldest self.old client.0) }
         ensures none { IfNone result (self.new ≡ self.old) }
     {
-        let owed = self.clients.get_mut(usize::from(client.0))?.collect()?;
-        Some(Outcome::Request {
-            number: Some(owed.number),
-            done: owed.done,
-        })
+        self.clients.get_mut(usize::from(client.0))?.collect()
+    }
+
+    /// The devices of the last run without fault; none before the first.
+    pub(crate) fn devices(&self) -> &DeviceSet
+        ensures { result.now ≡ self.now.devices }
+    {
+        &self.devices
+    }
+
+    /// The run that found them; 0 before the first.
+    pub(crate) fn devices_run(&self) -> u64
+        ensures { result ≡ self.now.devices_run }
+    {
+        self.devices_run
     }
 
     /// How many requests aren't finished.
@@ -287,17 +641,25 @@ impl Queue {
         self.clients.iter().map(|client| client.waiting()).sum()
     }
 
+    /// How many discoveries aren't answered.
+    pub(crate) fn asked(&self) -> usize
+        ensures { result ≡ length self.now.asked }
+    {
+        self.asked.len()
+    }
+
     /// How many outcomes aren't collected.
     pub(crate) fn uncollected(&self) -> usize
-        ensures { result ≡ length self.now.outcomes }
+        ensures { result ≡ uncollected self.now }
     {
         self.clients.iter().map(|client| client.uncollected()).sum()
     }
 
     pub(crate) fn is_idle(&self) -> bool
-        ensures { result ≡ ((length self.now.waiting == 0) && (length self.now.outcomes == 0)) }
+        ensures { result ≡ ((length self.now.waiting == 0) && (length self.now.asked == 0)
+            && (uncollected self.now == 0)) }
     {
-        self.waiting() == 0 && self.uncollected() == 0
+        self.waiting() == 0 && self.asked.is_empty() && self.uncollected() == 0
     }
 
     pub(crate) fn is_paused(&self) -> bool

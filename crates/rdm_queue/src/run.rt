@@ -21,6 +21,7 @@ impl Session {
             Event::Submit(client, request) => {
                 Answer::Submit(self.submit(*client, copy_of_request(request)))
             }
+            Event::Discover(client, kind) => Answer::Discover(self.discover(*client, *kind)),
             Event::Pause => Answer::Pause(self.pause()),
             Event::Resume => Answer::Resume(self.resume()),
             Event::Close => {
@@ -33,7 +34,8 @@ impl Session {
         }
     }
 
-    /// Answers each event by its call, in order, and gives the answers: one for each event.
+    /// Answers each event by its call, in order, and gives the answers: one for each event. Each takes 32,848 bytes, since
+    /// it has room for the set of a discovery; `answer` gives one at a time.
     /// Err: there was no memory for the answers; the session is unchanged, and no call was made.
     pub fn run(&mut self, alloc: Global, events: &[Event]) -> Result<Vec<Answer>, NoMemory>
         ensures explains { IfOk result (λ answers. Explains self.old events.now answers.items self.new) }

@@ -1,16 +1,19 @@
 //! A controller that keeps a log of all that it does.
 ghost use Rattle.std.specs.Prelude.{◌≡◌, if◌then◌else◌};
 ghost use Rattle.rdm_queue.specs.log.LogState.{opened};
+ghost use Rattle.rdm_queue.specs.promises.Blocks.{GrowsBy};
+ghost use Rattle.rdm_queue.specs.promises.InBound.{AnswersInBound};
 ghost use Rattle.rdm_queue.specs.body.SessionInvariant.{SessionAmid, FinishesDue};
 
 use crate::config::Config;
 use crate::controller::Controller;
 use crate::copies::{copy_of_frame, copy_of_request};
 use crate::entry::{Call, Cause, ClientId, Entry, Opening};
-use crate::fault::{JoinFault, LogFull, NoMemory, NotAsked, SubmitFault};
+use crate::fault::{AskFault, JoinFault, LogFull, NoMemory, NotAsked, SubmitFault};
 use crate::log::{LEAST_FREE, Log};
 use crate::outcome::Outcome;
 use arrayvec::ArrayVec;
+use rdm_agent::Kind;
 use rdm_join::LineEvent;
 use rdm_wire::{DeviceSet, Frame, Request};
 use std::alloc::Global;
@@ -43,7 +46,9 @@ impl Session {
     ghost use Rattle.rdm_queue.specs.log.Config.{IsConfig};
     ghost use Rattle.rdm_queue.specs.log.LogState.{free_entries, is_full_log, opened};
     ghost use Rattle.rdm_queue.specs.promises.Blocks.{JoinLogs, SubmitLogs, PauseLogs, ResumeLogs, TakeLogs};
-    ghost use Rattle.rdm_queue.specs.promises.Blocks.{CloseAdds, DeliverAdds, CollectAdds, GrowsBy};
+    ghost use Rattle.rdm_queue.specs.log.Runs.{known_devices, devices_run};
+    ghost use Rattle.rdm_queue.specs.promises.Blocks.{DiscoverLogs, CloseAdds, DeliverAdds, CollectAdds, GrowsBy};
+    ghost use Rattle.rdm_queue.specs.promises.InBound.{AnswersInBound};
     ghost use Rattle.rdm_queue.specs.body.Agrees.{StandsAfter};
 
     /// A session without clients, neither paused nor closed, whose numbers begin at 0, and those of its discovery runs
@@ -126,6 +131,35 @@ impl Session {
         }
     }
 
+    /// Accepts a client's discovery, as [`Controller::discover`] does. A refusal but LogFull is an entry.
+    /// Err: LogFull, or else the first other fault that stands; nothing changes but the log.
+    pub fn discover(&mut self, client: ClientId, kind: Kind) -> Result<u64, AskFault>
+        ensures adds { GrowsBy self.old (DiscoverLogs self.old client kind result) self.new }
+        ensures legal { Legal self.new.opening self.new.entries }
+    {
+        if self.is_full() {
+            return Err(AskFault::LogFull);
+        }
+        match self.controller.discover(client, kind) {
+            Ok(number) => {
+                self.log.append(Entry::Ask {
+                    client,
+                    number,
+                    kind,
+                });
+                Ok(number)
+            }
+            Err(fault) => {
+                self.log.append(Entry::Refuse {
+                    client: Some(client),
+                    call: Call::Discover(kind),
+                    cause: Cause(fault.number()),
+                });
+                Err(fault)
+            }
+        }
+    }
+
     /// Pauses, as [`Controller::pause`] does; an entry where that has an effect.
     /// Err: the log is full; nothing has changed.
     pub fn pause(&mut self) -> Result<(), LogFull>
@@ -161,7 +195,7 @@ impl Session {
     }
 
     /// Closes, as [`Controller::close`] does; an entry where that has an effect, and after it those of the requests
-    /// that it finishes. There is always room for them.
+    /// that it finishes and the discoveries that it answers. There is always room for them.
     pub fn close(&mut self)
         ensures adds { GrowsBy self.old (CloseAdds self.old.opening self.old.entries) self.new }
         ensures legal { Legal self.new.opening self.new.entries }
@@ -192,10 +226,14 @@ impl Session {
     }
 
     /// Takes what the line answered, as [`Controller::deliver`] does; an entry, and after it those of the requests
-    /// that it finishes. There is always room for them.
+    /// that it finishes and the discoveries that it answers. There is always room for them. On an honest line with at
+    /// most 1,024 devices that stay, and with a budget as the bound on frames asks, an Answer that it adds has a fault
+    /// only after a failure or a close.
     /// Err: no reply is awaited; nothing has changed, and the event comes back.
     pub fn deliver(&mut self, alloc: Global, event: LineEvent) -> Result<(), (NotAsked, LineEvent)>
         ensures adds { GrowsBy self.old (DeliverAdds self.old.entries event result) self.new }
+        ensures in_bound { IfOk result (λ done. GrowsBy self.old (AnswersInBound self.old.opening self.old.entries)
+            self.new) }
         ensures legal { Legal self.new.opening self.new.entries }
     {
         if !self.controller.awaits() {
@@ -219,8 +257,8 @@ impl Session {
     }
 
     /// How many entries are free: those that there is room for, less those that stand and those that are reserved. One
-    /// is reserved for a close, one for a reply that is awaited, two for each request that isn't finished, and one
-    /// for each outcome that isn't collected.
+    /// is reserved for a close, one for a reply that is awaited, two for each request that isn't finished and each
+    /// discovery that isn't answered, and one for each outcome that isn't collected.
     pub fn free(&self) -> usize
         ensures free { result ≡ free_entries self.now }
         ensures kept { length self.now.entries + reserved self.now.opening self.now.entries + result ≡ self.now.room }
@@ -228,9 +266,9 @@ impl Session {
         let room = self.log.room();
         let close = one_if(!self.controller.is_closed());
         let reply = one_if(self.controller.awaits());
-        let unfinished = self.controller.waiting();
+        let unended = self.controller.waiting() + self.controller.asked();
         let uncollected = self.controller.uncollected();
-        room - self.log.entries().len() - (close + reply + 2 * unfinished + uncollected)
+        room - self.log.entries().len() - (close + reply + 2 * unended + uncollected)
     }
 
     // Whether the log is full for the calls that it refuses.
@@ -248,7 +286,21 @@ impl Session {
         &self.log
     }
 
-    /// Whether nothing waits, is under way or is uncollected.
+    /// The devices that the last run without fault found; none before the first.
+    pub fn devices(&self) -> &DeviceSet
+        ensures { result.now ≡ known_devices self.now.opening self.now.entries }
+    {
+        self.controller.devices()
+    }
+
+    /// The number of the run that found them; 0 before the first.
+    pub fn devices_run(&self) -> u64
+        ensures { result ≡ devices_run self.now.opening self.now.entries }
+    {
+        self.controller.devices_run()
+    }
+
+    /// Whether nothing waits, is under way, is asked or is uncollected.
     pub fn is_idle(&self) -> bool
         ensures { result ≡ is_idle self.now.entries }
     {
@@ -306,10 +358,11 @@ fn opening_of(config: &Config) -> Opening
     }
 }
 
-// Finishes all that is due, with an entry for each.
+// Ends all that is due, with an entry for each.
 fn finish_due(controller: &mut Controller, log: &mut Log)
     requires { SessionAmid controller.old log.old }
-    ensures { FinishesDue log.old controller.new log.new }
+    ensures due { FinishesDue log.old controller.new log.new }
+    ensures in_bound { GrowsBy log.old (AnswersInBound log.old.opening log.old.entries) log.new }
 {
     while let Some(entry) = controller.finish_next() {
         log.append(entry);

@@ -1,9 +1,12 @@
 //! What lies outside the proofs: whole exchanges with bytes and statuses from outside, and that calls succeed.
 
+mod closed_runs;
 mod closing;
 mod controller;
+mod discoveries;
 mod faults;
 mod limits;
+mod lines;
 mod packets;
 mod parts;
 mod places;

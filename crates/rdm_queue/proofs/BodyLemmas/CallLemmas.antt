@@ -7,25 +7,39 @@ use Rattle.rdm_queue.specs.declared.entry.ClientId.{ClientId}
 use Rattle.rdm_queue.specs.declared.entry.Owner.{Owner}
 use Rattle.rdm_queue.specs.declared.entry.Opening.{Opening}
 use Rattle.rdm_queue.specs.declared.entry.Entry.{Entry}
-use Rattle.rdm_queue.specs.declared.entry.Entry.TheVariants.{Join, Accept, Send, Collect, Close}
+use Rattle.rdm_queue.specs.declared.entry.Entry.TheVariants.{Join, Accept, Ask, Send, Collect, Close}
 use Rattle.rdm_queue.specs.log.History.{is_closed}
 use Rattle.rdm_queue.specs.declared.fault.JoinFault.{JoinFault}
 use Rattle.rdm_queue.specs.declared.fault.SubmitFault.{SubmitFault}
+use Rattle.rdm_queue.specs.declared.fault.AskFault.{AskFault}
+use Rattle.rdm_agent.specs.declared.kind.Kind.{Kind}
 use Rattle.rdm_queue.specs.declared.outcome.Outcome.{Outcome}
-use Rattle.rdm_queue.specs.log.MaySend.{MaySend}
 use Rattle.rdm_queue.specs.log.Refusals.{join_fault}
 use Rattle.rdm_queue.specs.promises.Outcomes.{outcome_value}
-use Rattle.rdm_queue.specs.promises.Blocks.{RefusesJoin, join_refused, submit_refused, JoinAdds, SubmitAdds, SwitchAdds, CloseAdds, CollectAdds, IsWithResults, is_result}
-use Rattle.rdm_queue.specs.body.State.{QueueState, first_join_fault, first_submit_fault, accepts_request, IsGiven, owed_to, owed_value, without_first, due, IsFinished}
+use Rattle.rdm_queue.specs.promises.Blocks.{RefusesJoin, join_refused, submit_refused, ask_refused, JoinAdds, SubmitAdds, DiscoverAdds, SwitchAdds, CloseAdds, CollectAdds, IsWithResults, is_result, AllResults}
+use Rattle.rdm_queue.specs.body.State.{QueueState, first_join_fault, first_submit_fault, first_ask_fault, joins_client, accepts_request, asks_discovery, collects_oldest, owed_to, unended, OwedOutcome, owed_next, end_of_oldest}
+use Rattle.rdm_queue.specs.body.Ending.{IsEnded, HasNothingDue}
+use Rattle.rdm_queue.specs.promises.InBound.{FaultNeedsClose}
+use Rattle.rdm_queue.proofs.BodyLemmas.EndLemmas.{ends_amid, ends_in_bound_amid, settled_after}
+use Rattle.rdm_queue.specs.body.Ending.IsEnded.{ByRun, ByResult, ByClose}
+use Rattle.rdm_queue.specs.log.Entries.{Accepted}
+use Rattle.rdm_join.specs.Result.{Joined}
+use Rattle.std.proofs.lemmas.Option.{none-some}
+use Rattle.std.proofs.Common.{drop, arith}
 use Rattle.rdm_queue.specs.body.Agrees.{StandsAfter, StandsAmid, StandsWith, ForEachLog, ForEachBlock, AddsToEach, FinishesAll}
-use Rattle.rdm_queue.proofs.BodyLemmas.AfterLemmas.{join_fault_is, join_after, join_refused_after, submit_fault_is, submit_after, submit_refused_after, take_after, oldest_after, collect_after, none_owed_after}
-use Rattle.rdm_queue.proofs.BodyLemmas.AfterFinish.{finish_amid, settled_after, fewer_wait}
+use Rattle.rdm_queue.specs.log.MaySend.{MaySend, NoSend}
+use Rattle.rdm_queue.specs.body.Sending.{IsGiven, to_send}
+use Rattle.std.proofs.lemmas.Bool.{false≢true}
+use Rattle.std.specs.Prelude.{is_some}
+use Rattle.rdm_queue.proofs.BodyLemmas.RingLemmas.{all_push}
+use Rattle.rdm_queue.proofs.BodyLemmas.TakeLemmas.{take_after, none_after}
+use Rattle.rdm_queue.proofs.BodyLemmas.AfterLemmas.{join_fault_is, join_after, join_refused_after, submit_fault_is, submit_after, submit_refused_after, ask_fault_is, ask_after, ask_refused_after, oldest_after, collect_after, none_owed_after}
 
 -- a call that adds nothing
 pub adds_nothing : (o : Opening) (h : List Entry) (Adds : List Entry → Type 0) (s : QueueState) → Adds [] → StandsAfter o h s → StandsWith o h Adds s
 adds_nothing o h Adds s none after = record { block = []; adds = none; after = rw append-nil after }
 
-pub join_adds : (r : Result ClientId JoinFault) (s new : QueueState) (n : ℕ) → IfOk r (λ c. (first_join_fault s n ≡ None) × (c.0 ≡ length s.places) × (new ≡ record s { places = s.places ++ n ∷ [] }))
+pub join_adds : (r : Result ClientId JoinFault) (s new : QueueState) (n : ℕ) → IfOk r (λ c. (first_join_fault s n ≡ None) × (c.0 ≡ length s.places) × (new ≡ joins_client s n))
     → IfErr r (λ fault. RefusesJoin (first_join_fault s n) fault) → OnErr r (new ≡ s) → AddsToEach s (λ o h. JoinAdds o h n r) new
 join_adds (Ok c) s new n joined refused same = λ o h after.
     let passes = sym (join_fault_is o h s n after.stands) ∙ joined.0 in
@@ -43,10 +57,22 @@ submit_adds (Err e) s new c request accepted refused same = λ o h after.
     let refuses = sym (submit_fault_is o h s c.0 after) ∙ refused.0 in
     record { block = submit_refused c request e.0 ∷ []; adds = (refuses, refused.1, refl); after = rw same (submit_refused_after o h s c request e.0 refuses after) }
 
+pub ask_adds : (r : Result ℕ AskFault) (s new : QueueState) (c : ClientId) (kind : Kind) → IfOk r (λ n. (first_ask_fault s c.0 ≡ None) × (n ≡ s.next_ask) × (new ≡ asks_discovery s c.0 kind)) → IfErr r (λ fault. first_ask_fault s c.0 ≡ Some fault) → OnErr r (new ≡ s) → AddsToEach s (λ o h. DiscoverAdds o h c kind r) new
+ask_adds (Ok n) s new c kind accepted refused same = λ o h after.
+    let passes = sym (ask_fault_is o h s c.0 after) ∙ accepted.0 in
+    record { block = Ask c n kind ∷ []; adds = (passes, accepted.1 ∙ after.stands.next_ask_is, refl); after = rw accepted.2 (ask_after o h s c n kind passes accepted.1 after) }
+ask_adds (Err fault) s new c kind accepted refused same = λ o h after.
+    let refuses = sym (ask_fault_is o h s c.0 after) ∙ refused in
+    record { block = ask_refused c kind fault ∷ []; adds = (refuses, refl); after = rw same (ask_refused_after o h s c kind fault refuses after) }
+
 pub given_each : (r : Option (Owner × ArrayVec ℕ)) (s new : QueueState) → IfSome r (λ given. IsGiven s given.0 given.1 new)
     → IfSome r (λ given. ForEachLog s (λ o h. MaySend o h given.0 given.1 × StandsAfter o (h ++ Send given.0 given.1 ∷ []) new))
 given_each None s new given = tt
 given_each (Some g) s new given = λ o h after. let sent = take_after o h s g.0 g.1 new given after in (sent.may, sent.after)
+
+pub none_each : (r : Option (Owner × ArrayVec ℕ)) (s new : QueueState) → IfNone r ((to_send s ≡ None) × (new ≡ s)) → IfNone r (ForEachLog s (λ o h. NoSend o h) × (new ≡ s))
+none_each (Some g) s new none = tt
+none_each None s new none = ((λ o h after. none_after o h s none.0 after), none.1)
 
 -- a switch
 pub switch_adds : (o : Opening) (h : List Entry) (e : Entry) (b : Bool) (s new : QueueState) → (b ≡ true → StandsAfter o (h ++ e ∷ []) new) → (b ≡ false → StandsAfter o h new) → StandsWith o h (SwitchAdds b e) new
@@ -54,21 +80,43 @@ switch_adds o h e true s new turned stays = record { block = e ∷ []; adds = re
 switch_adds o h e false s new turned stays = adds_nothing o h (SwitchAdds false e) new refl (stays refl)
 
 -- a collect
-pub collect_adds : (r : Option Outcome) (s new : QueueState) (c : ClientId) → option_map outcome_value r ≡ option_map owed_value (slice_get (owed_to c.0 s) 0) → OnSome r (new ≡ record s { outcomes = without_first c.0 s.outcomes })
-    → IfNone r (new ≡ s) → AddsToEach s (λ o h. CollectAdds o h c r) new
+pub collect_adds : (r : Option Outcome) (s new : QueueState) (c : ClientId) → option_map outcome_value r ≡ slice_get (owed_to c.0 s) 0 → OnSome r (new ≡ collects_oldest s c.0) → IfNone r (new ≡ s) → AddsToEach s (λ o h. CollectAdds o h c r) new
 collect_adds None s new c told taken same = λ o h after. record { block = []; adds = (none_owed_after o h s c.0 told after, refl); after = rw (same, append-nil) after }
 collect_adds (Some outcome) s new c told taken same = λ o h after. record { block = Collect c ∷ []; adds = (oldest_after o h s c outcome told after, refl); after = rw taken (collect_after o h s c outcome told after) }
 
--- what is due
-pub finished_each : (r : Option Entry) (s new : QueueState) → IfSome r (λ entry. IsFinished s entry new) → IfSome r (λ entry. (is_result entry ≡ true) × ForEachBlock s (λ o h. StandsAmid o (h ++ entry ∷ []) new))
-finished_each None s new is = tt
-finished_each (Some entry) s new is = (rw is.entry_is refl, λ o h amid. rw (is.entry_is, is.new_is) (finish_amid o h s is.owed is.was_due amid))
+-- what ends is one fewer
+less_first : {X : Type 0} (xs : List X) (x : X) → slice_get xs 0 ≡ Some x → length (drop 1 xs) < length xs
+less_first [] x at = cc
+less_first (y ∷ xs) x at = omega arith
 
-pub finished_fewer : (r : Option Entry) (s new : QueueState) → IfSome r (λ entry. IsFinished s entry new) → OnSome r (length new.waiting < length s.waiting)
-finished_fewer None s new is = tt
-finished_fewer (Some entry) s new is = rw is.new_is (fewer_wait s is.owed is.was_due)
+less_due : (end : Option Joined) (waiting : List Accepted) (d : OwedOutcome) → owed_next end waiting ≡ Some d → length (drop 1 waiting) < length waiting
+less_due (Some done) (a ∷ waiting) d is = omega arith
+less_due (Some done) [] d is = absurd (none-some d is)
+less_due None waiting d is = absurd (none-some d is)
 
-pub settled_each : (r : Option Entry) (s new : QueueState) → IfNone r ((due s ≡ None) × (new ≡ s)) → IfNone r (ForEachBlock s (λ o h. StandsAfter o h s) × (new ≡ s))
+pub ends_fewer : (r : Option Entry) (s new : QueueState) → IfSome r (λ entry. IsEnded s entry new) → OnSome r (unended new < unended s)
+ends_fewer None s new is = tt
+ends_fewer (Some entry) s new is = by_kind is
+  where
+    by_kind : IsEnded s entry new → unended new < unended s
+    by_kind (ByRun e) = rw e.answers.new_is (let less = less_first s.asked e.answers.asked e.answers.oldest in omega arith)
+    by_kind (ByResult e) = rw e.finishes.new_is (let less = less_due (end_of_oldest s) s.waiting e.finishes.owed e.finishes.was_due in omega arith)
+    by_kind (ByClose e) = rw e.answers.new_is (let less = less_first s.asked e.answers.asked e.answers.oldest in omega arith)
+
+is_end : (s new : QueueState) (entry : Entry) → IsEnded s entry new → is_result entry ≡ true
+is_end s new entry (ByRun e) = rw e.answers.entry_is refl
+is_end s new entry (ByResult e) = rw e.finishes.entry_is refl
+is_end s new entry (ByClose e) = rw e.answers.entry_is refl
+
+pub ends_each : (r : Option Entry) (s new : QueueState) → IfSome r (λ entry. IsEnded s entry new) → IfSome r (λ entry. (is_result entry ≡ true) × ForEachBlock s (λ o h. StandsAmid o (h ++ entry ∷ []) new))
+ends_each None s new is = tt
+ends_each (Some entry) s new is = (is_end s new entry is, λ o h amid. ends_amid o h s new entry is amid)
+
+pub ends_in_bound : (r : Option Entry) (s new : QueueState) → IfSome r (λ entry. IsEnded s entry new) → IfSome r (λ entry. ForEachBlock s (λ o h. FaultNeedsClose o h entry))
+ends_in_bound None s new is = tt
+ends_in_bound (Some entry) s new is = λ o h amid. ends_in_bound_amid o h s new entry is amid
+
+pub settled_each : (r : Option Entry) (s new : QueueState) → IfNone r (HasNothingDue s × (new ≡ s)) → IfNone r (ForEachBlock s (λ o h. StandsAfter o h s) × (new ≡ s))
 settled_each (Some entry) s new is = tt
 settled_each None s new is = ((λ o h amid. settled_after o h s is.0 amid), is.1)
 
@@ -78,3 +126,8 @@ with_results o h e new all = record { block = e ∷ all.results; adds = record {
 
 pub close_adds : (o : Opening) (h : List Entry) (new : QueueState) → is_closed o h ≡ false → FinishesAll o (h ++ Close ∷ []) new → StandsWith o h (CloseAdds o h) new
 close_adds o h new open_ all = let with = with_results o h Close new all in record { block = with.block; adds = rw open_ with.adds; after = with.after }
+
+-- an entry more of what was due
+pub one_more_ended : (o : Opening) (h : List Entry) (r : Option Entry) (s new : QueueState) → is_some r ≡ true → IfSome r (λ entry. (is_result entry ≡ true) × ForEachBlock s (λ o h. StandsAmid o (h ++ entry ∷ []) new)) → (results : List Entry) × AllResults results × StandsAmid o (h ++ results) s → (results : List Entry) × AllResults results × StandsAmid o (h ++ results) new
+one_more_ended o h None s new some ends so_far = absurd (false≢true some)
+one_more_ended o h (Some entry) s new some ends so_far = (so_far.0 ++ entry ∷ [], all_push (λ r. is_result r ≡ true) so_far.0 entry so_far.1 ends.0, rw (← append_assoc h so_far.0 (entry ∷ [])) (ends.1 o (h ++ so_far.0) so_far.2))

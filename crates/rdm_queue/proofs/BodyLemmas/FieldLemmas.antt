@@ -1,7 +1,7 @@
 -- The clients' rings, as the lists of a queue's state.
-use Rattle.std.proofs.Common.{◌≡◌, ℕ, ◌+◌, ◌<◌, ◌≤◌, true, false, List, [], ◌∷◌, ◌++◌, length, take, set, get_or, Some, None, slice_get, refl, sym, ap, ◌∙◌, inl, inr, arith}
+use Rattle.std.proofs.Common.{◌≡◌, ℕ, ◌+◌, ◌-◌, ◌<◌, map, sum, ◌≤◌, true, false, List, [], ◌∷◌, ◌++◌, length, take, set, get_or, Some, None, slice_get, refl, sym, ap, ◌∙◌, inl, inr, arith}
 use Rattle.std.specs.Prelude.{◌⊎◌, ◌==◌, ◌||◌, nat_le, if◌then◌else◌}
-use Rattle.std.specs.List.{refill, sum_by}
+use Rattle.std.specs.List.{refill, sum_by, list_any}
 use Rattle.std.specs.VecDeque.{deque_len}
 use Rattle.std.proofs.lemmas.Bool.{le-leb, lt-leb, eq-eqb, ne_eqb, cases_eq}
 use Rattle.std.proofs.lemmas.Option.{slice_get-get_or}
@@ -10,22 +10,26 @@ use Rattle.std.proofs.lemmas.List.Sums.{sum_by-cons}
 use Rattle.rdm_queue.specs.declared.client.Client.{Client}
 use Rattle.rdm_queue.specs.declared.config.Config.{Config}
 use Rattle.rdm_queue.specs.declared.fault.SubmitFault.TheVariants as submit_faults
+use Rattle.rdm_queue.specs.declared.fault.AskFault.TheVariants as ask_faults
+use Rattle.rdm_queue.specs.declared.queue.Asked.{Asked}
+use Rattle.rdm_queue.specs.log.Entries.{AskedDiscovery}
+use Rattle.rdm_queue.specs.log.Runs.{is_full_kind}
 use Rattle.rdm_queue.specs.log.Config.{IsConfig}
+use Rattle.rdm_queue.specs.promises.Outcomes.{OutcomeValue}
+use Rattle.rdm_queue.specs.body.Rings.{owed_values}
 use Rattle.rdm_queue.specs.body.Merged.{merged}
-use Rattle.rdm_queue.specs.body.Fields.{accepted_is, owed_is, waiting_ring, outcome_ring, rings_from, waiting_rings, outcome_rings, places_of}
+use Rattle.rdm_queue.specs.body.Fields.{accepted_is, asked_is, waiting_ring, rings_from, waiting_rings, owed_rings, places_of}
 use Rattle.rdm_queue.specs.body.QueueInvariant.{StateInvariant, QueueInvariant}
-use Rattle.rdm_queue.specs.body.State.{QueueState, first_state, first_submit_fault}
-use Rattle.rdm_queue.proofs.BodyLemmas.InvariantLemmas.{waiting_rises, outcomes_rise, has_place}
+use Rattle.rdm_queue.specs.body.State.{QueueState, first_state, first_submit_fault, first_ask_fault, asked_of, uncollected}
+use Rattle.rdm_queue.proofs.BodyLemmas.InvariantLemmas.{waiting_rises, has_place}
 use Rattle.rdm_queue.proofs.BodyLemmas.MergedLemmas.{merged_shares, length-put_all}
-use Rattle.rdm_queue.proofs.BodyLemmas.OutstandingLemmas.{all-outstanding}
-use Rattle.rdm_queue.proofs.BodyLemmas.OutcomeLemmas.{place_within}
-use Rattle.rdm_queue.proofs.BodyLemmas.RingSteps.{outstanding_count, places_at}
+use Rattle.rdm_queue.proofs.BodyLemmas.OutstandingLemmas.{waiting-le, uncollected-le}
+use Rattle.rdm_queue.proofs.BodyLemmas.ValueLemmas.{length-values}
+use Rattle.rdm_queue.proofs.LogLemmas.Places.{place_within}
+use Rattle.rdm_queue.proofs.BodyLemmas.RingSteps.{outstanding_count, sets_count, places_at}
 
 pub waiting_are : (s : QueueState) (clients : List Client) → QueueInvariant s clients → merged (λ a. a.number) (waiting_rings clients) ≡ s.waiting
 waiting_are s clients held = merged_shares (λ a. a.client) (λ a. a.number) (waiting_rings clients) s.waiting (waiting_rises s held.state) held.rings.waiting
-
-pub outcomes_are : (s : QueueState) (clients : List Client) → QueueInvariant s clients → merged (λ d. d.number) (outcome_rings clients) ≡ s.outcomes
-outcomes_are s clients held = merged_shares (λ d. d.client) (λ d. d.number) (outcome_rings clients) s.outcomes (outcomes_rise s held.state) held.rings.outcomes
 
 -- without clients
 pub first_kept : (config : Config) → IsConfig config → QueueInvariant (first_state config) []
@@ -36,11 +40,18 @@ first_kept config is = record {
     greatest = is.places;
     budget = is.budget;
     few_places = omega arith;
+    few_clients = omega arith;
+    owed_for_each = refl;
     few = λ c. omega arith;
+    few_asks = λ c. omega arith;
     rising = (tt, tt);
     open_ = tt;
+    asks_numbered = omega arith;
+    served = omega arith;
+    serves = tt;
+    runs_numbered = omega arith;
   };
-  rings = record { waiting = λ c. refl; outcomes = λ c. refl; sizes = tt };
+  rings = record { waiting = λ c. refl; sizes = tt; sets = tt };
 }
 
 -- a list with one element written
@@ -59,10 +70,10 @@ pub found_at : {X : Type 0} (xs ys : List X) (i : ℕ) (x : X) → ys ≡ xs →
 found_at xs ys i x same within is = ap (λ l. slice_get l i) (sym same) ∙ (slice_get-get_or ys i x within ∙ ap (λ y. Some y) (sym is))
 
 -- of a client that has joined, a submit's first fault but for a close
-pub fault_of : (s : QueueState) (clients : List Client) (c : ℕ) (k : Client) → QueueInvariant s clients → s.places ≡ places_of clients → slice_get clients c ≡ Some k → s.closed ≡ false
-    → first_submit_fault s c ≡ (if nat_le k.places (deque_len k.waiting + deque_len k.outcomes) || nat_le 18446744073709551615 s.next_request then Some submit_faults.Full else None)
-fault_of s clients c k held same at open_ =
-    rw (open_, known, outstanding_count s clients c k held.rings at, ← places_at clients c k at, ← same) refl
+pub fault_of : (s : QueueState) (clients : List Client) (c : ℕ) (k : Client) → QueueInvariant s clients → s.places ≡ places_of clients → s.owed ≡ owed_rings clients → slice_get clients c ≡ Some k → s.closed ≡ false
+    → first_submit_fault s c ≡ (if nat_le k.places (deque_len k.waiting + (deque_len k.outcomes - deque_len k.sets)) || nat_le 18446744073709551615 s.next_request then Some submit_faults.Full else None)
+fault_of s clients c k held same owed at open_ =
+    rw (open_, known, outstanding_count s clients c k owed held.rings at, ← places_at clients c k at, ← same) refl
   where
     known : nat_le (length s.places) c ≡ false
     known = let within = place_within clients c k at in let long = ap (λ ns. length ns) same ∙ length-map clients (λ l. l.places) in lt-leb (length s.places) c (omega arith)
@@ -80,15 +91,16 @@ length-merged number ring count counts from (k ∷ clients) =
 pub waiting_sum : (clients : List Client) → sum_by (λ k. deque_len k.waiting) clients ≡ length (merged (λ a. a.number) (waiting_rings clients))
 waiting_sum clients = length-merged (λ a. a.number) waiting_ring (λ k. deque_len k.waiting) (λ i k. length-map k.waiting.items (accepted_is i) ∙ sym k.waiting.ok.0) 0 clients
 
-pub outcomes_sum : (clients : List Client) → sum_by (λ k. deque_len k.outcomes) clients ≡ length (merged (λ d. d.number) (outcome_rings clients))
-outcomes_sum clients = length-merged (λ d. d.number) outcome_ring (λ k. deque_len k.outcomes) (λ i k. length-map k.outcomes.items (owed_is i) ∙ sym k.outcomes.ok.0) 0 clients
+pub outcomes_sum : (clients : List Client) → sum_by (λ k. deque_len k.outcomes) clients ≡ sum (map (λ ds. length ds) (owed_rings clients))
+outcomes_sum [] = refl
+outcomes_sum (k ∷ clients) = sum_by-cons (λ l. deque_len l.outcomes) k clients ∙ let rest = outcomes_sum clients in let here = k.outcomes.ok.0 ∙ sym (length-values k.outcomes.items k.sets.items) in let whole = sum_by-cons (λ (m : ℕ). m) (length (owed_values k)) (map (λ (ds : List OutcomeValue). length ds) (owed_rings clients)) in omega arith
 
 -- all of them are few
 pub waiting_fit : (s : QueueState) → StateInvariant s → length s.waiting < 18446744073709551616
-waiting_fit s held = let all = all-outstanding s held in omega (arith, held.few_places, held.greatest)
+waiting_fit s held = let all = waiting-le s held in omega (arith, held.few_places, held.greatest)
 
-pub outcomes_fit : (s : QueueState) → StateInvariant s → length s.outcomes < 18446744073709551616
-outcomes_fit s held = let all = all-outstanding s held in omega (arith, held.few_places, held.greatest)
+pub outcomes_fit : (s : QueueState) → StateInvariant s → uncollected s < 18446744073709551616
+outcomes_fit s held = let all = uncollected-le s held in omega (arith, held.few_places, held.greatest, held.few_clients)
 
 -- a client whose submit isn't refused has joined
 pub known_client : (s : QueueState) (clients : List Client) (c : ℕ) → s.places ≡ places_of clients → first_submit_fault s c ≡ None → c < length clients
@@ -107,3 +119,16 @@ full_by_number places count next free fits = rw (lt-leb places count free) (by_c
     by_case : (next ≡ 18446744073709551615) ⊎ (next ≡ 18446744073709551615 → ⊥) → nat_le 18446744073709551615 next ≡ (next == 18446744073709551615)
     by_case (inl last) = rw (eq-eqb next 18446744073709551615 last) (le-leb 18446744073709551615 next (omega arith))
     by_case (inr other) = rw (ne_eqb next 18446744073709551615 other) (lt-leb 18446744073709551615 next (omega arith))
+
+-- one of the discoveries that are asked is full
+pub any_asked : (xs : List Asked) → list_any (λ (a : AskedDiscovery). is_full_kind a.kind) (map asked_is xs) ≡ list_any (λ (a : Asked). is_full_kind a.kind) xs
+any_asked [] = refl
+any_asked (a ∷ xs) = ap (λ b. is_full_kind a.kind || b) (any_asked xs)
+
+-- of a client that has joined, a discover's first fault but for a close
+pub ask_fault_of : (s : QueueState) (clients : List Client) (c : ℕ) (k : Client) → QueueInvariant s clients → s.places ≡ places_of clients → s.owed ≡ owed_rings clients → slice_get clients c ≡ Some k → s.closed ≡ false
+    → first_ask_fault s c ≡ (if nat_le 4 (length (asked_of c s) + deque_len k.sets) || nat_le 18446744073709551614 s.next_ask then Some ask_faults.Full else None)
+ask_fault_of s clients c k held same owed at open_ = rw (open_, known, sets_count s clients c k owed held.rings at) refl
+  where
+    known : nat_le (length s.places) c ≡ false
+    known = let within = place_within clients c k at in let long = ap (λ ns. length ns) same ∙ length-map clients (λ l. l.places) in lt-leb (length s.places) c (omega arith)

@@ -15,7 +15,7 @@ use Rattle.rdm_queue.specs.body.Fields.{accepted_is, waiting_ring, waiting_rings
 use Rattle.rdm_queue.specs.body.QueueInvariant.{QueueInvariant}
 use Rattle.rdm_queue.specs.body.State.{QueueState}
 use Rattle.rdm_queue.proofs.BodyLemmas.InvariantLemmas.{waiting_rises}
-use Rattle.rdm_queue.proofs.BodyLemmas.OutcomeLemmas.{place_within}
+use Rattle.rdm_queue.proofs.LogLemmas.Places.{place_within}
 use Rattle.rdm_queue.proofs.BodyLemmas.MergedLemmas.{all_passed}
 use Rattle.rdm_queue.proofs.BodyLemmas.RingLemmas.{ring_of, ring_past}
 

@@ -1,5 +1,5 @@
 -- What a reply makes of the oldest request.
-use Rattle.std.proofs.Common.{◌≡◌, ◌<◌, List, length, Option, Some, None, refl, ◌∙◌, inl, inr}
+use Rattle.std.proofs.Common.{◌≡◌, ◌<◌, List, [], ◌∷◌, length, slice_get, Option, Some, None, refl, ◌∙◌, inl, inr}
 use Rattle.std.specs.Prelude.{◌⊎◌}
 use Rattle.rdm_join.specs.declared.verdict.Judged.{Judged}
 use Rattle.rdm_join.specs.declared.status.Status.{Status}
@@ -7,7 +7,9 @@ use Rattle.rdm_join.specs.declared.status.Status.TheVariants.{NoMemory}
 use Rattle.rdm_join.specs.declared.joiner.Step.TheVariants.{More, Done}
 use Rattle.rdm_join.specs.Result.{Joined, result_of, ended}
 use Rattle.rdm_join.specs.JoinerStanding.{JoinerStanding, StandsAt, standing_at, step_of, head_of_standing}
-use Rattle.rdm_queue.specs.body.State.{fresh_joiner, GivesResult, ProgressAt, IsProgress}
+use Rattle.rdm_queue.specs.declared.entry.Entry.{Entry}
+use Rattle.rdm_queue.specs.log.Entries.{Accepted}
+use Rattle.rdm_queue.specs.body.State.{QueueState, fresh_joiner, GivesResult, ProgressAt, IsProgress, end_of_oldest, owed_next, owed_for, finish_of, finishes_oldest, IsFinished}
 
 -- the completion of a joiner that stands at a result
 abbrev pub CompletesAs : Status → JoinerStanding → Joined → Type 0
@@ -42,3 +44,16 @@ heard_more vs s step at = by_result (result_of vs) refl step
       where
         no : More ≡ Done j.status → ⊥
         no h = cc
+
+-- the oldest request finished so, once its end was taken out
+pub finished_so : (s taken new : QueueState) (done : Joined) (entry : Entry) → end_of_oldest s ≡ Some done → taken ≡ record s { decided = None } → (a : Accepted) × (slice_get taken.waiting 0 ≡ Some a) × (entry ≡ finish_of (owed_for done a)) × (new ≡ finishes_oldest taken (owed_for done a)) → IsFinished s entry new
+finished_so s taken new done entry end is finished = record {
+  owed = owed_for done finished.0;
+  was_due = rw end (of_first s.waiting (rw is at finished.1));
+  entry_is = finished.2;
+  new_is = finished.3 ∙ rw is refl;
+}
+  where
+    of_first : (ws : List Accepted) → slice_get ws 0 ≡ Some finished.0 → owed_next (Some done) ws ≡ Some (owed_for done finished.0)
+    of_first [] at = cc
+    of_first (w ∷ ws) at = let same : w ≡ finished.0 = cc in rw same refl

@@ -1,48 +1,65 @@
 -- What a queue's state keeps, through its calls.
-use Rattle.std.proofs.Common.{◌≡◌, ℕ, ◌+◌, ◌≤◌, ◌<◌, Bool, true, false, cond, List, [], ◌∷◌, ◌++◌, length, drop, filter, map, sum, Some, None, slice_get, sym, ap, ◌∙◌, subst, inl, inr, length-append, arith}
+use Rattle.std.proofs.Common.{◌≡◌, ℕ, zero, suc, ◌+◌, ◌-◌, ◌≤◌, ◌<◌, Bool, true, false, cond, not, List, [], ◌∷◌, ◌++◌, length, drop, get_or, set, filter, map, sum, Option, Some, None, slice_get, refl, sym, ap, ◌∙◌, subst, inl, inr, length-append, arith}
 use Rattle.std.specs.List.{AllByRecursion}
-use Rattle.std.specs.Prelude.{◌⊎◌, ◌==◌, ◌||◌, nat_le, nat_lt, slice_index, if◌then◌else◌}
-use Rattle.std.proofs.lemmas.Bool.{eqb-true, leb-false, ltb-false, or_parts, cases_Bool, cases_lt}
-use Rattle.std.proofs.lemmas.List.{map-append, append_assoc, get_or_append_left, get_or_past}
+use Rattle.std.specs.Prelude.{◌⊎◌, ◌==◌, ◌||◌, nat_le, nat_lt, slice_index, if◌then◌else◌, MatchOption}
+use Rattle.std.proofs.lemmas.Bool.{eqb-true, eq-eqb, leb-false, ltb-false, or_parts, cases_lt, cases_eq}
+use Rattle.std.proofs.lemmas.List.{map-append, get_or_append_left, get_or_past, get_or-set_same, get_or-set_other, length-set, length-map, length-drop}
 use Rattle.std.proofs.lemmas.List.Sums.{sum_by-append}
-use Rattle.std.proofs.lemmas.List.Elements.{filter-append}
 use Rattle.rdm_wire.specs.Uid.{IsAscending}
 use Rattle.rdm_wire.specs.declared.request.Request.{Request}
 use Rattle.rdm_join.specs.Result.{Joined}
+use Rattle.rdm_agent.specs.declared.kind.Kind.{Kind}
+use Rattle.rdm_agent.specs.declared.kind.Kind.TheVariants.{Full}
 use Rattle.rdm_queue.specs.declared.fault.JoinFault.TheVariants as join_faults
 use Rattle.rdm_queue.specs.declared.fault.SubmitFault.TheVariants as submit_faults
-use Rattle.rdm_queue.specs.log.Entries.{Accepted}
-use Rattle.rdm_queue.specs.body.QueueInvariant.{StateInvariant, numbers}
-use Rattle.rdm_queue.specs.body.State.{QueueState, OwedOutcome, outstanding, owed_for, finishes_oldest, accepts_request, accepted_as, first_join_fault, first_submit_fault, without_first}
+use Rattle.rdm_queue.specs.declared.fault.AskFault.TheVariants as ask_faults
+use Rattle.rdm_queue.specs.log.Entries.{Accepted, AskedDiscovery}
+use Rattle.rdm_queue.specs.promises.Outcomes.{OutcomeValue}
+use Rattle.rdm_queue.specs.body.QueueInvariant.{StateInvariant, numbers, served_by}
+use Rattle.rdm_queue.specs.body.State.{QueueState, RunState, outstanding, outstanding_asks, owes, is_discovery, owed_for, finishes_oldest, accepts_request, accepted_as, asks_discovery, asked_as, joins_client, collects_oldest, first_join_fault, first_submit_fault, first_ask_fault}
+use Rattle.rdm_queue.specs.body.Sending.{begun}
 use Rattle.rdm_queue.proofs.LogLemmas.RefusalLemmas.{none_stands}
 use Rattle.rdm_queue.proofs.LogLemmas.Places.{slice_get_first}
-use Rattle.rdm_queue.proofs.BodyLemmas.OutstandingLemmas.{outstanding-finishes}
-
--- rising numbers in two parts
-rising_left : (ns ms : List ℕ) → IsAscending (ns ++ ms) → IsAscending ns
-rising_left [] ms rising = tt
-rising_left (n ∷ ns) ms rising = (all_left ns rising.0, rising_left ns ms rising.1)
-  where
-    all_left : (ks : List ℕ) → AllByRecursion (λ v. n < v) (ks ++ ms) → AllByRecursion (λ v. n < v) ks
-    all_left [] all = tt
-    all_left (k ∷ ks) all = (all.0, all_left ks all.1)
-
-rising_right : (ns ms : List ℕ) → IsAscending (ns ++ ms) → IsAscending ms
-rising_right [] ms rising = rising
-rising_right (n ∷ ns) ms rising = rising_right ns ms rising.1
-
-pub outcomes_rise : (s : QueueState) → StateInvariant s → IsAscending (map (λ (d : OwedOutcome). d.number) s.outcomes)
-outcomes_rise s held = rising_left (map (λ (d : OwedOutcome). d.number) s.outcomes) (map (λ (a : Accepted). a.number) s.waiting ++ s.next_request ∷ []) held.rising
+use Rattle.rdm_queue.proofs.BodyLemmas.OutstandingLemmas.{owes-count, without_first, one_more, four, asked-le}
 
 pub waiting_rises : (s : QueueState) → StateInvariant s → IsAscending (map (λ (a : Accepted). a.number) s.waiting)
-waiting_rises s held = rising_left (map (λ (a : Accepted). a.number) s.waiting) (s.next_request ∷ []) (rising_right (map (λ (d : OwedOutcome). d.number) s.outcomes) (map (λ (a : Accepted). a.number) s.waiting ++ s.next_request ∷ []) held.rising)
+waiting_rises s held = rising_left (map (λ (a : Accepted). a.number) s.waiting) (s.next_request ∷ []) held.rising
+  where
+    rising_left : (ns ms : List ℕ) → IsAscending (ns ++ ms) → IsAscending ns
+    rising_left [] ms rising = tt
+    rising_left (n ∷ ns) ms rising = (all_left ns rising.0, rising_left ns ms rising.1)
+      where
+        all_left : (ks : List ℕ) → AllByRecursion (λ v. n < v) (ks ++ ms) → AllByRecursion (λ v. n < v) ks
+        all_left [] all = tt
+        all_left (k ∷ ks) all = (all.0, all_left ks all.1)
 
--- the oldest may be finished
-numbers-finishes : (s : QueueState) (j : Joined) (a : Accepted) → slice_get s.waiting 0 ≡ Some a → numbers (finishes_oldest s (owed_for j a)) ≡ numbers s
-numbers-finishes s j a at =
-    rw (slice_get_first s.waiting a at)
-    (ap (λ ns. ns ++ (map (λ (b : Accepted). b.number) (drop 1 s.waiting) ++ s.next_request ∷ [])) (map-append (λ (d : OwedOutcome). d.number) s.outcomes (owed_for j a ∷ []))
-    ∙ append_assoc (map (λ (d : OwedOutcome). d.number) s.outcomes) (a.number ∷ []) (map (λ (b : Accepted). b.number) (drop 1 s.waiting) ++ s.next_request ∷ []))
+-- the client of the oldest request, and of the oldest discovery, has joined
+some_place : {n : ℕ} (ns : List ℕ) (c : ℕ) → 1 ≤ n → n ≤ get_or ns c 0 → c < length ns
+some_place ns c some fits = by_length (cases_lt c (length ns))
+  where
+    no : {m : ℕ} → m ≡ 0 → 1 ≤ m → ⊥
+    no e p = omega arith
+
+    by_length : (c < length ns) ⊎ (length ns ≤ c) → c < length ns
+    by_length (inl here) = here
+    by_length (inr past) = absurd (no (get_or_past ns c 0 past) (omega (arith, some, fits)))
+
+pub first_counts : {X : Type 0} (client : X → ℕ) (xs : List X) (x : X) → slice_get xs 0 ≡ Some x → 1 ≤ length (filter (λ y. client x == client y) xs)
+first_counts {X} client xs x at = let all = without_first client (client x) xs x at in let same = eq-eqb (client x) (client x) refl in counted _ _ (client x == client x) same all
+  where
+    counted : (n m : ℕ) (b : Bool) → b ≡ true → n + cond b 1 0 ≡ m → 1 ≤ m
+    counted n m true is e = omega arith
+    counted n m false is e = cc
+
+pub waiting_joined : (s : QueueState) (a : Accepted) → StateInvariant s → slice_get s.waiting 0 ≡ Some a → a.client < length s.places
+waiting_joined s a held at = some_place s.places a.client (first_counts (λ (b : Accepted). b.client) s.waiting a at) (let few = held.few a.client in omega arith)
+
+pub asked_joined : (s : QueueState) (a : AskedDiscovery) → StateInvariant s → slice_get s.asked 0 ≡ Some a → a.client < length s.places
+asked_joined s a held at = subst (λ n. a.client < n) (length-map s.places (λ (n : ℕ). 4)) (some_place (map (λ (n : ℕ). 4) s.places) a.client (first_counts (λ (b : AskedDiscovery). b.client) s.asked a at) (let few = held.few_asks a.client in omega arith))
+
+-- the oldest request may be finished
+rest_rises : (a : Accepted) (rest : List Accepted) (n : ℕ) → IsAscending (map (λ (b : Accepted). b.number) (a ∷ rest) ++ n ∷ []) → IsAscending (map (λ (b : Accepted). b.number) rest ++ n ∷ [])
+rest_rises a rest n rising = rising.1
 
 pub held-finishes : (s : QueueState) (j : Joined) (a : Accepted) → StateInvariant s → slice_get s.waiting 0 ≡ Some a → StateInvariant (finishes_oldest s (owed_for j a))
 held-finishes s j a held at = record {
@@ -50,10 +67,59 @@ held-finishes s j a held at = record {
   greatest = held.greatest;
   budget = held.budget;
   few_places = held.few_places;
-  few = λ c. rw (outstanding-finishes c s j a at) (held.few c);
-  rising = subst IsAscending (sym (numbers-finishes s j a at)) held.rising;
+  few_clients = held.few_clients;
+  owed_for_each = length-set s.owed a.client _ ∙ held.owed_for_each;
+  few = λ c. moves _ _ _ _ _ (c == a.client) (owes-count (λ d. not (is_discovery d)) s a.client c _ within) (without_first (λ (b : Accepted). b.client) c s.waiting a at) (held.few c);
+  few_asks = λ c. let owed = owes-count is_discovery s a.client c _ within in let few = held.few_asks c in fewer _ _ _ _ (c == a.client) owed few;
+  rising = rest_rises a (drop 1 s.waiting) s.next_request (subst (λ ws. IsAscending (map (λ (b : Accepted). b.number) ws ++ s.next_request ∷ [])) (slice_get_first s.waiting a at) held.rising);
   open_ = tt;
+  asks_numbered = held.asks_numbered;
+  served = held.served;
+  serves = held.serves;
+  runs_numbered = held.runs_numbered;
 }
+  where
+    within : a.client < length s.owed
+    within = let joined = waiting_joined s a held at in let same = held.owed_for_each in omega arith
+
+    moves : (n m k l t : ℕ) (b : Bool) → n ≡ m + cond b 1 0 → k + cond b 1 0 ≡ l → l + m ≤ t → k + n ≤ t
+    moves n m k l t true p q r = omega arith
+    moves n m k l t false p q r = omega arith
+
+    fewer : (n m k t : ℕ) (b : Bool) → n ≡ m + cond b 0 0 → k + m ≤ t → k + n ≤ t
+    fewer n m k t true p q = omega arith
+    fewer n m k t false p q = omega arith
+
+-- the oldest discovery may be answered
+pub held-answers : (s : QueueState) (a : AskedDiscovery) (d : OutcomeValue) (run : Option RunState) → StateInvariant s → slice_get s.asked 0 ≡ Some a → is_discovery d ≡ true → MatchOption run (Unit {0}) (λ r. 1 ≤ r.left) → served_by s.run ≤ served_by run + 1 → served_by run ≤ served_by s.run → served_by run + 1 ≤ length s.asked
+    → (new : QueueState) → new ≡ record s { asked = drop 1 s.asked; owed = owes a.client d s; run = run; agent = new.agent; devices = new.devices; devices_run = new.devices_run } → StateInvariant new
+held-answers s a d run held at discovery serves less most within new is = rw is (record {
+  source = held.source;
+  greatest = held.greatest;
+  budget = held.budget;
+  few_places = held.few_places;
+  few_clients = held.few_clients;
+  owed_for_each = length-set s.owed a.client _ ∙ held.owed_for_each;
+  few = λ c. let owed = owes-count (λ e. not (is_discovery e)) s a.client c d inside in let few = held.few c in fewer _ _ _ _ (c == a.client) (rw discovery at owed) few;
+  few_asks = λ c. let moved = without_first (λ (b : AskedDiscovery). b.client) c s.asked a at in let owed = owes-count is_discovery s a.client c d inside in let few = held.few_asks c in same _ _ _ _ _ (c == a.client) (rw discovery at owed) moved few;
+  rising = held.rising;
+  open_ = held.open_;
+  asks_numbered = held.asks_numbered;
+  served = let long = length-drop 1 s.asked in omega arith;
+  serves = serves;
+  runs_numbered = let long = length-drop 1 s.asked in let numbered = held.runs_numbered in let kept = held.served in omega arith;
+})
+  where
+    inside : a.client < length s.owed
+    inside = let joined = asked_joined s a held at in let same = held.owed_for_each in omega arith
+
+    fewer : (n m k t : ℕ) (b : Bool) → n ≡ m + cond b 0 0 → k + m ≤ t → k + n ≤ t
+    fewer n m k t true p q = omega arith
+    fewer n m k t false p q = omega arith
+
+    same : (n m k l t : ℕ) (b : Bool) → n ≡ m + cond b 1 0 → k + cond b 1 0 ≡ l → l + m ≤ t → k + n ≤ t
+    same n m k l t true p q r = omega arith
+    same n m k l t false p q r = omega arith
 
 -- a request more, of a client that has joined and has a place for it
 pub record HasPlace (s : QueueState) (c : ℕ) : Type 0 where
@@ -72,13 +138,6 @@ has_place s c passes =
     is_full : Bool
     is_full = nat_le (slice_index s.places c) (outstanding c s) || nat_le 18446744073709551615 s.next_request
 
-more_waiting : (s : QueueState) (c : ℕ) (request : Request) (client : ℕ) → outstanding client (accepts_request s c request) ≡ outstanding client s + cond (client == c) 1 0
-more_waiting s c request client = rw (filter-append (λ a. client == a.client) s.waiting (accepted_as s c request ∷ []), length-append (filter (λ (a : Accepted). client == a.client) s.waiting) (filter (λ (a : Accepted). client == a.client) (accepted_as s c request ∷ []))) (by_test (client == c))
-  where
-    by_test : (b : Bool) → length (filter (λ (a : Accepted). client == a.client) s.waiting) + length (cond b (accepted_as s c request ∷ []) []) + length (filter (λ (d : OwedOutcome). client == d.client) s.outcomes) ≡ outstanding client s + cond b 1 0
-    by_test true = omega arith
-    by_test false = omega arith
-
 -- a higher number at the end
 rising_push : (ns : List ℕ) (n m : ℕ) → IsAscending (ns ++ n ∷ []) → n < m → IsAscending ((ns ++ n ∷ []) ++ m ∷ [])
 rising_push [] n m rising less = ((less, tt), (tt, tt))
@@ -89,14 +148,11 @@ rising_push (k ∷ ns) n m rising less = (all_more ns rising.0, rising_push ns n
     all_more (j ∷ ks) all = (all.0, all_more ks all.1)
 
 rising-accepts : (s : QueueState) (c : ℕ) (request : Request) → IsAscending (numbers s) → IsAscending (numbers (accepts_request s c request))
-rising-accepts s c request rising =
-    let owes : List ℕ = map (λ (d : OwedOutcome). d.number) s.outcomes in
-    let waits : List ℕ = map (λ (a : Accepted). a.number) s.waiting in
-    let before : numbers s ≡ (owes ++ waits) ++ s.next_request ∷ [] = sym (append_assoc owes waits (s.next_request ∷ [])) in
-    let after : numbers (accepts_request s c request) ≡ ((owes ++ waits) ++ s.next_request ∷ []) ++ (s.next_request + 1) ∷ [] =
-    ap (λ ns. owes ++ (ns ++ (s.next_request + 1) ∷ [])) (map-append (λ (a : Accepted). a.number) s.waiting (accepted_as s c request ∷ []))
-    ∙ simp append_assoc in
-    subst IsAscending (sym after) (rising_push (owes ++ waits) s.next_request (s.next_request + 1) (subst IsAscending before rising) (omega arith))
+rising-accepts s c request rising = subst IsAscending (sym (ap (λ ns. ns ++ (s.next_request + 1) ∷ []) (map-append (λ (a : Accepted). a.number) s.waiting (accepted_as s c request ∷ [])))) (rising_push (map (λ (a : Accepted). a.number) s.waiting) s.next_request (s.next_request + 1) rising (omega arith))
+
+more_fits : (w v k t : ℕ) (b : Bool) → v ≡ w + cond b 1 0 → w + k ≤ t → (b ≡ true → w + k < t) → v + k ≤ t
+more_fits w v k t true p q r = let less = r refl in omega arith
+more_fits w v k t false p q r = omega arith
 
 pub held-accepts : (s : QueueState) (c : ℕ) (request : Request) → StateInvariant s → first_submit_fault s c ≡ None → StateInvariant (accepts_request s c request)
 held-accepts s c request held passes = record {
@@ -104,94 +160,169 @@ held-accepts s c request held passes = record {
   greatest = held.greatest;
   budget = held.budget;
   few_places = held.few_places;
-  few = λ client. rw (more_waiting s c request client) (at client (cases_Bool (client == c)));
+  few_clients = held.few_clients;
+  owed_for_each = held.owed_for_each;
+  few = λ client. more_fits _ _ _ _ (client == c) (one_more (λ (a : Accepted). a.client) client s.waiting (accepted_as s c request)) (held.few client) (λ own. rw (eqb-true client c own) (has_place s c passes).free);
+  few_asks = held.few_asks;
   rising = rising-accepts s c request held.rising;
   open_ = held.open_;
+  asks_numbered = held.asks_numbered;
+  served = held.served;
+  serves = held.serves;
+  runs_numbered = held.runs_numbered;
+}
+
+-- a discovery more, of a client that has joined and has fewer than four
+pub record HasAsk (s : QueueState) (c : ℕ) : Type 0 where
+  pub joined : c < length s.places
+  pub free : outstanding_asks c s < 4
+  pub number : s.next_ask < 18446744073709551614
+
+pub has_ask : (s : QueueState) (c : ℕ) → first_ask_fault s c ≡ None → HasAsk s c
+has_ask s c passes =
+    let closed = none_stands s.closed ask_faults.Closed (if nat_le (length s.places) c then Some ask_faults.UnknownClient else (if is_full then Some ask_faults.Full else None)) passes in
+    let unknown = none_stands (nat_le (length s.places) c) ask_faults.UnknownClient (if is_full then Some ask_faults.Full else None) closed.1 in
+    let full = none_stands is_full ask_faults.Full None unknown.1 in
+    let parts = or_parts (nat_le 4 (outstanding_asks c s)) (nat_le 18446744073709551614 s.next_ask) full.0 in
+    record { joined = leb-false _ _ unknown.0; free = leb-false _ _ parts.0; number = leb-false _ _ parts.1 }
+  where
+    is_full : Bool
+    is_full = nat_le 4 (outstanding_asks c s) || nat_le 18446744073709551614 s.next_ask
+
+pub held-asks : (s : QueueState) (c : ℕ) (kind : Kind) → StateInvariant s → first_ask_fault s c ≡ None → StateInvariant (asks_discovery s c kind)
+held-asks s c kind held passes = record {
+  source = held.source;
+  greatest = held.greatest;
+  budget = held.budget;
+  few_places = held.few_places;
+  few_clients = held.few_clients;
+  owed_for_each = held.owed_for_each;
+  few = held.few;
+  few_asks = λ client. more_fits _ _ _ _ (client == c) (one_more (λ (a : AskedDiscovery). a.client) client s.asked (asked_as s c kind)) (held.few_asks client) (λ own. rw (eqb-true client c own, four s.places c has.joined) has.free);
+  rising = held.rising;
+  open_ = held.open_;
+  asks_numbered = let less = has.number in omega arith;
+  served = let long = length-append s.asked (asked_as s c kind ∷ []) in let kept = held.served in omega arith;
+  serves = held.serves;
+  runs_numbered = let long = length-append s.asked (asked_as s c kind ∷ []) in let kept = held.served in let numbered = held.runs_numbered in omega arith;
 }
   where
-    above : {n m : ℕ} → n < m → n + 1 ≤ m
-    above p = omega arith
+    has : HasAsk s c
+    has = has_ask s c passes
 
-    at : (client : ℕ) → ((client == c) ≡ true) ⊎ ((client == c) ≡ false) → outstanding client s + cond (client == c) 1 0 ≤ slice_index s.places client
-    at client (inl same) = rw same (rw (eqb-true client c same) (above (has_place s c passes).free))
-    at client (inr other) = rw other (omega (arith, held.few client))
+pub room_to_ask : (s : QueueState) (c : ℕ) → StateInvariant s → first_ask_fault s c ≡ None → length s.asked < 64
+room_to_ask s c held passes =
+    let more = asked-le (asks_discovery s c Full) (held-asks s c Full held passes) in
+    let long = length-append s.asked (asked_as s c Full ∷ []) in
+    let few = held.few_clients in
+    omega arith
+
+-- a run begins for all discoveries that are asked
+pub held-begun : (s : QueueState) → StateInvariant s → s.run ≡ None → 0 < length s.asked → StateInvariant (begun s)
+held-begun s held none some = record {
+  source = held.source;
+  greatest = held.greatest;
+  budget = held.budget;
+  few_places = held.few_places;
+  few_clients = held.few_clients;
+  owed_for_each = held.owed_for_each;
+  few = held.few;
+  few_asks = held.few_asks;
+  rising = held.rising;
+  open_ = held.open_;
+  asks_numbered = held.asks_numbered;
+  served = omega arith;
+  serves = some;
+  runs_numbered = let numbered : s.next_run + (length s.asked - 0) ≤ s.next_ask + 1 = rw none at held.runs_numbered in omega arith;
+}
+
+-- and its number is below the greatest
+pub run_number : (s : QueueState) → StateInvariant s → s.run ≡ None → 0 < length s.asked → s.next_run + 1 < 18446744073709551616
+run_number s held none some = let numbered : s.next_run + (length s.asked - 0) ≤ s.next_ask + 1 = rw none at held.runs_numbered in let most = held.asks_numbered in omega arith
 
 -- an outcome less
-fewer_owed : (p : ℕ → Bool) (c : ℕ) (ds : List OwedOutcome) → length (filter (λ (d : OwedOutcome). p d.client) (without_first c ds)) ≤ length (filter (λ (d : OwedOutcome). p d.client) ds)
-fewer_owed p c [] = omega arith
-fewer_owed p c (d ∷ ds) = by_test (cases_Bool (c == d.client)) (fewer_owed p c ds)
+fewer_left : (p : OutcomeValue → Bool) (ds : List OutcomeValue) → length (filter p (drop 1 ds)) ≤ length (filter p ds)
+fewer_left p [] = omega arith
+fewer_left p (d ∷ ds) = by_test (p d)
   where
-    those : List OwedOutcome → List OwedOutcome
-    those es = filter (λ (e : OwedOutcome). p e.client) es
+    by_test : (b : Bool) → length (filter p ds) ≤ length (cond b (d ∷ filter p ds) (filter p ds))
+    by_test true = omega arith
+    by_test false = omega arith
 
-    less : (b : Bool) → length (those ds) ≤ length (cond b (d ∷ those ds) (those ds))
-    less true = omega arith
-    less false = omega arith
-
-    kept : (b : Bool) → length (those (without_first c ds)) ≤ length (those ds) → length (cond b (d ∷ those (without_first c ds)) (those (without_first c ds))) ≤ length (cond b (d ∷ those ds) (those ds))
-    kept true rest = omega arith
-    kept false rest = rest
-
-    by_test : ((c == d.client) ≡ true) ⊎ ((c == d.client) ≡ false) → length (those (without_first c ds)) ≤ length (those ds) → length (those (without_first c (d ∷ ds))) ≤ length (those (d ∷ ds))
-    by_test (inl here) rest = rw here (less (p d.client))
-    by_test (inr other) rest = rw other (kept (p d.client) rest)
-
-all_without : (P : ℕ → Type 0) (c : ℕ) (ds : List OwedOutcome) (ns : List ℕ) → AllByRecursion P (map (λ (d : OwedOutcome). d.number) ds ++ ns) → AllByRecursion P (map (λ (d : OwedOutcome). d.number) (without_first c ds) ++ ns)
-all_without P c [] ns all = all
-all_without P c (d ∷ ds) ns all = by_test (c == d.client) (all_without P c ds ns all.1)
+set_fewer : (p : OutcomeValue → Bool) (lists : List (List OutcomeValue)) (c n : ℕ) → length (filter p (get_or (set lists c (drop 1 (get_or lists c []))) n [])) ≤ length (filter p (get_or lists n []))
+set_fewer p lists c n = by_client (cases_eq n c) (cases_lt c (length lists))
   where
-    by_test : (b : Bool) → AllByRecursion P (map (λ (e : OwedOutcome). e.number) (without_first c ds) ++ ns) → AllByRecursion P (map (λ (e : OwedOutcome). e.number) (cond b ds (d ∷ without_first c ds)) ++ ns)
-    by_test true rest = all.1
-    by_test false rest = (all.0, rest)
+    none : {ds : List OutcomeValue} (m : ℕ) → ds ≡ [] → length (filter p ds) ≤ m
+    none m is = rw is (omega arith)
 
-rising_without : (c : ℕ) (ds : List OwedOutcome) (ns : List ℕ) → IsAscending (map (λ (d : OwedOutcome). d.number) ds ++ ns) → IsAscending (map (λ (d : OwedOutcome). d.number) (without_first c ds) ++ ns)
-rising_without c [] ns rising = rising
-rising_without c (d ∷ ds) ns rising = by_test (c == d.client) (rising_without c ds ns rising.1)
-  where
-    by_test : (b : Bool) → IsAscending (map (λ (e : OwedOutcome). e.number) (without_first c ds) ++ ns) → IsAscending (map (λ (e : OwedOutcome). e.number) (cond b ds (d ∷ without_first c ds)) ++ ns)
-    by_test true rest = rising.1
-    by_test false rest = (all_without (λ v. d.number < v) c ds ns rising.0, rest)
+    by_client : (n ≡ c) ⊎ (n ≡ c → ⊥) → (c < length lists) ⊎ (length lists ≤ c) → length (filter p (get_or (set lists c (drop 1 (get_or lists c []))) n [])) ≤ length (filter p (get_or lists n []))
+    by_client (inl same) (inl within) = rw (same, get_or-set_same lists c (drop 1 (get_or lists c [])) [] within) (fewer_left p (get_or lists c []))
+    by_client (inl same) (inr past) = none _ (get_or_past (set lists c (drop 1 (get_or lists c []))) n [] (let long = length-set lists c (drop 1 (get_or lists c [])) in omega arith))
+    by_client (inr other) within = rw (get_or-set_other lists c n (drop 1 (get_or lists c [])) [] other) (omega arith)
 
-pub held-collects : (s : QueueState) (c : ℕ) → StateInvariant s → StateInvariant (record s { outcomes = without_first c s.outcomes })
+fewer_fit : (n m k t : ℕ) → n + m ≤ t → k ≤ m → n + k ≤ t
+fewer_fit n m k t p q = omega arith
+
+pub held-collects : (s : QueueState) (c : ℕ) → StateInvariant s → StateInvariant (collects_oldest s c)
 held-collects s c held = record {
   source = held.source;
   greatest = held.greatest;
   budget = held.budget;
   few_places = held.few_places;
-  few = λ client. fewer _ _ _ _ (held.few client) (fewer_owed (λ n. client == n) c s.outcomes);
-  rising = rising_without c s.outcomes (map (λ (a : Accepted). a.number) s.waiting ++ s.next_request ∷ []) held.rising;
+  few_clients = held.few_clients;
+  owed_for_each = length-set s.owed c _ ∙ held.owed_for_each;
+  few = λ client. fewer_fit _ _ _ _ (held.few client) (set_fewer (λ d. not (is_discovery d)) s.owed c client);
+  few_asks = λ client. fewer_fit _ _ _ _ (held.few_asks client) (set_fewer is_discovery s.owed c client);
+  rising = held.rising;
   open_ = held.open_;
+  asks_numbered = held.asks_numbered;
+  served = held.served;
+  serves = held.serves;
+  runs_numbered = held.runs_numbered;
 }
-  where
-    fewer : (n m k t : ℕ) → n + m ≤ t → k ≤ m → n + k ≤ t
-    fewer n m k t p q = omega arith
 
 -- one client more, without requests
-pub held-joins : (s : QueueState) (places : ℕ) → StateInvariant s → sum s.places + places ≤ s.greatest → StateInvariant (record s { places = s.places ++ places ∷ [] })
-held-joins s places held fits = record {
+pub none_owed_more : (lists : List (List OutcomeValue)) (c : ℕ) → get_or (lists ++ [] ∷ []) c [] ≡ get_or lists c []
+none_owed_more [] zero = refl
+none_owed_more [] (suc c) = refl
+none_owed_more (ds ∷ lists) zero = refl
+none_owed_more (ds ∷ lists) (suc c) = none_owed_more lists c
+
+room_more : (ns : List ℕ) (n c t : ℕ) → t ≤ get_or ns c 0 → t ≤ get_or (ns ++ n ∷ []) c 0
+room_more ns n c t fits = at (cases_lt c (length ns))
+  where
+    none : {m : ℕ} (k : ℕ) → t ≤ m → m ≡ 0 → t ≤ k
+    none k p q = omega arith
+
+    at : (c < length ns) ⊎ (length ns ≤ c) → t ≤ get_or (ns ++ n ∷ []) c 0
+    at (inl here) = rw (get_or_append_left ns (n ∷ []) 0 c here) fits
+    at (inr past) = none _ fits (get_or_past ns c 0 past)
+
+pub held-joins : (s : QueueState) (places : ℕ) → StateInvariant s → length s.places < 16 → sum s.places + places ≤ s.greatest → StateInvariant (joins_client s places)
+held-joins s places held few fits = record {
   source = held.source;
   greatest = held.greatest;
   budget = held.budget;
   few_places = more _ _ _ (sum_by-append (λ n. n) s.places (places ∷ [])) fits;
-  few = λ c. at c (cases_lt c (length s.places));
+  few_clients = let long = length-append s.places (places ∷ []) in omega arith;
+  owed_for_each = let long = length-append s.places (places ∷ []) in let owed = length-append s.owed ([] ∷ []) in let same = held.owed_for_each in omega arith;
+  few = λ c. rw (none_owed_more s.owed c) (room_more s.places places c (outstanding c s) (held.few c));
+  few_asks = λ c. rw (none_owed_more s.owed c, map-append {B = ℕ} (λ (n : ℕ). 4) s.places (places ∷ [])) (room_more (map (λ (n : ℕ). 4) s.places) 4 c (outstanding_asks c s) (held.few_asks c));
   rising = held.rising;
   open_ = held.open_;
+  asks_numbered = held.asks_numbered;
+  served = held.served;
+  serves = held.serves;
+  runs_numbered = held.runs_numbered;
 }
   where
     more : (n m t : ℕ) → n ≡ m + (0 + places) → m + places ≤ t → n ≤ t
     more n m t p q = omega arith
 
-    none : {n m : ℕ} (k : ℕ) → n ≤ m → m ≡ 0 → n ≤ k
-    none k p q = omega arith
-
-    at : (c : ℕ) → (c < length s.places) ⊎ (length s.places ≤ c) → outstanding c s ≤ slice_index (s.places ++ places ∷ []) c
-    at c (inl here) = rw (get_or_append_left s.places (places ∷ []) 0 c here) (held.few c)
-    at c (inr past) = none _ (held.few c) (get_or_past s.places c 0 past)
-
--- a join that isn't refused finds its places
-pub has_room : (s : QueueState) (n : ℕ) → first_join_fault s n ≡ None → sum s.places + n ≤ s.greatest
+-- a join that isn't refused finds its places, and fewer than sixteen clients
+pub has_room : (s : QueueState) (n : ℕ) → first_join_fault s n ≡ None → (length s.places < 16) × (sum s.places + n ≤ s.greatest)
 has_room s n e =
     let closed = none_stands s.closed join_faults.Closed (if nat_le 16 (length s.places) then Some join_faults.TooManyClients else (if nat_lt s.greatest (sum s.places + n) then Some join_faults.NoPlaces else None)) e in
     let many = none_stands (nat_le 16 (length s.places)) join_faults.TooManyClients (if nat_lt s.greatest (sum s.places + n) then Some join_faults.NoPlaces else None) closed.1 in
     let places = none_stands (nat_lt s.greatest (sum s.places + n)) join_faults.NoPlaces None many.1 in
-    ltb-false s.greatest (sum s.places + n) places.0
+    (leb-false 16 (length s.places) many.0, ltb-false s.greatest (sum s.places + n) places.0)

@@ -1,16 +1,15 @@
 -- What all clients have outstanding together.
-use Rattle.std.proofs.Common.{◌≡◌, ℕ, suc, ◌+◌, ◌-◌, ◌<◌, ◌≤◌, Bool, true, false, cond, List, [], ◌∷◌, ◌++◌, length, drop, get_or, set, Some, slice_get, refl, sym, ap, subst, inl, inr, length-append, filter, map, sum, arith}
+use Rattle.std.proofs.Common.{◌≡◌, ℕ, zero, suc, ◌+◌, ◌-◌, ◌*◌, ◌<◌, ◌≤◌, Bool, true, false, cond, not, List, [], ◌∷◌, ◌++◌, length, drop, get_or, set, Some, slice_get, refl, sym, ap, subst, inl, inr, length-append, filter, map, sum, arith}
 use Rattle.std.specs.Prelude.{◌⊎◌, ◌≢◌, ◌==◌, slice_index}
 use Rattle.std.proofs.lemmas.Bool.{eq-eqb, ne_eqb, cases_eq, cases_lt}
 use Rattle.std.proofs.lemmas.List.{length-map, get_or-set_same, get_or-set_other, get_or_past}
-use Rattle.std.proofs.lemmas.List.Sums.{sum_by-set}
+use Rattle.std.proofs.lemmas.List.Sums.{sum_by-set, sum_by-cons}
 use Rattle.std.proofs.lemmas.List.Elements.{filter-append}
-use Rattle.rdm_queue.specs.log.Entries.{Accepted}
 use Rattle.rdm_queue.proofs.LogLemmas.Counts.{count}
 use Rattle.rdm_queue.proofs.LogLemmas.Places.{slice_get_first}
+use Rattle.rdm_queue.specs.promises.Outcomes.{OutcomeValue}
 use Rattle.rdm_queue.specs.body.QueueInvariant.{StateInvariant}
-use Rattle.rdm_join.specs.Result.{Joined}
-use Rattle.rdm_queue.specs.body.State.{OwedOutcome, QueueState, outstanding, owed_for, finishes_oldest}
+use Rattle.rdm_queue.specs.body.State.{QueueState, owed_to, owes, is_discovery, uncollected}
 
 count-same : (c x : ℕ) (xs : List ℕ) → c ≡ x → count c (x ∷ xs) ≡ 1 + count c xs
 count-same c x xs same = rw (eq-eqb c x same) omega arith
@@ -43,7 +42,7 @@ few_in_all places (x ∷ xs) few = by_place (cases_lt x (length places)) (λ (le
     by_place (inr past) all = absurd (none (get_or_past places x 0 past) one)
     by_place (inl here) all = counted (all less (λ c. at c here (cases_eq c x))) (sum_by-set (λ n. n) places x (get_or places x 0 - 1) 0 here) one
 
-length-filter_map : {X Y : Type 0} (f : X → Y) (p : Y → Bool) (xs : List X) → length (filter p (map f xs)) ≡ length (filter (λ x. p (f x)) xs)
+pub length-filter_map : {X Y : Type 0} (f : X → Y) (p : Y → Bool) (xs : List X) → length (filter p (map f xs)) ≡ length (filter (λ x. p (f x)) xs)
 length-filter_map f p [] = refl
 length-filter_map {X} {Y} f p (x ∷ xs) = by_test (p (f x)) (length-filter_map f p xs)
   where
@@ -51,38 +50,94 @@ length-filter_map {X} {Y} f p (x ∷ xs) = by_test (p (f x)) (length-filter_map 
     by_test true same = ap suc same
     by_test false same = same
 
--- where no client has more outstanding than its places, all together have no more than all places
-pub outstanding-le : (s : QueueState) → ((c : ℕ) → outstanding c s ≤ slice_index s.places c) → length s.waiting + length s.outcomes ≤ sum s.places
-outstanding-le s few = subst (λ (n : ℕ). n ≤ sum s.places) whole (few_in_all s.places clients each)
+-- a list of clients' things, of which none has more than its place allows
+few_of : {X : Type 0} (client : X → ℕ) (xs : List X) (places : List ℕ) → ((c : ℕ) → length (filter (λ x. c == client x) xs) ≤ get_or places c 0) → length xs ≤ sum places
+few_of client xs places few = subst (λ (n : ℕ). n ≤ sum places) (length-map xs client) (few_in_all places (map client xs) (λ c. subst (λ (n : ℕ). n ≤ get_or places c 0) (sym (length-filter_map client (λ d. c == d) xs)) (few c)))
+
+more_left : (n m t : ℕ) → n + m ≤ t → n ≤ t
+more_left n m t p = omega arith
+
+-- no more wait than all places
+pub waiting-le : (s : QueueState) → StateInvariant s → length s.waiting ≤ sum s.places
+waiting-le s held = few_of (λ a. a.client) s.waiting s.places (λ c. more_left _ _ _ (held.few c))
+
+-- no more discoveries are asked than four for each client
+sum_fours : (ns : List ℕ) → sum (map (λ (n : ℕ). 4) ns) ≡ 4 * length ns
+sum_fours [] = refl
+sum_fours (n ∷ ns) = let rest = sum_fours ns in let here = sum_by-cons (λ (m : ℕ). m) 4 (map (λ (m : ℕ). 4) ns) in omega arith
+
+pub asked-le : (s : QueueState) → StateInvariant s → length s.asked ≤ 4 * length s.places
+asked-le s held = let few = few_of (λ a. a.client) s.asked (map (λ (n : ℕ). 4) s.places) (λ c. more_left _ _ _ (held.few_asks c)) in omega (arith, sum_fours s.places)
+
+-- four for each client that has joined
+pub fours : (ns : List ℕ) (c : ℕ) → get_or (map (λ (n : ℕ). 4) ns) c 0 ≤ 4
+fours [] c = omega arith
+fours (n ∷ ns) zero = omega arith
+fours (n ∷ ns) (suc c) = fours ns c
+
+pub four : (ns : List ℕ) (c : ℕ) → c < length ns → ◌≡◌ {A = ℕ} (get_or (map (λ (n : ℕ). 4) ns) c 0) 4
+four [] c within = absurd (omega arith)
+four (n ∷ ns) zero within = refl
+four (n ∷ ns) (suc c) within = four ns c (omega arith)
+
+-- the outcomes are of requests and of discoveries
+pub both_kinds : (ds : List OutcomeValue) → length (filter (λ d. not (is_discovery d)) ds) + length (filter is_discovery ds) ≡ length ds
+both_kinds [] = refl
+both_kinds (d ∷ ds) = by_test (is_discovery d) (both_kinds ds)
   where
-    waits : List ℕ
-    waits = map (λ (a : Accepted). a.client) s.waiting
+    requests : List OutcomeValue
+    requests = filter (λ (e : OutcomeValue). not (is_discovery e)) ds
 
-    owes : List ℕ
-    owes = map (λ (d : OwedOutcome). d.client) s.outcomes
+    discoveries : List OutcomeValue
+    discoveries = filter is_discovery ds
 
-    clients : List ℕ
-    clients = waits ++ owes
+    by_test : (b : Bool) → length requests + length discoveries ≡ length ds → length (cond (not b) (d ∷ requests) requests) + length (cond b (d ∷ discoveries) discoveries) ≡ suc (length ds)
+    by_test true same = omega arith
+    by_test false same = omega arith
 
-    whole : length clients ≡ length s.waiting + length s.outcomes
-    whole = rw (length-append waits owes, length-map s.waiting (λ (a : Accepted). a.client), length-map s.outcomes (λ (d : OwedOutcome). d.client)) refl
+-- a client is owed no more than its places and four
+pub owed-le : (s : QueueState) (c : ℕ) → StateInvariant s → length (owed_to c s) ≤ slice_index s.places c + 4
+owed-le s c held = let few = held.few c in let asks = held.few_asks c in let most = fours s.places c in let both = both_kinds (owed_to c s) in omega arith
 
-    each : (c : ℕ) → count c clients ≤ get_or s.places c 0
-    each c = rw (filter-append (λ d. c == d) waits owes, length-append (filter (λ d. c == d) waits) (filter (λ d. c == d) owes), length-filter_map (λ (a : Accepted). a.client) (λ d. c == d) s.waiting, length-filter_map (λ (d : OwedOutcome). d.client) (λ d. c == d) s.outcomes) (few c)
+sum_lengths : (lists : List (List OutcomeValue)) (places : List ℕ) → length lists ≡ length places → ((c : ℕ) → length (get_or lists c []) ≤ get_or places c 0 + 4) → sum (map (λ ds. length ds) lists) ≤ sum places + 4 * length places
+sum_lengths [] [] same each = omega arith
+sum_lengths [] (n ∷ places) same each = absurd (omega arith)
+sum_lengths (ds ∷ lists) [] same each = absurd (omega arith)
+sum_lengths (ds ∷ lists) (n ∷ places) same each = let rest = sum_lengths lists places (omega arith) (λ c. each (suc c)) in let first : length ds ≤ n + 4 = each 0 in let lefts = sum_by-cons (λ (m : ℕ). m) (length ds) (map (λ (es : List OutcomeValue). length es) lists) in let rights = sum_by-cons (λ (m : ℕ). m) n places in omega arith
 
--- all clients together have no more outstanding than all places
-pub all-outstanding : (s : QueueState) → StateInvariant s → length s.waiting + length s.outcomes ≤ sum s.places
-all-outstanding s room = outstanding-le s room.few
+pub uncollected-le : (s : QueueState) → StateInvariant s → uncollected s ≤ sum s.places + 4 * length s.places
+uncollected-le s held = sum_lengths s.owed s.places held.owed_for_each (λ c. owed-le s c held)
 
--- a finish moves a request from those that wait to those that aren't collected
-moved : (c : ℕ) (j : Joined) (a : Accepted) (waits : List Accepted) (owes : List OwedOutcome)
-    → length (filter (λ (x : Accepted). c == x.client) waits) + length (filter (λ (d : OwedOutcome). c == d.client) (owes ++ owed_for j a ∷ []))
-    ≡ length (filter (λ (x : Accepted). c == x.client) (a ∷ waits)) + length (filter (λ (d : OwedOutcome). c == d.client) owes)
-moved c j a waits owes = rw (filter-append (λ d. c == d.client) owes (owed_for j a ∷ []), length-append (filter (λ (d : OwedOutcome). c == d.client) owes) (filter (λ (d : OwedOutcome). c == d.client) (owed_for j a ∷ []))) (by_test (c == a.client) _ _)
+-- an outcome more for a client
+pub owes-own : (s : QueueState) (c : ℕ) (d : OutcomeValue) → c < length s.owed → get_or (owes c d s) c [] ≡ owed_to c s ++ d ∷ []
+owes-own s c d within = get_or-set_same s.owed c (owed_to c s ++ d ∷ []) [] within
+
+pub owes-other : (s : QueueState) (c n : ℕ) (d : OutcomeValue) → (n ≡ c → ⊥) → get_or (owes c d s) n [] ≡ owed_to n s
+owes-other s c n d other = get_or-set_other s.owed c n (owed_to c s ++ d ∷ []) [] other
+
+pub owes-count : (p : OutcomeValue → Bool) (s : QueueState) (c n : ℕ) (d : OutcomeValue) → c < length s.owed → length (filter p (get_or (owes c d s) n [])) ≡ length (filter p (owed_to n s)) + cond (n == c) (cond (p d) 1 0) 0
+owes-count p s c n d within = by_client (cases_eq n c)
   where
-    by_test : (b : Bool) (ws : List Accepted) (n : ℕ) → length ws + (n + length (cond b (owed_for j a ∷ []) [])) ≡ length (cond b (a ∷ ws) ws) + n
-    by_test true ws n = omega arith
-    by_test false ws n = omega arith
+    one : (b : Bool) → length (cond b (d ∷ []) []) ≡ cond b 1 0
+    one true = refl
+    one false = refl
 
-pub outstanding-finishes : (c : ℕ) (s : QueueState) (j : Joined) (a : Accepted) → slice_get s.waiting 0 ≡ Some a → outstanding c (finishes_oldest s (owed_for j a)) ≡ outstanding c s
-outstanding-finishes c s j a at = rw (slice_get_first s.waiting a at) (moved c j a (drop 1 s.waiting) s.outcomes)
+    by_client : (n ≡ c) ⊎ (n ≡ c → ⊥) → length (filter p (get_or (owes c d s) n [])) ≡ length (filter p (owed_to n s)) + cond (n == c) (cond (p d) 1 0) 0
+    by_client (inl same) = rw (same, owes-own s c d within, filter-append p (owed_to c s) (d ∷ []), length-append (filter p (owed_to c s)) (filter p (d ∷ [])), eq-eqb c c refl) (ap (λ m. length (filter p (owed_to c s)) + m) (one (p d)))
+    by_client (inr other) = rw (owes-other s c n d other, ne_eqb n c other) (omega arith)
+
+-- the first of a list taken out
+pub without_first : {X : Type 0} (client : X → ℕ) (n : ℕ) (xs : List X) (x : X) → slice_get xs 0 ≡ Some x → length (filter (λ y. n == client y) (drop 1 xs)) + cond (n == client x) 1 0 ≡ length (filter (λ y. n == client y) xs)
+without_first {X} client n xs x at = rw (slice_get_first xs x at) (by_test (n == client x) (filter (λ y. n == client y) (drop 1 xs)))
+  where
+    by_test : (b : Bool) (ys : List X) → length ys + cond b 1 0 ≡ length (cond b (x ∷ ys) ys)
+    by_test true ys = omega arith
+    by_test false ys = omega arith
+
+-- one more at the end
+pub one_more : {X : Type 0} (client : X → ℕ) (n : ℕ) (xs : List X) (x : X) → length (filter (λ y. n == client y) (xs ++ x ∷ [])) ≡ length (filter (λ y. n == client y) xs) + cond (n == client x) 1 0
+one_more {X} client n xs x = rw (filter-append (λ y. n == client y) xs (x ∷ []), length-append (filter (λ y. n == client y) xs) (filter (λ y. n == client y) (x ∷ []))) (ap (λ m. length (filter (λ y. n == client y) xs) + m) (by_test (n == client x)))
+  where
+    by_test : (b : Bool) → length (cond b (x ∷ []) []) ≡ cond b 1 0
+    by_test true = refl
+    by_test false = refl

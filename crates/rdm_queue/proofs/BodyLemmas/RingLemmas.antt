@@ -1,5 +1,5 @@
 -- One client's rings changed, and whose shares all rings then have.
-use Rattle.std.proofs.Common.{◌≡◌, ℕ, zero, suc, ◌+◌, ◌<◌, ◌≤◌, cond, List, [], ◌∷◌, ◌++◌, length, drop, set, get_or, Some, slice_get, refl, sym, ap, ◌∙◌, subst, inl, inr, filter, arith}
+use Rattle.std.proofs.Common.{◌≡◌, ℕ, zero, suc, ◌+◌, ◌<◌, ◌≤◌, cond, List, [], ◌∷◌, ◌++◌, length, set, get_or, Some, slice_get, refl, sym, ap, ◌∙◌, subst, inl, inr, filter, arith}
 use Rattle.std.specs.Prelude.{◌⊎◌, ◌==◌}
 use Rattle.std.specs.List.{AllByRecursion}
 use Rattle.std.proofs.lemmas.Bool.{cases_eq, cases_lt, eq-eqb, ne_eqb}
@@ -9,9 +9,7 @@ use Rattle.rdm_queue.specs.declared.client.Client.{Client}
 use Rattle.rdm_queue.specs.body.Merged.{AreShares}
 use Rattle.rdm_queue.specs.body.Fields.{rings_from, places_of}
 use Rattle.rdm_queue.specs.body.Rings.{HasRings, SameRings}
-use Rattle.rdm_queue.specs.body.State.{OwedOutcome, without_first}
-use Rattle.rdm_queue.proofs.BodyLemmas.OutcomeLemmas.{place_within}
-use Rattle.rdm_queue.proofs.BodyLemmas.TakenLemmas.{without_own, without_other}
+use Rattle.rdm_queue.proofs.LogLemmas.Places.{place_within}
 
 -- a client's ring among all rings
 ring_from : {X : Type 0} (ring : ℕ → Client → List X) (from : ℕ) (clients : List Client) (i : ℕ) (k : Client) → slice_get clients i ≡ Some k → get_or (rings_from ring from clients) i [] ≡ ring (from + i) k
@@ -95,19 +93,12 @@ shares_rest {X} client lists all x rest shares first c = by_client (cases_eq c (
     by_client (inl same) = rw same (get_or-set_same lists (client x) rest [] (share_within lists (client x) x rest first) ∙ own)
     by_client (inr other) = get_or-set_other lists (client x) c rest [] other ∙ (shares c ∙ rw (ne_eqb c (client x) other) refl)
 
--- a client's first taken out
-pub shares_without : (lists : List (List OwedOutcome)) (all : List OwedOutcome) (c : ℕ) (d : OwedOutcome) (rest : List OwedOutcome) → AreShares (λ d. d.client) lists all → get_or lists c [] ≡ d ∷ rest → AreShares (λ d. d.client) (set lists c rest) (without_first c all)
-shares_without lists all c d rest shares first n = by_client (cases_eq n c)
-  where
-    by_client : (n ≡ c) ⊎ (n ≡ c → ⊥) → get_or (set lists c rest) n [] ≡ filter (λ e. n == e.client) (without_first c all)
-    by_client (inl same) = rw same (get_or-set_same lists c rest [] (share_within lists c d rest first) ∙ (ap (λ l. drop 1 l) (sym first ∙ shares c) ∙ sym (without_own c all)))
-    by_client (inr other) = get_or-set_other lists c n rest [] other ∙ (shares n ∙ sym (without_other n c all (ne_eqb n c other)))
-
 -- a client's places and the sizes of its rings stay
 pub same_sizes : (k l : Client) → HasRings k → SameRings k l → HasRings l
 same_sizes k l has same = record {
   waiting = same.waiting ∙ (has.waiting ∙ sym same.places);
   outcomes = same.outcomes ∙ (has.outcomes ∙ ap (λ n. n + 4) (sym same.places));
+  sets = same.sets ∙ has.sets;
 }
 
 pub all_set : {X : Type 0} (P : X → Type 0) (xs : List X) (i : ℕ) (x : X) → AllByRecursion P xs → P x → AllByRecursion P (set xs i x)

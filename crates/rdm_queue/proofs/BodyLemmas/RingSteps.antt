@@ -1,40 +1,47 @@
 -- What one client's call makes of all clients' rings.
-use Rattle.std.proofs.Common.{◌≡◌, ℕ, zero, suc, ◌+◌, ◌<◌, ◌≤◌, List, [], ◌∷◌, ◌++◌, length, drop, set, get_or, Some, None, slice_get, refl, sym, ap, ◌∙◌, subst, filter, map, arith}
-use Rattle.std.specs.Prelude.{◌==◌}
+use Rattle.std.proofs.Common.{◌≡◌, ℕ, zero, suc, ◌+◌, ◌-◌, ◌<◌, ◌≤◌, false, List, [], ◌∷◌, ◌++◌, length, drop, set, get_or, Option, Some, None, slice_get, refl, sym, ap, ◌∙◌, subst, filter, map, arith}
+use Rattle.std.specs.Prelude.{◌==◌, option_map, is_some, OnSome, IfNone, IfSome}
+use Rattle.std.specs.List.{AllByRecursion}
 use Rattle.std.specs.VecDeque.{deque_len, deque_capacity}
-use Rattle.std.proofs.lemmas.Bool.{eq-eqb}
+use Rattle.std.proofs.lemmas.Bool.{eq-eqb, false≢true}
 use Rattle.std.proofs.lemmas.List.{map-append, length-map}
 use Rattle.rdm_wire.specs.declared.request.Request.{Request}
+use Rattle.rdm_wire.specs.declared.device.Device.{Device}
+use Rattle.rdm_agent.specs.declared.fault.AgentFault.{AgentFault}
 use Rattle.rdm_queue.specs.declared.client.Client.{Client}
 use Rattle.rdm_queue.specs.declared.client.Waiting.{Waiting}
-use Rattle.rdm_queue.specs.declared.client.Owed.{Owed}
 use Rattle.rdm_queue.specs.declared.entry.Entry.{Entry}
+use Rattle.rdm_queue.specs.declared.queue.Running.{Running}
 use Rattle.rdm_queue.specs.declared.outcome.Completion.{Completion}
-use Rattle.rdm_queue.specs.log.Entries.{Accepted}
-use Rattle.rdm_queue.specs.promises.Outcomes.{completion_value}
+use Rattle.rdm_queue.specs.declared.outcome.Outcome.{Outcome}
+use Rattle.rdm_queue.specs.log.Entries.{Accepted, AskedDiscovery}
+use Rattle.rdm_queue.specs.promises.Outcomes.{completion_value, outcome_value}
 use Rattle.rdm_queue.specs.body.Merged.{AreShares}
-use Rattle.rdm_queue.specs.body.Rings.{HasRings, IsNewClient, ClientAccepts, ClientFinishes, ClientCollects}
-use Rattle.rdm_queue.specs.body.Fields.{accepted_is, owed_is, waiting_ring, outcome_ring, waiting_rings, outcome_rings, places_of}
+use Rattle.rdm_queue.specs.body.Rings.{HasRings, HasSets, IsNewClient, ClientAccepts, ClientFinishes, ClientAnswers, ClientCollects, owed_values}
+use Rattle.rdm_queue.specs.body.Fields.{accepted_is, run_is, waiting_ring, waiting_rings, owed_rings, places_of}
 use Rattle.rdm_queue.specs.body.QueueInvariant.{RingsInvariant, QueueInvariant}
-use Rattle.rdm_queue.specs.body.State.{QueueState, OwedOutcome, outstanding, owed_for, accepted_as, accepts_request, finishes_oldest, first_join_fault, first_submit_fault, without_first, owed_to}
+use Rattle.rdm_queue.specs.body.State.{QueueState, outstanding, outstanding_asks, owed_for, owed_value, owes, accepted_as, accepts_request, finishes_oldest, joins_client, collects_oldest, first_join_fault, first_submit_fault, owed_to, is_discovery}
+use Rattle.rdm_queue.specs.body.Ending.{answer_value}
 use Rattle.rdm_queue.proofs.LogLemmas.Places.{all_at, slice_get_first}
 use Rattle.rdm_queue.proofs.BodyLemmas.InvariantLemmas.{has_place, has_room, held-finishes, held-accepts, held-collects, held-joins}
-use Rattle.rdm_queue.proofs.BodyLemmas.RingLemmas.{ring_of, ring_within, ring_changed, ring_stayed, shares_more, shares_push, shares_rest, shares_without, same_sizes, all_set, all_push}
+use Rattle.rdm_queue.proofs.BodyLemmas.OutstandingLemmas.{both_kinds, fours}
+use Rattle.rdm_queue.proofs.BodyLemmas.ValueLemmas.{length-values, discoveries-values, values-request, values-discovery, sets-finish, sets-answer, few_discoveries}
+use Rattle.rdm_queue.proofs.BodyLemmas.RingLemmas.{ring_of, ring_within, ring_changed, ring_stayed, shares_more, shares_push, shares_rest, same_sizes, all_set, all_push}
 
 -- a client joins
-pub rings-join : (s : QueueState) (clients : List Client) (k : Client) (places : ℕ) → RingsInvariant s clients → IsNewClient places k → RingsInvariant (record s { places = s.places ++ places ∷ [] }) (clients ++ k ∷ [])
+pub rings-join : (s : QueueState) (clients : List Client) (k : Client) (places : ℕ) → RingsInvariant s clients → IsNewClient places k → RingsInvariant (joins_client s places) (clients ++ k ∷ [])
 rings-join s clients k places rings fresh = record {
   waiting = shares_more (λ a. a.client) waiting_ring clients k s.waiting (λ i. ap (λ l. map (accepted_is i) l) fresh.none_waiting) rings.waiting;
-  outcomes = shares_more (λ d. d.client) outcome_ring clients k s.outcomes (λ i. ap (λ l. map (owed_is i) l) fresh.none_owed) rings.outcomes;
   sizes = all_push HasRings clients k rings.sizes fresh.rings;
+  sets = all_push HasSets clients k rings.sets (rw (fresh.none_owed, fresh.no_sets) refl);
 }
 
 -- a client's request is accepted
 pub rings-accept : (s : QueueState) (clients : List Client) (c : ℕ) (k l : Client) (request : Request) → RingsInvariant s clients → slice_get clients c ≡ Some k → ClientAccepts k s.next_request request l → RingsInvariant (accepts_request s c request) (set clients c l)
 rings-accept s clients c k l request rings at accepts = record {
   waiting = subst (λ lists. AreShares (λ (a : Accepted). a.client) lists (s.waiting ++ accepted_as s c request ∷ [])) (sym changed) (shares_push (λ a. a.client) (waiting_rings clients) s.waiting (accepted_as s c request) rings.waiting (ring_within waiting_ring clients c k at));
-  outcomes = subst (λ lists. AreShares (λ (d : OwedOutcome). d.client) lists s.outcomes) (sym (ring_stayed outcome_ring clients c k l at (ap (λ ds. map (owed_is c) ds) accepts.outcomes))) rings.outcomes;
   sizes = all_set HasRings clients c l rings.sizes (same_sizes k l (all_at HasRings clients rings.sizes c k at) accepts.rings);
+  sets = all_set HasSets clients c l rings.sets (rw (accepts.outcomes, accepts.sets) (all_at HasSets clients rings.sets c k at));
 }
   where
     items_are : waiting_ring c l ≡ get_or (waiting_rings clients) c [] ++ accepted_as s c request ∷ []
@@ -57,13 +64,10 @@ front_is s clients k a w ws rings at items oldest =
 pub rings-finish : (s : QueueState) (clients : List Client) (k l : Client) (done : Completion) (entry : Entry) (a : Accepted) → RingsInvariant s clients → slice_get clients a.client ≡ Some k → (finishes : ClientFinishes k done entry l) → slice_get s.waiting 0 ≡ Some a → RingsInvariant (finishes_oldest s (owed_for (completion_value done) a)) (set clients a.client l)
 rings-finish s clients k l done entry a rings at finishes oldest = record {
   waiting = subst (λ lists. AreShares (λ (b : Accepted). b.client) lists (drop 1 s.waiting)) (sym (ring_changed waiting_ring clients a.client l (waiting_ring a.client l) refl)) (shares_rest (λ b. b.client) (waiting_rings clients) (drop 1 s.waiting) a (waiting_ring a.client l) all first);
-  outcomes = subst (λ lists. AreShares (λ (d : OwedOutcome). d.client) lists (s.outcomes ++ owed ∷ [])) (sym changed) (shares_push (λ d. d.client) (outcome_rings clients) s.outcomes owed rings.outcomes (ring_within outcome_ring clients a.client k at));
   sizes = all_set HasRings clients a.client l rings.sizes (same_sizes k l (all_at HasRings clients rings.sizes a.client k at) finishes.rings);
+  sets = all_set HasSets clients a.client l rings.sets (sets-finish k l done entry finishes (all_at HasSets clients rings.sets a.client k at));
 }
   where
-    owed : OwedOutcome
-    owed = owed_for (completion_value done) a
-
     same : a ≡ accepted_is a.client finishes.oldest
     same = front_is s clients k a finishes.oldest l.waiting.items rings at finishes.waiting oldest
 
@@ -73,40 +77,78 @@ rings-finish s clients k l done entry a rings at finishes oldest = record {
     first : get_or (waiting_rings clients) a.client [] ≡ a ∷ waiting_ring a.client l
     first = ring_of waiting_ring clients a.client k at ∙ (ap (λ ws. map (accepted_is a.client) ws) finishes.waiting ∙ ap (λ b. b ∷ waiting_ring a.client l) (sym same))
 
-    items_are : outcome_ring a.client l ≡ get_or (outcome_rings clients) a.client [] ++ owed ∷ []
-    items_are =
-        ap (λ ds. map (owed_is a.client) ds) finishes.outcomes
-        ∙ (map-append (owed_is a.client) k.outcomes.items (record { number = finishes.oldest.number; done = done } ∷ [])
-        ∙ (ap (λ n. map (owed_is a.client) k.outcomes.items ++ record { client = a.client; number = n; done = completion_value done } ∷ []) (sym (ap (λ (b : Accepted). b.number) same))
-        ∙ ap (λ ds. ds ++ owed ∷ []) (sym (ring_of outcome_ring clients a.client k at))))
-
-    changed : outcome_rings (set clients a.client l) ≡ set (outcome_rings clients) a.client (get_or (outcome_rings clients) a.client [] ++ owed ∷ [])
-    changed = ring_changed outcome_ring clients a.client l (get_or (outcome_rings clients) a.client [] ++ owed ∷ []) items_are
-
 -- the entry of its end
 pub entry-finish : (s : QueueState) (clients : List Client) (k l : Client) (done : Completion) (entry : Entry) (a : Accepted) → RingsInvariant s clients → slice_get clients a.client ≡ Some k → (finishes : ClientFinishes k done entry l) → slice_get s.waiting 0 ≡ Some a → a.number ≡ finishes.oldest.number
 entry-finish s clients k l done entry a rings at finishes oldest = ap (λ (b : Accepted). b.number) (front_is s clients k a finishes.oldest l.waiting.items rings at finishes.waiting oldest)
 
--- a client's oldest outcome is taken out
-pub rings-collect : (s : QueueState) (clients : List Client) (c : ℕ) (k l : Client) (d : Owed) → RingsInvariant s clients → slice_get clients c ≡ Some k → ClientCollects k (Some d) l → RingsInvariant (record s { outcomes = without_first c s.outcomes }) (set clients c l)
-rings-collect s clients c k l d rings at collects = record {
-  waiting = subst (λ lists. AreShares (λ (a : Accepted). a.client) lists s.waiting) (sym (ring_stayed waiting_ring clients c k l at (ap (λ ws. map (accepted_is c) ws) collects.waiting))) rings.waiting;
-  outcomes = subst (λ lists. AreShares (λ (e : OwedOutcome). e.client) lists (without_first c s.outcomes)) (sym (ring_changed outcome_ring clients c l (outcome_ring c l) refl)) (shares_without (outcome_rings clients) s.outcomes c (owed_is c d) (outcome_ring c l) rings.outcomes first);
-  sizes = all_set HasRings clients c l rings.sizes (same_sizes k l (all_at HasRings clients rings.sizes c k at) collects.rings);
+-- what clients are owed, where one of them has changed
+pub values_at : (clients : List Client) (c : ℕ) (k : Client) → slice_get clients c ≡ Some k → get_or (owed_rings clients) c [] ≡ owed_values k
+values_at [] c k at = cc
+values_at (l ∷ clients) zero k at = let same : l ≡ k = cc in rw same refl
+values_at (l ∷ clients) (suc c) k at = values_at clients c k at
+
+pub owed_changed : (clients : List Client) (c : ℕ) (l : Client) → owed_rings (set clients c l) ≡ set (owed_rings clients) c (owed_values l)
+owed_changed [] c l = refl
+owed_changed (k ∷ clients) zero l = refl
+owed_changed (k ∷ clients) (suc c) l = ap (λ lists. owed_values k ∷ lists) (owed_changed clients c l)
+
+pub owed_stayed : (clients : List Client) (c : ℕ) (k l : Client) → slice_get clients c ≡ Some k → owed_values l ≡ owed_values k → owed_rings (set clients c l) ≡ owed_rings clients
+owed_stayed [] c k l at same = refl
+owed_stayed (m ∷ clients) zero k l at same = let here : m ≡ k = cc in rw here (ap (λ v. v ∷ owed_rings clients) same)
+owed_stayed (m ∷ clients) (suc c) k l at same = ap (λ lists. owed_values m ∷ lists) (owed_stayed clients c k l at same)
+
+pub owed-accept : (clients : List Client) (c n : ℕ) (k l : Client) (request : Request) → slice_get clients c ≡ Some k → ClientAccepts k n request l → owed_rings (set clients c l) ≡ owed_rings clients
+owed-accept clients c n k l request at accepts = owed_stayed clients c k l at (rw (accepts.outcomes, accepts.sets) refl)
+
+pub owed-finish : (s : QueueState) (clients : List Client) (k l : Client) (done : Completion) (entry : Entry) (a : Accepted) → s.owed ≡ owed_rings clients → RingsInvariant s clients → slice_get clients a.client ≡ Some k → (finishes : ClientFinishes k done entry l) → slice_get s.waiting 0 ≡ Some a
+    → owed_rings (set clients a.client l) ≡ owes a.client (owed_value (owed_for (completion_value done) a)) s
+owed-finish s clients k l done entry a owed rings at finishes oldest =
+    owed_changed clients a.client l
+    ∙ rw (owed, values_at clients a.client k at, finishes.outcomes, finishes.sets, values-request k.outcomes.items k.sets.items finishes.oldest.number done, ← entry-finish s clients k l done entry a rings at finishes oldest) refl
+
+pub owed-answer : (s : QueueState) (clients : List Client) (k l : Client) (a : AskedDiscovery) (r : ℕ) (f : Option AgentFault) (found : List Device) → s.owed ≡ owed_rings clients → RingsInvariant s clients → slice_get clients a.client ≡ Some k → ClientAnswers k a.number r f found l
+    → owed_rings (set clients a.client l) ≡ owes a.client (answer_value a r f found) s
+owed-answer s clients k l a r f found owed rings at answers =
+    owed_changed clients a.client l
+    ∙ rw (owed, values_at clients a.client k at, answers.outcomes, answers.sets, values-discovery k.outcomes.items k.sets.items a.number r f found (all_at HasSets clients rings.sets a.client k at)) refl
+
+pub owed-collect : (s : QueueState) (clients : List Client) (c : ℕ) (k l : Client) (outcome : Outcome) → s.owed ≡ owed_rings clients → slice_get clients c ≡ Some k → ClientCollects k (Some outcome) l → owed_rings (set clients c l) ≡ (collects_oldest s c).owed
+owed-collect s clients c k l outcome owed at collects =
+    owed_changed clients c l
+    ∙ rw (owed, values_at clients c k at) (ap (λ ds. set (owed_rings clients) c ds) (ap (λ ds. drop 1 ds) (sym collects.outcomes)))
+
+-- a discovery is answered
+pub rings-answer : (s new : QueueState) (clients : List Client) (c : ℕ) (k l : Client) (n r : ℕ) (f : Option AgentFault) (found : List Device) → new.waiting ≡ s.waiting → RingsInvariant s clients → slice_get clients c ≡ Some k → ClientAnswers k n r f found l → RingsInvariant new (set clients c l)
+rings-answer s new clients c k l n r f found waits rings at answers = record {
+  waiting = rw waits (subst (λ lists. AreShares (λ (a : Accepted). a.client) lists s.waiting) (sym (ring_stayed waiting_ring clients c k l at (ap (λ ws. map (accepted_is c) ws) answers.waiting))) rings.waiting);
+  sizes = all_set HasRings clients c l rings.sizes (same_sizes k l (all_at HasRings clients rings.sizes c k at) answers.rings);
+  sets = all_set HasSets clients c l rings.sets (sets-answer k l n r f found answers (all_at HasSets clients rings.sets c k at));
 }
-  where
-    first : get_or (outcome_rings clients) c [] ≡ owed_is c d ∷ outcome_ring c l
-    first = ring_of outcome_ring clients c k at ∙ ap (λ ds. map (owed_is c) ds) collects.outcomes
+
+-- a client's oldest outcome is taken out, if it has one
+pub rings-collect : (s new : QueueState) (clients : List Client) (c : ℕ) (k l : Client) (outcome : Option Outcome) → new.waiting ≡ s.waiting → RingsInvariant s clients → slice_get clients c ≡ Some k → ClientCollects k outcome l → RingsInvariant new (set clients c l)
+rings-collect s new clients c k l outcome waits rings at collects = record {
+  waiting = rw waits (subst (λ lists. AreShares (λ (a : Accepted). a.client) lists s.waiting) (sym (ring_stayed waiting_ring clients c k l at (ap (λ ws. map (accepted_is c) ws) collects.waiting))) rings.waiting);
+  sizes = all_set HasRings clients c l rings.sizes (same_sizes k l (all_at HasRings clients rings.sizes c k at) collects.rings);
+  sets = all_set HasSets clients c l rings.sets collects.has_sets;
+}
 
 -- how many a client has outstanding
 pub waiting_count : (s : QueueState) (clients : List Client) (c : ℕ) (k : Client) → RingsInvariant s clients → slice_get clients c ≡ Some k → deque_len k.waiting ≡ length (filter (λ (a : Accepted). c == a.client) s.waiting)
 waiting_count s clients c k rings at = k.waiting.ok.0 ∙ (sym (length-map k.waiting.items (accepted_is c)) ∙ ap (λ l. length l) (sym (ring_of waiting_ring clients c k at) ∙ rings.waiting c))
 
-pub owed_count : (s : QueueState) (clients : List Client) (c : ℕ) (k : Client) → RingsInvariant s clients → slice_get clients c ≡ Some k → deque_len k.outcomes ≡ length (filter (λ (d : OwedOutcome). c == d.client) s.outcomes)
-owed_count s clients c k rings at = k.outcomes.ok.0 ∙ (sym (length-map k.outcomes.items (owed_is c)) ∙ ap (λ l. length l) (sym (ring_of outcome_ring clients c k at) ∙ rings.outcomes c))
+pub owed_count : (s : QueueState) (clients : List Client) (c : ℕ) (k : Client) → s.owed ≡ owed_rings clients → slice_get clients c ≡ Some k → deque_len k.outcomes ≡ length (owed_to c s)
+owed_count s clients c k owed at = k.outcomes.ok.0 ∙ (sym (length-values k.outcomes.items k.sets.items) ∙ ap (λ l. length l) (sym (values_at clients c k at) ∙ ap (λ lists. get_or lists c []) (sym owed)))
 
-pub outstanding_count : (s : QueueState) (clients : List Client) (c : ℕ) (k : Client) → RingsInvariant s clients → slice_get clients c ≡ Some k → deque_len k.waiting + deque_len k.outcomes ≡ outstanding c s
-outstanding_count s clients c k rings at = rw (waiting_count s clients c k rings at, owed_count s clients c k rings at) refl
+pub sets_count : (s : QueueState) (clients : List Client) (c : ℕ) (k : Client) → s.owed ≡ owed_rings clients → RingsInvariant s clients → slice_get clients c ≡ Some k → deque_len k.sets ≡ length (filter is_discovery (owed_to c s))
+sets_count s clients c k owed rings at = k.sets.ok.0 ∙ (all_at HasSets clients rings.sets c k at ∙ (sym (discoveries-values k.outcomes.items k.sets.items) ∙ ap (λ l. length (filter is_discovery l)) (sym (values_at clients c k at) ∙ ap (λ lists. get_or lists c []) (sym owed))))
+
+-- no more discoveries than outcomes
+pub fewer_sets : (clients : List Client) (c : ℕ) (k : Client) → AllByRecursion HasSets clients → slice_get clients c ≡ Some k → deque_len k.sets ≤ deque_len k.outcomes
+fewer_sets clients c k sets at = let own = k.sets.ok.0 in let has : HasSets k = all_at HasSets clients sets c k at in let few = few_discoveries k.outcomes.items in let all = k.outcomes.ok.0 in omega arith
+
+pub outstanding_count : (s : QueueState) (clients : List Client) (c : ℕ) (k : Client) → s.owed ≡ owed_rings clients → RingsInvariant s clients → slice_get clients c ≡ Some k → deque_len k.waiting + (deque_len k.outcomes - deque_len k.sets) ≡ outstanding c s
+outstanding_count s clients c k owed rings at = let both = both_kinds (owed_to c s) in let waits = waiting_count s clients c k rings at in let all = owed_count s clients c k owed at in let sets = sets_count s clients c k owed rings at in omega arith
 
 -- a client's places
 pub places_at : (clients : List Client) (c : ℕ) (k : Client) → slice_get clients c ≡ Some k → get_or (places_of clients) c 0 ≡ k.places
@@ -115,22 +157,33 @@ places_at (l ∷ clients) zero k at = let same : l ≡ k = cc in rw same refl
 places_at (l ∷ clients) (suc c) k at = places_at clients c k at
 
 -- there is room for a request that no fault refuses
-pub room_for_request : (s : QueueState) (clients : List Client) (c : ℕ) (k : Client) → QueueInvariant s clients → s.places ≡ places_of clients → first_submit_fault s c ≡ None → slice_get clients c ≡ Some k → deque_len k.waiting < deque_capacity k.waiting
-room_for_request s clients c k held same passes at =
+pub room_for_request : (s : QueueState) (clients : List Client) (c : ℕ) (k : Client) → QueueInvariant s clients → s.places ≡ places_of clients → s.owed ≡ owed_rings clients → first_submit_fault s c ≡ None → slice_get clients c ≡ Some k → deque_len k.waiting < deque_capacity k.waiting
+room_for_request s clients c k held same owed passes at =
     let free : outstanding c s < get_or s.places c 0 = (has_place s c passes).free in
     let places : get_or s.places c 0 ≡ k.places = ap (λ ns. get_or ns c 0) same ∙ places_at clients c k at in
-    let count = outstanding_count s clients c k held.rings at in
+    let count = outstanding_count s clients c k owed held.rings at in
     let sizes : HasRings k = all_at HasRings clients held.rings.sizes c k at in
     omega (arith, sizes.waiting)
 
--- there is room for each outcome
-pub room_for_outcome : (s : QueueState) (clients : List Client) (c : ℕ) (k : Client) → QueueInvariant s clients → s.places ≡ places_of clients → slice_get clients c ≡ Some k → deque_len k.outcomes < deque_capacity k.outcomes
-room_for_outcome s clients c k held same at =
+-- there is room for each outcome, and for the set of each discovery
+pub room_for_outcome : (s : QueueState) (clients : List Client) (c : ℕ) (k : Client) → QueueInvariant s clients → s.places ≡ places_of clients → s.owed ≡ owed_rings clients → slice_get clients c ≡ Some k → 1 ≤ length (filter (λ (a : Accepted). c == a.client) s.waiting) + length (filter (λ (a : AskedDiscovery). c == a.client) s.asked) → deque_len k.outcomes < deque_capacity k.outcomes
+room_for_outcome s clients c k held same owed at some =
     let few : outstanding c s ≤ get_or s.places c 0 = held.state.few c in
+    let few_asks : outstanding_asks c s ≤ get_or (map (λ (n : ℕ). 4) s.places) c 0 = held.state.few_asks c in
+    let most = fours s.places c in
+    let both = both_kinds (owed_to c s) in
     let places : get_or s.places c 0 ≡ k.places = ap (λ ns. get_or ns c 0) same ∙ places_at clients c k at in
-    let count = outstanding_count s clients c k held.rings at in
+    let count = owed_count s clients c k owed at in
     let sizes : HasRings k = all_at HasRings clients held.rings.sizes c k at in
     omega (arith, sizes.outcomes)
+
+pub room_for_set : (s : QueueState) (clients : List Client) (c : ℕ) (k : Client) → QueueInvariant s clients → s.owed ≡ owed_rings clients → slice_get clients c ≡ Some k → 1 ≤ length (filter (λ (a : AskedDiscovery). c == a.client) s.asked) → deque_len k.sets < deque_capacity k.sets
+room_for_set s clients c k held owed at some =
+    let few_asks : outstanding_asks c s ≤ get_or (map (λ (n : ℕ). 4) s.places) c 0 = held.state.few_asks c in
+    let most = fours s.places c in
+    let count = sets_count s clients c k owed held.rings at in
+    let sizes : HasRings k = all_at HasRings clients held.rings.sizes c k at in
+    omega (arith, sizes.sets)
 
 -- what the whole queue keeps through these
 pub kept-finish : (s : QueueState) (clients : List Client) (k l : Client) (done : Completion) (entry : Entry) (a : Accepted) → QueueInvariant s clients → slice_get clients a.client ≡ Some k → ClientFinishes k done entry l → slice_get s.waiting 0 ≡ Some a → QueueInvariant (finishes_oldest s (owed_for (completion_value done) a)) (set clients a.client l)
@@ -145,31 +198,51 @@ kept-accept s clients c k l request held at accepts passes = record {
   rings = rings-accept s clients c k l request held.rings at accepts;
 }
 
-pub kept-collect : (s : QueueState) (clients : List Client) (c : ℕ) (k l : Client) (d : Owed) → QueueInvariant s clients → slice_get clients c ≡ Some k → ClientCollects k (Some d) l → QueueInvariant (record s { outcomes = without_first c s.outcomes }) (set clients c l)
-kept-collect s clients c k l d held at collects = record {
+pub kept-collect : (s : QueueState) (clients : List Client) (c : ℕ) (k l : Client) (outcome : Outcome) → QueueInvariant s clients → slice_get clients c ≡ Some k → ClientCollects k (Some outcome) l → QueueInvariant (collects_oldest s c) (set clients c l)
+kept-collect s clients c k l outcome held at collects = record {
   state = held-collects s c held.state;
-  rings = rings-collect s clients c k l d held.rings at collects;
+  rings = rings-collect s (collects_oldest s c) clients c k l (Some outcome) refl held.rings at collects;
 }
 
-pub kept-join : (s : QueueState) (clients : List Client) (k : Client) (places : ℕ) → QueueInvariant s clients → IsNewClient places k → first_join_fault s places ≡ None → QueueInvariant (record s { places = s.places ++ places ∷ [] }) (clients ++ k ∷ [])
+pub kept-join : (s : QueueState) (clients : List Client) (k : Client) (places : ℕ) → QueueInvariant s clients → IsNewClient places k → first_join_fault s places ≡ None → QueueInvariant (joins_client s places) (clients ++ k ∷ [])
 kept-join s clients k places held fresh passes = record {
-  state = held-joins s places held.state (has_room s places passes);
+  state = let room = has_room s places passes in held-joins s places held.state room.0 room.1;
   rings = rings-join s clients k places held.rings fresh;
 }
 
 -- a client that has no outcome, and one that has
-pub kept-uncollected : (s : QueueState) (clients : List Client) (c : ℕ) (k l : Client) → QueueInvariant s clients → slice_get clients c ≡ Some k → ClientCollects k None l → QueueInvariant s (set clients c l)
-kept-uncollected s clients c k l held at collects = record {
-  state = held.state;
-  rings = record {
-    waiting = subst (λ lists. AreShares (λ (a : Accepted). a.client) lists s.waiting) (sym (ring_stayed waiting_ring clients c k l at (ap (λ ws. map (accepted_is c) ws) collects.waiting))) held.rings.waiting;
-    outcomes = subst (λ lists. AreShares (λ (d : OwedOutcome). d.client) lists s.outcomes) (sym (ring_stayed outcome_ring clients c k l at (ap (λ ds. map (owed_is c) ds) (sym collects.outcomes)))) held.rings.outcomes;
-    sizes = all_set HasRings clients c l held.rings.sizes (same_sizes k l (all_at HasRings clients held.rings.sizes c k at) collects.rings);
-  };
-}
+pub none_owed : (s : QueueState) (clients : List Client) (c : ℕ) (k l : Client) → s.owed ≡ owed_rings clients → slice_get clients c ≡ Some k → ClientCollects k None l → slice_get (owed_to c s) 0 ≡ None
+none_owed s clients c k l owed at collects = ap (λ lists. slice_get (get_or lists c []) 0) owed ∙ ap (λ ds. slice_get ds 0) (values_at clients c k at ∙ collects.none)
 
-pub none_owed : (s : QueueState) (clients : List Client) (c : ℕ) (k l : Client) → RingsInvariant s clients → slice_get clients c ≡ Some k → ClientCollects k None l → slice_get (owed_to c s) 0 ≡ None
-none_owed s clients c k l rings at collects = ap (λ ds. slice_get ds 0) (sym (rings.outcomes c) ∙ (ring_of outcome_ring clients c k at ∙ ap (λ ds. map (owed_is c) ds) collects.none))
+pub first_owed : (s : QueueState) (clients : List Client) (c : ℕ) (k l : Client) (outcome : Outcome) → s.owed ≡ owed_rings clients → slice_get clients c ≡ Some k → ClientCollects k (Some outcome) l → slice_get (owed_to c s) 0 ≡ Some (outcome_value outcome)
+first_owed s clients c k l outcome owed at collects = ap (λ lists. slice_get (get_or lists c []) 0) owed ∙ ap (λ ds. slice_get ds 0) (values_at clients c k at ∙ collects.outcomes)
 
-pub first_owed : (s : QueueState) (clients : List Client) (c : ℕ) (k l : Client) (d : Owed) → RingsInvariant s clients → slice_get clients c ≡ Some k → ClientCollects k (Some d) l → slice_get (owed_to c s) 0 ≡ Some (owed_is c d)
-first_owed s clients c k l d rings at collects = ap (λ ds. slice_get ds 0) (sym (rings.outcomes c) ∙ (ring_of outcome_ring clients c k at ∙ ap (λ ds. map (owed_is c) ds) collects.outcomes))
+-- what a client's rings are after it has collected
+pub record Collected (s : QueueState) (clients : List Client) (c : ℕ) (r : Option Outcome) (l : Client) : Type 0 where
+  pub kept : QueueInvariant (record s { owed = owed_rings (set clients c l) }) (set clients c l)
+  pub taken : OnSome r (owed_rings (set clients c l) ≡ (collects_oldest s c).owed)
+  pub none : IfNone r (owed_rings (set clients c l) ≡ s.owed)
+
+pub collected : (s : QueueState) (clients : List Client) (c : ℕ) (k l : Client) (r : Option Outcome) → QueueInvariant s clients → s.owed ≡ owed_rings clients → slice_get clients c ≡ Some k → ClientCollects k r l → Collected s clients c r l
+collected s clients c k l (Some outcome) held owed at collects =
+    let is = owed-collect s clients c k l outcome owed at collects in
+    record { kept = rw is (kept-collect s clients c k l outcome held at collects); taken = is; none = tt }
+collected s clients c k l None held owed at collects =
+    let is : owed_rings (set clients c l) ≡ s.owed = owed_stayed clients c k l at (sym collects.outcomes) ∙ sym owed in
+    record { kept = rw is (record { state = held.state; rings = rings-collect s s clients c k l None refl held.rings at collects }); taken = tt; none = is }
+
+pub on_some : {X : Type 0} {P Q : Type 0} (r : Option X) → (P → Q) → OnSome r P → OnSome r Q
+on_some (Some x) so p = so p
+on_some None so p = tt
+
+pub if_none : {X : Type 0} {P Q : Type 0} (r : Option X) → (P → Q) → IfNone r P → IfNone r Q
+if_none (Some x) so p = tt
+if_none None so p = so p
+
+pub if_some : {X : Type 0} {P Q : X → Type 0} (r : Option X) → ((x : X) → P x → Q x) → IfSome r P → IfSome r Q
+if_some (Some x) so p = so x p
+if_some None so p = tt
+
+pub no_run_is : (r : Option Running) → is_some r ≡ false → option_map run_is r ≡ None
+no_run_is None is = refl
+no_run_is (Some r) is = absurd (false≢true (sym is))

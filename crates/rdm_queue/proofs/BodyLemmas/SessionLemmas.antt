@@ -1,16 +1,18 @@
 -- A session's log keeps its room, and its controller stands after it.
-use Rattle.std.proofs.Common.{◌≡◌, ℕ, ◌+◌, ◌≤◌, Bool, true, false, List, [], ◌∷◌, ◌++◌, length, append_assoc, append-nil, length-append, refl, sym, ap, arith}
+use Rattle.std.proofs.Common.{◌≡◌, ℕ, ◌+◌, ◌≤◌, Bool, true, false, List, [], ◌∷◌, ◌++◌, length, append_assoc, append-nil, length-append, refl, sym, ap, arith, ◌∙◌}
 use Rattle.std.proofs.lemmas.Bool.{ltb-false}
+use Rattle.std.specs.Prelude.{Ok}
+use Rattle.rdm_join.specs.declared.event.LineEvent.{LineEvent}
 use Rattle.rdm_queue.specs.declared.config.Config.{Config}
 use Rattle.rdm_queue.specs.declared.entry.Entry.{Entry}
-use Rattle.rdm_queue.specs.declared.entry.Entry.TheVariants.{Finish, Answer}
+use Rattle.rdm_queue.specs.declared.entry.Entry.TheVariants.{Came, Finish, Answer, Close}
 use Rattle.rdm_queue.specs.log.Entries.{accepts, asks, finishes, answers, collectors}
 use Rattle.rdm_queue.specs.log.History.{is_closed, awaited, reserved}
 use Rattle.rdm_queue.specs.log.LogState.{LogState, grown, free_entries, is_full_log, opened}
-use Rattle.rdm_queue.specs.promises.Blocks.{UnlessFull, is_result, AllResults}
+use Rattle.rdm_queue.specs.promises.Blocks.{UnlessFull, is_result, AllResults, IsWithResults, CloseAdds, DeliverAdds, GrowsBy}
 use Rattle.rdm_queue.specs.body.State.{QueueState}
 use Rattle.rdm_queue.specs.body.Agrees.{StandsAfter, StandsAmid}
-use Rattle.rdm_queue.specs.body.SessionInvariant.{HasRoom, SessionInvariant, SessionAmid}
+use Rattle.rdm_queue.specs.body.SessionInvariant.{HasRoom, SessionInvariant, SessionAmid, FinishesDue}
 use Rattle.rdm_wire.specs.Lists.{EachAfter}
 use Rattle.rdm_queue.specs.log.Legal.{MayFollow}
 use Rattle.rdm_queue.proofs.LogLemmas.RoomLemmas.{added, added_by, taken_block}
@@ -77,3 +79,17 @@ all_results_more (x ∷ block) e all is = (all.0, all_results_more block e all.1
 pub session_first : (s : QueueState) (config : Config) (room : ℕ) → 1 ≤ room → StandsAfter (opened config) [] s → SessionInvariant s (record { opening = opened config; entries = []; room = room })
 unfolding accepts asks finishes answers collectors awaited is_closed
 session_first s config room some after = record { after = after; room = omega (arith, some) }
+
+-- an entry, and then what was due
+pub then_due : (old log new : LogState) (e : Entry) (s : QueueState) → log ≡ grown old (e ∷ []) → FinishesDue log s new → GrowsBy old (IsWithResults e) new
+then_due old log new e s is due = record {
+  block = e ∷ due.results;
+  adds = record { results = due.results; whole = refl; each = due.each };
+  grows = due.grows ∙ ap (λ k. grown k due.results) is ∙ grown_twice old (e ∷ []) due.results;
+}
+
+pub close_adds : (old new : LogState) → is_closed old.opening old.entries ≡ false → GrowsBy old (IsWithResults Close) new → GrowsBy old (CloseAdds old.opening old.entries) new
+close_adds old new open_ is = record { block = is.block; adds = rw open_ is.adds; grows = is.grows }
+
+pub deliver_adds : (old new : LogState) (event : LineEvent) → awaited old.entries ≡ true → GrowsBy old (IsWithResults (Came event)) new → GrowsBy old (DeliverAdds old.entries event (Ok tt)) new
+deliver_adds old new event waits is = record { block = is.block; adds = (waits, is.adds); grows = is.grows }

@@ -106,3 +106,14 @@ drop_some_within n xs some = by_length (cases_lt n (length xs))
     by_length : (n < length xs) ⊎ (length xs ≤ n) → n < length xs
     by_length (inl within) = within
     by_length (inr past) = absurd (some (drop_all n xs past))
+
+-- a place that holds something is within the list
+pub place_within : {X : Type 0} (xs : List X) (i : ℕ) (x : X) → slice_get xs i ≡ Some x → i < length xs
+place_within [] i x at = cc
+place_within (y ∷ xs) zero x at = omega arith
+place_within (y ∷ xs) (suc i) x at = let rest = place_within xs i x at in omega arith
+
+pub within_some : {X : Type 0} (xs : List X) (i : ℕ) → i < length xs → slice_get xs i ≡ None → ⊥
+within_some [] i within none = omega arith
+within_some (x ∷ xs) zero within none = cc
+within_some (x ∷ xs) (suc i) within none = within_some xs i (omega arith) none

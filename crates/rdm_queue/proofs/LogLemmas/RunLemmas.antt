@@ -70,7 +70,7 @@ entries_before_run_stays r h k begun = before_first-stays (sends_run r) h k begu
 any_cons : {X : Type 0} (p : X → Bool) (x : X) (xs : List X) → list_any p (x ∷ xs) ≡ (p x || list_any p xs)
 any_cons p x xs = refl
 
-sent_begins : (r : ℕ) (h : List Entry) → list_any (λ (s : Sending). is_run r s.owner) (filter_map sending_of h) ≡ list_any (sends_run r) h
+pub sent_begins : (r : ℕ) (h : List Entry) → list_any (λ (s : Sending). is_run r s.owner) (filter_map sending_of h) ≡ list_any (sends_run r) h
 sent_begins r [] = refl
 sent_begins r (Send owner frame ∷ h) = ap (λ b. is_run r owner || b) (sent_begins r h)
 sent_begins r (e ∷ h) = sent_begins r h

@@ -2,13 +2,16 @@
 use Rattle.std.proofs.Common.{◌≡◌, ℕ, Bool, true, false, List, [], ◌∷◌, ap, inl, inr}
 use Rattle.std.specs.Prelude.{◌⊎◌, Result, Ok, Err}
 use Rattle.rdm_wire.specs.declared.request.Request.{Request}
+use Rattle.rdm_agent.specs.declared.kind.Kind.{Kind}
 use Rattle.rdm_queue.specs.declared.entry.ClientId.{ClientId}
 use Rattle.rdm_queue.specs.declared.entry.Entry.{Entry}
 use Rattle.rdm_queue.specs.declared.fault.JoinFault.{JoinFault}
 use Rattle.rdm_queue.specs.declared.fault.SubmitFault.{SubmitFault}
 use Rattle.rdm_queue.specs.declared.fault.SubmitFault.TheVariants as submit_faults
+use Rattle.rdm_queue.specs.declared.fault.AskFault.{AskFault}
+use Rattle.rdm_queue.specs.declared.fault.AskFault.TheVariants as ask_faults
 use Rattle.rdm_queue.specs.log.LogState.{LogState, is_full_log}
-use Rattle.rdm_queue.specs.promises.Blocks.{join_refused, submit_refused, JoinAdds, SubmitAdds, UnlessFull, JoinLogs, SubmitLogs}
+use Rattle.rdm_queue.specs.promises.Blocks.{join_refused, submit_refused, ask_refused, JoinAdds, SubmitAdds, DiscoverAdds, UnlessFull, JoinLogs, SubmitLogs, DiscoverLogs}
 
 -- what isn't refused for a full log
 not_refused : {A B : Type 0} (full : Bool) → (A → ⊥) → UnlessFull full A B → B
@@ -27,6 +30,15 @@ submit_full k c request block is = not_refused (is_full_log k) (λ refused. neve
     never : ◌≡◌ {A = Result ℕ (SubmitFault × Request)} (Err (submit_faults.Full, request)) (Err (submit_faults.LogFull, request)) → ⊥
     never same = let pair : ◌≡◌ {A = SubmitFault × Request} (submit_faults.Full, request) (submit_faults.LogFull, request) = cc in let faults : submit_faults.Full ≡ submit_faults.LogFull = ap (λ p. p.0) pair in cc
 
+pub discover_ok : (k : LogState) (c : ClientId) (kind : Kind) (n : ℕ) (block : List Entry) → DiscoverLogs k c kind (Ok n) block → DiscoverAdds k.opening k.entries c kind (Ok n) block
+discover_ok k c kind n block is = not_refused (is_full_log k) (λ refused. let same = refused.0 in cc) is
+
+pub discover_full : (k : LogState) (c : ClientId) (kind : Kind) (block : List Entry) → DiscoverLogs k c kind (Err ask_faults.Full) block → DiscoverAdds k.opening k.entries c kind (Err ask_faults.Full) block
+discover_full k c kind block is = not_refused (is_full_log k) (λ refused. never refused.0) is
+  where
+    never : ◌≡◌ {A = Result ℕ AskFault} (Err ask_faults.Full) (Err ask_faults.LogFull) → ⊥
+    never same = let faults : ask_faults.Full ≡ ask_faults.LogFull = cc in cc
+
 -- what a refused call leaves: nothing, or its entry
 pub join_refusal : (k : LogState) (n : ℕ) (fault : JoinFault) (block : List Entry) → JoinLogs k n (Err fault) block → (block ≡ []) ⊎ (block ≡ join_refused n fault ∷ [])
 join_refusal k n fault block is = by_flag _ (is_full_log k) is
@@ -41,3 +53,10 @@ submit_refusal k c request e block is = by_flag _ (is_full_log k) is
     by_flag : (A : Type 0) (full : Bool) → UnlessFull full (A × (block ≡ [])) (SubmitAdds k.opening k.entries c request (Err e) block) → (block ≡ []) ⊎ (block ≡ submit_refused c request e.0 ∷ [])
     by_flag A true is = inl is.1
     by_flag A false is = inr is.2
+
+pub discover_refusal : (k : LogState) (c : ClientId) (kind : Kind) (fault : AskFault) (block : List Entry) → DiscoverLogs k c kind (Err fault) block → (block ≡ []) ⊎ (block ≡ ask_refused c kind fault ∷ [])
+discover_refusal k c kind fault block is = by_flag _ (is_full_log k) is
+  where
+    by_flag : (A : Type 0) (full : Bool) → UnlessFull full (A × (block ≡ [])) (DiscoverAdds k.opening k.entries c kind (Err fault) block) → (block ≡ []) ⊎ (block ≡ ask_refused c kind fault ∷ [])
+    by_flag A true is = inl is.1
+    by_flag A false is = inr is.1

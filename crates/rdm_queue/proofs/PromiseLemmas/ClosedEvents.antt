@@ -4,6 +4,7 @@ use Rattle.std.specs.Prelude.{Ok, Err}
 use Rattle.std.proofs.lemmas.Bool.{false≢true}
 use Rattle.std.proofs.lemmas.Option.{none-some, same_Some}
 use Rattle.rdm_wire.specs.declared.request.Request.{Request}
+use Rattle.rdm_agent.specs.declared.kind.Kind.{Kind}
 use Rattle.rdm_queue.specs.declared.entry.ClientId.{ClientId}
 use Rattle.rdm_queue.specs.declared.entry.Owner.{Owner}
 use Rattle.rdm_queue.specs.declared.entry.Owner.TheVariants as owners
@@ -19,10 +20,10 @@ use Rattle.rdm_queue.specs.log.MaySend.{MaySend}
 use Rattle.rdm_queue.specs.log.LogState.{LogState}
 use Rattle.rdm_queue.specs.promises.Blocks.{CloseAddsWhere}
 use Rattle.rdm_queue.specs.promises.Explains.{Adds, IsAnswered, Explains}
-use Rattle.rdm_queue.proofs.PromiseLemmas.BlockLemmas.{join_ok, submit_ok}
+use Rattle.rdm_queue.proofs.PromiseLemmas.BlockLemmas.{join_ok, submit_ok, discover_ok}
 use Rattle.rdm_queue.specs.promises.EventsHeadline.{starts}
 use Rattle.rdm_queue.proofs.LogLemmas.PushLemmas.{is_closed-push}
-use Rattle.rdm_queue.proofs.LogLemmas.RefusalLemmas.{join_passes, submit_passes}
+use Rattle.rdm_queue.proofs.LogLemmas.RefusalLemmas.{join_passes, submit_passes, ask_passes}
 use Rattle.rdm_queue.proofs.PromiseLemmas.NothingAfterClose.{closed_more}
 use Rattle.rdm_queue.proofs.PromiseLemmas.ExplainsLemmas.{explained_grows}
 
@@ -65,6 +66,11 @@ silent_submit k c request (answers.Submit (Ok n)) block closed adds = let passes
 silent_submit k c request (answers.Submit (Err e)) block closed adds = refl
 silent_submit k c request _ block closed adds = absurd adds
 
+silent_discover : (k : LogState) (c : ClientId) (kind : Kind) (r : Answer) (block : List Entry) → is_closed k.opening k.entries ≡ true → Adds k (events.Discover c kind) r block → starts r ≡ false
+silent_discover k c kind (answers.Discover (Ok n)) block closed adds = let passes = ask_passes k.opening k.entries c.0 (discover_ok k c kind n block adds).0 in absurd (false≢true (sym passes.not_closed ∙ closed))
+silent_discover k c kind (answers.Discover (Err fault)) block closed adds = refl
+silent_discover k c kind _ block closed adds = absurd adds
+
 silent_take : (k : LogState) (r : Answer) (block : List Entry) → is_closed k.opening k.entries ≡ true → Adds k events.Take r block → starts r ≡ false
 silent_take k (answers.Take (Ok (Some frame))) block closed adds = by_owner adds.1.0 adds.1.1
   where
@@ -78,6 +84,7 @@ silent_take k _ block closed adds = absurd adds
 silent : (k : LogState) (e : Event) (r : Answer) (block : List Entry) → is_closed k.opening k.entries ≡ true → Adds k e r block → starts r ≡ false
 silent k (events.Join n) r block closed adds = silent_join k n r block closed adds
 silent k (events.Submit c request) r block closed adds = silent_submit k c request r block closed adds
+silent k (events.Discover c kind) r block closed adds = silent_discover k c kind r block closed adds
 silent k events.Take r block closed adds = silent_take k r block closed adds
 silent k events.Pause (answers.Pause r) block closed adds = refl
 silent k events.Resume (answers.Resume r) block closed adds = refl

@@ -1,5 +1,5 @@
--- A client is given the outcomes of its Finishes once, in order.
-use Rattle.std.proofs.Common.{◌≡◌, ℕ, ◌+◌, zero, suc, Bool, true, false, List, [], ◌∷◌, ◌++◌, length, take, drop, Option, Some, None, if◌then◌else◌, slice_get, refl, sym, ap, ◌∙◌, append_assoc, append-nil, add-one, inl, inr, filter_map}
+-- A client is given the outcomes of its Finishes and Answers once, in order.
+use Rattle.std.proofs.Common.{◌≡◌, ℕ, zero, suc, Bool, true, false, List, [], ◌∷◌, ◌++◌, length, take, drop, Option, Some, None, if◌then◌else◌, slice_get, refl, ap, ◌∙◌, append_assoc, append-nil, add-one, inl, inr, filter_map}
 use Rattle.std.specs.Prelude.{◌⊎◌, ◌==◌, Ok, Err}
 use Rattle.std.specs.List.{AllByRecursion, cons_option}
 use Rattle.std.proofs.lemmas.Bool.{eq-eqb, cases_Bool, false≢true, eqb-true}
@@ -23,16 +23,15 @@ use Rattle.rdm_queue.specs.log.Clients.{answers_to, collects_by, collected, unco
 use Rattle.rdm_queue.specs.log.Legal.{MayFollow}
 use Rattle.rdm_queue.specs.promises.Outcomes.{OutcomeValue, outcome_value, outcome_of}
 use Rattle.rdm_queue.specs.log.LogState.{LogState, grown}
-use Rattle.rdm_queue.specs.promises.Blocks.{join_refused, submit_refused, is_result, IsWithResults, IsOldest, SwitchAdds, CloseAddsWhere}
+use Rattle.rdm_queue.specs.promises.Blocks.{join_refused, submit_refused, ask_refused, is_result, IsWithResults, IsOldest, SwitchAdds, CloseAddsWhere}
 use Rattle.rdm_queue.specs.promises.Explains.{Adds, IsAnswered, Explains}
-use Rattle.rdm_queue.proofs.PromiseLemmas.BlockLemmas.{join_ok, submit_ok, join_refusal, submit_refusal}
+use Rattle.rdm_queue.proofs.PromiseLemmas.BlockLemmas.{join_ok, submit_ok, discover_ok, join_refusal, submit_refusal, discover_refusal}
 use Rattle.rdm_queue.specs.promises.EventsHeadline.{outcome_given, given_to, collected_outcomes}
 use Rattle.rdm_queue.proofs.LogLemmas.Grows.{front}
 use Rattle.rdm_queue.proofs.LogLemmas.PushLemmas.{collectors_more}
 use Rattle.rdm_queue.proofs.LogLemmas.ClientLemmas.{answers_same}
 use Rattle.rdm_queue.proofs.LogLemmas.ClientSteps.{collected_step}
-use Rattle.rdm_queue.proofs.LogLemmas.Places.{slice_get-drop}
-use Rattle.rdm_queue.proofs.PromiseLemmas.OwnDiscoveries.{outcome_stays}
+use Rattle.rdm_queue.proofs.PromiseLemmas.StableOutcomes.{outcome_stays}
 use Rattle.rdm_queue.proofs.PromiseLemmas.ExplainsLemmas.{explained_grows}
 
 -- an entry that is no Collect leaves what was collected
@@ -45,7 +44,7 @@ collected_block o c h (e ∷ block) each none =
     rw (append_assoc h (e ∷ []) block) at (collected_block o c (h ++ e ∷ []) block (rw (append_assoc h (e ∷ []) block) each) none.1)
     ∙ collected_step o c h e (front o h (e ∷ block) each) (each h block e refl) none.0
 
--- a Collect takes the client's oldest uncollected Finish
+-- a Collect takes the client's oldest uncollected answer
 take_next : (m : ℕ) (xs : List Entry) (x : Entry) → slice_get (drop m xs) 0 ≡ Some x → take (suc m) xs ≡ take m xs ++ x ∷ []
 take_next zero [] x at = cc
 take_next zero (y ∷ xs) x at = rw (same_Some y x at) refl
@@ -100,6 +99,8 @@ gave k (events.Join n) (answers.Join (Ok c)) block adds = inl (record { none = r
 gave k (events.Join n) (answers.Join (Err fault)) block adds = inl (record { none = none_or_one (join_refused n fault) block refl (join_refusal k n fault block adds); nothing = λ d. refl })
 gave k (events.Submit c request) (answers.Submit (Ok n)) block adds = inl (record { none = rw (submit_ok k c request n block adds).2 (refl, tt); nothing = λ d. refl })
 gave k (events.Submit c request) (answers.Submit (Err e)) block adds = inl (record { none = none_or_one (submit_refused c request e.0) block refl (submit_refusal k c request e block adds); nothing = λ d. refl })
+gave k (events.Discover c kind) (answers.Discover (Ok n)) block adds = inl (record { none = rw (discover_ok k c kind n block adds).2 (refl, tt); nothing = λ d. refl })
+gave k (events.Discover c kind) (answers.Discover (Err fault)) block adds = inl (record { none = none_or_one (ask_refused c kind fault) block refl (discover_refusal k c kind fault block adds); nothing = λ d. refl })
 gave k events.Pause (answers.Pause (Ok x)) block adds = inl (record { none = switch_none (can_pause k.opening k.entries) Pause block refl adds.1; nothing = λ d. refl })
 gave k events.Pause (answers.Pause (Err x)) block adds = inl (record { none = rw adds.1 tt; nothing = λ d. refl })
 gave k events.Resume (answers.Resume (Ok x)) block adds = inl (record { none = switch_none (can_resume k.opening k.entries) Resume block refl adds.1; nothing = λ d. refl })
@@ -116,7 +117,7 @@ gave k _ _ block adds = absurd adds
 
 -- the oldest uncollected answer has its outcome also in a later log
 outcome_lasts : (o : Opening) (h more : List Entry) (c : ℕ) (outcome : Outcome) → EachAfter (MayFollow o) (h ++ more) → (is : IsOldest o h c outcome) → outcome_of (h ++ more) is.entry ≡ Some (outcome_value outcome)
-outcome_lasts o h more c outcome each is = outcome_stays o h more each c (length (collects_by c h) + 0) is.entry (sym (slice_get-drop (length (collects_by c h)) (answers_to o c h) 0) ∙ is.oldest) ∙ is.told
+outcome_lasts o h more c outcome each is = outcome_stays o h more c 0 is.entry each is.oldest ∙ is.told
 
 -- what one event adds to a client's outcomes, as a later log has them
 one_collect : (k : LogState) (d : ClientId) (outcome : Outcome) (back log : List Entry) → log ≡ (k.entries ++ Collect d ∷ []) ++ back → EachAfter (MayFollow k.opening) log → IsOldest k.opening k.entries d.0 outcome

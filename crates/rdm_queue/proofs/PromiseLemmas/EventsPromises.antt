@@ -1,59 +1,45 @@
 -- What is promised of a list of events.
-use Rattle.std.proofs.Common.{◌≡◌, ℕ, ◌+◌, ◌-◌, ◌<◌, true, false, List, [], ◌∷◌, ◌++◌, length, map, Some, slice_get, refl, sym, ap, ◌∙◌, append_assoc, arith}
+use Rattle.std.proofs.Common.{◌≡◌, ℕ, false, List, [], ◌∷◌, ◌++◌, Option, Some, slice_get, refl, sym, ap, ◌∙◌, append_assoc}
 use Rattle.std.specs.Prelude.{Ok, Err, option_map}
 use Rattle.std.specs.List.{Contains}
-use Rattle.std.proofs.lemmas.List.Elements.{Contains-append_left, Contains-append_right}
-use Rattle.std.proofs.lemmas.List.{length-map}
-use Rattle.std.proofs.lemmas.Option.{none-some, slice_get_within, slice_get-get_or, slice_get-map, same_Some}
+use Rattle.std.proofs.lemmas.Option.{none-some, slice_get-get_or, slice_get-map, same_Some}
 use Rattle.rdm_wire.specs.Lists.{EachAfter}
 use Rattle.rdm_wire.specs.declared.request.Request.{Request}
 use Rattle.rdm_queue.specs.declared.entry.ClientId.{ClientId}
-use Rattle.rdm_queue.specs.declared.entry.Opening.{Opening}
 use Rattle.rdm_queue.specs.declared.entry.Entry.{Entry}
-use Rattle.rdm_queue.specs.declared.entry.Entry.TheVariants.{Accept, Finish}
+use Rattle.rdm_queue.specs.declared.entry.Entry.TheVariants.{Accept}
 use Rattle.rdm_queue.specs.declared.entry.Call.TheVariants as calls
 use Rattle.rdm_queue.specs.declared.fault.SubmitFault.TheVariants.{Full}
+use Rattle.rdm_queue.specs.declared.outcome.AskCompletion.{AskCompletion}
 use Rattle.rdm_queue.specs.declared.outcome.Outcome.{Outcome}
+use Rattle.rdm_queue.specs.declared.outcome.Outcome.TheVariants as outcomes
 use Rattle.rdm_queue.specs.declared.event.Event.{Event}
 use Rattle.rdm_queue.specs.declared.event.Event.TheVariants as events
 use Rattle.rdm_queue.specs.declared.event.Answer.{Answer}
 use Rattle.rdm_queue.specs.declared.event.Answer.TheVariants as answers
-use Rattle.rdm_queue.specs.log.Entries.{Accepted, accepted_of, accepts, result}
-use Rattle.rdm_queue.specs.log.Clients.{client_of_request, is_answer_to, answers_to, collects_by, uncollected}
+use Rattle.rdm_queue.specs.log.Entries.{Accepted, accepted_of, accepts}
 use Rattle.rdm_queue.specs.log.Refusals.{submit_fault}
-use Rattle.rdm_queue.specs.promises.Outcomes.{outcome_of, completion_of, outcome_value}
-use Rattle.rdm_queue.specs.promises.Outcomes.OutcomeValue.{RequestValue}
 use Rattle.rdm_queue.specs.log.Legal.{MayFollow, Legal}
 use Rattle.rdm_queue.specs.log.LogState.{LogState, grown, is_full_log}
-use Rattle.rdm_queue.specs.promises.Blocks.{submit_refused, SubmitAdds, IsOldest}
-use Rattle.rdm_queue.proofs.PromiseLemmas.BlockLemmas.{submit_ok, submit_full}
+use Rattle.rdm_queue.specs.promises.Blocks.{submit_refused, SubmitAdds}
+use Rattle.rdm_queue.specs.promises.Outcomes.{discovered}
 use Rattle.rdm_queue.specs.promises.Explains.{Adds, Explains}
 use Rattle.rdm_queue.specs.promises.Headline.{IsFull, numbers_accepted}
-use Rattle.rdm_queue.specs.promises.EventsHeadline.{AnsweredAt, FullExactly, refuses_full, IsOwnOutcome, EventsPromised}
-use Rattle.rdm_queue.proofs.LogLemmas.Grows.{front}
-use Rattle.rdm_queue.proofs.LogLemmas.LegalFacts.{legal_facts}
-use Rattle.rdm_queue.proofs.LogLemmas.Places.{slice_get-drop, filter_map_has}
-use Rattle.rdm_queue.proofs.LogLemmas.ClientLemmas.{client_stays}
-use Rattle.rdm_queue.proofs.PromiseLemmas.StableResults.{contains_from_get, client_is, filter_has, IsFinish, oldest_finish}
-use Rattle.rdm_queue.proofs.PromiseLemmas.OwnAnswers.{finished_stays}
+use Rattle.rdm_queue.specs.promises.EventsHeadline.{AnsweredAt, FullExactly, refuses_full, IsOwnOutcome, ReportsTheLine, EventsPromised}
+use Rattle.rdm_queue.proofs.LogLemmas.Places.{filter_map_has}
+use Rattle.rdm_queue.proofs.PromiseLemmas.StableResults.{contains_from_get}
 use Rattle.rdm_queue.proofs.PromiseLemmas.OneResult.{one_result}
+use Rattle.rdm_queue.proofs.PromiseLemmas.AnsweredInOrder.{one_answer}
 use Rattle.rdm_queue.proofs.PromiseLemmas.FullRefuses.{full_is_fault, fault_is_full, refusal_changes_nothing}
 use Rattle.rdm_queue.proofs.PromiseLemmas.Promises.{promised}
+use Rattle.rdm_queue.proofs.PromiseLemmas.BlockLemmas.{submit_ok, submit_full}
+use Rattle.rdm_queue.proofs.PromiseLemmas.OwnOutcomes.{own_outcome, reports_the_line}
+use Rattle.rdm_queue.proofs.PromiseLemmas.DiscoverEvents.{asked, discovery_contained, most, collected_by}
 use Rattle.rdm_queue.proofs.PromiseLemmas.CollectedEvents.{collected_once}
 use Rattle.rdm_queue.proofs.PromiseLemmas.ClosedEvents.{closes, nothing_after, nothing_closed}
 use Rattle.rdm_queue.proofs.PromiseLemmas.QuietEvents.{idle_after}
-use Rattle.rdm_queue.proofs.PromiseLemmas.RisingNumbers.{numbers_rise}
-use Rattle.rdm_queue.proofs.PromiseLemmas.ExplainsLemmas.{IsPlaced, placed, one_answer_each, explained_grows, answered_at}
-
-contains_last : {X : Type 0} (xs : List X) (x : X) → Contains (xs ++ x ∷ []) x
-contains_last xs x = Contains-append_right xs (x ∷ []) x (0, omega arith, refl)
-
--- a block stands in the new log, and each of its entries may follow what stands before it
-block_contained : (new before : LogState) (block : List Entry) (e : Entry) → IsPlaced new before block → block ≡ e ∷ [] → Contains new.entries e
-block_contained new before block e place is = rw (place.whole, is) (Contains-append_left (before.entries ++ e ∷ []) place.back e (contains_last before.entries e))
-
-block_follows : (new before : LogState) (block : List Entry) (entries : List Entry) → IsPlaced new before block → block ≡ entries → EachAfter (MayFollow new.opening) new.entries → EachAfter (MayFollow new.opening) (before.entries ++ entries)
-block_follows new before block entries place is each = front new.opening (before.entries ++ entries) place.back (rw (place.whole, is) at each)
+use Rattle.rdm_queue.proofs.PromiseLemmas.RisingNumbers.{numbers_rise, asks_rise}
+use Rattle.rdm_queue.proofs.PromiseLemmas.ExplainsLemmas.{IsPlaced, placed, one_answer_each, explained_grows, answered_at, block_contained, block_follows}
 
 -- a request that was accepted stands in the log
 accepted : (old : LogState) (es : List Event) (rs : List Answer) (new : LogState) → Explains old es rs new → (i : ℕ) (c : ClientId) (n : ℕ) (request : Request) → slice_get es i ≡ Some (events.Submit c request) → slice_get rs i ≡ Some (answers.Submit (Ok n)) → Contains new.entries (Accept c n request)
@@ -101,36 +87,6 @@ full old es rs new explains legal i c request answer at_e at_r = record {
     each is =
         block_follows new at.before at.here.block (submit_refused c request Full ∷ []) (placed old es rs new i (events.Submit c request) answer at) (refused_block at.before c request answer at.here.block at.here.adds is) legal.each
 
-answer_found : (o : Opening) (h : List Entry) (c : ℕ) (x : Entry) → slice_get (uncollected o c h) 0 ≡ Some x → (j : ℕ) × (slice_get h j ≡ Some x) × (is_answer_to o c h x ≡ true)
-unfolding answers_to
-answer_found o h c x oldest = filter_has (is_answer_to o c h) h (length (collects_by c h) + 0) x (sym (slice_get-drop (length (collects_by c h)) (answers_to o c h) 0) ∙ oldest)
-
--- a client's oldest uncollected Finish, and its outcome in a later log
-own_outcome : (o : Opening) (h more : List Entry) (c : ℕ) (outcome : Outcome) → EachAfter (MayFollow o) (h ++ more) → IsOldest o h c outcome → IsOwnOutcome o (h ++ more) c outcome
-own_outcome o h more c outcome each is = record {
-  number = f.number;
-  status = f.status;
-  len = f.len;
-  finished = Contains-append_left h more (Finish f.number f.status f.len) (contains_from_get h found.0 (Finish f.number f.status f.len) (found.1 ∙ ap (λ x. Some x) f.is));
-  client = client_stays o h more f.number within ∙ client;
-  told = rw (finished_stays o h more f.number each f.finished) (sym (same_Some (RequestValue (Some f.number) (completion_of f.status (result f.number h))) (outcome_value outcome) told));
-}
-  where
-    f : IsFinish o h is.entry
-    f = oldest_finish o h (legal_facts o h (front o h more each)) c outcome is
-
-    found : (j : ℕ) × (slice_get h j ≡ Some is.entry) × (is_answer_to o c h is.entry ≡ true)
-    found = answer_found o h c is.entry is.oldest
-
-    client : client_of_request o h f.number ≡ Some c
-    client = client_is c (client_of_request o h f.number) (rw f.is at found.2)
-
-    within : f.number - o.next_request < length (accepts h)
-    within = omega (arith, slice_get_within (map (λ (a : Accepted). a.client) (accepts h)) (f.number - o.next_request) c client, length-map (accepts h) (λ (a : Accepted). a.client))
-
-    told : outcome_of h (Finish f.number f.status f.len) ≡ Some (outcome_value outcome)
-    told = rw f.is at is.told
-
 collected : (old : LogState) (es : List Event) (rs : List Answer) (new : LogState) → Explains old es rs new → Legal new.opening new.entries → (i : ℕ) (c : ClientId) (outcome : Outcome) → slice_get es i ≡ Some (events.Collect c) → slice_get rs i ≡ Some (answers.Collect (Some outcome)) → IsOwnOutcome new.opening new.entries c.0 outcome
 collected old es rs new explains legal i c outcome at_e at_r = rw whole (own_outcome new.opening at.before.entries (at.here.block ++ place.back) c.0 outcome (rw whole at legal.each) (rw (← place.same_opening) at at.here.adds.0))
   where
@@ -143,6 +99,11 @@ collected old es rs new explains legal i c outcome at_e at_r = rw whole (own_out
     whole : new.entries ≡ at.before.entries ++ (at.here.block ++ place.back)
     whole = place.whole ∙ append_assoc at.before.entries at.here.block place.back
 
+reported : (old : LogState) (es : List Event) (rs : List Answer) (new : LogState) → Explains old es rs new → Legal new.opening new.entries → (i : ℕ) (number : Option ℕ) (done : AskCompletion) → slice_get rs i ≡ Some (answers.Collect (Some (outcomes.Discovery number done))) → ReportsTheLine new.entries (discovered done)
+reported old es rs new explains legal i number done at_r =
+    let asked = collected_by old es rs new explains i (outcomes.Discovery number done) at_r in
+    reports_the_line new.opening new.entries legal asked.0.0 number (discovered done) (collected old es rs new explains legal i asked.0 (outcomes.Discovery number done) asked.1 at_r)
+
 pub events_promised : (old : LogState) (es : List Event) (rs : List Answer) (new : LogState) → Explains old es rs new → Legal new.opening new.entries → EventsPromised old es rs new
 events_promised old es rs new explains legal = record {
   all_answered = one_answer_each old es rs new explains;
@@ -150,11 +111,16 @@ events_promised old es rs new explains legal = record {
   log = promised new.opening new.entries legal;
   accepted = accepted old es rs new explains;
   finished = λ i j m c n request event at_e at_r before at_close at_deliver. (one_result new.opening new.entries legal).exactly_one (closes old es rs new explains j at_close) (idle_after old es rs new explains j m event before at_close at_deliver) n (number_contained new.entries c n request (accepted old es rs new explains i c n request at_e at_r));
+  asked = asked old es rs new explains;
+  answered = λ i j m c n kind event at_e at_r before at_close at_deliver. (one_answer new.opening new.entries legal).exactly_one (closes old es rs new explains j at_close) (idle_after old es rs new explains j m event before at_close at_deliver) n (discovery_contained new.entries c n kind (asked old es rs new explains i c n kind at_e at_r));
   numbers_rise = numbers_rise old es rs new explains;
+  asks_rise = asks_rise old es rs new explains;
   closed = closes old es rs new explains;
   nothing_after = nothing_after old es rs new explains;
   nothing_closed = λ closed. nothing_closed old es rs new explains closed;
   full = full old es rs new explains legal;
+  most = most old es rs new explains legal;
   collected = collected old es rs new explains legal;
+  reported = reported old es rs new explains legal;
   collected_once = collected_once old es rs new explains legal.each;
 }

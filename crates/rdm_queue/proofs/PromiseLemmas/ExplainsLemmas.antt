@@ -1,12 +1,17 @@
 -- The log before and after each event of a list that a log explains.
 use Rattle.std.proofs.Common.{◌≡◌, ℕ, zero, suc, ◌+◌, List, [], ◌∷◌, ◌++◌, length, drop, Some, slice_get, refl, sym, ap, ◌∙◌, append_assoc, append-nil, arith}
+use Rattle.std.specs.List.{Contains}
+use Rattle.std.proofs.lemmas.List.Elements.{Contains-append_left, Contains-append_right}
 use Rattle.std.proofs.lemmas.Option.{none-some, same_Some}
+use Rattle.rdm_wire.specs.Lists.{EachAfter}
 use Rattle.rdm_queue.specs.declared.entry.Entry.{Entry}
 use Rattle.rdm_queue.specs.declared.event.Event.{Event}
 use Rattle.rdm_queue.specs.declared.event.Answer.{Answer}
+use Rattle.rdm_queue.specs.log.Legal.{MayFollow}
 use Rattle.rdm_queue.specs.log.LogState.{LogState, grown}
 use Rattle.rdm_queue.specs.promises.Explains.{IsAnswered, Explains}
 use Rattle.rdm_queue.specs.promises.EventsHeadline.{AnsweredAt}
+use Rattle.rdm_queue.proofs.LogLemmas.Grows.{front}
 
 pub one_answer_each : (old : LogState) (es : List Event) (rs : List Answer) (new : LogState) → Explains old es rs new → length rs ≡ length es
 one_answer_each old [] [] new is = refl
@@ -62,3 +67,13 @@ explains_more old [] [] mid e r new is last = (new, rw is at last, refl)
 explains_more old (f ∷ es) (s ∷ rs) mid e r new is last = (is.0, is.1, explains_more is.0 es rs mid e r new is.2 last)
 explains_more old [] (s ∷ rs) mid e r new is last = absurd is
 explains_more old (f ∷ es) [] mid e r new is last = absurd is
+
+contains_last : {X : Type 0} (xs : List X) (x : X) → Contains (xs ++ x ∷ []) x
+contains_last xs x = Contains-append_right xs (x ∷ []) x (0, omega arith, refl)
+
+-- a block stands in the new log, and each of its entries may follow what stands before it
+pub block_contained : (new before : LogState) (block : List Entry) (e : Entry) → IsPlaced new before block → block ≡ e ∷ [] → Contains new.entries e
+block_contained new before block e place is = rw (place.whole, is) (Contains-append_left (before.entries ++ e ∷ []) place.back e (contains_last before.entries e))
+
+pub block_follows : (new before : LogState) (block : List Entry) (entries : List Entry) → IsPlaced new before block → block ≡ entries → EachAfter (MayFollow new.opening) new.entries → EachAfter (MayFollow new.opening) (before.entries ++ entries)
+block_follows new before block entries place is each = front new.opening (before.entries ++ entries) place.back (rw (place.whole, is) at each)

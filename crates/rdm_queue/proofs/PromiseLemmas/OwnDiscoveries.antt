@@ -132,7 +132,7 @@ first_two_pass false true full e = cc
 first_two_pass false false true e = (refl, refl, refl)
 first_two_pass false false false e = cc
 
-most_is_fault : (o : Opening) (h : List Entry) (c : ℕ) → ask_fault o h c ≡ Some faults.Full → HasMostDiscoveries o h c
+pub most_is_fault : (o : Opening) (h : List Entry) (c : ℕ) → ask_fault o h c ≡ Some faults.Full → HasMostDiscoveries o h c
 most_is_fault o h c is = record { not_closed = tests.0; known = leb-false (next_client o h) c tests.1; full = by_test (or_cases four numbers_out tests.2) }
   where
     four : Bool
@@ -148,7 +148,7 @@ most_is_fault o h c is = record { not_closed = tests.0; known = leb-false (next_
     by_test (inl many) = inl (leb-true 4 (outstanding_discoveries o c h) many)
     by_test (inr out) = inr (leb-true 18446744073709551614 (next_ask o h) out)
 
-fault_is_most : (o : Opening) (h : List Entry) (c : ℕ) → HasMostDiscoveries o h c → ask_fault o h c ≡ Some faults.Full
+pub fault_is_most : (o : Opening) (h : List Entry) (c : ℕ) → HasMostDiscoveries o h c → ask_fault o h c ≡ Some faults.Full
 fault_is_most o h c is = rw (is.not_closed, lt-leb (next_client o h) c is.known, is_true is.full) refl
   where
     is_true : (4 ≤ outstanding_discoveries o c h) ⊎ (18446744073709551614 ≤ next_ask o h) → (nat_le 4 (outstanding_discoveries o c h) || nat_le 18446744073709551614 (next_ask o h)) ≡ true

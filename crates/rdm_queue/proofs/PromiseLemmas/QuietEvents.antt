@@ -17,10 +17,10 @@ use Rattle.rdm_queue.specs.declared.event.Answer.TheVariants as answers
 use Rattle.rdm_queue.specs.log.History.{awaits_after, awaited, is_closed, can_pause, can_resume}
 use Rattle.rdm_queue.specs.log.MaySend.{MaySend}
 use Rattle.rdm_queue.specs.log.LogState.{LogState}
-use Rattle.rdm_queue.specs.promises.Blocks.{join_refused, submit_refused, is_result, IsWithResults, SwitchAdds, CloseAddsWhere}
+use Rattle.rdm_queue.specs.promises.Blocks.{join_refused, submit_refused, ask_refused, is_result, IsWithResults, SwitchAdds, CloseAddsWhere}
 use Rattle.rdm_queue.specs.promises.Explains.{Adds, IsAnswered, Explains}
 use Rattle.rdm_queue.proofs.LogLemmas.PushLemmas.{awaited-push}
-use Rattle.rdm_queue.proofs.PromiseLemmas.BlockLemmas.{join_ok, submit_ok, join_refusal, submit_refusal}
+use Rattle.rdm_queue.proofs.PromiseLemmas.BlockLemmas.{join_ok, submit_ok, discover_ok, join_refusal, submit_refusal, discover_refusal}
 use Rattle.rdm_queue.proofs.PromiseLemmas.ClosedEvents.{next_closed, close_closes}
 
 -- entries after which no reply is awaited where none was before
@@ -58,6 +58,8 @@ quiet k (events.Join n) (answers.Join (Ok c)) block closed adds = rw (join_ok k 
 quiet k (events.Join n) (answers.Join (Err fault)) block closed adds = none_or_one (join_refused n fault) block refl (join_refusal k n fault block adds)
 quiet k (events.Submit c request) (answers.Submit (Ok n)) block closed adds = rw (submit_ok k c request n block adds).2 (refl, tt)
 quiet k (events.Submit c request) (answers.Submit (Err e)) block closed adds = none_or_one (submit_refused c request e.0) block refl (submit_refusal k c request e block adds)
+quiet k (events.Discover c kind) (answers.Discover (Ok n)) block closed adds = rw (discover_ok k c kind n block adds).2 (refl, tt)
+quiet k (events.Discover c kind) (answers.Discover (Err fault)) block closed adds = none_or_one (ask_refused c kind fault) block refl (discover_refusal k c kind fault block adds)
 quiet k events.Pause (answers.Pause (Ok x)) block closed adds = switch_quiet (can_pause k.opening k.entries) Pause block refl adds.1
 quiet k events.Pause (answers.Pause (Err x)) block closed adds = rw adds.1 tt
 quiet k events.Resume (answers.Resume (Ok x)) block closed adds = switch_quiet (can_resume k.opening k.entries) Resume block refl adds.1

@@ -41,7 +41,7 @@ named_begun o h n r fault may run = by_begun (cases_Bool (has_begun r h)) (may.b
     by_begun (inr not) serves = absurd (false≢true (rw not at serves))
 
 -- a run that isn't open has no exchange more
-exchanges_step : (o : Opening) (h : List Entry) (e : Entry) → EachAfter (MayFollow o) h → MayFollow o h e → (r : ℕ) → (open_run h ≡ Some r → ⊥) → run_exchanges r (h ++ e ∷ []) ≡ run_exchanges r h
+pub exchanges_step : (o : Opening) (h : List Entry) (e : Entry) → EachAfter (MayFollow o) h → MayFollow o h e → (r : ℕ) → (open_run h ≡ Some r → ⊥) → run_exchanges r (h ++ e ∷ []) ≡ run_exchanges r h
 exchanges_step o h (Send owner frame) each may r left = run_exchanges_sent h owner frame r (sent_evenly o h (legal_facts o h each) (not_awaited owner may))
   where
     not_awaited : (w : Owner) → MayFollow o h (Send w frame) → awaited h ≡ false

@@ -14,11 +14,6 @@ use Rattle.rdm_queue.specs.log.Entries.{finished_of, sending_of, came_of, finish
 use Rattle.rdm_queue.specs.log.Clients.{is_client_of, is_answer_to, answers_to, collects_by, uncollected}
 use Rattle.rdm_queue.specs.log.Legal.{MayFollow}
 use Rattle.rdm_agent.specs.declared.fault.AgentFault.{AgentFault}
-use Rattle.rdm_queue.specs.declared.outcome.Outcome.{Outcome}
-use Rattle.rdm_queue.specs.declared.outcome.Outcome.TheVariants as outcomes
-use Rattle.rdm_queue.specs.promises.Outcomes.{OutcomeValue, Discovered, completion_value}
-use Rattle.rdm_queue.specs.promises.Outcomes.OutcomeValue.{RequestValue, DiscoveryValue}
-use Rattle.rdm_queue.specs.promises.Blocks.{IsOldest}
 use Rattle.rdm_queue.proofs.LogLemmas.Places.{slice_get-drop, filter_map_has}
 use Rattle.rdm_queue.proofs.LogLemmas.PushLemmas.{sends_same, cames_same}
 use Rattle.rdm_queue.proofs.LogLemmas.ExchangeLemmas.{result_same, result_sent, result_came_other}
@@ -89,17 +84,9 @@ answer_at o h facts c j (Finish n status len) at answers = inl (record { number 
 answer_at o h facts c j (Answer n r fault) at answers = inr (record { number = n; run = r; fault = fault; is = refl })
 answer_at o h facts c j _ at answers = absurd (false≢true answers)
 
-pub uncollected_answer : (o : Opening) (h : List Entry) → LogFacts o h → (c i : ℕ) (x : Entry) → slice_get (uncollected o c h) i ≡ Some x → IsFinish o h x ⊎ IsReply x
+pub uncollected_found : (o : Opening) (h : List Entry) (c i : ℕ) (x : Entry) → slice_get (uncollected o c h) i ≡ Some x → (j : ℕ) × (slice_get h j ≡ Some x) × (is_answer_to o c h x ≡ true)
 unfolding answers_to
-uncollected_answer o h facts c i x at = let found = filter_has (is_answer_to o c h) h (length (collects_by c h) + i) x (sym (slice_get-drop (length (collects_by c h)) (answers_to o c h) i) ∙ at) in answer_at o h facts c found.0 x found.1 found.2
+uncollected_found o h c i x at = filter_has (is_answer_to o c h) h (length (collects_by c h) + i) x (sym (slice_get-drop (length (collects_by c h)) (answers_to o c h) i) ∙ at)
 
--- a request's outcome is told by a Finish
-pub oldest_finish : (o : Opening) (h : List Entry) → LogFacts o h → (c : ℕ) (outcome : Outcome) → (is : IsOldest o h c outcome) → IsFinish o h is.entry
-oldest_finish o h facts c (outcomes.Request number done) is = by_kind (uncollected_answer o h facts c 0 is.entry is.oldest)
-  where
-    no_discovery : (n : Option ℕ) (d : Discovered) → ◌≡◌ {A = Option OutcomeValue} (Some (DiscoveryValue n d)) (Some (RequestValue number (completion_value done))) → ⊥
-    no_discovery n d e = cc
-
-    by_kind : IsFinish o h is.entry ⊎ IsReply is.entry → IsFinish o h is.entry
-    by_kind (inl finish) = finish
-    by_kind (inr reply) = absurd (no_discovery _ _ (rw reply.is at is.told))
+pub uncollected_answer : (o : Opening) (h : List Entry) → LogFacts o h → (c i : ℕ) (x : Entry) → slice_get (uncollected o c h) i ≡ Some x → IsFinish o h x ⊎ IsReply x
+uncollected_answer o h facts c i x at = let found = uncollected_found o h c i x at in answer_at o h facts c found.0 x found.1 found.2

@@ -141,7 +141,7 @@ last_answer h r last = by_fold (without_fault r None (filter_map answered_of h) 
     by_fold (inr is) = (is.number, answer_in h is.place is.number r None is.stands)
 
 -- a log split at a place
-split_at : {X : Type 0} (xs : List X) (i : ℕ) (x : X) → slice_get xs i ≡ Some x → xs ≡ take i xs ++ x ∷ drop (suc i) xs
+pub split_at : {X : Type 0} (xs : List X) (i : ℕ) (x : X) → slice_get xs i ≡ Some x → xs ≡ take i xs ++ x ∷ drop (suc i) xs
 split_at [] i x at = absurd (none-some x at)
 split_at (y ∷ xs) zero x at = rw (same_Some y x at) refl
 split_at (y ∷ xs) (suc i) x at = ap (λ l. y ∷ l) (split_at xs i x at)

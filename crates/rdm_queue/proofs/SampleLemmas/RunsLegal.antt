@@ -287,7 +287,7 @@ legal_asked : Legal sample_opening asked_one
 unfolding accepts asks sends cames finishes answers collectors traded of_request verdicts result awaited is_paused is_closed answers_to joins has_begun entries_before_run last_run run_exchanges
 legal_asked = ask_keeps sample_opening _ first_client 0 Full (join_keeps sample_opening [] first_client 1 (empty sample_opening) refl refl) refl refl
 
-may_begin : MaySendRun sample_opening asked_one 1 (record { items = unmute_frame source 0 })
+pub may_begin : MaySendRun sample_opening asked_one 1 (record { items = unmute_frame source 0 })
 unfolding accepts asks sends cames finishes answers collectors traded of_request verdicts result awaited is_paused is_closed answers_to joins has_begun entries_before_run last_run run_exchanges
 may_begin = record { not_awaited = refl; not_closed = refl; turn = inl (record { not_paused = refl; no_run = refl; no_request = refl; asked = (λ none. cc); number = refl; from_one = omega arith }); in_budget = omega arith; packet = record { unmute = λ early. refl; search = λ late. absurd (omega (arith, late)) } }
 

@@ -1,41 +1,92 @@
 -- After which logs a queue stands so: what it holds is what the log says.
-use Rattle.std.specs.Prelude.{◌≡◌, ℕ, ◌+◌, true, false, List, [], ◌∷◌, ◌++◌, length, map, filter_map, Option, Some}
-use Rattle.std.specs.Prelude.{None}
+use Rattle.std.specs.Prelude.{◌≡◌, ◌≢◌, ℕ, ◌+◌, ◌≤◌, Bool, true, false, List, [], ◌∷◌, ◌++◌, length, filter_map}
+use Rattle.std.specs.Prelude.{Option, Some, None, slice_get}
+use Rattle.arrayvec.specs.ArrayVec.{ArrayVec}
+use Rattle.rdm_wire.specs.Frames.{asked_in}
 use Rattle.rdm_join.specs.declared.verdict.Sent.{Sent}
 use Rattle.rdm_join.specs.Verdict.{sent_by}
+use Rattle.rdm_agent.specs.Calls.{next_op, HasRun}
+use Rattle.rdm_agent.specs.Run.{asked_by}
+use Rattle.rdm_agent.specs.Machine.{AgentState, fault_of}
+use Rattle.rdm_agent.specs.OpFrames.{op_frame}
+use Rattle.rdm_agent.specs.declared.op.Op.TheVariants.{End}
+use Rattle.rdm_queue.specs.declared.entry.Owner.TheVariants as owners
 use Rattle.rdm_queue.specs.declared.entry.Opening.{Opening}
 use Rattle.rdm_queue.specs.declared.entry.Entry.{Entry}
-use Rattle.rdm_queue.specs.log.Entries.{Sending, asks, sends, finishes, answers, collectors, verdicts}
-use Rattle.rdm_queue.specs.log.History.{awaited, is_paused, is_closed, places, next_request, next_tn, unfinished}
-use Rattle.rdm_queue.specs.log.Runs.{last_run}
+use Rattle.rdm_queue.specs.declared.queue.Awaited.{Awaited}
+use Rattle.rdm_queue.specs.declared.queue.Awaited.TheVariants as awaiting
+use Rattle.rdm_queue.specs.log.Entries.{Sending, Answered, sends, finishes, answers, collectors, verdicts}
+use Rattle.rdm_queue.specs.log.History.{awaited, is_paused, is_closed, places, next_request, next_ask, next_tn}
+use Rattle.rdm_queue.specs.log.History.{unfinished, unanswered, was_sent}
+use Rattle.rdm_queue.specs.log.Runs.{entries_before_run, last_run, next_run, open_run, is_answered, asked_before, run_kind, known_at_run}
+use Rattle.rdm_queue.specs.log.Runs.{run_exchanges, known_devices, devices_run}
 use Rattle.rdm_queue.specs.log.Clients.{uncollected}
 use Rattle.rdm_wire.specs.Lists.{EachAfter}
 use Rattle.rdm_queue.specs.log.Legal.{MayFollow, Legal}
 use Rattle.rdm_queue.specs.promises.Outcomes.{outcome_of}
 use Rattle.rdm_queue.specs.promises.Blocks.{AllResults}
-use Rattle.rdm_queue.specs.body.State.{QueueState, owed_to, owed_value, IsProgress}
-
--- the last frame is of what was sent
-pub record IsLastSent (h : List Entry) (sent : Sent) : Type 0 where
-  pub waits : awaited h ≡ true
-  pub earlier : List Sending
-  pub last : Sending
-  pub sends_are : sends h ≡ earlier ++ last ∷ []
-  pub same : sent_by last.frame.items ≡ sent
-
-abbrev pub IsPending : List Entry → Option Sent → Type 0
-IsPending h None = awaited h ≡ false
-IsPending h (Some sent) = IsLastSent h sent
+use Rattle.rdm_queue.specs.body.State.{QueueState, RunState, owed_to, IsProgress}
+use Rattle.rdm_queue.specs.body.State.{uncollected as uncollected_by}
 
 -- the number of the oldest request that isn't finished, or of the next one
 abbrev pub oldest_number : Opening → List Entry → ℕ
 oldest_number o h = o.next_request + length (finishes h)
 
--- no discovery was asked or answered, and no run began
-pub record NoDiscoveries (h : List Entry) : Type 0 where
-  pub no_ask : asks h ≡ []
-  pub no_answer : answers h ≡ []
-  pub no_run : last_run h ≡ None
+-- the last frame is this one, and its reply is awaited
+pub record IsLast (h : List Entry) (last : Sending) : Type 0 where
+  pub waits : awaited h ≡ true
+  pub earlier : List Sending
+  pub sends_are : sends h ≡ earlier ++ last ∷ []
+
+-- it is of this request, of which this was sent
+pub record AwaitsRequest (o : Opening) (h : List Entry) (sent : Sent) : Type 0 where
+  pub frame : ArrayVec ℕ
+  pub last : IsLast h (record { owner = owners.Request (oldest_number o h); frame = frame })
+  pub same : sent_by frame.items ≡ sent
+
+-- it is of the open run: the agent's next operation, with this transaction number
+pub record AwaitsRun (o : Opening) (h : List Entry) (s : QueueState) (tn : ℕ) : Type 0 where
+  pub run : RunState
+  pub run_is : s.run ≡ Some run
+  pub frame : ArrayVec ℕ
+  pub last : IsLast h (record { owner = owners.Run run.number; frame = frame })
+  pub goes_on : next_op s.agent ≢ End
+  pub asks : asked_in frame.items ≡ asked_by (next_op s.agent)
+  pub same : frame.items ≡ op_frame (next_op s.agent) o.source tn
+
+abbrev pub IsPending : Opening → List Entry → QueueState → Option Awaited → Type 0
+IsPending o h s None = awaited h ≡ false
+IsPending o h s (Some (awaiting.Request sent)) = AwaitsRequest o h sent
+IsPending o h s (Some (awaiting.Run tn)) = AwaitsRun o h s tn
+
+-- a run has begun, and not all that it serves are answered: the agent stands after its exchanges, and was stopped only
+-- at a close
+pub record IsRunning (o : Opening) (h : List Entry) (s : QueueState) (r : RunState) : Type 0 where
+  pub last : last_run h ≡ Some r.number
+  pub aborted : Bool
+  pub has_run : HasRun (run_kind r.number h) (known_at_run o r.number h) o.budget aborted (run_exchanges r.number h) s.agent
+  pub stopped : aborted ≡ true → (is_closed o h ≡ true) × (awaited h ≡ false)
+  -- what it serves are the first of those that aren't answered
+  pub left : asked_before (last_run h) h ≡ length (answers h) + r.left
+  pub some : 1 ≤ r.left
+  -- all that earlier runs serve are answered
+  pub earlier : asked_before (last_run (entries_before_run r.number h)) (entries_before_run r.number h)
+      ≤ length (answers h)
+  -- it answers only once it has ended, and all alike
+  pub ended : is_answered r.number h ≡ true → next_op s.agent ≡ End
+  pub alike : (i : ℕ) (b : Answered) → slice_get (answers h) i ≡ Some b → b.run ≡ r.number
+      → b.fault ≡ fault_of s.agent.phase
+  -- no request is between two parts
+  pub no_request : s.under_way ≡ false
+
+-- no run has begun that has an answer left to give
+pub record IsNotRunning (o : Opening) (h : List Entry) : Type 0 where
+  pub none_open : open_run h ≡ None
+  pub none_left : asked_before (last_run h) h ≤ length (answers h)
+
+abbrev pub RunIs : Opening → List Entry → QueueState → Option RunState → Type 0
+RunIs o h s None = IsNotRunning o h
+RunIs o h s (Some r) = IsRunning o h s r
 
 -- what a queue holds is what the log says
 pub record Agrees (o : Opening) (h : List Entry) (s : QueueState) : Type 0 where
@@ -48,19 +99,33 @@ pub record Agrees (o : Opening) (h : List Entry) (s : QueueState) : Type 0 where
   pub next_request_is : s.next_request ≡ next_request o h
   pub next_tn_is : s.next_tn ≡ next_tn o h
   pub waiting_are : s.waiting ≡ unfinished h
-  pub awaited_is : IsPending h s.awaited
+  pub awaited_is : IsPending o h s s.awaited
+  pub under_way_is : s.under_way ≡ was_sent (oldest_number o h) h
   pub progress : IsProgress (verdicts (oldest_number o h) h) s.decided s.joiner
-  pub outcomes_are : (c : ℕ) → map owed_value (owed_to c s) ≡ filter_map (outcome_of h) (uncollected o c h)
-  pub all_outcomes : length s.outcomes + length (collectors h) ≡ length (finishes h)
-  -- the queue offers no discoveries
-  pub requests_alone : NoDiscoveries h
+  pub next_ask_is : s.next_ask ≡ next_ask o h
+  pub next_run_is : s.next_run ≡ next_run o h
+  pub asked_are : s.asked ≡ unanswered h
+  pub run_is : RunIs o h s s.run
+  pub devices_are : s.devices ≡ known_devices o h
+  pub devices_run_is : s.devices_run ≡ devices_run o h
+  pub owed_for_each : length s.owed ≡ length (places o h)
+  pub outcomes_are : (c : ℕ) → owed_to c s ≡ filter_map (outcome_of h) (uncollected o c h)
+  pub all_outcomes : uncollected_by s + length (collectors h) ≡ length (finishes h) + length (answers h)
+  -- runs are numbered from 1
+  pub first_run : 1 ≤ o.next_run
+
+-- the run that has begun, if any, has not ended
+abbrev pub RunGoesOn : Option RunState → AgentState → Type 0
+RunGoesOn None agent = Unit {0}
+RunGoesOn (Some r) agent = next_op agent ≢ End
 
 -- a queue stands after a log that is legal
 pub record StandsAfter (o : Opening) (h : List Entry) (s : QueueState) : Type 0 where
   pub legal : Legal o h
   pub stands : Agrees o h s
+  pub goes_on : RunGoesOn s.run s.agent
 
--- the same amid a block of entries, where Finishes may still be due
+-- the same amid a block of entries, where Finishes and Answers may still be due
 pub record StandsAmid (o : Opening) (h : List Entry) (s : QueueState) : Type 0 where
   pub each : EachAfter (MayFollow o) h
   pub stands : Agrees o h s
@@ -82,7 +147,7 @@ pub record StandsWith (o : Opening) (h : List Entry) (Adds : List Entry → Type
 abbrev pub AddsToEach : QueueState → (Opening → List Entry → List Entry → Type 0) → QueueState → Type 0
 AddsToEach old Adds new = ForEachLog old (λ o h. StandsWith o h (Adds o h) new)
 
--- Finishes, until nothing is due
+-- Finishes and Answers, until nothing is due
 pub record FinishesAll (o : Opening) (h : List Entry) (new : QueueState) : Type 0 where
   pub results : List Entry
   pub each : AllResults results

@@ -1,34 +1,48 @@
--- What a queue's fields keep.
-use Rattle.std.specs.Prelude.{ℕ, ◌≤◌, ◌++◌, ◌∷◌, [], List, map, sum, slice_index}
+-- What a queue keeps of what it holds.
+use Rattle.std.specs.Prelude.{◌≡◌, ℕ, ◌+◌, ◌-◌, ◌≤◌, List, [], ◌∷◌, ◌++◌, length, map, sum, get_or, slice_index, Option}
+use Rattle.std.specs.Prelude.{Some, None, MatchOption}
 use Rattle.std.specs.List.{AllByRecursion}
 use Rattle.rdm_wire.specs.Uid.{IsDevice, IsAscending}
 use Rattle.rdm_queue.specs.declared.client.Client.{Client}
 use Rattle.rdm_join.specs.JoinerStanding.{IsOpen}
-use Rattle.rdm_queue.specs.body.Rings.{HasRings}
+use Rattle.rdm_queue.specs.body.Rings.{HasRings, HasSets}
 use Rattle.rdm_queue.specs.body.Merged.{AreShares}
-use Rattle.rdm_queue.specs.body.Fields.{waiting_rings, outcome_rings}
-use Rattle.rdm_queue.specs.body.State.{QueueState, outstanding}
+use Rattle.rdm_queue.specs.body.Fields.{waiting_rings}
+use Rattle.rdm_queue.specs.body.State.{QueueState, RunState, outstanding, outstanding_asks}
 
--- the numbers of what is owed, of what waits, and of the next request
+-- the numbers of what waits, and of the next request
 abbrev pub numbers : QueueState → List ℕ
-numbers s = map (λ d. d.number) s.outcomes ++ (map (λ a. a.number) s.waiting ++ s.next_request ∷ [])
+numbers s = map (λ a. a.number) s.waiting ++ s.next_request ∷ []
 
--- no client has more outstanding than its places, numbers rise in the order of acceptance, and the joiner takes
--- verdicts
+-- how many of the discoveries that aren't answered a run serves
+abbrev pub served_by : Option RunState → ℕ
+served_by None = 0
+served_by (Some r) = r.left
+
+-- no client has more outstanding than its places, nor more than four discoveries; numbers rise in the order of
+-- acceptance; the joiner takes verdicts; and each run serves a discovery that no other serves
 pub record StateInvariant (s : QueueState) : Type 0 where
   pub source : IsDevice s.source
   pub greatest : s.greatest ≤ 4080
   pub budget : 1 ≤ s.budget
   pub few_places : sum s.places ≤ s.greatest
+  pub few_clients : length s.places ≤ 16
+  pub owed_for_each : length s.owed ≡ length s.places
   pub few : (c : ℕ) → outstanding c s ≤ slice_index s.places c
+  pub few_asks : (c : ℕ) → outstanding_asks c s ≤ get_or (map (λ n. 4) s.places) c 0
   pub rising : IsAscending (numbers s)
   pub open_ : IsOpen s.joiner
+  pub asks_numbered : s.next_ask ≤ 18446744073709551614
+  pub served : served_by s.run ≤ length s.asked
+  pub serves : MatchOption s.run (Unit {0}) (λ r. 1 ≤ r.left)
+  pub runs_numbered : s.next_run + (length s.asked - served_by s.run) ≤ s.next_ask + 1
 
--- each client's rings have what is its own of these lists, and are as large as its places ask for
+-- each client's ring has what is its own of the requests that wait; its rings are as large as its places ask for, and
+-- each discovery among its outcomes has its set
 pub record RingsInvariant (s : QueueState) (clients : List Client) : Type 0 where
   pub waiting : AreShares (λ a. a.client) (waiting_rings clients) s.waiting
-  pub outcomes : AreShares (λ d. d.client) (outcome_rings clients) s.outcomes
   pub sizes : AllByRecursion HasRings clients
+  pub sets : AllByRecursion HasSets clients
 
 pub record QueueInvariant (s : QueueState) (clients : List Client) : Type 0 where
   pub state : StateInvariant s

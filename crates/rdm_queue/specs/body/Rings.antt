@@ -1,25 +1,55 @@
 -- A client's rings, and what its calls make of them.
-use Rattle.std.specs.Prelude.{◌≡◌, ℕ, ◌+◌, ◌≤◌, List, [], ◌∷◌, ◌++◌, length, Option, Some, IfNone, slice_get}
+use Rattle.std.specs.Prelude.{◌≡◌, ℕ, ◌+◌, ◌≤◌, Bool, true, false, List, [], ◌∷◌, ◌++◌, length, filter, Option, Some}
+use Rattle.std.specs.Prelude.{IfNone, option_map, slice_get}
 use Rattle.std.specs.Option.{option_to_list}
 use Rattle.std.specs.VecDeque.{deque_capacity}
 use Rattle.rdm_wire.specs.declared.request.Request.{Request}
+use Rattle.rdm_wire.specs.declared.device.Device.{Device}
+use Rattle.rdm_agent.specs.declared.fault.AgentFault.{AgentFault}
 use Rattle.rdm_queue.specs.declared.client.Client.{Client}
 use Rattle.rdm_queue.specs.declared.client.Waiting.{Waiting}
 use Rattle.rdm_queue.specs.declared.client.Owed.{Owed}
+use Rattle.rdm_queue.specs.declared.client.Owed.TheVariants as owed
 use Rattle.rdm_queue.specs.declared.entry.Entry.{Entry}
 use Rattle.rdm_queue.specs.declared.entry.Entry.TheVariants.{Finish}
 use Rattle.rdm_queue.specs.declared.outcome.Completion.{Completion}
+use Rattle.rdm_queue.specs.declared.outcome.Outcome.{Outcome}
+use Rattle.rdm_queue.specs.promises.Outcomes.{OutcomeValue, completion_value, outcome_value}
+use Rattle.rdm_queue.specs.promises.Outcomes.OutcomeValue.{RequestValue, DiscoveryValue}
+
+-- a discovery's outcome
+abbrev pub owes_discovery : Owed → Bool
+owes_discovery (owed.Request number done) = false
+owes_discovery (owed.Discovery number run fault) = true
+
+-- each discovery among the outcomes has its set
+abbrev pub HasSets : Client → Type 0
+HasSets k = length k.sets.items ≡ length (filter owes_discovery k.outcomes.items)
+
+-- outcomes as their client sees them; the discoveries among them have these sets, in order
+unfoldable pub values : List Owed → List (List Device) → List OutcomeValue
+values [] sets = []
+values (owed.Request number done ∷ ds) sets = RequestValue (Some number) (completion_value done) ∷ values ds sets
+values (owed.Discovery number run fault ∷ ds) [] =
+    DiscoveryValue (Some number) (record { run = run; fault = fault; devices = [] }) ∷ values ds []
+values (owed.Discovery number run fault ∷ ds) (set ∷ sets) =
+    DiscoveryValue (Some number) (record { run = run; fault = fault; devices = set }) ∷ values ds sets
+
+abbrev pub owed_values : Client → List OutcomeValue
+owed_values k = values k.outcomes.items k.sets.items
 
 -- a client's rings are as large as its places ask for
 pub record HasRings (k : Client) : Type 0 where
   pub waiting : deque_capacity k.waiting ≡ k.places
   pub outcomes : deque_capacity k.outcomes ≡ k.places + 4
+  pub sets : deque_capacity k.sets ≡ 4
 
 -- a client that has only joined
 pub record IsNewClient (places : ℕ) (k : Client) : Type 0 where
   pub places_are : k.places ≡ places
   pub none_waiting : k.waiting.items ≡ []
   pub none_owed : k.outcomes.items ≡ []
+  pub no_sets : k.sets.items ≡ []
   pub rings : HasRings k
 
 -- it has the same places, in rings of the same size
@@ -27,26 +57,38 @@ pub record SameRings (old new : Client) : Type 0 where
   pub places : new.places ≡ old.places
   pub waiting : deque_capacity new.waiting ≡ deque_capacity old.waiting
   pub outcomes : deque_capacity new.outcomes ≡ deque_capacity old.outcomes
+  pub sets : deque_capacity new.sets ≡ deque_capacity old.sets
 
 -- it has a request more
 pub record ClientAccepts (old : Client) (number : ℕ) (request : Request) (new : Client) : Type 0 where
   pub waiting : new.waiting.items ≡ old.waiting.items ++ record { number = number; request = request } ∷ []
   pub outcomes : new.outcomes.items ≡ old.outcomes.items
+  pub sets : new.sets.items ≡ old.sets.items
   pub rings : SameRings old new
 
 -- its oldest request was finished so, with this entry
 pub record ClientFinishes (old : Client) (done : Completion) (entry : Entry) (new : Client) : Type 0 where
   pub oldest : Waiting
   pub waiting : old.waiting.items ≡ oldest ∷ new.waiting.items
-  pub outcomes : new.outcomes.items ≡ old.outcomes.items ++ record { number = oldest.number; done = done } ∷ []
+  pub outcomes : new.outcomes.items ≡ old.outcomes.items ++ owed.Request oldest.number done ∷ []
+  pub sets : new.sets.items ≡ old.sets.items
   pub entry_is : entry ≡ Finish oldest.number done.status (length done.bytes.items)
   pub rings : SameRings old new
 
--- its oldest outcome was taken out, if it had one
-pub record ClientCollects (old : Client) (owed : Option Owed) (new : Client) : Type 0 where
+-- its discovery of this number was answered so
+pub record ClientAnswers (old : Client) (number run : ℕ) (fault : Option AgentFault) (found : List Device) (new : Client)
+    : Type 0 where
   pub waiting : new.waiting.items ≡ old.waiting.items
-  pub outcomes : old.outcomes.items ≡ option_to_list owed ++ new.outcomes.items
-  pub none : IfNone owed (old.outcomes.items ≡ [])
+  pub outcomes : new.outcomes.items ≡ old.outcomes.items ++ owed.Discovery number run fault ∷ []
+  pub sets : new.sets.items ≡ old.sets.items ++ found ∷ []
+  pub rings : SameRings old new
+
+-- its oldest outcome was taken out, if it had one
+pub record ClientCollects (old : Client) (outcome : Option Outcome) (new : Client) : Type 0 where
+  pub waiting : new.waiting.items ≡ old.waiting.items
+  pub outcomes : owed_values old ≡ option_to_list (option_map outcome_value outcome) ++ owed_values new
+  pub none : IfNone outcome (owed_values old ≡ [])
+  pub has_sets : HasSets new
   pub rings : SameRings old new
 
 -- client i's oldest request

@@ -1,32 +1,40 @@
 -- What a queue holds, as numbers and lists, what of it calls look at, and what they make of it.
-use Rattle.std.specs.Prelude.{◌≡◌, ◌⊎◌, ℕ, ◌<◌, ◌%◌, ◌+◌, Bool, false, ◌&&◌, ◌||◌, not, List, [], ◌∷◌, ◌++◌, length}
-use Rattle.std.specs.Prelude.{drop, filter, Option, Some, None, ◌==◌, if◌then◌else◌, slice_get, is_some}
+use Rattle.std.specs.Prelude.{◌≡◌, ◌⊎◌, ℕ, ◌<◌, ◌+◌, Bool, true, false, ◌&&◌, not, List, [], ◌∷◌, ◌++◌, length}
+use Rattle.std.specs.Prelude.{drop, filter, map, sum, set, get_or, Option, Some, None, ◌==◌, if◌then◌else◌, is_some}
+use Rattle.rdm_join.specs.declared.event.LineEvent.{LineEvent}
 use Rattle.rdm_join.specs.declared.verdict.Sent.{Sent}
 use Rattle.rdm_join.specs.declared.verdict.Judged.{Judged}
+use Rattle.rdm_join.specs.Verdict.{verdict}
 use Rattle.rdm_join.specs.Result.{Joined, result_of, ended, or_if_open}
 use Rattle.rdm_join.specs.JoinerStanding.{JoinerStanding, StandsAt, standing_at}
-use Rattle.rdm_wire.specs.declared.request.Request.{Request}
 use Rattle.rdm_join.specs.declared.status.Status.TheVariants.{FailedToSend, NoMemory}
-use Rattle.arrayvec.specs.ArrayVec.{ArrayVec}
-use Rattle.rdm_wire.specs.Packet.{Packet}
-use Rattle.rdm_wire.specs.CommandFrames.{request_fields}
-use Rattle.rdm_queue.specs.declared.entry.Owner.{Owner}
-use Rattle.rdm_queue.specs.declared.entry.Owner.TheVariants as owners
+use Rattle.rdm_wire.specs.declared.request.Request.{Request}
+use Rattle.rdm_wire.specs.declared.device.Device.{Device}
+use Rattle.rdm_agent.specs.Machine.{AgentState, start}
+use Rattle.rdm_agent.specs.declared.kind.Kind.{Kind}
+use Rattle.rdm_agent.specs.declared.kind.Kind.TheVariants.{Full}
 use Rattle.rdm_queue.specs.declared.config.Config.{Config}
+use Rattle.rdm_queue.specs.declared.queue.Awaited.{Awaited}
 use Rattle.rdm_queue.specs.declared.fault.JoinFault.{JoinFault}
 use Rattle.rdm_queue.specs.declared.fault.SubmitFault.{SubmitFault}
+use Rattle.rdm_queue.specs.declared.fault.AskFault.{AskFault}
 use Rattle.rdm_queue.specs.declared.entry.Entry.{Entry}
 use Rattle.rdm_queue.specs.declared.entry.Entry.TheVariants.{Finish}
-use Rattle.rdm_queue.specs.log.Entries.{Accepted}
-use Rattle.rdm_queue.specs.log.Refusals.{join_fault_at, submit_fault_at}
+use Rattle.rdm_queue.specs.log.Entries.{Accepted, AskedDiscovery}
+use Rattle.rdm_queue.specs.log.Refusals.{join_fault_at, submit_fault_at, ask_fault_at}
 use Rattle.rdm_queue.specs.promises.Outcomes.{OutcomeValue}
-use Rattle.rdm_queue.specs.promises.Outcomes.OutcomeValue.{RequestValue}
+use Rattle.rdm_queue.specs.promises.Outcomes.OutcomeValue.{RequestValue, DiscoveryValue}
 
--- an outcome that its client hasn't collected
+-- how a request ended, which its client is owed
 pub record OwedOutcome : Type 0 where
   pub client : ℕ
   pub number : ℕ
   pub done : Joined
+
+-- a run that has begun; it serves this many of the oldest discoveries that aren't answered
+pub record RunState : Type 0 where
+  pub number : ℕ
+  pub left : ℕ
 
 pub record QueueState : Type 0 where
   pub source : ℕ
@@ -40,13 +48,25 @@ pub record QueueState : Type 0 where
   -- the requests that aren't finished, oldest first
   pub waiting : List Accepted
   -- what was sent, while its reply is awaited
-  pub awaited : Option Sent
+  pub awaited : Option Awaited
+  -- a frame of the oldest of those that wait was sent
+  pub under_way : Bool
   -- the replies of the oldest of those that wait
   pub joiner : JoinerStanding
   -- how the oldest has ended, until it is finished
   pub decided : Option Joined
-  -- the outcomes that aren't collected, oldest first
-  pub outcomes : List OwedOutcome
+  pub next_ask : ℕ
+  pub next_run : ℕ
+  -- the discoveries that aren't answered, oldest first
+  pub asked : List AskedDiscovery
+  -- the run that has begun, and the agent of the last one
+  pub run : Option RunState
+  pub agent : AgentState
+  -- the devices of the last run without fault, and that run
+  pub devices : List Device
+  pub devices_run : ℕ
+  -- for each client the outcomes that it hasn't collected, oldest first
+  pub owed : List (List OutcomeValue)
 
 -- a queue set up so, before its first call
 abbrev pub first_state : Config → QueueState
@@ -61,20 +81,50 @@ first_state config = record {
   next_tn = 0;
   waiting = [];
   awaited = None;
+  under_way = false;
   joiner = standing_at None [];
   decided = None;
-  outcomes = [];
+  next_ask = 0;
+  next_run = 1;
+  asked = [];
+  run = None;
+  agent = start Full [] config.budget;
+  devices = [];
+  devices_run = 0;
+  owed = [];
 }
 
 abbrev pub waiting_of : ℕ → QueueState → List Accepted
 waiting_of c s = filter (λ a. c == a.client) s.waiting
 
-abbrev pub owed_to : ℕ → QueueState → List OwedOutcome
-owed_to c s = filter (λ d. c == d.client) s.outcomes
+abbrev pub asked_of : ℕ → QueueState → List AskedDiscovery
+asked_of c s = filter (λ a. c == a.client) s.asked
 
--- a client's requests that aren't finished, or not collected
+abbrev pub owed_to : ℕ → QueueState → List OutcomeValue
+owed_to c s = get_or s.owed c []
+
+-- an outcome more for a client
+abbrev pub owes : ℕ → OutcomeValue → QueueState → List (List OutcomeValue)
+owes c d s = set s.owed c (owed_to c s ++ d ∷ [])
+
+-- all outcomes that aren't collected
+abbrev pub uncollected : QueueState → ℕ
+uncollected s = sum (map (λ ds. length ds) s.owed)
+
+-- the requests that aren't finished and the discoveries that aren't answered
+abbrev pub unended : QueueState → ℕ
+unended s = length s.waiting + length s.asked
+
+abbrev pub is_discovery : OutcomeValue → Bool
+is_discovery (RequestValue number done) = false
+is_discovery (DiscoveryValue number done) = true
+
+-- a client's requests that aren't finished, or not collected; and its discoveries
 abbrev pub outstanding : ℕ → QueueState → ℕ
-outstanding c s = length (waiting_of c s) + length (owed_to c s)
+outstanding c s = length (waiting_of c s) + length (filter (λ d. not (is_discovery d)) (owed_to c s))
+
+abbrev pub outstanding_asks : ℕ → QueueState → ℕ
+outstanding_asks c s = length (asked_of c s) + length (filter is_discovery (owed_to c s))
 
 abbrev pub first_join_fault : QueueState → ℕ → Option JoinFault
 first_join_fault s n = join_fault_at s.closed s.places s.greatest n
@@ -82,7 +132,14 @@ first_join_fault s n = join_fault_at s.closed s.places s.greatest n
 abbrev pub first_submit_fault : QueueState → ℕ → Option SubmitFault
 first_submit_fault s c = submit_fault_at s.closed s.places (outstanding c s) s.next_request c
 
--- an owed outcome as its client sees it, and the entry of its Finish
+abbrev pub first_ask_fault : QueueState → ℕ → Option AskFault
+first_ask_fault s c = ask_fault_at s.closed s.places (outstanding_asks c s) s.next_ask c
+
+-- a client more, with these places
+abbrev pub joins_client : QueueState → ℕ → QueueState
+joins_client s n = record s { places = s.places ++ n ∷ []; owed = s.owed ++ [] ∷ [] }
+
+-- how a request ended, as its client sees it, and the entry of its Finish
 abbrev pub owed_value : OwedOutcome → OutcomeValue
 owed_value d = RequestValue (Some d.number) d.done
 
@@ -97,10 +154,13 @@ owed_for j a = record { client = a.client; number = a.number; done = j }
 abbrev pub fresh_joiner : JoinerStanding
 fresh_joiner = standing_at None []
 
--- how the oldest request is to be finished, if at all: as it has ended, or unsent where the queue is closed and awaits
--- no reply
+-- closed, and no reply is awaited: all is to be ended
+abbrev pub is_closing : QueueState → Bool
+is_closing s = s.closed && not (is_some s.awaited)
+
+-- how the oldest request is to be finished, if at all: as it has ended, or unsent at a close
 abbrev pub end_of_oldest : QueueState → Option Joined
-end_of_oldest s = or_if_open s.decided (if s.closed && not (is_some s.awaited) then Some (ended FailedToSend) else None)
+end_of_oldest s = or_if_open s.decided (if is_closing s then Some (ended FailedToSend) else None)
 
 -- what is owed for the oldest of these, where it has ended
 abbrev pub owed_next : Option Joined → List Accepted → Option OwedOutcome
@@ -116,9 +176,10 @@ due s = owed_next (end_of_oldest s) s.waiting
 abbrev pub finishes_oldest : QueueState → OwedOutcome → QueueState
 finishes_oldest s d = record s {
   waiting = drop 1 s.waiting;
+  under_way = false;
   joiner = fresh_joiner;
   decided = None;
-  outcomes = s.outcomes ++ d ∷ [];
+  owed = owes d.client (owed_value d) s;
 }
 
 -- the request that was due was finished, with this entry
@@ -136,31 +197,16 @@ abbrev pub accepts_request : QueueState → ℕ → Request → QueueState
 accepts_request s c request =
     record s { next_request = s.next_request + 1; waiting = s.waiting ++ accepted_as s c request ∷ [] }
 
--- the request whose frame may be sent: the oldest, where none is awaited and sending is neither paused nor closed
-abbrev pub next_to_send : QueueState → Option Accepted
-next_to_send s = if is_some s.awaited || s.closed || s.paused then None else slice_get s.waiting 0
+-- what a discovery of the client is asked as
+abbrev pub asked_as : QueueState → ℕ → Kind → AskedDiscovery
+asked_as s c kind = record { client = c; number = s.next_ask; kind = kind }
 
--- what of a request's frame its reply is judged by
-abbrev pub sent_for : QueueState → Accepted → Sent
-sent_for s a = record {
-  target = a.request.target;
-  source = s.source;
-  tn = s.next_tn;
-  sub_device = a.request.sub_device;
-  class = a.request.class;
-  pid = a.request.pid;
-}
+abbrev pub asks_discovery : QueueState → ℕ → Kind → QueueState
+asks_discovery s c kind = record s { next_ask = s.next_ask + 1; asked = s.asked ++ asked_as s c kind ∷ [] }
 
-abbrev pub sends_request : QueueState → Accepted → QueueState
-sends_request s a = record s { next_tn = (s.next_tn + 1) % 256; awaited = Some (sent_for s a) }
-
--- the next frame was given, and whose it is
-pub record IsGiven (old : QueueState) (owner : Owner) (frame : ArrayVec ℕ) (new : QueueState) : Type 0 where
-  pub accepted : Accepted
-  pub next : next_to_send old ≡ Some accepted
-  pub owner_is : owner ≡ owners.Request accepted.number
-  pub packet : Packet (request_fields accepted.request old.source old.next_tn) frame.items
-  pub new_is : new ≡ sends_request old accepted
+-- a client's oldest outcome taken out
+abbrev pub collects_oldest : QueueState → ℕ → QueueState
+collects_oldest s c = record s { owed = set s.owed c (drop 1 (owed_to c s)) }
 
 -- a decided result is given as it is, but for data that find no memory
 abbrev pub GivesResult : Joined → Joined → Type 0
@@ -180,7 +226,7 @@ pub record Hears (vs : List Judged) (old new : QueueState) : Type 0 where
   pub progress : IsProgress vs new.decided new.joiner
   pub new_is : new ≡ record old { awaited = None; joiner = new.joiner; decided = new.decided }
 
--- without the client's first
-abbrev pub without_first : ℕ → List OwedOutcome → List OwedOutcome
-without_first c [] = []
-without_first c (d ∷ ds) = if c == d.client then ds else d ∷ without_first c ds
+-- what came for this frame of the oldest request, which hadn't ended, was heard
+abbrev pub HearsRequest : Sent → LineEvent → QueueState → QueueState → Type 0
+HearsRequest sent event old new =
+    (vs : List Judged) → old.decided ≡ None → StandsAt vs old.joiner → Hears (vs ++ verdict sent event ∷ []) old new

@@ -5,23 +5,28 @@ use Rattle.std.specs.List.{AllByRecursion}
 use Rattle.arrayvec.specs.ArrayVec.{ArrayVec}
 use Rattle.rdm_wire.specs.declared.request.Request.{Request}
 use Rattle.rdm_join.specs.declared.event.LineEvent.{LineEvent}
+use Rattle.rdm_agent.specs.declared.kind.Kind.{Kind}
 use Rattle.rdm_queue.specs.declared.entry.ClientId.{ClientId}
 use Rattle.rdm_queue.specs.declared.entry.Call.TheVariants as calls
 use Rattle.rdm_queue.specs.declared.entry.Owner.{Owner}
 use Rattle.rdm_queue.specs.declared.entry.Opening.{Opening}
 use Rattle.rdm_queue.specs.declared.entry.Entry.{Entry}
-use Rattle.rdm_queue.specs.declared.entry.Entry.TheVariants.{Join, Refuse, Accept, Send, Came, Finish, Answer}
-use Rattle.rdm_queue.specs.declared.entry.Entry.TheVariants.{Collect, Pause, Resume, Close}
+use Rattle.rdm_queue.specs.declared.entry.Entry.TheVariants.{Join, Refuse, Accept, Ask, Send, Came, Finish}
+use Rattle.rdm_queue.specs.declared.entry.Entry.TheVariants.{Answer, Collect, Pause, Resume, Close}
 use Rattle.rdm_queue.specs.declared.fault.JoinFault.{JoinFault}
 use Rattle.rdm_queue.specs.declared.fault.JoinFault.TheVariants as join_faults
 use Rattle.rdm_queue.specs.declared.fault.SubmitFault.{SubmitFault}
 use Rattle.rdm_queue.specs.declared.fault.SubmitFault.TheVariants as submit_faults
+use Rattle.rdm_queue.specs.declared.fault.AskFault.{AskFault}
+use Rattle.rdm_queue.specs.declared.fault.AskFault.TheVariants as ask_faults
 use Rattle.rdm_queue.specs.declared.fault.LogFull.{LogFull}
 use Rattle.rdm_queue.specs.declared.fault.NotAsked.{NotAsked}
 use Rattle.rdm_queue.specs.declared.outcome.Outcome.{Outcome}
 use Rattle.rdm_queue.specs.log.History.{awaited, is_closed, can_pause, can_resume, next_client, next_request}
+use Rattle.rdm_queue.specs.log.History.{next_ask}
 use Rattle.rdm_queue.specs.log.Clients.{uncollected}
-use Rattle.rdm_queue.specs.log.Refusals.{join_fault, submit_fault, number_of_join_fault, number_of_submit_fault}
+use Rattle.rdm_queue.specs.log.Refusals.{join_fault, submit_fault, ask_fault, number_of_join_fault}
+use Rattle.rdm_queue.specs.log.Refusals.{number_of_submit_fault, number_of_ask_fault}
 use Rattle.rdm_queue.specs.log.MaySend.{MaySend, NoSend}
 use Rattle.rdm_queue.specs.log.LogState.{LogState, grown, is_full_log}
 use Rattle.rdm_queue.specs.promises.Outcomes.{outcome_value, outcome_of}
@@ -33,6 +38,9 @@ join_refused n fault = Refuse None (calls.Join n) (record { 0 = number_of_join_f
 abbrev pub submit_refused : ClientId → Request → SubmitFault → Entry
 submit_refused c request fault =
     Refuse (Some c) (calls.Submit request) (record { 0 = number_of_submit_fault fault })
+
+abbrev pub ask_refused : ClientId → Kind → AskFault → Entry
+ask_refused c kind fault = Refuse (Some c) (calls.Discover kind) (record { 0 = number_of_ask_fault fault })
 
 -- the first fault that stands, or want of memory where none does
 abbrev pub RefusesJoin : Option JoinFault → JoinFault → Type 0
@@ -75,6 +83,11 @@ SubmitAdds o h c request (Ok n) block =
 SubmitAdds o h c request (Err e) block =
     (submit_fault o h c.0 ≡ Some e.0) × (e.1 ≡ request) × (block ≡ submit_refused c request e.0 ∷ [])
 
+abbrev pub DiscoverAdds : Opening → List Entry → ClientId → Kind → Result ℕ AskFault → List Entry → Type 0
+DiscoverAdds o h c kind (Ok n) block = (ask_fault o h c.0 ≡ None) × (n ≡ next_ask o h) × (block ≡ Ask c n kind ∷ [])
+DiscoverAdds o h c kind (Err fault) block =
+    (ask_fault o h c.0 ≡ Some fault) × (block ≡ ask_refused c kind fault ∷ [])
+
 abbrev pub PauseAdds : Opening → List Entry → List Entry → Type 0
 PauseAdds o h block = SwitchAdds (can_pause o h) Pause block
 
@@ -116,6 +129,11 @@ abbrev pub SubmitLogs : LogState → ClientId → Request → Result ℕ (Submit
 SubmitLogs k c request answer block =
     UnlessFull (is_full_log k) ((answer ≡ Err (submit_faults.LogFull, request)) × (block ≡ []))
     (SubmitAdds k.opening k.entries c request answer block)
+
+abbrev pub DiscoverLogs : LogState → ClientId → Kind → Result ℕ AskFault → List Entry → Type 0
+DiscoverLogs k c kind answer block =
+    UnlessFull (is_full_log k) ((answer ≡ Err ask_faults.LogFull) × (block ≡ []))
+    (DiscoverAdds k.opening k.entries c kind answer block)
 
 abbrev pub PauseLogs : LogState → Result (Unit {0}) LogFull → List Entry → Type 0
 PauseLogs k (Ok x) block = (is_full_log k ≡ false) × PauseAdds k.opening k.entries block

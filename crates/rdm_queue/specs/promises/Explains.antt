@@ -6,13 +6,14 @@ use Rattle.rdm_queue.specs.declared.event.Event.TheVariants as events
 use Rattle.rdm_queue.specs.declared.event.Answer.{Answer}
 use Rattle.rdm_queue.specs.declared.event.Answer.TheVariants as answers
 use Rattle.rdm_queue.specs.log.LogState.{LogState}
-use Rattle.rdm_queue.specs.promises.Blocks.{JoinLogs, SubmitLogs, PauseLogs, ResumeLogs, TakeLogs, CloseAdds}
-use Rattle.rdm_queue.specs.promises.Blocks.{DeliverAdds, CollectAdds, GrowsBy}
+use Rattle.rdm_queue.specs.promises.Blocks.{JoinLogs, SubmitLogs, DiscoverLogs, PauseLogs, ResumeLogs, TakeLogs}
+use Rattle.rdm_queue.specs.promises.Blocks.{CloseAdds, DeliverAdds, CollectAdds, GrowsBy}
 
 -- an event that is answered so adds this block: that of its call
 abbrev pub Adds : LogState → Event → Answer → List Entry → Type 0
 Adds k (events.Join n) (answers.Join answer) block = JoinLogs k n answer block
 Adds k (events.Submit c request) (answers.Submit answer) block = SubmitLogs k c request answer block
+Adds k (events.Discover c kind) (answers.Discover answer) block = DiscoverLogs k c kind answer block
 Adds k events.Pause (answers.Pause answer) block = PauseLogs k answer block
 Adds k events.Resume (answers.Resume answer) block = ResumeLogs k answer block
 Adds k events.Close answers.Close block = CloseAdds k.opening k.entries block

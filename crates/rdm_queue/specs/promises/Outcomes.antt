@@ -13,6 +13,7 @@ use Rattle.rdm_queue.specs.declared.entry.Opening.{Opening}
 use Rattle.rdm_queue.specs.declared.entry.Entry.{Entry}
 use Rattle.rdm_queue.specs.declared.entry.Entry.TheVariants.{Refuse, Finish, Answer}
 use Rattle.rdm_queue.specs.declared.outcome.Completion.{Completion}
+use Rattle.rdm_queue.specs.declared.outcome.AskCompletion.{AskCompletion}
 use Rattle.rdm_queue.specs.declared.outcome.Outcome.{Outcome}
 use Rattle.rdm_queue.specs.declared.outcome.Outcome.TheVariants as outcomes
 use Rattle.rdm_queue.specs.log.Entries.{result}
@@ -56,8 +57,12 @@ pub data OutcomeValue : Type 0 where
 abbrev pub completion_value : Completion → Joined
 completion_value done = record { status = done.status; data_ = done.bytes.items; head = done.reply }
 
+abbrev pub discovered : AskCompletion → Discovered
+discovered done = record { run = done.run; fault = done.fault; devices = done.set }
+
 abbrev pub outcome_value : Outcome → OutcomeValue
 outcome_value (outcomes.Request number done) = RequestValue number (completion_value done)
+outcome_value (outcomes.Discovery number done) = DiscoveryValue number (discovered done)
 
 -- the completion of a status: with status Completed the joined data and the last reply's head
 abbrev pub completion_of : Status → Option Joined → Joined

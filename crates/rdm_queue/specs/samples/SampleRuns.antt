@@ -1,5 +1,5 @@
 -- Logs with discoveries to compute with: one run that finds one device answers two discoveries, and a request waits.
-use Rattle.std.specs.Prelude.{ℕ, List, [], ◌∷◌, ◌++◌, take, Some, None}
+use Rattle.std.specs.Prelude.{ℕ, List, [], ◌∷◌, ◌++◌, take, Some, None, Ok}
 use Rattle.rdm_wire.specs.CommandFrames.{branch_frame, mute_frame, unmute_frame}
 use Rattle.rdm_join.specs.declared.event.LineEvent.TheVariants.{Reply, Failed}
 use Rattle.rdm_agent.specs.declared.kind.Kind.{Kind}
@@ -11,7 +11,12 @@ use Rattle.rdm_queue.specs.declared.entry.Opening.{Opening}
 use Rattle.rdm_queue.specs.declared.entry.Owner.TheVariants as owners
 use Rattle.rdm_queue.specs.declared.entry.Entry.{Entry}
 use Rattle.rdm_queue.specs.declared.entry.Entry.TheVariants.{Join, Accept, Ask, Send, Came, Finish, Answer, Pause}
-use Rattle.rdm_queue.specs.declared.entry.Entry.TheVariants.{Resume, Close}
+use Rattle.rdm_queue.specs.declared.entry.Entry.TheVariants.{Resume, Close, Collect}
+use Rattle.rdm_queue.specs.declared.outcome.Outcome.TheVariants as outcomes
+use Rattle.rdm_queue.specs.declared.event.Event.{Event}
+use Rattle.rdm_queue.specs.declared.event.Event.TheVariants as events
+use Rattle.rdm_queue.specs.declared.event.Answer.{Answer as EventAnswer}
+use Rattle.rdm_queue.specs.declared.event.Answer.TheVariants as answers
 use Rattle.rdm_join.specs.declared.status.Status.TheVariants.{FailedToSend}
 use Rattle.rdm_queue.specs.samples.Sample.{sample_opening, sample_request}
 
@@ -143,3 +148,19 @@ then_unsent = aborted_first ++ Finish 0 FailedToSend 0 ∷ []
 -- the line fails after a close
 abbrev pub failed_late : List Entry
 failed_late = begun_run ++ Close ∷ Came Failed ∷ []
+
+-- the calls of aborted_log and then a Collect, and their answers
+abbrev pub collected_failed : List Entry
+collected_failed = aborted_log ++ Collect first_client ∷ []
+
+abbrev pub failing_events : List Event
+failing_events =
+    events.Join 1 ∷ events.Discover first_client Full ∷ events.Take ∷ events.Discover first_client Incremental
+    ∷ events.Deliver Failed ∷ events.Close ∷ events.Collect first_client ∷ []
+
+abbrev pub failing_answers : List EventAnswer
+failing_answers =
+    answers.Join (Ok first_client) ∷ answers.Discover (Ok 0)
+    ∷ answers.Take (Ok (Some (record { items = unmute_frame source 0 }))) ∷ answers.Discover (Ok 1)
+    ∷ answers.Deliver (Ok tt) ∷ answers.Close
+    ∷ answers.Collect (Some (outcomes.Discovery (Some 0) (record { run = 1; fault = Some LineFailed; set = [] }))) ∷ []

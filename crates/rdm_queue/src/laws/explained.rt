@@ -2,7 +2,9 @@
 ghost use Rattle.std.specs.Prelude.{◌≡◌, ℕ, List, [], ◌∷◌, Ok, Err, Some, None, slice_get};
 ghost use Rattle.std.specs.Global.{Vec};
 ghost use Rattle.rdm_queue.specs.declared.fault.LogFull.{LogFull};
+ghost use Rattle.rdm_agent.specs.declared.kind.Kind.TheVariants.{Full};
 ghost use Rattle.rdm_queue.specs.declared.fault.SubmitFault.TheVariants as faults;
+ghost use Rattle.rdm_queue.specs.declared.fault.AskFault.TheVariants as ask_faults;
 ghost use Rattle.rdm_queue.specs.declared.event.Event.{Event};
 ghost use Rattle.rdm_queue.specs.declared.event.Event.TheVariants as events;
 ghost use Rattle.rdm_queue.specs.declared.event.Answer.{Answer};
@@ -16,11 +18,18 @@ ghost use Rattle.rdm_queue.specs.log.Legal.{Legal};
 ghost use Rattle.rdm_queue.specs.samples.SampleParts.{wide_opening, joined_log, joined_parts};
 ghost use Rattle.rdm_queue.specs.samples.Sample.{sample_request, join_only, accepted_one, closed_log, logged_with};
 ghost use Rattle.rdm_queue.specs.samples.Sample.{sample_events, sample_answers};
+ghost use Rattle.rdm_queue.specs.samples.SampleRuns.{asked_one, failing_events, failing_answers, collected_failed};
 
 /// A whole log explains the answers to its events: a join, a submit, a take, a deliver, a collect, a close.
 pub fn sample_is_explained()
     ensures { (none : Vec ℕ) → none.items ≡ []
         → Explains (logged_with []) sample_events (sample_answers none) (logged_with closed_log) }
+{}
+
+/// A log with a run explains the answers to its events: a discover, the run's first frame, a discover during the run,
+/// a failure of the line, a close, and a collect.
+pub fn failing_run_is_explained()
+    ensures { Explains (logged_with []) failing_events failing_answers (logged_with collected_failed) }
 {}
 
 /// Where a log explains the answers to a list of events, it explains each of them where it stands.
@@ -39,9 +48,14 @@ pub fn not_explained()
     ensures log_full { (new : LogState) → Explains (logged_with join_only)
         (events.Submit (record { 0 = 0 }) sample_request ∷ [])
         (answers.Submit (Err (faults.LogFull, sample_request)) ∷ []) new → ⊥ }
-    // A request waits, and no frame is given for it, or the log is said to be full.
+    // A discover is refused as full while the client has one outstanding.
+    ensures discovery { (new : LogState) → Explains (logged_with asked_one)
+        (events.Discover (record { 0 = 0 }) Full ∷ []) (answers.Discover (Err ask_faults.Full) ∷ []) new → ⊥ }
+    // A request or a discovery waits, and no frame is given for it, or the log is said to be full.
     ensures no_frame { (new : LogState)
         → Explains (logged_with accepted_one) (events.Take ∷ []) (answers.Take (Ok None) ∷ []) new → ⊥ }
+    ensures no_run { (new : LogState)
+        → Explains (logged_with asked_one) (events.Take ∷ []) (answers.Take (Ok None) ∷ []) new → ⊥ }
     ensures no_room { (new : LogState)
         → Explains (logged_with accepted_one) (events.Take ∷ []) (answers.Take (Err (record {})) ∷ []) new → ⊥ }
     // An event without an answer, an answer without its entry, and answers in another order.

@@ -74,10 +74,17 @@ pub fn delivers(rt: &impl Abort, alloc: Global, session: &mut Session, event: Li
 
 /// The first client's next completion, of the request with this number.
 pub fn collected(rt: &impl Abort, session: &mut Session, number: u64) -> Completion {
-    let outcome = session.next_outcome(CLIENT).expect(rt, "an outcome");
-    let Outcome::Request { number: own, done } = outcome;
+    let (own, done) = completion(session.next_outcome(CLIENT)).expect(rt, "a request's outcome");
     assert_eq!(rt; own, Some(number));
     done
+}
+
+/// The request's number and completion, where the outcome is a request's.
+pub fn completion(outcome: Option<Outcome>) -> Option<(Option<u64>, Completion)> {
+    match outcome? {
+        Outcome::Request { number, done } => Some((number, done)),
+        Outcome::Discovery { .. } => None,
+    }
 }
 
 /// No bytes.

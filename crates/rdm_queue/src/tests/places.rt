@@ -1,8 +1,10 @@
 //! Places, clients and the room of the log.
 use super::packets::{
-    AMPLE, CLIENT, accepts, collected, delivers, get, session, session_of_one, silence, taken,
+    AMPLE, CLIENT, accepts, collected, completion, delivers, get, session, session_of_one, silence,
+    taken,
 };
-use crate::{ClientId, JoinFault, Outcome, SubmitFault};
+use crate::{AskFault, ClientId, JoinFault, SubmitFault};
+use rdm_agent::Kind;
 use rdm_join::Status;
 use std::test::Fail;
 
@@ -61,9 +63,7 @@ fn the_oldest_request_of_all_clients_comes_first(rt: HostRuntime) -> Result<(), 
     for (number, client) in [(0, other), (1, CLIENT), (2, other)] {
         let _ = taken(&rt, &mut session);
         delivers(&rt, rt.alloc(), &mut session, silence());
-        let Outcome::Request { number: own, .. } = session
-            .next_outcome(client)
-            .expect(&rt, "an outcome");
+        let (own, _) = completion(session.next_outcome(client)).expect(&rt, "a request's outcome");
         assert_eq!(rt; own, Some(number));
     }
     assert!(rt; session.is_idle());
@@ -94,6 +94,10 @@ fn a_full_log_refuses_and_still_closes(rt: HostRuntime) -> Result<(), Fail> {
     let full = session.submit(CLIENT, get());
     assert!(rt;
         full.is_err_and(|(fault, request)| fault == SubmitFault::LogFull && request == get())
+    );
+    assert_eq!(rt;
+        session.discover(CLIENT, Kind::Full),
+        Err(AskFault::LogFull)
     );
     session.close();
     assert!(rt; session.is_closed());

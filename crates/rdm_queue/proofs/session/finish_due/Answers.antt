@@ -1,6 +1,7 @@
 use Rattle.std.proofs.Common.{◌++◌, ◌∷◌, [], ap, ◌∙◌}
 use Rattle.rdm_queue.specs.log.LogState.{grown}
 use Rattle.rdm_queue.proofs.BodyLemmas.SessionLemmas.{amid_grown, result_added, grown_twice, all_results_more}
+use Rattle.rdm_queue.proofs.BoundLemmas.{entry_more}
 use Rattle.rdm_queue.proofs.session.finish_due.Goals as goal
 
 pub loop-entry-preserved : goal.loop-entry-preserved
@@ -11,4 +12,5 @@ loop-entry-preserved c =
     record {
       amid = rw c.append.ensures (amid_grown c.loop-entry.controller c.finish_next.new.self c.loop-entry.log e amid (c.in-Some.ensures.finished.1 c.loop-entry.log.opening c.loop-entry.log.entries amid.amid) (result_added e c.in-Some.ensures.finished.0));
       grows = (so_far.0 ++ e ∷ [], all_results_more so_far.0 e so_far.1 c.in-Some.ensures.finished.0, c.append.ensures ∙ ap (λ k. grown k (e ∷ [])) so_far.2 ∙ grown_twice c.args.log.now so_far.0 (e ∷ []));
+      in_bound = entry_more c.args.log.now c.loop-entry.log c.append.new.self e c.loop-entry.invariant.in_bound (c.in-Some.ensures.in_bound c.loop-entry.log.opening c.loop-entry.log.entries amid.amid) c.append.ensures;
     }

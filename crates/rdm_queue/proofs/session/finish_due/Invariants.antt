@@ -1,16 +1,19 @@
-use Rattle.std.proofs.Common.{◌≡◌, List, length}
+use Rattle.std.proofs.Common.{◌≡◌, List}
 use Rattle.rdm_queue.specs.declared.entry.Entry.{Entry}
 use Rattle.rdm_queue.specs.log.LogState.{grown}
-use Rattle.rdm_queue.specs.promises.Blocks.{AllResults}
+use Rattle.rdm_queue.specs.promises.Blocks.{AllResults, GrowsBy}
+use Rattle.rdm_queue.specs.promises.InBound.{AnswersInBound}
+use Rattle.rdm_queue.specs.body.State.{unended}
 use Rattle.rdm_queue.specs.body.SessionInvariant.{SessionAmid}
 use Rattle.rdm_queue.proofs.session.finish_due.Given as goal
 
--- the entries so far are Finishes
+-- the entries so far are Finishes and Answers
 abbrev pub invariant-loop-entry : goal.invariant-loop-entry
 invariant-loop-entry l = record {
   amid : SessionAmid l.controller l.log;
   grows : (results : List Entry) × AllResults results × (l.log ≡ grown l.fn.log results);
+  in_bound : GrowsBy l.fn.log (AnswersInBound l.fn.log.opening l.fn.log.entries) l.log;
 }
 
 abbrev pub decreases-loop-entry : goal.decreases-loop-entry
-decreases-loop-entry l = length l.controller.waiting
+decreases-loop-entry l = unended l.controller

@@ -1,11 +1,14 @@
-use Rattle.rdm_queue.proofs.BodyLemmas.CallLemmas.{finished_each, finished_fewer, settled_each}
+use Rattle.rdm_queue.proofs.BodyLemmas.CallLemmas.{ends_each, ends_fewer, ends_in_bound, settled_each}
 use Rattle.rdm_queue.proofs.controller.Controller.finish_next.Goals as goal
 
 pub returns-clause-finished : goal.returns-clause-finished
-returns-clause-finished c = rw (← c.self.view_is) (finished_each c.finish_next.result c.self.inside.queue c.finish_next.new.self c.finish_next.ensures.finished)
+returns-clause-finished c = rw (← c.self.view_is) (ends_each c.finish_next.result c.self.inside.queue c.finish_next.new.self c.finish_next.ensures.ended)
 
 pub returns-clause-fewer : goal.returns-clause-fewer
-returns-clause-fewer c = rw (← c.self.view_is) (finished_fewer c.finish_next.result c.self.inside.queue c.finish_next.new.self c.finish_next.ensures.finished)
+returns-clause-fewer c = rw (← c.self.view_is) (ends_fewer c.finish_next.result c.self.inside.queue c.finish_next.new.self c.finish_next.ensures.ended)
+
+pub returns-clause-in_bound : goal.returns-clause-in_bound
+returns-clause-in_bound c = rw (← c.self.view_is) (ends_in_bound c.finish_next.result c.self.inside.queue c.finish_next.new.self c.finish_next.ensures.ended)
 
 pub returns-clause-settled : goal.returns-clause-settled
 returns-clause-settled c = rw (← c.self.view_is) (settled_each c.finish_next.result c.self.inside.queue c.finish_next.new.self c.finish_next.ensures.none)

@@ -1,10 +1,10 @@
 use Rattle.std.proofs.Common.{[], refl}
 use Rattle.rdm_queue.specs.body.State.{first_state}
-use Rattle.rdm_queue.proofs.BodyLemmas.FieldLemmas.{first_kept, waiting_are, outcomes_are}
+use Rattle.rdm_queue.proofs.BodyLemmas.FieldLemmas.{first_kept, waiting_are}
 use Rattle.rdm_queue.proofs.queue.Queue.new.Goals as goal
 
 pub invariant_of-result : goal.invariant_of-result
-invariant_of-result c = rw (c.new_in.ensures, c.new.ensures.stands, waiting_are (first_state c.args.config) [] (first_kept c.args.config c.requires), outcomes_are (first_state c.args.config) [] (first_kept c.args.config c.requires)) (first_kept c.args.config c.requires)
+invariant_of-result c = rw (c.new_in.ensures, c.new.ensures.stands, c.new_in-2.ensures, c.start.ensures.state, c.new-3.ensures, waiting_are (first_state c.args.config) [] (first_kept c.args.config c.requires)) (first_kept c.args.config c.requires)
 
 pub returns : goal.returns
-returns c = rw (c.new_in.ensures, c.new.ensures.stands, waiting_are (first_state c.args.config) [] (first_kept c.args.config c.requires), outcomes_are (first_state c.args.config) [] (first_kept c.args.config c.requires)) refl
+returns c = rw (c.new_in.ensures, c.new.ensures.stands, c.new_in-2.ensures, c.start.ensures.state, c.new-3.ensures, waiting_are (first_state c.args.config) [] (first_kept c.args.config c.requires)) refl

@@ -1,6 +1,7 @@
-use Rattle.std.proofs.Common.{sym, ◌∙◌, refl}
+use Rattle.std.proofs.Common.{◌≡◌, false, sym, ◌∙◌, refl}
 use Rattle.rdm_queue.specs.declared.entry.Entry.TheVariants.{Close}
-use Rattle.rdm_queue.proofs.BodyLemmas.SessionLemmas.{amid_begun}
+use Rattle.rdm_queue.specs.log.History.{is_closed}
+use Rattle.rdm_queue.proofs.BodyLemmas.SessionLemmas.{amid_begun, then_due, close_adds}
 use Rattle.rdm_queue.proofs.session.Session.close.Goals as goal
 
 pub finish_due-requires : goal.finish_due-requires
@@ -8,3 +9,9 @@ finish_due-requires c =
     let k = c.self.inside.log in
     let after = c.self.invariant.after in
     rw c.append.ensures (amid_begun c.self.inside.controller c.shut.new.self k Close c.self.invariant (c.shut.ensures k.opening k.entries after (sym (c.is_closed.ensures k.opening k.entries after) ∙ c.if-is_closed.false)) refl)
+
+pub returns-clause-adds : goal.returns-clause-adds
+returns-clause-adds c =
+    let k = c.self.inside.log in
+    let open_ : is_closed k.opening k.entries ≡ false = sym (c.is_closed.ensures k.opening k.entries c.self.invariant.after) ∙ c.if-is_closed.false in
+    rw (← c.self.view_is) (close_adds k c.finish_due.new.log open_ (then_due k c.append.new.self c.finish_due.new.log Close c.finish_due.new.controller c.append.ensures c.finish_due.ensures.due))

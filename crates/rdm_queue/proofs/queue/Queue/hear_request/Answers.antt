@@ -1,16 +1,13 @@
-use Rattle.std.proofs.Common.{◌≡◌, ◌++◌, ◌∷◌, [], sym, refl, Some}
+use Rattle.std.proofs.Common.{◌++◌, ◌∷◌, [], refl}
 use Rattle.rdm_queue.specs.promises.Outcomes.{completion_value}
 use Rattle.rdm_queue.proofs.BodyLemmas.HeardLemmas.{heard_done}
-use Rattle.rdm_queue.proofs.queue.Queue.hear.Goals as goal
+use Rattle.rdm_queue.proofs.queue.Queue.hear_request.Goals as goal
 
 pub returns-in-Done-clause-heard : goal.returns-in-Done-clause-heard
-returns-in-Done-clause-heard c = λ sent vs awaited none stands.
-    let here = rw (← c.self.view_is) at awaited in
+returns-in-Done-clause-heard c = λ vs none stands.
     let at = rw (← c.self.view_is) at stands in
-    let was : c.self.inside.awaited ≡ Some c.in-Some.sent = sym c.in-Some.ensures.value in
-    let same : c.in-Some.sent ≡ sent = cc in
-    rw (← same, ← c.judge.ensures)
+    rw (← c.judge.ensures)
     (record {
       progress = rw c.reset.ensures.stands (heard_done (vs ++ c.judge.result ∷ []) c.in-Done.status c.add.new.self (completion_value c.completion_of-done.result) (c.in-Done.ensures.step vs at) (c.in-Done.ensures.stands vs at) c.completion_of-done.ensures);
-      new_is = rw (← c.self.view_is, c.take.ensures.after) refl;
+      new_is = rw (← c.self.view_is) (rw (rw (← c.self.view_is) at c.requires) refl);
     })

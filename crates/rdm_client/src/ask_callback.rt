@@ -1,0 +1,72 @@
+//! A discovery's callback.
+ghost use Rattle.std.specs.Prelude.{◌≡◌, ℕ};
+ghost use Rattle.rdm_queue.specs.declared.outcome.AskCompletion.{AskCompletion};
+ghost use Rattle.rdm_client.specs.declared.told.AskTold.{AskTold};
+ghost use Rattle.rdm_client.specs.Callbacks.{ask_told, ask_cancelled, AskFits};
+
+use crate::told::AskTold;
+use rdm_agent::AgentFault;
+use rdm_queue::AskCompletion;
+use rdm_wire::DeviceSet;
+
+/// What is called once with a discovery's completion, and then tells its tag and that completion (profile of this
+/// project). See [`Tells`](crate::Tells), which is the same for requests; [`AskCallback`] is the one over a boxed
+/// closure.
+pub trait TellsAsk {
+    /// The tag that it tells.
+    ghost tag_of: { Self → ℕ };
+
+    /// That it was called with this completion, and told this.
+    ghost calls: { Self → AskCompletion → AskTold → Type 0 };
+
+    /// Calls it with how the discovery ended.
+    fn spend(self, done: AskCompletion) -> AskTold
+        ensures called { calls self done result }
+        ensures told { result ≡ ask_told (tag_of self) done };
+
+    /// Calls it with run 0, [`AgentFault::Aborted`] and the empty set: for a discovery that will have no outcome.
+    fn cancel(self) -> AskTold
+        ensures called { calls self ask_cancelled result }
+        ensures told { result ≡ ask_told (tag_of self) ask_cancelled };
+}
+
+/// A boxed closure that is called once with a discovery's completion (profile of this project).
+///
+/// It is neither [`Clone`] nor [`Drop`]: it is spent, cancelled or handed on, as a [`Callback`](crate::Callback) is.
+pub struct AskCallback {
+    tag: u64,
+    run: Box<dyn FnOnce(AskCompletion) -> AskTold + Send>,
+    ghost callable: { (c : AskCompletion) → AskFits c → pre run c },
+    ghost tells: { (c : AskCompletion) (t : AskTold) → AskFits c → post run c t → t ≡ ask_told tag c },
+}
+
+impl AskCallback {
+    /// A callback with this tag. The closure may be called with any completion whose numbers are in the ranges of
+    /// their types, and then gives `AskTold { tag, done }` with that very tag and completion.
+    pub fn new(tag: u64, run: Box<dyn FnOnce(AskCompletion) -> AskTold + Send>) -> AskCallback
+        requires callable { (c : AskCompletion) → AskFits c → pre run c }
+        requires tells { (c : AskCompletion) (t : AskTold) → AskFits c → post run c t → t ≡ ask_told tag c }
+        ensures { result.tag ≡ tag }
+    {
+        AskCallback { tag, run }
+    }
+}
+
+impl TellsAsk for AskCallback {
+    ghost tag_of = { λ callback. callback.tag };
+
+    ghost calls = { λ callback done told. post callback.run done told };
+
+    fn spend(self, done: AskCompletion) -> AskTold {
+        let AskCallback { tag: _, run } = self;
+        run(done)
+    }
+
+    fn cancel(self) -> AskTold {
+        self.spend(AskCompletion {
+            run: 0,
+            fault: Some(AgentFault::Aborted),
+            set: DeviceSet::new(),
+        })
+    }
+}

@@ -1,0 +1,91 @@
+//! A request's callback.
+ghost use Rattle.std.specs.Prelude.{◌≡◌, ℕ};
+ghost use Rattle.rdm_queue.specs.declared.outcome.Completion.{Completion};
+ghost use Rattle.rdm_client.specs.declared.told.Told.{Told};
+ghost use Rattle.rdm_client.specs.Callbacks.{told, Fits, IsCancelled};
+
+use crate::told::Told;
+use rdm_join::Status;
+use rdm_queue::Completion;
+use std::alloc::Global;
+
+/// What is called once with a request's completion, and then tells its tag and that completion (profile of this
+/// project). [`Callback`] is the one over a boxed closure; a program with one kind of callback may bring its own type,
+/// without a box.
+///
+/// A type that isn't [`Drop`] can't be forgotten, and `spend` and `cancel` take it by value, so it is called once.
+pub trait Tells {
+    /// The tag that it tells.
+    ghost tag_of: { Self → ℕ };
+
+    /// That it was called with this completion, and told this.
+    ghost calls: { Self → Completion → Told → Type 0 };
+
+    /// Calls it with how the request ended.
+    fn spend(self, done: Completion) -> Told
+        ensures called { calls self done result }
+        ensures told { result ≡ told (tag_of self) done };
+
+    /// Calls it with status FailedToSend, without a reply and without bytes: for a request that will have no outcome.
+    /// It takes no memory; an empty vector has an allocator all the same.
+    fn cancel(self, alloc: Global) -> Told
+        ensures called { calls self result.done result }
+        ensures tag { result.tag ≡ tag_of self }
+        ensures done { IsCancelled result.done };
+}
+
+/// A boxed closure that is called once with a request's completion (profile of this project).
+///
+/// It is neither [`Clone`] nor [`Drop`]: it is spent, cancelled or handed on. The compiler refuses each of these:
+///
+/// ```text
+/// fn forget(callback: Callback) {}
+/// // `callback` is let go where its block ends, and `Callback` is not `Drop`
+///
+/// fn twice(callback: Callback, one: Completion, other: Completion) -> (Told, Told) {
+///     (callback.spend(one), callback.spend(other))
+/// }
+/// // use of moved value: `callback`
+///
+/// fn copy(callback: &Callback) -> Callback {
+///     callback.clone()
+/// }
+/// // `Callback` is not `Clone`
+/// ```
+pub struct Callback {
+    tag: u64,
+    run: Box<dyn FnOnce(Completion) -> Told + Send>,
+    ghost callable: { (c : Completion) → Fits c → pre run c },
+    ghost tells: { (c : Completion) (t : Told) → Fits c → post run c t → t ≡ told tag c },
+}
+
+impl Callback {
+    /// A callback with this tag. The closure may be called with any completion whose numbers are in the ranges of
+    /// their types, and then gives `Told { tag, done }` with that very tag and completion.
+    pub fn new(tag: u64, run: Box<dyn FnOnce(Completion) -> Told + Send>) -> Callback
+        requires callable { (c : Completion) → Fits c → pre run c }
+        requires tells { (c : Completion) (t : Told) → Fits c → post run c t → t ≡ told tag c }
+        ensures { result.tag ≡ tag }
+    {
+        Callback { tag, run }
+    }
+}
+
+impl Tells for Callback {
+    ghost tag_of = { λ callback. callback.tag };
+
+    ghost calls = { λ callback done told. post callback.run done told };
+
+    fn spend(self, done: Completion) -> Told {
+        let Callback { tag: _, run } = self;
+        run(done)
+    }
+
+    fn cancel(self, alloc: Global) -> Told {
+        self.spend(Completion {
+            status: Status::FailedToSend,
+            reply: None,
+            bytes: Vec::new(alloc),
+        })
+    }
+}

@@ -1,0 +1,204 @@
+//! A desk, which holds the callbacks of what is outstanding.
+ghost use Rattle.std.specs.Prelude.{◌≡◌, ◌<◌, ◌≤◌, ℕ, [], ◌∷◌, ◌++◌, length, drop, nat_le};
+ghost use Rattle.std.specs.Prelude.{Some, None, OnOk, OnErr, IfOk, IfErr};
+ghost use Rattle.rdm_client.specs.Desks.{spent, ask_spent, settled, without_oldest, OldestCalled, Called};
+
+use crate::ask_callback::{AskCallback, TellsAsk};
+use crate::callback::{Callback, Tells};
+use crate::fault::{Full, Misdelivered};
+use crate::told::{AskTold, Collected, Told};
+use crate::unspent::Unspent;
+use rdm_queue::{AskCompletion, Completion, NoMemory, Outcome};
+use std::alloc::Global;
+use std::collections::VecDeque;
+use std::marker::Model;
+
+/// How many discoveries' callbacks a desk has places for: 4, as many as one client may have outstanding (profile of
+/// this project).
+pub const MOST_ASKS_HELD: usize = 4;
+
+/// The callbacks of one client's outstanding requests and discoveries, oldest first (profile of this project). It has
+/// a place for each request that the client may have outstanding, and [`MOST_ASKS_HELD`] for discoveries. Contracts see
+/// the two lists and the number of places.
+///
+/// A desk isn't [`Drop`]: [`Desk::end`] hands back what it holds. All its memory is taken when it is made.
+pub struct Desk<C = Callback, A = AskCallback> {
+    requests: VecDeque<C>,
+    asks: VecDeque<A>,
+    places: usize,
+}
+
+impl<C, A> Model for Desk<C, A> {
+    ghost use Rattle.std.specs.Prelude.{◌≤◌};
+    ghost use Rattle.std.specs.VecDeque.{deque_len, deque_capacity};
+    ghost use Rattle.rdm_client.specs.Desks.{Held};
+
+    ghost Value = { Held C A };
+
+    ghost view = { λ d. record { requests = d.requests.items; asks = d.asks.items; places = d.places } };
+
+    ghost invariant = { λ d. (deque_len d.requests ≤ d.places) × (d.places ≤ deque_capacity d.requests)
+        × (deque_len d.asks ≤ 4) × (4 ≤ deque_capacity d.asks) };
+}
+
+impl<C: Tells, A: TellsAsk> Desk<C, A> {
+    /// A desk without callbacks, with places for this many requests' callbacks, 0 to 255.
+    /// Err: there was no memory.
+    pub fn new(alloc: Global, places: u8) -> Result<Desk<C, A>, NoMemory>
+        ensures { IfOk result (λ desk. desk ≡ record { requests = []; asks = []; places = places }) }
+    {
+        let Ok(requests) = VecDeque::with_capacity(alloc, usize::from(places)) else {
+            return Err(NoMemory);
+        };
+        let Ok(asks) = VecDeque::with_capacity(alloc, MOST_ASKS_HELD) else {
+            requests.destroy_empty();
+            return Err(NoMemory);
+        };
+        Ok(Desk {
+            requests,
+            asks,
+            places: usize::from(places),
+        })
+    }
+
+    /// Whether there is no place for another request's callback.
+    pub fn is_full(&self) -> bool
+        ensures { result ≡ nat_le self.now.places (length self.now.requests) }
+    {
+        self.requests_held() >= self.places
+    }
+
+    /// Whether there is no place for another discovery's callback.
+    pub fn is_full_of_asks(&self) -> bool
+        ensures { result ≡ nat_le 4 (length self.now.asks) }
+    {
+        self.asks_held() >= MOST_ASKS_HELD
+    }
+
+    /// How many requests' callbacks are held.
+    pub fn requests_held(&self) -> usize
+        ensures held { result ≡ length self.now.requests }
+        ensures fits { result ≤ self.now.places }
+    {
+        self.requests.len()
+    }
+
+    /// How many discoveries' callbacks are held.
+    pub fn asks_held(&self) -> usize
+        ensures held { result ≡ length self.now.asks }
+        ensures fits { result ≤ 4 }
+    {
+        self.asks.len()
+    }
+
+    /// Holds the callback of a request, after those that are held already. [`Full`]: as many are held as there are
+    /// places; the callback comes back, and the desk is unchanged.
+    pub fn hold(&mut self, callback: C) -> Result<(), (Full, C)>
+        ensures held { OnOk result (self.new ≡ record self.old { requests = self.old.requests ++ callback ∷ [] }) }
+        ensures had_a_place { OnOk result (length self.old.requests < self.old.places) }
+        ensures full { OnErr result (length self.old.requests ≡ self.old.places) }
+        ensures back { IfErr result (λ e. (e.1 ≡ callback) × (self.new ≡ self.old)) }
+    {
+        if self.is_full() {
+            return Err((Full, callback));
+        }
+        self.requests.push_back_reserved(callback);
+        Ok(())
+    }
+
+    /// Holds the callback of a discovery, after those that are held already. [`Full`]: [`MOST_ASKS_HELD`] are held; the
+    /// callback comes back, and the desk is unchanged.
+    pub fn hold_ask(&mut self, callback: A) -> Result<(), (Full, A)>
+        ensures held { OnOk result (self.new ≡ record self.old { asks = self.old.asks ++ callback ∷ [] }) }
+        ensures had_a_place { OnOk result (length self.old.asks < 4) }
+        ensures full { OnErr result (length self.old.asks ≡ 4) }
+        ensures back { IfErr result (λ e. (e.1 ≡ callback) × (self.new ≡ self.old)) }
+    {
+        if self.is_full_of_asks() {
+            return Err((Full, callback));
+        }
+        self.asks.push_back_reserved(callback);
+        Ok(())
+    }
+
+    /// Spends the oldest request's callback with how its request ended. [`Misdelivered`]: no request's callback is
+    /// held; the completion comes back, and the desk is unchanged.
+    pub fn settle_request(&mut self, done: Completion) -> Result<Told, (Misdelivered, Completion)>
+        ensures called { IfOk result (λ told. OldestCalled C.calls self.old.requests done told) }
+        ensures told { IfOk result (λ told. spent C.tag_of self.old.requests done ≡ Some told) }
+        ensures taken { OnOk result (self.new ≡ record self.old { requests = drop 1 self.old.requests }) }
+        ensures misdelivered { OnErr result (self.old.requests ≡ []) }
+        ensures back { IfErr result (λ e. (e.1 ≡ done) × (self.new ≡ self.old)) }
+    {
+        match self.requests.pop_front() {
+            Some(callback) => Ok(callback.spend(done)),
+            None => Err((Misdelivered, done)),
+        }
+    }
+
+    /// Spends the oldest discovery's callback with how its discovery ended. [`Misdelivered`]: no discovery's callback
+    /// is held; the completion comes back, and the desk is unchanged.
+    pub fn settle_ask(
+        &mut self,
+        done: AskCompletion,
+    ) -> Result<AskTold, (Misdelivered, AskCompletion)>
+        ensures called { IfOk result (λ told. OldestCalled A.calls self.old.asks done told) }
+        ensures told { IfOk result (λ told. ask_spent A.tag_of self.old.asks done ≡ Some told) }
+        ensures taken { OnOk result (self.new ≡ record self.old { asks = drop 1 self.old.asks }) }
+        ensures misdelivered { OnErr result (self.old.asks ≡ []) }
+        ensures back { IfErr result (λ e. (e.1 ≡ done) × (self.new ≡ self.old)) }
+    {
+        if self.asks.is_empty() {
+            return Err((Misdelivered, done));
+        }
+        Ok(self.spend_oldest_ask(done))
+    }
+
+    // Spends the oldest discovery's callback. It isn't inlined: LLVM would split a set that two arms move into
+    // thousands of pieces, and take minutes.
+    #[inline(never)]
+    fn spend_oldest_ask(&mut self, done: AskCompletion) -> AskTold
+        requires { 0 < length self.old.asks }
+        ensures called { OldestCalled A.calls self.old.asks done result }
+        ensures told { ask_spent A.tag_of self.old.asks done ≡ Some result }
+        ensures taken { self.new ≡ record self.old { asks = drop 1 self.old.asks } }
+    {
+        self.asks.pop_front().unwrap().spend(done)
+    }
+
+    /// Spends the oldest callback of the outcome's kind with the outcome's completion, as [`Desk::settle_request`] or
+    /// [`Desk::settle_ask`] does. [`Misdelivered`]: no callback of that kind is held; the outcome comes back, and the
+    /// desk is unchanged. It moves the whole outcome, 32 KB large: where the kind is known, those two move less.
+    pub fn settle(&mut self, outcome: Outcome) -> Result<Collected, (Misdelivered, Outcome)>
+        ensures called { IfOk result (λ told. Called C.calls A.calls self.old outcome told) }
+        ensures told { IfOk result (λ told. settled C.tag_of A.tag_of self.old outcome ≡ Some told) }
+        ensures taken { OnOk result (self.new ≡ without_oldest self.old outcome) }
+        ensures misdelivered { OnErr result (settled C.tag_of A.tag_of self.old outcome ≡ None) }
+        ensures back { IfErr result (λ e. (e.1 ≡ outcome) × (self.new ≡ self.old)) }
+    {
+        match outcome {
+            Outcome::Request { number, done } => match self.settle_request(done) {
+                Ok(told) => Ok(Collected::Request(told)),
+                Err((refused, done)) => Err((refused, Outcome::Request { number, done })),
+            },
+            Outcome::Discovery { number, done } => {
+                if self.asks.is_empty() {
+                    return Err((Misdelivered, Outcome::Discovery { number, done }));
+                }
+                Ok(Collected::Ask(self.spend_oldest_ask(done)))
+            }
+        }
+    }
+
+    /// Ends the desk, and hands back all callbacks that it holds.
+    pub fn end(self) -> Unspent<C, A>
+        ensures { result ≡ record { requests = self.requests; asks = self.asks } }
+    {
+        let Desk {
+            requests,
+            asks,
+            places: _,
+        } = self;
+        Unspent::new(requests, asks)
+    }
+}

@@ -1,0 +1,96 @@
+-- The oldest discovery is answered: its client has room, and what all clients' rings are then.
+use Rattle.std.proofs.Common.{◌≡◌, ℕ, ◌+◌, ◌<◌, ◌≤◌, ◌-◌, Bool, true, false, List, [], ◌∷◌, length, get_or, set, Option, Some, None, slice_get, refl, sym, ap, ◌∙◌, subst, map, arith}
+use Rattle.std.specs.Prelude.{◌==◌, MatchOption, nat_lt, if◌then◌else◌}
+use Rattle.std.specs.VecDeque.{deque_len, deque_capacity}
+use Rattle.std.proofs.lemmas.Bool.{ltb-true, ltb-false, false≢true}
+use Rattle.std.proofs.lemmas.Option.{slice_get-get_or}
+use Rattle.std.proofs.lemmas.List.{length-map}
+use Rattle.rdm_wire.specs.declared.device.Device.{Device}
+use Rattle.rdm_agent.specs.declared.fault.AgentFault.{AgentFault}
+use Rattle.rdm_queue.specs.declared.client.Client.{Client}
+use Rattle.rdm_queue.specs.declared.queue.Asked.{Asked}
+use Rattle.rdm_queue.specs.declared.queue.Queue.TheInside.{Inside}
+use Rattle.rdm_queue.specs.log.Entries.{AskedDiscovery}
+use Rattle.rdm_queue.specs.body.Rings.{HasSets, ClientAnswers}
+use Rattle.rdm_queue.specs.body.Fields.{asked_is, state_of, places_of, owed_rings}
+use Rattle.rdm_queue.specs.body.QueueInvariant.{QueueInvariant, served_by}
+use Rattle.rdm_queue.specs.body.State.{QueueState, RunState}
+use Rattle.rdm_queue.specs.body.Ending.{answer_value, answers_oldest, one_less}
+use Rattle.rdm_queue.proofs.LogLemmas.Places.{all_at}
+use Rattle.rdm_queue.proofs.BodyLemmas.FieldLemmas.{read_at}
+use Rattle.rdm_queue.proofs.BodyLemmas.InvariantLemmas.{asked_joined, first_counts, held-answers}
+use Rattle.rdm_queue.proofs.BodyLemmas.RingSteps.{room_for_outcome, room_for_set, rings-answer}
+
+pub nonempty : (xs : List Asked) → (length xs == 0) ≡ false → 0 < length xs
+nonempty [] is = absurd (false≢true (sym is))
+nonempty (x ∷ xs) is = omega arith
+
+-- the discovery at the front
+pub front_asked : (c : Inside) (x : Asked) → 0 < length c.asked.items → x ≡ get_or c.asked.items 0 x → slice_get (state_of c).asked 0 ≡ Some (asked_is x)
+front_asked c x some is = first_mapped c.asked.items (slice_get-get_or c.asked.items 0 x some ∙ ap (λ y. Some y) (sym is))
+  where
+    first_mapped : (xs : List Asked) → slice_get xs 0 ≡ Some x → slice_get (map asked_is xs) 0 ≡ Some (asked_is x)
+    first_mapped [] at = cc
+    first_mapped (y ∷ xs) at = let same : y ≡ x = cc in rw same refl
+
+-- its client, read at its place, and the room for its answer
+pub record CanAnswer (s : QueueState) (clients : List Client) (a : AskedDiscovery) (k : Client) : Type 0 where
+  pub at : slice_get clients a.client ≡ Some k
+  pub sets : HasSets k
+  pub room : deque_len k.outcomes < deque_capacity k.outcomes
+  pub set_room : deque_len k.sets < deque_capacity k.sets
+
+pub asked_within : (s : QueueState) (clients : List Client) (a : AskedDiscovery) → QueueInvariant s clients → s.places ≡ places_of clients → slice_get s.asked 0 ≡ Some a → a.client < length clients
+asked_within s clients a held same oldest = let joined = asked_joined s a held.state oldest in let long = ap (λ ns. length ns) same ∙ length-map clients (λ k. k.places) in omega arith
+
+pub can_answer : (s : QueueState) (clients ys : List Client) (a : AskedDiscovery) (i : ℕ) (d : Client) → QueueInvariant s clients → s.places ≡ places_of clients → s.owed ≡ owed_rings clients → slice_get s.asked 0 ≡ Some a → i ≡ a.client → ys ≡ clients → CanAnswer s clients a (get_or ys i d)
+can_answer s clients ys a i d held same owed oldest place read =
+    let one = first_counts (λ (b : AskedDiscovery). b.client) s.asked a oldest in
+    let at : slice_get clients a.client ≡ Some (get_or ys i d) = ap (λ n. slice_get clients n) (sym place) ∙ read_at clients ys i d read (subst (λ n. n < length clients) (sym place) (asked_within s clients a held same oldest)) in
+    record {
+      at = at;
+      sets = all_at HasSets clients held.rings.sets a.client (get_or ys i d) at;
+      room = room_for_outcome s clients a.client (get_or ys i d) held same owed at (omega arith);
+      set_room = room_for_set s clients a.client (get_or ys i d) held owed at one;
+    }
+
+-- the queue afterwards
+pub kept-answer : (s : QueueState) (clients : List Client) (k l : Client) (a : AskedDiscovery) (r : ℕ) (f : Option AgentFault) (found : List Device) (run : Option RunState) → QueueInvariant s clients → CanAnswer s clients a k → ClientAnswers k a.number r f found l → slice_get s.asked 0 ≡ Some a
+    → MatchOption run (Unit {0}) (λ q. 1 ≤ q.left) → served_by s.run ≤ served_by run + 1 → served_by run ≤ served_by s.run → served_by run + 1 ≤ length s.asked → QueueInvariant (record (answers_oldest s a r f found) { run = run }) (set clients a.client l)
+kept-answer s clients k l a r f found run held can answers oldest serves less most within = record {
+  state = held-answers s a (answer_value a r f found) run held.state oldest refl serves less most within (record (answers_oldest s a r f found) { run = run }) refl;
+  rings = rings-answer s (record (answers_oldest s a r f found) { run = run }) clients a.client k l a.number r f found refl held.rings can.at answers;
+}
+
+-- a run that serves one less, and no run
+pub record ServesLess (s : QueueState) (run : Option RunState) : Type 0 where
+  pub serves : MatchOption run (Unit {0}) (λ q. 1 ≤ q.left)
+  pub less : served_by s.run ≤ served_by run + 1
+  pub most : served_by run ≤ served_by s.run
+  pub within : served_by run + 1 ≤ length s.asked
+
+pub serves_less : (s : QueueState) (clients : List Client) (r : RunState) → QueueInvariant s clients → s.run ≡ Some r → ServesLess s (one_less r)
+serves_less s clients r held is = by_left _ refl
+  where
+    serves : 1 ≤ r.left
+    serves = rw is at held.state.serves
+
+    within : r.left ≤ length s.asked
+    within = rw is at held.state.served
+
+    more : nat_lt 1 r.left ≡ true → 1 < r.left
+    more t = ltb-true 1 r.left t
+
+    most : nat_lt 1 r.left ≡ false → r.left ≤ 1
+    most t = ltb-false 1 r.left t
+
+    by_left : (b : Bool) → nat_lt 1 r.left ≡ b → ServesLess s (if b then Some (record { number = r.number; left = r.left - 1 }) else None)
+    by_left true t = let some = more t in let left = serves in let all = within in rw is (record { serves = omega arith; less = omega arith; most = omega arith; within = omega arith })
+    by_left false t = let last = most t in let left = serves in let all = within in rw is (record { serves = tt; less = omega arith; most = omega arith; within = omega arith })
+
+pub serves_none : (s : QueueState) (a : AskedDiscovery) → s.run ≡ None → slice_get s.asked 0 ≡ Some a → ServesLess s None
+serves_none s a none oldest = rw none (record { serves = tt; less = omega arith; most = omega arith; within = some s.asked oldest })
+  where
+    some : (xs : List AskedDiscovery) → slice_get xs 0 ≡ Some a → 1 ≤ length xs
+    some [] at = cc
+    some (x ∷ xs) at = omega arith

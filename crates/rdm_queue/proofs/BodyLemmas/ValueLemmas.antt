@@ -1,0 +1,107 @@
+-- A client's outcomes as it sees them, as its rings change.
+use Rattle.std.proofs.Common.{◌≡◌, ℕ, suc, ◌≤◌, Bool, true, false, cond, List, [], ◌∷◌, ◌++◌, length, Option, Some, None, refl, sym, ap, ◌∙◌, filter, length-append, arith}
+use Rattle.std.specs.VecDeque.{deque_len, deque_capacity}
+use Rattle.std.proofs.lemmas.List.Elements.{filter-append}
+use Rattle.rdm_wire.specs.declared.device.Device.{Device}
+use Rattle.rdm_agent.specs.declared.fault.AgentFault.{AgentFault}
+use Rattle.rdm_queue.specs.declared.client.Client.{Client}
+use Rattle.rdm_queue.specs.declared.client.Owed.{Owed}
+use Rattle.rdm_queue.specs.declared.client.Owed.TheVariants as owed
+use Rattle.rdm_queue.specs.declared.entry.Entry.{Entry}
+use Rattle.rdm_queue.specs.declared.outcome.Completion.{Completion}
+use Rattle.rdm_queue.specs.declared.outcome.AskCompletion.{AskCompletion}
+use Rattle.rdm_queue.specs.declared.outcome.Outcome.TheVariants as outcomes
+use Rattle.rdm_queue.specs.promises.Outcomes.{completion_value}
+use Rattle.rdm_queue.specs.promises.Outcomes.OutcomeValue.{RequestValue, DiscoveryValue}
+use Rattle.rdm_queue.specs.body.State.{is_discovery}
+use Rattle.rdm_queue.specs.body.Rings.{owes_discovery, HasSets, values, owed_values, IsNewClient, ClientFinishes, ClientAnswers, ClientCollects}
+
+-- as many as its ring holds, and as many discoveries
+pub length-values : (ds : List Owed) (sets : List (List Device)) → length (values ds sets) ≡ length ds
+unfolding values
+length-values [] sets = refl
+length-values (owed.Request number done ∷ ds) sets = ap suc (length-values ds sets)
+length-values (owed.Discovery number run fault ∷ ds) [] = ap suc (length-values ds [])
+length-values (owed.Discovery number run fault ∷ ds) (s ∷ sets) = ap suc (length-values ds sets)
+
+pub discoveries-values : (ds : List Owed) (sets : List (List Device)) → length (filter is_discovery (values ds sets)) ≡ length (filter owes_discovery ds)
+unfolding values
+discoveries-values [] sets = refl
+discoveries-values (owed.Request number done ∷ ds) sets = discoveries-values ds sets
+discoveries-values (owed.Discovery number run fault ∷ ds) [] = ap suc (discoveries-values ds [])
+discoveries-values (owed.Discovery number run fault ∷ ds) (s ∷ sets) = ap suc (discoveries-values ds sets)
+
+-- one more of a request, and of a discovery with its set
+pub values-request : (ds : List Owed) (sets : List (List Device)) (n : ℕ) (done : Completion) → values (ds ++ owed.Request n done ∷ []) sets ≡ values ds sets ++ RequestValue (Some n) (completion_value done) ∷ []
+unfolding values
+values-request [] sets n done = refl
+values-request (owed.Request number own ∷ ds) sets n done = ap (λ l. RequestValue (Some number) (completion_value own) ∷ l) (values-request ds sets n done)
+values-request (owed.Discovery number run fault ∷ ds) [] n done = ap (λ l. DiscoveryValue (Some number) (record { run = run; fault = fault; devices = [] }) ∷ l) (values-request ds [] n done)
+values-request (owed.Discovery number run fault ∷ ds) (s ∷ sets) n done = ap (λ l. DiscoveryValue (Some number) (record { run = run; fault = fault; devices = s }) ∷ l) (values-request ds sets n done)
+
+pub values-discovery : (ds : List Owed) (sets : List (List Device)) (n r : ℕ) (f : Option AgentFault) (found : List Device) → length sets ≡ length (filter owes_discovery ds) → values (ds ++ owed.Discovery n r f ∷ []) (sets ++ found ∷ []) ≡ values ds sets ++ DiscoveryValue (Some n) (record { run = r; fault = f; devices = found }) ∷ []
+unfolding values
+values-discovery [] [] n r f found same = refl
+values-discovery [] (s ∷ sets) n r f found same = absurd (omega arith)
+values-discovery (owed.Request number own ∷ ds) sets n r f found same = ap (λ l. RequestValue (Some number) (completion_value own) ∷ l) (values-discovery ds sets n r f found same)
+values-discovery (owed.Discovery number run fault ∷ ds) [] n r f found same = absurd (omega arith)
+values-discovery (owed.Discovery number run fault ∷ ds) (s ∷ sets) n r f found same = ap (λ l. DiscoveryValue (Some number) (record { run = run; fault = fault; devices = s }) ∷ l) (values-discovery ds sets n r f found (omega arith))
+
+-- and the sets go with them
+pub sets-finish : (k l : Client) (done : Completion) (entry : Entry) (finishes : ClientFinishes k done entry l) → HasSets k → HasSets l
+sets-finish k l done entry finishes has = rw (finishes.outcomes, finishes.sets, filter-append owes_discovery k.outcomes.items (owed.Request finishes.oldest.number done ∷ []), length-append (filter owes_discovery k.outcomes.items) []) (omega (arith, has))
+
+pub sets-answer : (k l : Client) (n r : ℕ) (f : Option AgentFault) (found : List Device) → ClientAnswers k n r f found l → HasSets k → HasSets l
+sets-answer k l n r f found answers has = rw (answers.outcomes, answers.sets, filter-append owes_discovery k.outcomes.items (owed.Discovery n r f ∷ []), length-append (filter owes_discovery k.outcomes.items) (owed.Discovery n r f ∷ []), length-append k.sets.items (found ∷ [])) (omega (arith, has))
+
+-- no more sets than outcomes
+pub few_discoveries : (ds : List Owed) → length (filter owes_discovery ds) ≤ length ds
+few_discoveries [] = omega arith
+few_discoveries (d ∷ ds) = by_test (owes_discovery d) (few_discoveries ds)
+  where
+    by_test : (b : Bool) → length (filter owes_discovery ds) ≤ length ds → length (cond b (d ∷ filter owes_discovery ds) (filter owes_discovery ds)) ≤ suc (length ds)
+    by_test true fewer = omega arith
+    by_test false fewer = omega arith
+
+-- of a client that has only joined
+pub values-fresh : (k : Client) (places : ℕ) → IsNewClient places k → owed_values k ≡ []
+unfolding values
+values-fresh k places fresh = ap (λ ds. values ds k.sets.items) fresh.none_owed
+
+-- the oldest taken out: there is none, it is a request's, or a discovery's
+no_items : (ds : List Owed) → length ds ≡ 0 → ds ≡ []
+no_items [] none = refl
+no_items (d ∷ ds) none = absurd (omega arith)
+
+pub collects-none : (k l : Client) → k.outcomes.items ≡ l.outcomes.items → deque_len k.outcomes ≡ 0 → l.waiting ≡ k.waiting → l.sets ≡ k.sets → l.places ≡ k.places → deque_capacity l.outcomes ≡ deque_capacity k.outcomes → HasSets k → ClientCollects k None l
+unfolding values
+collects-none k l items none waits sets places room has = record {
+  waiting = ap (λ w. w.items) waits;
+  outcomes = rw (items, sets) refl;
+  none = rw (no_items k.outcomes.items (sym k.outcomes.ok.0 ∙ none)) refl;
+  has_sets = rw (sets, ← items) has;
+  rings = record { places = places; waiting = ap (λ w. deque_capacity w) waits; outcomes = room; sets = ap (λ w. deque_capacity w) sets };
+}
+
+pub collects-request : (k l : Client) (n : ℕ) (done : Completion) → k.outcomes.items ≡ owed.Request n done ∷ l.outcomes.items → l.waiting ≡ k.waiting → l.sets ≡ k.sets → l.places ≡ k.places → deque_capacity l.outcomes ≡ deque_capacity k.outcomes → HasSets k → ClientCollects k (Some (outcomes.Request (Some n) done)) l
+unfolding values
+collects-request k l n done items waits sets places room has = record {
+  waiting = ap (λ w. w.items) waits;
+  outcomes = rw (items, sets) refl;
+  none = tt;
+  has_sets = rw sets (has ∙ rw items refl);
+  rings = record { places = places; waiting = ap (λ w. deque_capacity w) waits; outcomes = room; sets = ap (λ w. deque_capacity w) sets };
+}
+
+pub collects-discovery : (k l : Client) (n : ℕ) (done : AskCompletion) → k.outcomes.items ≡ owed.Discovery n done.run done.fault ∷ l.outcomes.items → k.sets.items ≡ done.set ∷ l.sets.items → l.waiting ≡ k.waiting → l.places ≡ k.places → deque_capacity l.outcomes ≡ deque_capacity k.outcomes → deque_capacity l.sets ≡ deque_capacity k.sets → HasSets k → ClientCollects k (Some (outcomes.Discovery (Some n) done)) l
+unfolding values
+collects-discovery k l n done items set waits places room set_room has = record {
+  waiting = ap (λ w. w.items) waits;
+  outcomes = rw (items, set) refl;
+  none = tt;
+  has_sets = fewer (length l.sets.items) (length (filter owes_discovery l.outcomes.items)) (ap (λ l. length l) (sym set) ∙ (has ∙ rw items refl));
+  rings = record { places = places; waiting = ap (λ w. deque_capacity w) waits; outcomes = room; sets = set_room };
+}
+  where
+    fewer : (n m : ℕ) → suc n ≡ suc m → n ≡ m
+    fewer n m same = omega arith

@@ -1,0 +1,18 @@
+use Rattle.std.proofs.Common.{◌∷◌, [], sym, ◌∙◌, arith}
+use Rattle.rdm_queue.specs.declared.entry.Entry.TheVariants.{Ask}
+use Rattle.rdm_queue.proofs.BodyLemmas.SessionLemmas.{free_of, session_grown}
+use Rattle.rdm_queue.proofs.session.Session.discover.Goals as goal
+
+pub invariant_of-self : goal.invariant_of-self
+invariant_of-self c =
+    let k = c.self.inside.log in
+    let free = (rw (← c.self.view_is) at (free_of c.args.self.now (sym c.is_full.ensures ∙ c.if-is_full.false))) in
+    let stands = c.in-Ok.ensures.adds k.opening k.entries c.self.invariant.after in
+    rw c.append.ensures (session_grown c.self.inside.controller c.discover.new.self k (Ask c.args.client c.in-Ok.number c.args.kind ∷ []) c.self.invariant (rw stands.adds.2 at stands.after) (omega arith))
+
+pub invariant_of-self-in-Err : goal.invariant_of-self-in-Err
+invariant_of-self-in-Err c =
+    let k = c.self.inside.log in
+    let free = (rw (← c.self.view_is) at (free_of c.args.self.now (sym c.is_full.ensures ∙ c.if-is_full.false))) in
+    let stands = c.in-Err.ensures.adds k.opening k.entries c.self.invariant.after in
+    rw (c.append-in-Err.ensures, c.number.ensures) (session_grown c.self.inside.controller c.discover.new.self k _ c.self.invariant (rw stands.adds.1 at stands.after) (omega arith))

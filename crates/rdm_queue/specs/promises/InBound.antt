@@ -1,0 +1,24 @@
+-- On a calm line a run whose budget suffices is answered without fault, unless the queue is closed.
+use Rattle.std.specs.Prelude.{◌≡◌, ℕ, ◌≤◌, true, List, [], ◌∷◌, ◌++◌, Some}
+use Rattle.rdm_agent.specs.Bound.{IsCalm, enough_for}
+use Rattle.rdm_queue.specs.declared.entry.Opening.{Opening}
+use Rattle.rdm_queue.specs.declared.entry.Entry.{Entry}
+use Rattle.rdm_queue.specs.declared.entry.Entry.TheVariants.{Answer}
+use Rattle.rdm_queue.specs.log.History.{is_closed}
+use Rattle.rdm_queue.specs.log.Runs.{run_exchanges, run_kind, known_at_run}
+
+-- the run's exchanges are those of an honest line with these devices, of which there are at most 1,024, without a
+-- failure; and the budget is at least as large as the bound on frames asks
+pub record IsCalmRun (o : Opening) (h : List Entry) (r : ℕ) (present : List ℕ) : Type 0 where
+  pub calm : IsCalm present (run_exchanges r h)
+  pub budgeted : enough_for present (run_kind r h) (known_at_run o r h) ≤ o.budget
+
+-- after h an Answer by such a run has a fault only where the queue is closed
+abbrev pub FaultNeedsClose : Opening → List Entry → Entry → Type 0
+FaultNeedsClose o h (Answer n r (Some fault)) = (present : List ℕ) → IsCalmRun o h r present → is_closed o h ≡ true
+FaultNeedsClose o h _ = Unit {0}
+
+-- so it is with each Answer of a block that is added to h
+abbrev pub AnswersInBound : Opening → List Entry → List Entry → Type 0
+AnswersInBound o h [] = Unit {0}
+AnswersInBound o h (e ∷ block) = FaultNeedsClose o h e × AnswersInBound o (h ++ e ∷ []) block
