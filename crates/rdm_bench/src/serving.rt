@@ -96,10 +96,12 @@ impl Serving for Session {
     }
 }
 
-// How many bytes an outcome has.
+// How many bytes an outcome has, or how many devices.
 fn length_of(outcome: &Outcome) -> usize {
-    let Outcome::Request { done, .. } = outcome;
-    done.bytes.len()
+    match outcome {
+        Outcome::Request { done, .. } => done.bytes.len(),
+        Outcome::Discovery { done, .. } => done.set.len(),
+    }
 }
 
 /// A controller with all the places that there may be.
