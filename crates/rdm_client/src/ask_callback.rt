@@ -46,7 +46,8 @@ impl AskCallback {
     pub fn new(tag: u64, run: Box<dyn FnOnce(AskCompletion) -> AskTold + Send>) -> AskCallback
         requires callable { (c : AskCompletion) → AskFits c → pre run c }
         requires tells { (c : AskCompletion) (t : AskTold) → AskFits c → post run c t → t ≡ ask_told tag c }
-        ensures { result.tag ≡ tag }
+        ensures tag { result.tag ≡ tag }
+        ensures run { result.run ≡ run }
     {
         AskCallback { tag, run }
     }

@@ -65,7 +65,8 @@ impl Callback {
     pub fn new(tag: u64, run: Box<dyn FnOnce(Completion) -> Told + Send>) -> Callback
         requires callable { (c : Completion) → Fits c → pre run c }
         requires tells { (c : Completion) (t : Told) → Fits c → post run c t → t ≡ told tag c }
-        ensures { result.tag ≡ tag }
+        ensures tag { result.tag ≡ tag }
+        ensures run { result.run ≡ run }
     {
         Callback { tag, run }
     }
