@@ -25,3 +25,4 @@ pub mod BegunLemmas
 pub mod EndLemmas
 pub mod CallLemmas
 pub mod SessionLemmas
+pub mod RotateLemmas

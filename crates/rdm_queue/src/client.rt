@@ -1,9 +1,9 @@
 //! A client's places, and the rings of what it has outstanding.
-ghost use Rattle.std.specs.Prelude.{◌≡◌, ◌+◌, ◌-◌, ◌<◌, ◌≤◌, IfOk, option_map, slice_get};
+ghost use Rattle.std.specs.Prelude.{◌≡◌, ◌≢◌, ◌+◌, ◌-◌, ◌<◌, ◌≤◌, IfOk, IfSome, IfNone, Some, option_map, slice_get};
 ghost use Rattle.std.specs.VecDeque.{deque_len, deque_capacity};
 
 use crate::entry::{Entry, MOST_DISCOVERIES};
-use crate::outcome::{AskCompletion, Completion, Outcome};
+use crate::outcome::{Completion, DiscoveryEnd, OutcomeKind};
 use rdm_agent::AgentFault;
 use rdm_wire::{DeviceSet, Request};
 use std::alloc::{AllocError, Global};
@@ -45,7 +45,9 @@ pub(crate) struct Client {
 
 impl Client {
     ghost use Rattle.rdm_queue.specs.body.Rings.{IsNewClient, ClientAccepts, ClientFinishes, ClientAnswers};
-    ghost use Rattle.rdm_queue.specs.body.Rings.{ClientCollects, HasSets};
+    ghost use Rattle.rdm_queue.specs.body.Rings.{ClientCollects, HasSets, first_kind_owed};
+    ghost use Rattle.rdm_queue.specs.promises.Outcomes.{outcome_value, request_outcome, discovery_outcome};
+    ghost use Rattle.rdm_queue.specs.declared.outcome.OutcomeKind.TheVariants as kinds;
 
     /// A client without requests, whose memory is reserved here.
     pub(crate) fn with_places(alloc: Global, places: u8) -> Result<Client, AllocError>
@@ -142,26 +144,52 @@ impl Client {
         self.sets.push_back_reserved(found.copied());
     }
 
-    /// Takes its oldest outcome out.
-    pub(crate) fn collect(&mut self) -> Option<Outcome>
-        requires { HasSets self.old }
-        ensures { ClientCollects self.old result self.new }
+    /// Of which kind its oldest outcome is.
+    pub(crate) fn oldest_outcome(&self) -> Option<OutcomeKind>
+        ensures { result ≡ first_kind_owed self.now }
     {
-        match self.outcomes.pop_front()? {
-            Owed::Request { number, done } => Some(Outcome::Request {
-                number: Some(number),
-                done,
-            }),
-            Owed::Discovery { number, run, fault } => {
-                let Some(set) = self.sets.pop_front() else {
-                    unreachable!();
-                };
-                Some(Outcome::Discovery {
-                    number: Some(number),
-                    done: AskCompletion { run, fault, set },
-                })
-            }
+        match self.outcomes.front()? {
+            Owed::Request { .. } => Some(OutcomeKind::Request),
+            Owed::Discovery { .. } => Some(OutcomeKind::Discovery),
         }
+    }
+
+    /// Takes its oldest outcome out, where that is a request's.
+    pub(crate) fn collect_request(&mut self) -> Option<(u64, Completion)>
+        requires { HasSets self.old }
+        ensures taken { IfSome result (λ r. ClientCollects self.old (outcome_value (request_outcome r)) self.new) }
+        ensures none { IfNone result (first_kind_owed self.old ≢ Some kinds.Request) }
+        ensures unchanged { IfNone result (self.new ≡ self.old) }
+    {
+        if self.oldest_outcome() != Some(OutcomeKind::Request) {
+            return None;
+        }
+        let Owed::Request { number, done } = self.outcomes.pop_front()? else {
+            unreachable!();
+        };
+        Some((number, done))
+    }
+
+    /// Takes its oldest outcome out, where that is a discovery's, and writes its set into `set`.
+    pub(crate) fn collect_discovery(&mut self, set: &mut DeviceSet) -> Option<DiscoveryEnd>
+        requires { HasSets self.old }
+        ensures taken { IfSome result (λ end. ClientCollects self.old (outcome_value (discovery_outcome end set.new))
+            self.new) }
+        ensures none { IfNone result (first_kind_owed self.old ≢ Some kinds.Discovery) }
+        ensures unchanged { IfNone result ((self.new ≡ self.old) × (set.new ≡ set.old)) }
+    {
+        if self.oldest_outcome() != Some(OutcomeKind::Discovery) {
+            return None;
+        }
+        let Owed::Discovery { number, run, fault } = self.outcomes.pop_front()? else {
+            unreachable!();
+        };
+        let Some(found) = self.sets.front() else {
+            unreachable!();
+        };
+        set.copy_from(found);
+        self.sets.pop_front();
+        Some(DiscoveryEnd { number, run, fault })
     }
 }
 

@@ -1,8 +1,8 @@
 //! The queue of requests and discoveries on one RDM line.
 use crate::config::Config;
-use crate::entry::{ClientId, Entry, Owner};
+use crate::entry::{ClientId, Entry, Opening, Owner};
 use crate::fault::{AskFault, JoinFault, NoMemory, NotAsked, SubmitFault};
-use crate::outcome::Outcome;
+use crate::outcome::{Completion, DiscoveryEnd, Outcome, OutcomeKind};
 use crate::queue::Queue;
 use rdm_agent::Kind;
 use rdm_join::LineEvent;
@@ -31,21 +31,24 @@ impl Model for Controller {
 
 impl Controller {
     ghost use Rattle.std.specs.Prelude.{◌≡◌, ◌++◌, ◌∷◌, ◌<◌, [], List, true, false, length, IfOk, IfErr, IfSome};
-    ghost use Rattle.std.specs.Prelude.{IfNone, OnErr, OnSome};
+    ghost use Rattle.std.specs.Prelude.{IfNone, OnErr, OnSome, Some, ◌≢◌};
     ghost use Rattle.rdm_queue.specs.declared.entry.Opening.{Opening};
     ghost use Rattle.rdm_queue.specs.declared.entry.Entry.{Entry};
     ghost use Rattle.rdm_queue.specs.declared.entry.Entry.TheVariants.{Send, Came, Close};
     ghost use Rattle.rdm_queue.specs.log.History.{awaited, is_paused, is_closed, can_pause, can_resume, is_idle};
     ghost use Rattle.rdm_queue.specs.log.MaySend.{MaySend, NoSend};
     ghost use Rattle.rdm_queue.specs.log.Config.{IsConfig};
-    ghost use Rattle.rdm_queue.specs.log.LogState.{opened};
+    ghost use Rattle.rdm_queue.specs.log.LogState.{opened, opening_after};
     ghost use Rattle.rdm_queue.specs.promises.Blocks.{JoinAdds, SubmitAdds, PauseAdds, ResumeAdds, CloseAdds};
     ghost use Rattle.rdm_queue.specs.promises.Blocks.{DiscoverAdds, TakeAdds, DeliverAdds, CollectAdds, is_result};
+    ghost use Rattle.rdm_queue.specs.promises.Blocks.{IsWithResults};
     ghost use Rattle.rdm_queue.specs.body.Agrees.{StandsAfter, StandsAmid, ForEachLog, ForEachBlock, AddsToEach};
     ghost use Rattle.rdm_queue.specs.body.Agrees.{FinishesAll};
     ghost use Rattle.rdm_queue.specs.body.State.{unended, uncollected};
-    ghost use Rattle.rdm_queue.specs.promises.InBound.{FaultNeedsClose};
+    ghost use Rattle.rdm_queue.specs.promises.InBound.{FaultNeedsClose, AnswersInBound};
     ghost use Rattle.rdm_queue.specs.log.Runs.{known_devices, devices_run};
+    ghost use Rattle.rdm_queue.specs.promises.Outcomes.{oldest_kind, request_outcome, discovery_outcome};
+    ghost use Rattle.rdm_queue.specs.declared.outcome.OutcomeKind.TheVariants as kinds;
 
     /// A controller without clients, neither paused nor closed, whose numbers begin at 0. Its UID isn't broadcast,
     /// there are at most [`MOST_PLACES`](crate::MOST_PLACES) places, and the budget is at least 1.
@@ -146,10 +149,13 @@ impl Controller {
     /// Takes what the line answered to the last frame. A request is finished where that decides its result; where its
     /// joined data find no memory, with status NoMemory. A run that ends answers all its discoveries alike, in the order
     /// asked, and without fault its devices are those that `devices` gives. After a close, all else is then ended too,
-    /// as `close` does it.
+    /// as `close` does it. On an honest line with at most 1,024 devices that stay, and with a budget as the bound on
+    /// frames asks, a discovery that it answers has a fault only after a failure or a close.
     /// Err: no reply is awaited; nothing has changed, and the event comes back.
     pub fn deliver(&mut self, alloc: Global, event: LineEvent) -> Result<(), (NotAsked, LineEvent)>
         ensures adds { AddsToEach self.old (λ o h. DeliverAdds h event result) self.new }
+        ensures in_bound { IfOk result (λ done. AddsToEach self.old
+            (λ o h block. IsWithResults (Came event) block × AnswersInBound o h block) self.new) }
         ensures unchanged { IfErr result (λ e. (e.1 ≡ event) × (self.new ≡ self.old)) }
     {
         if !self.awaits() {
@@ -167,6 +173,36 @@ impl Controller {
         ensures unchanged { IfNone result (self.new ≡ self.old) }
     {
         self.queue.next_outcome(client)
+    }
+
+    /// Of which kind a client's oldest outcome is that it hasn't collected. None where there is none, or no such client.
+    pub fn oldest(&self, client: ClientId) -> Option<OutcomeKind>
+        ensures { ForEachLog self.now (λ o h. result ≡ oldest_kind o h client.0) }
+    {
+        self.queue.oldest_outcome(client)
+    }
+
+    /// Collects a client's oldest outcome where that is a request's, and gives its number and how it ended. It moves no
+    /// set. None: there is no outcome, it is a discovery's, or there is no such client; nothing has changed.
+    pub fn next_completion(&mut self, client: ClientId) -> Option<(u64, Completion)>
+        ensures adds { IfSome result (λ r. AddsToEach self.old
+            (λ o h. CollectAdds o h client (Some (request_outcome r))) self.new) }
+        ensures none { IfNone result (ForEachLog self.old (λ o h. oldest_kind o h client.0 ≢ Some kinds.Request)) }
+        ensures unchanged { IfNone result (self.new ≡ self.old) }
+    {
+        self.queue.next_completion(client)
+    }
+
+    /// Collects a client's oldest outcome where that is a discovery's, and writes the devices that its run found into
+    /// `set`, in place of what was there. None: there is no outcome, it is a request's, or there is no such client;
+    /// nothing has changed, and `set` is as it was.
+    pub fn next_discovery(&mut self, client: ClientId, set: &mut DeviceSet) -> Option<DiscoveryEnd>
+        ensures adds { IfSome result (λ end. AddsToEach self.old
+            (λ o h. CollectAdds o h client (Some (discovery_outcome end set.new))) self.new) }
+        ensures none { IfNone result (ForEachLog self.old (λ o h. oldest_kind o h client.0 ≢ Some kinds.Discovery)) }
+        ensures unchanged { IfNone result ((self.new ≡ self.old) × (set.new ≡ set.old)) }
+    {
+        self.queue.next_discovery(client, set)
     }
 
     /// The devices that the last run without fault found; none before the first.
@@ -265,6 +301,13 @@ impl Controller {
         ensures { ForEachBlock self.old (λ o h. FinishesAll o h self.new) }
     {
         while self.finish_next().is_some() {}
+    }
+
+    /// The opening of a log that goes on from here.
+    pub(crate) fn opening(&self) -> Opening
+        ensures { ForEachLog self.now (λ o h. result ≡ opening_after o h) }
+    {
+        self.queue.opening()
     }
 
     /// How many requests aren't finished.

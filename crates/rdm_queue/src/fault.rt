@@ -16,6 +16,11 @@ pub struct LogFull;
 #[error("no reply is awaited")]
 pub struct NotAsked;
 
+/// The session isn't idle, and nothing has changed (profile of this project).
+#[derive(Clone, Copy, Debug, PartialEq, Eq, Error)]
+#[error("the session isn't idle")]
+pub struct NotIdle;
+
 /// Why a join is refused (profile of this project). LogFull is tested first, and then the others in this order.
 #[derive(Clone, Copy, Debug, PartialEq, Eq, Error)]
 pub enum JoinFault {

@@ -96,6 +96,23 @@ impl Log {
         }
     }
 
+    /// The log without its entries, with the same room, and with the opening of a new log.
+    pub fn cleared(self) -> Log
+        ensures { result ≡ record { opening = blank_opening; entries = []; room = self.room } }
+    {
+        let Log {
+            opening: _,
+            mut entries,
+            room,
+        } = self;
+        entries.clear();
+        Log {
+            opening: Log::blank(),
+            entries,
+            room,
+        }
+    }
+
     /// Puts an entry at the end.
     pub(crate) fn append(&mut self, entry: Entry)
         requires { length self.old.entries < self.old.room }

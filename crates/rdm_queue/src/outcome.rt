@@ -47,3 +47,23 @@ pub enum Outcome {
 }
 
 const _: () = prove!(size_of::<Outcome>() == 32_832);
+
+/// Of which kind an outcome is (profile of this project).
+#[derive(Clone, Copy, Debug, PartialEq, Eq)]
+pub enum OutcomeKind {
+    /// A request has ended.
+    Request,
+    /// A discovery has ended.
+    Discovery,
+}
+
+/// How a discovery ended, but for what its run found (profile of this project).
+#[derive(Clone, Copy, Debug, PartialEq, Eq)]
+pub struct DiscoveryEnd {
+    /// Its number.
+    pub number: u64,
+    /// The run that served it; 0 where none was begun for it.
+    pub run: u64,
+    /// Why the run ended early; None where it ended without fault.
+    pub fault: Option<AgentFault>,
+}

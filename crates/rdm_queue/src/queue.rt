@@ -1,19 +1,21 @@
 //! The requests that wait, the discoveries that are asked, the run that serves them, and the outcomes that wait for their
 //! clients.
-ghost use Rattle.std.specs.Prelude.{◌≡◌, ◌⊎◌, ◌<◌, length, IfSome, IfNone};
+ghost use Rattle.std.specs.Prelude.{◌≡◌, ◌⊎◌, ◌<◌, ◌≤◌, length, IfSome, IfNone};
 ghost use Rattle.rdm_join.specs.Result.{ended};
 ghost use Rattle.rdm_join.specs.JoinerStanding.{head_of_standing};
 ghost use Rattle.rdm_join.specs.declared.status.Status.TheVariants.{NoMemory as NoMemoryLeft};
 ghost use Rattle.rdm_queue.specs.promises.Outcomes.{completion_value};
 ghost use Rattle.rdm_queue.specs.body.Rings.{NoneWaits, IsFirstInLine};
+ghost use Rattle.rdm_queue.specs.body.Fields.{places_of};
 
 use crate::client::{Client, Waiting};
 use crate::config::Config;
 use crate::entry::{
-    ClientId, Entry, MOST_CLIENTS, MOST_DISCOVERIES, NEVER_GIVEN, NEVER_GIVEN_TO_A_DISCOVERY, Owner,
+    ClientId, Entry, MOST_CLIENTS, MOST_DISCOVERIES, NEVER_GIVEN, NEVER_GIVEN_TO_A_DISCOVERY,
+    Opening, Owner,
 };
 use crate::fault::{AskFault, JoinFault, SubmitFault};
-use crate::outcome::{Completion, Outcome};
+use crate::outcome::{AskCompletion, Completion, DiscoveryEnd, Outcome, OutcomeKind};
 use arrayvec::ArrayVec;
 use rdm_agent::{Agent, AgentFault, Kind, Op};
 use rdm_join::{Joiner, LineEvent, Sent, Status, Step, judge};
@@ -134,6 +136,8 @@ impl Queue {
     ghost use Rattle.rdm_agent.specs.Calls.{next_op, HasRun};
     ghost use Rattle.rdm_agent.specs.declared.op.Op.TheVariants.{End};
     ghost use Rattle.rdm_queue.specs.promises.Outcomes.{outcome_value, completion_value};
+    ghost use Rattle.rdm_queue.specs.promises.Outcomes.{request_outcome, discovery_outcome};
+    ghost use Rattle.rdm_queue.specs.declared.outcome.OutcomeKind.TheVariants as kinds;
     ghost use Rattle.rdm_queue.specs.promises.Blocks.{RefusesJoin};
     ghost use Rattle.rdm_queue.specs.body.Fields.{accepted_is, run_is};
     ghost use Rattle.rdm_queue.specs.log.Config.{IsConfig};
@@ -142,7 +146,7 @@ impl Queue {
     ghost use Rattle.rdm_queue.specs.body.State.{first_ask_fault, asked_of, end_of_oldest, due, IsFinished, owed_for};
     ghost use Rattle.rdm_queue.specs.body.State.{finish_of, finishes_oldest, joins_client, accepts_request};
     ghost use Rattle.rdm_queue.specs.body.State.{asks_discovery, collects_oldest, owed_to, uncollected, is_closing};
-    ghost use Rattle.rdm_queue.specs.body.State.{HearsRequest};
+    ghost use Rattle.rdm_queue.specs.body.State.{HearsRequest, first_kind, TakesOldest, opening_of};
     ghost use Rattle.rdm_queue.specs.body.Sending.{to_send, request_to_send, run_to_send, IsGiven, GivesRequest};
     ghost use Rattle.rdm_queue.specs.body.Sending.{GivesRun, begun, kind_of, hears_run};
     ghost use Rattle.rdm_queue.specs.body.Ending.{IsEnded, AnswersByRun, AnswersUnserved, HasNothingDue};
@@ -611,13 +615,63 @@ impl Queue {
         self.clients[at].finish_oldest(done)
     }
 
+    /// Of which kind a client's oldest outcome is.
+    pub(crate) fn oldest_outcome(&self, client: ClientId) -> Option<OutcomeKind>
+        ensures { result ≡ first_kind client.0 self.now }
+    {
+        self.clients.get(usize::from(client.0))?.oldest_outcome()
+    }
+
     /// Takes a client's oldest outcome out, which frees its place.
     pub(crate) fn next_outcome(&mut self, client: ClientId) -> Option<Outcome>
         ensures outcome { option_map outcome_value result ≡ slice_get (owed_to client.0 self.old) 0 }
         ensures taken { OnSome result (self.new ≡ collects_oldest self.old client.0) }
         ensures none { IfNone result (self.new ≡ self.old) }
     {
-        self.clients.get_mut(usize::from(client.0))?.collect()
+        match self.oldest_outcome(client)? {
+            OutcomeKind::Request => {
+                let (number, done) = self.next_completion(client)?;
+                Some(Outcome::Request {
+                    number: Some(number),
+                    done,
+                })
+            }
+            OutcomeKind::Discovery => {
+                let mut set = DeviceSet::new();
+                let DiscoveryEnd { number, run, fault } = self.next_discovery(client, &mut set)?;
+                Some(Outcome::Discovery {
+                    number: Some(number),
+                    done: AskCompletion { run, fault, set },
+                })
+            }
+        }
+    }
+
+    /// Takes a client's oldest outcome out, where that is a request's.
+    pub(crate) fn next_completion(&mut self, client: ClientId) -> Option<(u64, Completion)>
+        ensures taken { IfSome result (λ r. TakesOldest self.old client.0 (outcome_value (request_outcome r)) self.new) }
+        ensures none { IfNone result (first_kind client.0 self.old ≢ Some kinds.Request) }
+        ensures unchanged { IfNone result (self.new ≡ self.old) }
+    {
+        self.clients
+            .get_mut(usize::from(client.0))?
+            .collect_request()
+    }
+
+    /// Takes a client's oldest outcome out, where that is a discovery's, and writes its set into `set`.
+    pub(crate) fn next_discovery(
+        &mut self,
+        client: ClientId,
+        set: &mut DeviceSet,
+    ) -> Option<DiscoveryEnd>
+        ensures taken { IfSome result (λ end. TakesOldest self.old client.0
+            (outcome_value (discovery_outcome end set.new)) self.new) }
+        ensures none { IfNone result (first_kind client.0 self.old ≢ Some kinds.Discovery) }
+        ensures unchanged { IfNone result ((self.new ≡ self.old) × (set.new ≡ set.old)) }
+    {
+        self.clients
+            .get_mut(usize::from(client.0))?
+            .collect_discovery(set)
     }
 
     /// The devices of the last run without fault; none before the first.
@@ -632,6 +686,26 @@ impl Queue {
         ensures { result ≡ self.now.devices_run }
     {
         self.devices_run
+    }
+
+    /// The opening of a log that goes on from here.
+    pub(crate) fn opening(&self) -> Opening
+        ensures { result ≡ opening_of self.now }
+    {
+        Opening {
+            source: self.config.source,
+            greatest: self.config.places,
+            budget: self.config.budget,
+            places: places_of(&self.clients),
+            paused: self.paused,
+            closed: self.closed,
+            devices: self.devices.copied(),
+            devices_run: self.devices_run,
+            next_request: self.next_request,
+            next_ask: self.next_ask,
+            next_run: self.next_run,
+            next_tn: self.next_tn,
+        }
     }
 
     /// How many requests aren't finished.
@@ -698,6 +772,18 @@ fn first_in_line(clients: &[Client]) -> Option<(usize, &Waiting)>
         }
     }
     first
+}
+
+// The places of each client, in the order of joining.
+fn places_of(clients: &[Client]) -> ArrayVec<u8, MOST_CLIENTS>
+    requires { length clients.now ≤ 16 }
+    ensures { result.items ≡ places_of clients.now }
+{
+    let mut places = ArrayVec::new();
+    for client in clients {
+        places.push(client.places);
+    }
+    places
 }
 
 // A completion without an answer, which takes no memory.

@@ -9,15 +9,16 @@ use crate::config::Config;
 use crate::controller::Controller;
 use crate::copies::{copy_of_frame, copy_of_request};
 use crate::entry::{Call, Cause, ClientId, Entry, Opening};
-use crate::fault::{AskFault, JoinFault, LogFull, NoMemory, NotAsked, SubmitFault};
+use crate::fault::{AskFault, JoinFault, LogFull, NoMemory, NotAsked, NotIdle, SubmitFault};
 use crate::log::{LEAST_FREE, Log};
-use crate::outcome::Outcome;
+use crate::outcome::{Completion, DiscoveryEnd, Outcome, OutcomeKind};
 use arrayvec::ArrayVec;
 use rdm_agent::Kind;
 use rdm_join::LineEvent;
 use rdm_wire::{DeviceSet, Frame, Request};
 use std::alloc::Global;
 use std::marker::Model;
+use std::mem;
 
 /// A controller with a log of all that it does. Contracts see the log; it is legal at all times, the controller stands
 /// after it, and there is room for the entries that are owed (profile of this project).
@@ -40,15 +41,17 @@ impl Model for Session {
 }
 
 impl Session {
-    ghost use Rattle.std.specs.Prelude.{◌≡◌, [], length, ◌+◌, IfOk, IfErr, OnErr, IfNone};
+    ghost use Rattle.std.specs.Prelude.{◌≡◌, ◌≢◌, [], length, ◌+◌, IfOk, IfErr, OnOk, OnErr, IfNone, IfSome, Some, true, false};
     ghost use Rattle.rdm_queue.specs.log.History.{awaited, is_paused, is_closed, is_idle, reserved};
     ghost use Rattle.rdm_queue.specs.log.Legal.{Legal};
     ghost use Rattle.rdm_queue.specs.log.Config.{IsConfig};
-    ghost use Rattle.rdm_queue.specs.log.LogState.{free_entries, is_full_log, opened};
+    ghost use Rattle.rdm_queue.specs.log.LogState.{free_entries, is_full_log, opened, opening_after};
     ghost use Rattle.rdm_queue.specs.promises.Blocks.{JoinLogs, SubmitLogs, PauseLogs, ResumeLogs, TakeLogs};
     ghost use Rattle.rdm_queue.specs.log.Runs.{known_devices, devices_run};
     ghost use Rattle.rdm_queue.specs.promises.Blocks.{DiscoverLogs, CloseAdds, DeliverAdds, CollectAdds, GrowsBy};
     ghost use Rattle.rdm_queue.specs.promises.InBound.{AnswersInBound};
+    ghost use Rattle.rdm_queue.specs.promises.Outcomes.{oldest_kind, request_outcome, discovery_outcome};
+    ghost use Rattle.rdm_queue.specs.declared.outcome.OutcomeKind.TheVariants as kinds;
     ghost use Rattle.rdm_queue.specs.body.Agrees.{StandsAfter};
 
     /// A session without clients, neither paused nor closed, whose numbers begin at 0, and those of its discovery runs
@@ -256,6 +259,44 @@ impl Session {
         Some(outcome)
     }
 
+    /// Of which kind a client's oldest outcome is that it hasn't collected. None where there is none, or no such client.
+    pub fn oldest(&self, client: ClientId) -> Option<OutcomeKind>
+        ensures { result ≡ oldest_kind self.now.opening self.now.entries client.0 }
+    {
+        self.controller.oldest(client)
+    }
+
+    /// Collects a client's oldest outcome where that is a request's, as [`Controller::next_completion`] does, with an
+    /// entry. There is always room for it. It moves no set.
+    /// None: there is no outcome, it is a discovery's, or there is no such client; nothing has changed.
+    pub fn next_completion(&mut self, client: ClientId) -> Option<(u64, Completion)>
+        ensures adds { IfSome result (λ r. GrowsBy self.old
+            (CollectAdds self.old.opening self.old.entries client (Some (request_outcome r))) self.new) }
+        ensures none { IfNone result (oldest_kind self.old.opening self.old.entries client.0 ≢ Some kinds.Request) }
+        ensures unchanged { IfNone result (self.new ≡ self.old) }
+        ensures legal { Legal self.new.opening self.new.entries }
+    {
+        let (number, done) = self.controller.next_completion(client)?;
+        self.log.append(Entry::Collect { client });
+        Some((number, done))
+    }
+
+    /// Collects a client's oldest outcome where that is a discovery's, as [`Controller::next_discovery`] does, with an
+    /// entry. There is always room for it. The devices that its run found are in `set`, in place of what was there.
+    /// None: there is no outcome, it is a request's, or there is no such client; nothing has changed, and `set` is as
+    /// it was.
+    pub fn next_discovery(&mut self, client: ClientId, set: &mut DeviceSet) -> Option<DiscoveryEnd>
+        ensures adds { IfSome result (λ end. GrowsBy self.old
+            (CollectAdds self.old.opening self.old.entries client (Some (discovery_outcome end set.new))) self.new) }
+        ensures none { IfNone result (oldest_kind self.old.opening self.old.entries client.0 ≢ Some kinds.Discovery) }
+        ensures unchanged { IfNone result ((self.new ≡ self.old) × (set.new ≡ set.old)) }
+        ensures legal { Legal self.new.opening self.new.entries }
+    {
+        let end = self.controller.next_discovery(client, set)?;
+        self.log.append(Entry::Collect { client });
+        Some(end)
+    }
+
     /// How many entries are free: those that there is room for, less those that stand and those that are reserved. One
     /// is reserved for a close, one for a reply that is awaited, two for each request that isn't finished and each
     /// discovery that isn't answered, and one for each outcome that isn't collected.
@@ -326,6 +367,37 @@ impl Session {
         ensures { result ≡ awaited self.now.entries }
     {
         self.controller.awaits()
+    }
+
+    /// Goes on with a new log, and hands back the old one with its entries. A log has room for a fixed number of
+    /// entries, so a session that is to go on and on takes a new one from time to time. The log that is handed back
+    /// may be the next one, once it is [`cleared`](Log::cleared).
+    ///
+    /// An entry takes 296 bytes. A request takes 5 entries where one frame is enough for it, and 2 for each frame
+    /// more. A discovery takes 3, and its run 2 for each frame, of which a run with `n` devices and `k` known ones on an
+    /// honest line has at most `8 + 370 n + 5 k`.
+    ///
+    /// The numbers of requests, discoveries, runs and frames go on, and so do the clients with their places, the
+    /// devices and their run, and whether it is paused or closed: they stand in the new log's opening. The new log has
+    /// no entries.
+    /// Err: the session isn't idle. It comes back as it was, and so does the new log.
+    pub fn rotate(mut self, log: Log) -> Result<(Session, Log), (NotIdle, Session, Log)>
+        requires empty { log.entries ≡ [] }
+        ensures idle { OnOk result (is_idle self.entries ≡ true) }
+        ensures not_idle { OnErr result (is_idle self.entries ≡ false) }
+        ensures goes_on { IfOk result (λ r. r.0 ≡ record {
+          opening = opening_after self.opening self.entries;
+          entries = [];
+          room = log.room;
+        }) }
+        ensures handed_back { IfOk result (λ r. r.1 ≡ self) }
+        ensures unchanged { IfErr result (λ e. (e.1 ≡ self) × (e.2 ≡ log)) }
+    {
+        if !self.is_idle() {
+            return Err((NotIdle, self, log));
+        }
+        let old_log = mem::replace(&mut self.log, log.after(self.controller.opening()));
+        Ok((self, old_log))
     }
 
     /// The controller, and the log that it stands after.

@@ -2,6 +2,7 @@
 
 mod closed_runs;
 mod closing;
+mod collecting;
 mod controller;
 mod discoveries;
 mod faults;
@@ -10,4 +11,5 @@ mod lines;
 mod packets;
 mod parts;
 mod places;
+mod rotating;
 mod running;

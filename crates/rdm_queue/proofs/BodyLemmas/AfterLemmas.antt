@@ -1,6 +1,6 @@
 -- A queue stands after a log that grows by what each call adds: the calls that finish nothing.
 use Rattle.std.proofs.Common.{◌≡◌, ℕ, suc, Bool, true, false, not, List, [], ◌∷◌, ◌++◌, length, filter, map, sum, length-append, Option, Some, None, refl, sym, ap, ◌∙◌, append_assoc, arith, filter_map}
-use Rattle.std.specs.Prelude.{◌≢◌, ◌==◌, option_map, is_some, slice_get, if◌then◌else◌}
+use Rattle.std.specs.Prelude.{◌≢◌, ◌==◌, option_map, option_and_then, is_some, slice_get, if◌then◌else◌}
 use Rattle.std.specs.List.{AllByRecursion}
 use Rattle.std.proofs.lemmas.Bool.{false≢true}
 use Rattle.std.proofs.lemmas.List.{map-append}
@@ -37,11 +37,11 @@ use Rattle.rdm_queue.specs.log.Clients.{is_answer_to, answers_to, uncollected, o
 use Rattle.rdm_queue.specs.log.Refusals.{join_fault, submit_fault, ask_fault, IsRefused, number_of_join_fault, number_of_submit_fault, number_of_ask_fault}
 use Rattle.rdm_queue.specs.log.MaySend.{MaySend}
 use Rattle.rdm_queue.specs.log.Legal.{Legal}
-use Rattle.rdm_queue.specs.promises.Outcomes.{OutcomeValue, outcome_value, outcome_of}
+use Rattle.rdm_queue.specs.promises.Outcomes.{OutcomeValue, outcome_value, outcome_of, oldest_kind, kind_of_answer}
 use Rattle.rdm_queue.specs.promises.Blocks.{RefusesJoin, join_refused, submit_refused, ask_refused, IsOldest}
 use Rattle.rdm_queue.specs.declared.outcome.Outcome.{Outcome}
 use Rattle.rdm_queue.specs.log.LogState.{opened}
-use Rattle.rdm_queue.specs.body.State.{QueueState, first_state, first_join_fault, first_submit_fault, first_ask_fault, outstanding, outstanding_asks, is_discovery, owed_to, joins_client, accepts_request, asks_discovery, collects_oldest}
+use Rattle.rdm_queue.specs.body.State.{QueueState, first_state, first_join_fault, first_submit_fault, first_ask_fault, outstanding, outstanding_asks, is_discovery, owed_to, joins_client, accepts_request, asks_discovery, collects_oldest, first_kind, kind_of_value}
 use Rattle.rdm_queue.specs.body.Sending.{sent_for}
 use Rattle.rdm_queue.specs.body.Agrees.{IsPending, Agrees, StandsAfter}
 use Rattle.rdm_queue.proofs.LogLemmas.Grows.{empty}
@@ -247,3 +247,12 @@ none_owed_after o h s c none after = none_told (uncollected o c h) (answers_pass
     none_told (Finish n status len ∷ es) all first = absurd (none-some _ (sym first))
     none_told (discovery.Answer n run fault ∷ es) all first = absurd (none-some _ (sym first))
     none_told (e ∷ es) all first = absurd (false≢true all.0)
+
+pub kind_after : (o : Opening) (h : List Entry) (s : QueueState) (c : ℕ) → StandsAfter o h s → first_kind c s ≡ oldest_kind o h c
+kind_after o h s c after = ap (λ l. option_map kind_of_value (slice_get l 0)) (after.stands.outcomes_are c) ∙ kind_told (uncollected o c h) (answers_passed o c h)
+  where
+    kind_told : (es : List Entry) → AllByRecursion (λ e. is_answer_to o c h e ≡ true) es → option_map kind_of_value (slice_get (filter_map (outcome_of h) es) 0) ≡ option_and_then kind_of_answer (slice_get es 0)
+    kind_told [] all = refl
+    kind_told (Finish n status len ∷ es) all = refl
+    kind_told (discovery.Answer n run fault ∷ es) all = refl
+    kind_told (e ∷ es) all = absurd (false≢true all.0)

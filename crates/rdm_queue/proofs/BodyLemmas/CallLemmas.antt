@@ -1,6 +1,6 @@
 -- What a queue's calls say for each log that it stands after.
 use Rattle.std.proofs.Common.{◌≡◌, ℕ, ◌∙◌, ◌<◌, Bool, true, false, List, [], ◌∷◌, ◌++◌, length, Option, Some, None, Result, Ok, Err, refl, sym, ap, append-nil, append_assoc}
-use Rattle.std.specs.Prelude.{IfOk, IfErr, IfSome, IfNone, OnErr, OnSome, option_map, slice_get}
+use Rattle.std.specs.Prelude.{◌≢◌, IfOk, IfErr, IfSome, IfNone, OnErr, OnSome, option_map, slice_get}
 use Rattle.arrayvec.specs.ArrayVec.{ArrayVec}
 use Rattle.rdm_wire.specs.declared.request.Request.{Request}
 use Rattle.rdm_queue.specs.declared.entry.ClientId.{ClientId}
@@ -13,13 +13,18 @@ use Rattle.rdm_queue.specs.declared.fault.JoinFault.{JoinFault}
 use Rattle.rdm_queue.specs.declared.fault.SubmitFault.{SubmitFault}
 use Rattle.rdm_queue.specs.declared.fault.AskFault.{AskFault}
 use Rattle.rdm_agent.specs.declared.kind.Kind.{Kind}
+use Rattle.rdm_wire.specs.declared.device.Device.{Device}
 use Rattle.rdm_queue.specs.declared.outcome.Outcome.{Outcome}
+use Rattle.rdm_queue.specs.declared.outcome.OutcomeKind.{OutcomeKind}
+use Rattle.rdm_queue.specs.declared.outcome.Completion.{Completion}
+use Rattle.rdm_queue.specs.declared.outcome.DiscoveryEnd.{DiscoveryEnd}
 use Rattle.rdm_queue.specs.log.Refusals.{join_fault}
-use Rattle.rdm_queue.specs.promises.Outcomes.{outcome_value}
+use Rattle.rdm_queue.specs.promises.Outcomes.{outcome_value, request_outcome, discovery_outcome, oldest_kind}
 use Rattle.rdm_queue.specs.promises.Blocks.{RefusesJoin, join_refused, submit_refused, ask_refused, JoinAdds, SubmitAdds, DiscoverAdds, SwitchAdds, CloseAdds, CollectAdds, IsWithResults, is_result, AllResults}
-use Rattle.rdm_queue.specs.body.State.{QueueState, first_join_fault, first_submit_fault, first_ask_fault, joins_client, accepts_request, asks_discovery, collects_oldest, owed_to, unended, OwedOutcome, owed_next, end_of_oldest}
+use Rattle.rdm_queue.specs.body.State.{QueueState, first_join_fault, first_submit_fault, first_ask_fault, joins_client, accepts_request, asks_discovery, collects_oldest, owed_to, unended, OwedOutcome, owed_next, end_of_oldest, TakesOldest, first_kind}
 use Rattle.rdm_queue.specs.body.Ending.{IsEnded, HasNothingDue}
-use Rattle.rdm_queue.specs.promises.InBound.{FaultNeedsClose}
+use Rattle.rdm_queue.specs.promises.InBound.{FaultNeedsClose, AnswersInBound}
+use Rattle.rdm_queue.proofs.BoundLemmas.{block_more}
 use Rattle.rdm_queue.proofs.BodyLemmas.EndLemmas.{ends_amid, ends_in_bound_amid, settled_after}
 use Rattle.rdm_queue.specs.body.Ending.IsEnded.{ByRun, ByResult, ByClose}
 use Rattle.rdm_queue.specs.log.Entries.{Accepted}
@@ -33,7 +38,7 @@ use Rattle.std.proofs.lemmas.Bool.{false≢true}
 use Rattle.std.specs.Prelude.{is_some}
 use Rattle.rdm_queue.proofs.BodyLemmas.RingLemmas.{all_push}
 use Rattle.rdm_queue.proofs.BodyLemmas.TakeLemmas.{take_after, none_after}
-use Rattle.rdm_queue.proofs.BodyLemmas.AfterLemmas.{join_fault_is, join_after, join_refused_after, submit_fault_is, submit_after, submit_refused_after, ask_fault_is, ask_after, ask_refused_after, oldest_after, collect_after, none_owed_after}
+use Rattle.rdm_queue.proofs.BodyLemmas.AfterLemmas.{join_fault_is, join_after, join_refused_after, submit_fault_is, submit_after, submit_refused_after, ask_fault_is, ask_after, ask_refused_after, oldest_after, collect_after, none_owed_after, kind_after}
 
 -- a call that adds nothing
 pub adds_nothing : (o : Opening) (h : List Entry) (Adds : List Entry → Type 0) (s : QueueState) → Adds [] → StandsAfter o h s → StandsWith o h Adds s
@@ -80,9 +85,24 @@ switch_adds o h e true s new turned stays = record { block = e ∷ []; adds = re
 switch_adds o h e false s new turned stays = adds_nothing o h (SwitchAdds false e) new refl (stays refl)
 
 -- a collect
+pub takes_adds : (s new : QueueState) (c : ClientId) (outcome : Outcome) → TakesOldest s c.0 (outcome_value outcome) new → AddsToEach s (λ o h. CollectAdds o h c (Some outcome)) new
+takes_adds s new c outcome takes = λ o h after. record { block = Collect c ∷ []; adds = (oldest_after o h s c outcome (sym takes.oldest) after, refl); after = rw takes.new_is (collect_after o h s c outcome (sym takes.oldest) after) }
+
 pub collect_adds : (r : Option Outcome) (s new : QueueState) (c : ClientId) → option_map outcome_value r ≡ slice_get (owed_to c.0 s) 0 → OnSome r (new ≡ collects_oldest s c.0) → IfNone r (new ≡ s) → AddsToEach s (λ o h. CollectAdds o h c r) new
 collect_adds None s new c told taken same = λ o h after. record { block = []; adds = (none_owed_after o h s c.0 told after, refl); after = rw (same, append-nil) after }
-collect_adds (Some outcome) s new c told taken same = λ o h after. record { block = Collect c ∷ []; adds = (oldest_after o h s c outcome told after, refl); after = rw taken (collect_after o h s c outcome told after) }
+collect_adds (Some outcome) s new c told taken same = takes_adds s new c outcome (record { oldest = sym told; new_is = taken })
+
+pub completion_adds : (r : Option (ℕ × Completion)) (s new : QueueState) (c : ClientId) → IfSome r (λ x. TakesOldest s c.0 (outcome_value (request_outcome x)) new) → IfSome r (λ x. AddsToEach s (λ o h. CollectAdds o h c (Some (request_outcome x))) new)
+completion_adds None s new c takes = tt
+completion_adds (Some x) s new c takes = takes_adds s new c (request_outcome x) takes
+
+pub discovery_adds : (r : Option DiscoveryEnd) (set : List Device) (s new : QueueState) (c : ClientId) → IfSome r (λ end. TakesOldest s c.0 (outcome_value (discovery_outcome end set)) new) → IfSome r (λ end. AddsToEach s (λ o h. CollectAdds o h c (Some (discovery_outcome end set))) new)
+discovery_adds None set s new c takes = tt
+discovery_adds (Some end) set s new c takes = takes_adds s new c (discovery_outcome end set) takes
+
+pub not_kind : {X : Type 0} (r : Option X) (s : QueueState) (c : ℕ) (kind : OutcomeKind) → IfNone r (first_kind c s ≢ Some kind) → IfNone r (ForEachLog s (λ o h. oldest_kind o h c ≢ Some kind))
+not_kind (Some x) s c kind other = tt
+not_kind None s c kind other = λ o h after is. other (kind_after o h s c after ∙ is)
 
 -- what ends is one fewer
 less_first : {X : Type 0} (xs : List X) (x : X) → slice_get xs 0 ≡ Some x → length (drop 1 xs) < length xs
@@ -120,14 +140,17 @@ pub settled_each : (r : Option Entry) (s new : QueueState) → IfNone r (HasNoth
 settled_each (Some entry) s new is = tt
 settled_each None s new is = ((λ o h amid. settled_after o h s is.0 amid), is.1)
 
--- an entry and the Finishes that are due then
-pub with_results : (o : Opening) (h : List Entry) (e : Entry) (new : QueueState) → FinishesAll o (h ++ e ∷ []) new → StandsWith o h (IsWithResults e) new
-with_results o h e new all = record { block = e ∷ all.results; adds = record { results = all.results; whole = refl; each = all.each }; after = rw (append_assoc h (e ∷ []) all.results) at all.after }
+-- an entry that is no Answer, and the Finishes and Answers that are due then
+pub with_results : (o : Opening) (h : List Entry) (e : Entry) (new : QueueState) → FaultNeedsClose o h e → FinishesAll o (h ++ e ∷ []) new → StandsWith o h (λ block. IsWithResults e block × AnswersInBound o h block) new
+with_results o h e new none all = record { block = e ∷ all.results; adds = (record { results = all.results; whole = refl; each = all.each }, (none, all.in_bound)); after = rw (append_assoc h (e ∷ []) all.results) at all.after }
 
 pub close_adds : (o : Opening) (h : List Entry) (new : QueueState) → is_closed o h ≡ false → FinishesAll o (h ++ Close ∷ []) new → StandsWith o h (CloseAdds o h) new
-close_adds o h new open_ all = let with = with_results o h Close new all in record { block = with.block; adds = rw open_ with.adds; after = with.after }
+close_adds o h new open_ all = let with = with_results o h Close new tt all in record { block = with.block; adds = rw open_ with.adds.0; after = with.after }
 
 -- an entry more of what was due
-pub one_more_ended : (o : Opening) (h : List Entry) (r : Option Entry) (s new : QueueState) → is_some r ≡ true → IfSome r (λ entry. (is_result entry ≡ true) × ForEachBlock s (λ o h. StandsAmid o (h ++ entry ∷ []) new)) → (results : List Entry) × AllResults results × StandsAmid o (h ++ results) s → (results : List Entry) × AllResults results × StandsAmid o (h ++ results) new
-one_more_ended o h None s new some ends so_far = absurd (false≢true some)
-one_more_ended o h (Some entry) s new some ends so_far = (so_far.0 ++ entry ∷ [], all_push (λ r. is_result r ≡ true) so_far.0 entry so_far.1 ends.0, rw (← append_assoc h so_far.0 (entry ∷ [])) (ends.1 o (h ++ so_far.0) so_far.2))
+pub one_more_ended : (o : Opening) (h : List Entry) (r : Option Entry) (s new : QueueState) → is_some r ≡ true → IfSome r (λ entry. (is_result entry ≡ true) × ForEachBlock s (λ o h. StandsAmid o (h ++ entry ∷ []) new)) → IfSome r (λ entry. ForEachBlock s (λ o h. FaultNeedsClose o h entry))
+    → (results : List Entry) × AllResults results × AnswersInBound o h results × StandsAmid o (h ++ results) s → (results : List Entry) × AllResults results × AnswersInBound o h results × StandsAmid o (h ++ results) new
+one_more_ended o h None s new some ends bound so_far = absurd (false≢true some)
+one_more_ended o h (Some entry) s new some ends bound so_far =
+    let amid = so_far.3 in
+    (so_far.0 ++ entry ∷ [], all_push (λ r. is_result r ≡ true) so_far.0 entry so_far.1 ends.0, block_more o h so_far.0 entry so_far.2 (bound o (h ++ so_far.0) amid), rw (← append_assoc h so_far.0 (entry ∷ [])) (ends.1 o (h ++ so_far.0) amid))

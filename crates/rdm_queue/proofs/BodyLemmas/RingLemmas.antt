@@ -114,3 +114,9 @@ pub places_stayed : (clients : List Client) (i : ℕ) (k l : Client) → slice_g
 places_stayed [] i k l at same = refl
 places_stayed (m ∷ clients) zero k l at same = let here : m ≡ k = cc in rw (same, here) refl
 places_stayed (m ∷ clients) (suc i) k l at same = ap (λ ns. m.places ∷ ns) (places_stayed clients i k l at same)
+
+-- an element put where it is
+pub set_same : {X : Type 0} (xs : List X) (i : ℕ) (x : X) → slice_get xs i ≡ Some x → set xs i x ≡ xs
+set_same [] i x at = refl
+set_same (y ∷ xs) zero x at = let here : y ≡ x = cc in rw here refl
+set_same (y ∷ xs) (suc i) x at = ap (λ l. y ∷ l) (set_same xs i x at)

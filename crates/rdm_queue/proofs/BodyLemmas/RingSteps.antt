@@ -13,20 +13,19 @@ use Rattle.rdm_queue.specs.declared.client.Waiting.{Waiting}
 use Rattle.rdm_queue.specs.declared.entry.Entry.{Entry}
 use Rattle.rdm_queue.specs.declared.queue.Running.{Running}
 use Rattle.rdm_queue.specs.declared.outcome.Completion.{Completion}
-use Rattle.rdm_queue.specs.declared.outcome.Outcome.{Outcome}
 use Rattle.rdm_queue.specs.log.Entries.{Accepted, AskedDiscovery}
-use Rattle.rdm_queue.specs.promises.Outcomes.{completion_value, outcome_value}
+use Rattle.rdm_queue.specs.promises.Outcomes.{OutcomeValue, completion_value}
 use Rattle.rdm_queue.specs.body.Merged.{AreShares}
-use Rattle.rdm_queue.specs.body.Rings.{HasRings, HasSets, IsNewClient, ClientAccepts, ClientFinishes, ClientAnswers, ClientCollects, owed_values}
+use Rattle.rdm_queue.specs.body.Rings.{HasRings, HasSets, IsNewClient, ClientAccepts, ClientFinishes, ClientAnswers, ClientCollects, owed_values, first_kind_owed}
 use Rattle.rdm_queue.specs.body.Fields.{accepted_is, run_is, waiting_ring, waiting_rings, owed_rings, places_of}
 use Rattle.rdm_queue.specs.body.QueueInvariant.{RingsInvariant, QueueInvariant}
-use Rattle.rdm_queue.specs.body.State.{QueueState, outstanding, outstanding_asks, owed_for, owed_value, owes, accepted_as, accepts_request, finishes_oldest, joins_client, collects_oldest, first_join_fault, first_submit_fault, owed_to, is_discovery}
+use Rattle.rdm_queue.specs.body.State.{QueueState, outstanding, outstanding_asks, owed_for, owed_value, owes, accepted_as, accepts_request, finishes_oldest, joins_client, collects_oldest, first_join_fault, first_submit_fault, owed_to, is_discovery, first_kind, kind_of_value, TakesOldest}
 use Rattle.rdm_queue.specs.body.Ending.{answer_value}
 use Rattle.rdm_queue.proofs.LogLemmas.Places.{all_at, slice_get_first}
 use Rattle.rdm_queue.proofs.BodyLemmas.InvariantLemmas.{has_place, has_room, held-finishes, held-accepts, held-collects, held-joins}
 use Rattle.rdm_queue.proofs.BodyLemmas.OutstandingLemmas.{both_kinds, fours}
-use Rattle.rdm_queue.proofs.BodyLemmas.ValueLemmas.{length-values, discoveries-values, values-request, values-discovery, sets-finish, sets-answer, few_discoveries}
-use Rattle.rdm_queue.proofs.BodyLemmas.RingLemmas.{ring_of, ring_within, ring_changed, ring_stayed, shares_more, shares_push, shares_rest, same_sizes, all_set, all_push}
+use Rattle.rdm_queue.proofs.BodyLemmas.ValueLemmas.{length-values, discoveries-values, values-request, values-discovery, sets-finish, sets-answer, few_discoveries, kind_first}
+use Rattle.rdm_queue.proofs.BodyLemmas.RingLemmas.{ring_of, ring_within, ring_changed, ring_stayed, set_same, shares_more, shares_push, shares_rest, same_sizes, all_set, all_push}
 
 -- a client joins
 pub rings-join : (s : QueueState) (clients : List Client) (k : Client) (places : ℕ) → RingsInvariant s clients → IsNewClient places k → RingsInvariant (joins_client s places) (clients ++ k ∷ [])
@@ -112,7 +111,7 @@ owed-answer s clients k l a r f found owed rings at answers =
     owed_changed clients a.client l
     ∙ rw (owed, values_at clients a.client k at, answers.outcomes, answers.sets, values-discovery k.outcomes.items k.sets.items a.number r f found (all_at HasSets clients rings.sets a.client k at)) refl
 
-pub owed-collect : (s : QueueState) (clients : List Client) (c : ℕ) (k l : Client) (outcome : Outcome) → s.owed ≡ owed_rings clients → slice_get clients c ≡ Some k → ClientCollects k (Some outcome) l → owed_rings (set clients c l) ≡ (collects_oldest s c).owed
+pub owed-collect : (s : QueueState) (clients : List Client) (c : ℕ) (k l : Client) (outcome : OutcomeValue) → s.owed ≡ owed_rings clients → slice_get clients c ≡ Some k → ClientCollects k outcome l → owed_rings (set clients c l) ≡ (collects_oldest s c).owed
 owed-collect s clients c k l outcome owed at collects =
     owed_changed clients c l
     ∙ rw (owed, values_at clients c k at) (ap (λ ds. set (owed_rings clients) c ds) (ap (λ ds. drop 1 ds) (sym collects.outcomes)))
@@ -125,8 +124,8 @@ rings-answer s new clients c k l n r f found waits rings at answers = record {
   sets = all_set HasSets clients c l rings.sets (sets-answer k l n r f found answers (all_at HasSets clients rings.sets c k at));
 }
 
--- a client's oldest outcome is taken out, if it has one
-pub rings-collect : (s new : QueueState) (clients : List Client) (c : ℕ) (k l : Client) (outcome : Option Outcome) → new.waiting ≡ s.waiting → RingsInvariant s clients → slice_get clients c ≡ Some k → ClientCollects k outcome l → RingsInvariant new (set clients c l)
+-- a client's oldest outcome is taken out
+pub rings-collect : (s new : QueueState) (clients : List Client) (c : ℕ) (k l : Client) (outcome : OutcomeValue) → new.waiting ≡ s.waiting → RingsInvariant s clients → slice_get clients c ≡ Some k → ClientCollects k outcome l → RingsInvariant new (set clients c l)
 rings-collect s new clients c k l outcome waits rings at collects = record {
   waiting = rw waits (subst (λ lists. AreShares (λ (a : Accepted). a.client) lists s.waiting) (sym (ring_stayed waiting_ring clients c k l at (ap (λ ws. map (accepted_is c) ws) collects.waiting))) rings.waiting);
   sizes = all_set HasRings clients c l rings.sizes (same_sizes k l (all_at HasRings clients rings.sizes c k at) collects.rings);
@@ -198,10 +197,10 @@ kept-accept s clients c k l request held at accepts passes = record {
   rings = rings-accept s clients c k l request held.rings at accepts;
 }
 
-pub kept-collect : (s : QueueState) (clients : List Client) (c : ℕ) (k l : Client) (outcome : Outcome) → QueueInvariant s clients → slice_get clients c ≡ Some k → ClientCollects k (Some outcome) l → QueueInvariant (collects_oldest s c) (set clients c l)
+pub kept-collect : (s : QueueState) (clients : List Client) (c : ℕ) (k l : Client) (outcome : OutcomeValue) → QueueInvariant s clients → slice_get clients c ≡ Some k → ClientCollects k outcome l → QueueInvariant (collects_oldest s c) (set clients c l)
 kept-collect s clients c k l outcome held at collects = record {
   state = held-collects s c held.state;
-  rings = rings-collect s (collects_oldest s c) clients c k l (Some outcome) refl held.rings at collects;
+  rings = rings-collect s (collects_oldest s c) clients c k l outcome refl held.rings at collects;
 }
 
 pub kept-join : (s : QueueState) (clients : List Client) (k : Client) (places : ℕ) → QueueInvariant s clients → IsNewClient places k → first_join_fault s places ≡ None → QueueInvariant (joins_client s places) (clients ++ k ∷ [])
@@ -210,26 +209,32 @@ kept-join s clients k places held fresh passes = record {
   rings = rings-join s clients k places held.rings fresh;
 }
 
--- a client that has no outcome, and one that has
-pub none_owed : (s : QueueState) (clients : List Client) (c : ℕ) (k l : Client) → s.owed ≡ owed_rings clients → slice_get clients c ≡ Some k → ClientCollects k None l → slice_get (owed_to c s) 0 ≡ None
-none_owed s clients c k l owed at collects = ap (λ lists. slice_get (get_or lists c []) 0) owed ∙ ap (λ ds. slice_get ds 0) (values_at clients c k at ∙ collects.none)
+-- of which kind a client's oldest outcome is
+pub kind_is : (s : QueueState) (clients : List Client) (c : ℕ) (k : Client) → s.owed ≡ owed_rings clients → slice_get clients c ≡ Some k → first_kind c s ≡ first_kind_owed k
+kind_is s clients c k owed at = ap (λ lists. option_map kind_of_value (slice_get (get_or lists c []) 0)) owed ∙ (ap (λ ds. option_map kind_of_value (slice_get ds 0)) (values_at clients c k at) ∙ kind_first k.outcomes.items k.sets.items)
 
-pub first_owed : (s : QueueState) (clients : List Client) (c : ℕ) (k l : Client) (outcome : Outcome) → s.owed ≡ owed_rings clients → slice_get clients c ≡ Some k → ClientCollects k (Some outcome) l → slice_get (owed_to c s) 0 ≡ Some (outcome_value outcome)
-first_owed s clients c k l outcome owed at collects = ap (λ lists. slice_get (get_or lists c []) 0) owed ∙ ap (λ ds. slice_get ds 0) (values_at clients c k at ∙ collects.outcomes)
-
--- what a client's rings are after it has collected
-pub record Collected (s : QueueState) (clients : List Client) (c : ℕ) (r : Option Outcome) (l : Client) : Type 0 where
+-- what all clients' rings are after a call that has collected what it gives, if it gives anything
+pub record MayCollect {X : Type 0} (s : QueueState) (clients : List Client) (c : ℕ) (k l : Client) (r : Option X) (value : X → OutcomeValue) : Type 0 where
   pub kept : QueueInvariant (record s { owed = owed_rings (set clients c l) }) (set clients c l)
-  pub taken : OnSome r (owed_rings (set clients c l) ≡ (collects_oldest s c).owed)
-  pub none : IfNone r (owed_rings (set clients c l) ≡ s.owed)
+  pub places : l.places ≡ k.places
+  pub taken : IfSome r (λ x. TakesOldest s c (value x) (record s { owed = owed_rings (set clients c l) }))
 
-pub collected : (s : QueueState) (clients : List Client) (c : ℕ) (k l : Client) (r : Option Outcome) → QueueInvariant s clients → s.owed ≡ owed_rings clients → slice_get clients c ≡ Some k → ClientCollects k r l → Collected s clients c r l
-collected s clients c k l (Some outcome) held owed at collects =
-    let is = owed-collect s clients c k l outcome owed at collects in
-    record { kept = rw is (kept-collect s clients c k l outcome held at collects); taken = is; none = tt }
-collected s clients c k l None held owed at collects =
-    let is : owed_rings (set clients c l) ≡ s.owed = owed_stayed clients c k l at (sym collects.outcomes) ∙ sym owed in
-    record { kept = rw is (record { state = held.state; rings = rings-collect s s clients c k l None refl held.rings at collects }); taken = tt; none = is }
+pub may_collect : {X : Type 0} (s : QueueState) (clients : List Client) (c : ℕ) (k l : Client) (r : Option X) (value : X → OutcomeValue) → QueueInvariant s clients → s.owed ≡ owed_rings clients → slice_get clients c ≡ Some k → IfSome r (λ x. ClientCollects k (value x) l) → IfNone r (l ≡ k) → MayCollect s clients c k l r value
+may_collect s clients c k l (Some x) value held owed at collects same =
+    let is = owed-collect s clients c k l (value x) owed at collects in
+    record {
+      kept = rw is (kept-collect s clients c k l (value x) held at collects);
+      places = collects.rings.places;
+      taken = record {
+        oldest = ap (λ lists. slice_get (get_or lists c []) 0) owed ∙ ap (λ ds. slice_get ds 0) (values_at clients c k at ∙ collects.outcomes);
+        new_is = ap (λ lists. record s { owed = lists }) is;
+      };
+    }
+may_collect s clients c k l None value held owed at collects same = record {
+  kept = rw (same, set_same clients c k at, ← owed) held;
+  places = ap (λ m. m.places) same;
+  taken = tt;
+}
 
 pub on_some : {X : Type 0} {P Q : Type 0} (r : Option X) → (P → Q) → OnSome r P → OnSome r Q
 on_some (Some x) so p = so p

@@ -1,6 +1,7 @@
 -- A client's outcomes as it sees them, as its rings change.
-use Rattle.std.proofs.Common.{◌≡◌, ℕ, suc, ◌≤◌, Bool, true, false, cond, List, [], ◌∷◌, ◌++◌, length, Option, Some, None, refl, sym, ap, ◌∙◌, filter, length-append, arith}
-use Rattle.std.specs.VecDeque.{deque_len, deque_capacity}
+use Rattle.std.proofs.Common.{◌≡◌, ℕ, suc, ◌≤◌, Bool, true, false, cond, List, [], ◌∷◌, ◌++◌, length, Option, Some, refl, sym, ap, ◌∙◌, filter, length-append, arith}
+use Rattle.std.specs.Prelude.{option_map, slice_get}
+use Rattle.std.specs.VecDeque.{deque_capacity}
 use Rattle.std.proofs.lemmas.List.Elements.{filter-append}
 use Rattle.rdm_wire.specs.declared.device.Device.{Device}
 use Rattle.rdm_agent.specs.declared.fault.AgentFault.{AgentFault}
@@ -9,12 +10,10 @@ use Rattle.rdm_queue.specs.declared.client.Owed.{Owed}
 use Rattle.rdm_queue.specs.declared.client.Owed.TheVariants as owed
 use Rattle.rdm_queue.specs.declared.entry.Entry.{Entry}
 use Rattle.rdm_queue.specs.declared.outcome.Completion.{Completion}
-use Rattle.rdm_queue.specs.declared.outcome.AskCompletion.{AskCompletion}
-use Rattle.rdm_queue.specs.declared.outcome.Outcome.TheVariants as outcomes
 use Rattle.rdm_queue.specs.promises.Outcomes.{completion_value}
 use Rattle.rdm_queue.specs.promises.Outcomes.OutcomeValue.{RequestValue, DiscoveryValue}
-use Rattle.rdm_queue.specs.body.State.{is_discovery}
-use Rattle.rdm_queue.specs.body.Rings.{owes_discovery, HasSets, values, owed_values, IsNewClient, ClientFinishes, ClientAnswers, ClientCollects}
+use Rattle.rdm_queue.specs.body.State.{is_discovery, kind_of_value}
+use Rattle.rdm_queue.specs.body.Rings.{owes_discovery, HasSets, values, owed_values, IsNewClient, ClientFinishes, ClientAnswers, ClientCollects, kind_of_owed}
 
 -- as many as its ring holds, and as many discoveries
 pub length-values : (ds : List Owed) (sets : List (List Device)) → length (values ds sets) ≡ length ds
@@ -68,40 +67,32 @@ pub values-fresh : (k : Client) (places : ℕ) → IsNewClient places k → owed
 unfolding values
 values-fresh k places fresh = ap (λ ds. values ds k.sets.items) fresh.none_owed
 
--- the oldest taken out: there is none, it is a request's, or a discovery's
-no_items : (ds : List Owed) → length ds ≡ 0 → ds ≡ []
-no_items [] none = refl
-no_items (d ∷ ds) none = absurd (omega arith)
-
-pub collects-none : (k l : Client) → k.outcomes.items ≡ l.outcomes.items → deque_len k.outcomes ≡ 0 → l.waiting ≡ k.waiting → l.sets ≡ k.sets → l.places ≡ k.places → deque_capacity l.outcomes ≡ deque_capacity k.outcomes → HasSets k → ClientCollects k None l
-unfolding values
-collects-none k l items none waits sets places room has = record {
-  waiting = ap (λ w. w.items) waits;
-  outcomes = rw (items, sets) refl;
-  none = rw (no_items k.outcomes.items (sym k.outcomes.ok.0 ∙ none)) refl;
-  has_sets = rw (sets, ← items) has;
-  rings = record { places = places; waiting = ap (λ w. deque_capacity w) waits; outcomes = room; sets = ap (λ w. deque_capacity w) sets };
-}
-
-pub collects-request : (k l : Client) (n : ℕ) (done : Completion) → k.outcomes.items ≡ owed.Request n done ∷ l.outcomes.items → l.waiting ≡ k.waiting → l.sets ≡ k.sets → l.places ≡ k.places → deque_capacity l.outcomes ≡ deque_capacity k.outcomes → HasSets k → ClientCollects k (Some (outcomes.Request (Some n) done)) l
+-- the oldest taken out: a request's, or a discovery's
+pub collects-request : (k l : Client) (n : ℕ) (done : Completion) → k.outcomes.items ≡ owed.Request n done ∷ l.outcomes.items → l.waiting ≡ k.waiting → l.sets ≡ k.sets → l.places ≡ k.places → deque_capacity l.outcomes ≡ deque_capacity k.outcomes → HasSets k → ClientCollects k (RequestValue (Some n) (completion_value done)) l
 unfolding values
 collects-request k l n done items waits sets places room has = record {
   waiting = ap (λ w. w.items) waits;
   outcomes = rw (items, sets) refl;
-  none = tt;
   has_sets = rw sets (has ∙ rw items refl);
   rings = record { places = places; waiting = ap (λ w. deque_capacity w) waits; outcomes = room; sets = ap (λ w. deque_capacity w) sets };
 }
 
-pub collects-discovery : (k l : Client) (n : ℕ) (done : AskCompletion) → k.outcomes.items ≡ owed.Discovery n done.run done.fault ∷ l.outcomes.items → k.sets.items ≡ done.set ∷ l.sets.items → l.waiting ≡ k.waiting → l.places ≡ k.places → deque_capacity l.outcomes ≡ deque_capacity k.outcomes → deque_capacity l.sets ≡ deque_capacity k.sets → HasSets k → ClientCollects k (Some (outcomes.Discovery (Some n) done)) l
+pub collects-discovery : (k l : Client) (n r : ℕ) (f : Option AgentFault) (found : List Device) → k.outcomes.items ≡ owed.Discovery n r f ∷ l.outcomes.items → k.sets.items ≡ found ∷ l.sets.items → l.waiting ≡ k.waiting → l.places ≡ k.places → deque_capacity l.outcomes ≡ deque_capacity k.outcomes → deque_capacity l.sets ≡ deque_capacity k.sets → HasSets k → ClientCollects k (DiscoveryValue (Some n) (record { run = r; fault = f; devices = found })) l
 unfolding values
-collects-discovery k l n done items set waits places room set_room has = record {
+collects-discovery k l n r f found items set waits places room set_room has = record {
   waiting = ap (λ w. w.items) waits;
   outcomes = rw (items, set) refl;
-  none = tt;
   has_sets = fewer (length l.sets.items) (length (filter owes_discovery l.outcomes.items)) (ap (λ l. length l) (sym set) ∙ (has ∙ rw items refl));
   rings = record { places = places; waiting = ap (λ w. deque_capacity w) waits; outcomes = room; sets = set_room };
 }
   where
     fewer : (n m : ℕ) → suc n ≡ suc m → n ≡ m
     fewer n m same = omega arith
+
+-- of which kind the oldest is
+pub kind_first : (ds : List Owed) (sets : List (List Device)) → option_map kind_of_value (slice_get (values ds sets) 0) ≡ option_map kind_of_owed (slice_get ds 0)
+unfolding values
+kind_first [] sets = refl
+kind_first (owed.Request number done ∷ ds) sets = refl
+kind_first (owed.Discovery number run fault ∷ ds) [] = refl
+kind_first (owed.Discovery number run fault ∷ ds) (s ∷ sets) = refl

@@ -25,6 +25,7 @@ use Rattle.rdm_wire.specs.Lists.{EachAfter}
 use Rattle.rdm_queue.specs.log.Legal.{MayFollow, Legal}
 use Rattle.rdm_queue.specs.promises.Outcomes.{outcome_of}
 use Rattle.rdm_queue.specs.promises.Blocks.{AllResults}
+use Rattle.rdm_queue.specs.promises.InBound.{AnswersInBound}
 use Rattle.rdm_queue.specs.body.State.{QueueState, RunState, owed_to, IsProgress}
 use Rattle.rdm_queue.specs.body.State.{uncollected as uncollected_by}
 
@@ -147,8 +148,9 @@ pub record StandsWith (o : Opening) (h : List Entry) (Adds : List Entry → Type
 abbrev pub AddsToEach : QueueState → (Opening → List Entry → List Entry → Type 0) → QueueState → Type 0
 AddsToEach old Adds new = ForEachLog old (λ o h. StandsWith o h (Adds o h) new)
 
--- Finishes and Answers, until nothing is due
+-- Finishes and Answers, until nothing is due; the Answers are in bound
 pub record FinishesAll (o : Opening) (h : List Entry) (new : QueueState) : Type 0 where
   pub results : List Entry
   pub each : AllResults results
+  pub in_bound : AnswersInBound o h results
   pub after : StandsAfter o (h ++ results) new

@@ -1,7 +1,6 @@
 -- A client's rings, and what its calls make of them.
 use Rattle.std.specs.Prelude.{◌≡◌, ℕ, ◌+◌, ◌≤◌, Bool, true, false, List, [], ◌∷◌, ◌++◌, length, filter, Option, Some}
-use Rattle.std.specs.Prelude.{IfNone, option_map, slice_get}
-use Rattle.std.specs.Option.{option_to_list}
+use Rattle.std.specs.Prelude.{option_map, slice_get}
 use Rattle.std.specs.VecDeque.{deque_capacity}
 use Rattle.rdm_wire.specs.declared.request.Request.{Request}
 use Rattle.rdm_wire.specs.declared.device.Device.{Device}
@@ -13,8 +12,9 @@ use Rattle.rdm_queue.specs.declared.client.Owed.TheVariants as owed
 use Rattle.rdm_queue.specs.declared.entry.Entry.{Entry}
 use Rattle.rdm_queue.specs.declared.entry.Entry.TheVariants.{Finish}
 use Rattle.rdm_queue.specs.declared.outcome.Completion.{Completion}
-use Rattle.rdm_queue.specs.declared.outcome.Outcome.{Outcome}
-use Rattle.rdm_queue.specs.promises.Outcomes.{OutcomeValue, completion_value, outcome_value}
+use Rattle.rdm_queue.specs.declared.outcome.OutcomeKind.{OutcomeKind}
+use Rattle.rdm_queue.specs.declared.outcome.OutcomeKind.TheVariants as kinds
+use Rattle.rdm_queue.specs.promises.Outcomes.{OutcomeValue, completion_value}
 use Rattle.rdm_queue.specs.promises.Outcomes.OutcomeValue.{RequestValue, DiscoveryValue}
 
 -- a discovery's outcome
@@ -83,11 +83,18 @@ pub record ClientAnswers (old : Client) (number run : ℕ) (fault : Option Agent
   pub sets : new.sets.items ≡ old.sets.items ++ found ∷ []
   pub rings : SameRings old new
 
--- its oldest outcome was taken out, if it had one
-pub record ClientCollects (old : Client) (outcome : Option Outcome) (new : Client) : Type 0 where
+-- of which kind its oldest outcome is
+abbrev pub kind_of_owed : Owed → OutcomeKind
+kind_of_owed (owed.Request number done) = kinds.Request
+kind_of_owed (owed.Discovery number run fault) = kinds.Discovery
+
+abbrev pub first_kind_owed : Client → Option OutcomeKind
+first_kind_owed k = option_map kind_of_owed (slice_get k.outcomes.items 0)
+
+-- this was its oldest outcome, and was taken out
+pub record ClientCollects (old : Client) (outcome : OutcomeValue) (new : Client) : Type 0 where
   pub waiting : new.waiting.items ≡ old.waiting.items
-  pub outcomes : owed_values old ≡ option_to_list (option_map outcome_value outcome) ++ owed_values new
-  pub none : IfNone outcome (owed_values old ≡ [])
+  pub outcomes : owed_values old ≡ outcome ∷ owed_values new
   pub has_sets : HasSets new
   pub rings : SameRings old new
 

@@ -1,6 +1,7 @@
 -- What a queue holds, as numbers and lists, what of it calls look at, and what they make of it.
 use Rattle.std.specs.Prelude.{◌≡◌, ◌⊎◌, ℕ, ◌<◌, ◌+◌, Bool, true, false, ◌&&◌, not, List, [], ◌∷◌, ◌++◌, length}
 use Rattle.std.specs.Prelude.{drop, filter, map, sum, set, get_or, Option, Some, None, ◌==◌, if◌then◌else◌, is_some}
+use Rattle.std.specs.Prelude.{slice_get, option_map}
 use Rattle.rdm_join.specs.declared.event.LineEvent.{LineEvent}
 use Rattle.rdm_join.specs.declared.verdict.Sent.{Sent}
 use Rattle.rdm_join.specs.declared.verdict.Judged.{Judged}
@@ -18,12 +19,15 @@ use Rattle.rdm_queue.specs.declared.queue.Awaited.{Awaited}
 use Rattle.rdm_queue.specs.declared.fault.JoinFault.{JoinFault}
 use Rattle.rdm_queue.specs.declared.fault.SubmitFault.{SubmitFault}
 use Rattle.rdm_queue.specs.declared.fault.AskFault.{AskFault}
+use Rattle.rdm_queue.specs.declared.entry.Opening.{Opening}
 use Rattle.rdm_queue.specs.declared.entry.Entry.{Entry}
 use Rattle.rdm_queue.specs.declared.entry.Entry.TheVariants.{Finish}
 use Rattle.rdm_queue.specs.log.Entries.{Accepted, AskedDiscovery}
 use Rattle.rdm_queue.specs.log.Refusals.{join_fault_at, submit_fault_at, ask_fault_at}
 use Rattle.rdm_queue.specs.promises.Outcomes.{OutcomeValue}
 use Rattle.rdm_queue.specs.promises.Outcomes.OutcomeValue.{RequestValue, DiscoveryValue}
+use Rattle.rdm_queue.specs.declared.outcome.OutcomeKind.{OutcomeKind}
+use Rattle.rdm_queue.specs.declared.outcome.OutcomeKind.TheVariants as kinds
 
 -- how a request ended, which its client is owed
 pub record OwedOutcome : Type 0 where
@@ -207,6 +211,36 @@ asks_discovery s c kind = record s { next_ask = s.next_ask + 1; asked = s.asked 
 -- a client's oldest outcome taken out
 abbrev pub collects_oldest : QueueState → ℕ → QueueState
 collects_oldest s c = record s { owed = set s.owed c (drop 1 (owed_to c s)) }
+
+-- this was the client's oldest outcome, and was taken out
+pub record TakesOldest (old : QueueState) (c : ℕ) (outcome : OutcomeValue) (new : QueueState) : Type 0 where
+  pub oldest : slice_get (owed_to c old) 0 ≡ Some outcome
+  pub new_is : new ≡ collects_oldest old c
+
+-- of which kind a client's oldest outcome is
+abbrev pub kind_of_value : OutcomeValue → OutcomeKind
+kind_of_value (RequestValue number done) = kinds.Request
+kind_of_value (DiscoveryValue number done) = kinds.Discovery
+
+abbrev pub first_kind : ℕ → QueueState → Option OutcomeKind
+first_kind c s = option_map kind_of_value (slice_get (owed_to c s) 0)
+
+-- the opening of a log that goes on from here
+abbrev pub opening_of : QueueState → Opening
+opening_of s = record {
+  source = s.source;
+  greatest = s.greatest;
+  budget = s.budget;
+  places = record { items = s.places };
+  paused = s.paused;
+  closed = s.closed;
+  devices = s.devices;
+  devices_run = s.devices_run;
+  next_request = s.next_request;
+  next_ask = s.next_ask;
+  next_run = s.next_run;
+  next_tn = s.next_tn;
+}
 
 -- a decided result is given as it is, but for data that find no memory
 abbrev pub GivesResult : Joined → Joined → Type 0

@@ -3,7 +3,8 @@ use Rattle.std.specs.Prelude.{ℕ, Bool, false, List, [], ◌++◌, nat_lt}
 use Rattle.rdm_queue.specs.declared.config.Config.{Config}
 use Rattle.rdm_queue.specs.declared.entry.Opening.{Opening}
 use Rattle.rdm_queue.specs.declared.entry.Entry.{Entry}
-use Rattle.rdm_queue.specs.log.History.{free_room}
+use Rattle.rdm_queue.specs.log.History.{free_room, is_paused, is_closed, places, next_request, next_ask, next_tn}
+use Rattle.rdm_queue.specs.log.Runs.{next_run, known_devices, devices_run}
 
 -- the opening, the entries after it, and the entries that there is room for
 pub record LogState : Type 0 where
@@ -46,4 +47,21 @@ opened config = record blank_opening {
   greatest = config.places;
   budget = config.budget;
   next_run = 1;
+}
+
+-- what stands after these entries: the opening of a log that goes on from there
+abbrev pub opening_after : Opening → List Entry → Opening
+opening_after o h = record {
+  source = o.source;
+  greatest = o.greatest;
+  budget = o.budget;
+  places = record { items = places o h };
+  paused = is_paused o h;
+  closed = is_closed o h;
+  devices = known_devices o h;
+  devices_run = devices_run o h;
+  next_request = next_request o h;
+  next_ask = next_ask o h;
+  next_run = next_run o h;
+  next_tn = next_tn o h;
 }

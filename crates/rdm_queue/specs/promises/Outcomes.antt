@@ -1,5 +1,6 @@
 -- What one client called, and what it is told.
-use Rattle.std.specs.Prelude.{ℕ, Bool, false, ◌&&◌, ◌||◌, List, [], filter, Option, Some, None, ◌==◌}
+use Rattle.std.specs.Prelude.{ℕ, Bool, false, ◌&&◌, ◌||◌, List, [], filter, Option, Some, None, ◌==◌, slice_get}
+use Rattle.std.specs.Prelude.{option_and_then}
 use Rattle.rdm_wire.specs.declared.device.Device.{Device}
 use Rattle.rdm_join.specs.declared.status.Status.{Status}
 use Rattle.rdm_join.specs.declared.status.Status.TheVariants.{Completed, FailedToSend}
@@ -16,8 +17,11 @@ use Rattle.rdm_queue.specs.declared.outcome.Completion.{Completion}
 use Rattle.rdm_queue.specs.declared.outcome.AskCompletion.{AskCompletion}
 use Rattle.rdm_queue.specs.declared.outcome.Outcome.{Outcome}
 use Rattle.rdm_queue.specs.declared.outcome.Outcome.TheVariants as outcomes
+use Rattle.rdm_queue.specs.declared.outcome.OutcomeKind.{OutcomeKind}
+use Rattle.rdm_queue.specs.declared.outcome.OutcomeKind.TheVariants as kinds
+use Rattle.rdm_queue.specs.declared.outcome.DiscoveryEnd.{DiscoveryEnd}
 use Rattle.rdm_queue.specs.log.Entries.{result}
-use Rattle.rdm_queue.specs.log.Clients.{is_answer_to}
+use Rattle.rdm_queue.specs.log.Clients.{is_answer_to, uncollected}
 use Rattle.rdm_queue.specs.log.Runs.{answer_devices}
 use Rattle.rdm_queue.specs.log.Refusals.{number_of_join_fault, number_of_submit_fault, number_of_ask_fault}
 use Rattle.rdm_queue.specs.declared.fault.JoinFault.TheVariants as join_faults
@@ -64,6 +68,14 @@ abbrev pub outcome_value : Outcome → OutcomeValue
 outcome_value (outcomes.Request number done) = RequestValue number (completion_value done)
 outcome_value (outcomes.Discovery number done) = DiscoveryValue number (discovered done)
 
+-- the outcome of a request, and of a discovery whose run found these devices
+abbrev pub request_outcome : ℕ × Completion → Outcome
+request_outcome r = outcomes.Request (Some r.0) r.1
+
+abbrev pub discovery_outcome : DiscoveryEnd → List Device → Outcome
+discovery_outcome end set =
+    outcomes.Discovery (Some end.number) (record { run = end.run; fault = end.fault; set = set })
+
 -- the completion of a status: with status Completed the joined data and the last reply's head
 abbrev pub completion_of : Status → Option Joined → Joined
 completion_of Completed (Some j) = record { status = Completed; data_ = j.data_; head = j.head }
@@ -89,3 +101,13 @@ outcome_of h (Finish n status len) = Some (RequestValue (Some n) (completion_of 
 outcome_of h (Answer n run fault) = Some (DiscoveryValue (Some n) (discovered_by run fault h))
 outcome_of h (Refuse c call cause) = refused_outcome call
 outcome_of h _ = None
+
+-- of which kind the outcome of a Finish or an Answer is
+abbrev pub kind_of_answer : Entry → Option OutcomeKind
+kind_of_answer (Finish n status len) = Some kinds.Request
+kind_of_answer (Answer n run fault) = Some kinds.Discovery
+kind_of_answer _ = None
+
+-- of which kind the outcome of the client's oldest answer is that it hasn't collected
+abbrev pub oldest_kind : Opening → List Entry → ℕ → Option OutcomeKind
+oldest_kind o h c = option_and_then kind_of_answer (slice_get (uncollected o c h) 0)

@@ -1,0 +1,151 @@
+-- An idle queue stands after what its log leaves, and no entries.
+use Rattle.std.proofs.Common.{◌≡◌, ℕ, zero, suc, ◌≤◌, Bool, true, false, List, [], ◌∷◌, length, map, sum, get_or, Option, Some, None, slice_get, refl, sym, ap, ◌∙◌, append-nil, inl, inr, arith, if◌then◌else◌}
+use Rattle.std.specs.Prelude.{◌⊎◌, ◌&&◌, ◌==◌}
+use Rattle.std.proofs.lemmas.Bool.{cases_Bool, eq-eqb, eqb-true, false≢true}
+use Rattle.std.proofs.lemmas.Option.{none-some}
+use Rattle.std.proofs.lemmas.List.{length-drop}
+use Rattle.std.proofs.lemmas.List.Sums.{sum_by-cons}
+use Rattle.rdm_queue.specs.declared.entry.Owner.TheVariants as owners
+use Rattle.rdm_queue.specs.declared.entry.Opening.{Opening}
+use Rattle.rdm_queue.specs.declared.entry.Entry.{Entry}
+use Rattle.rdm_queue.specs.declared.queue.Awaited.{Awaited}
+use Rattle.rdm_queue.specs.declared.queue.Awaited.TheVariants as awaiting
+use Rattle.rdm_queue.specs.log.Entries.{Sending, joins, accepts, asks, sends, cames, finishes, answers, collectors, traded, of_request, verdicts, is_request}
+use Rattle.rdm_queue.specs.log.History.{awaited, is_paused, is_closed, is_idle, unfinished, unanswered, uncollected_count}
+use Rattle.rdm_queue.specs.log.Clients.{answers_to}
+use Rattle.rdm_queue.specs.log.Runs.{last_run, number_after, open_run, last_run_without_fault}
+use Rattle.rdm_queue.specs.log.LogState.{opening_after}
+use Rattle.rdm_queue.specs.promises.Outcomes.{OutcomeValue}
+use Rattle.rdm_queue.specs.body.State.{QueueState, RunState, opening_of, uncollected}
+use Rattle.rdm_queue.specs.body.Agrees.{IsPending, RunIs, Agrees, StandsAfter, oldest_number}
+use Rattle.rdm_queue.specs.body.SessionInvariant.{SessionInvariant}
+use Rattle.rdm_queue.proofs.LogLemmas.Grows.{empty}
+use Rattle.rdm_queue.proofs.LogLemmas.LegalFacts.{LogFacts, legal_facts, IsAwaited, IsRunAwaited}
+use Rattle.rdm_queue.proofs.LogLemmas.RunFacts.{run_facts}
+use Rattle.rdm_queue.proofs.LogLemmas.ExchangeLemmas.{verdicts_unsent}
+use Rattle.rdm_queue.proofs.BodyLemmas.BegunLemmas.{asked_fewer}
+use Rattle.rdm_queue.proofs.BodyLemmas.AgreesWork.{none_sent}
+
+-- nothing is left
+record IsAtRest (h : List Entry) : Type 0 where
+  finished : unfinished h ≡ []
+  answered : unanswered h ≡ []
+  collected : uncollected_count h ≡ 0
+
+no_items : {X : Type 0} (xs : List X) → length xs ≡ 0 → xs ≡ []
+no_items [] none = refl
+no_items (x ∷ xs) none = absurd (omega arith)
+
+at_rest : (h : List Entry) → is_idle h ≡ true → IsAtRest h
+at_rest h idle = by_parts (length (unfinished h) == 0) (length (unanswered h) == 0) (uncollected_count h == 0) refl refl refl idle
+  where
+    by_parts : (a b c : Bool) → (length (unfinished h) == 0) ≡ a → (length (unanswered h) == 0) ≡ b → (uncollected_count h == 0) ≡ c → (a && b && c) ≡ true → IsAtRest h
+    by_parts true true true p q r all = record { finished = no_items (unfinished h) (eqb-true _ _ p); answered = no_items (unanswered h) (eqb-true _ _ q); collected = eqb-true _ _ r }
+    by_parts true true false p q r all = absurd (false≢true all)
+    by_parts true false c p q r all = absurd (false≢true all)
+    by_parts false b c p q r all = absurd (false≢true all)
+
+-- no run has begun that has an answer left to give
+no_run : (o : Opening) (h : List Entry) (s : QueueState) → IsAtRest h → Agrees o h s → s.run ≡ None
+no_run o h s rest stands = by_run s.run refl stands.run_is
+  where
+    by_run : (run : Option RunState) → s.run ≡ run → RunIs o h s run → s.run ≡ None
+    by_run None is running = is
+    by_run (Some r) is running = absurd (let few = asked_fewer h in let long = length-drop (length (answers h)) (asks h) in let none = ap (λ l. length l) rest.answered in omega (arith, running.left, running.some))
+
+-- no reply is awaited
+not_awaited : (o : Opening) (h : List Entry) (s : QueueState) → IsAtRest h → StandsAfter o h s → awaited h ≡ true → ⊥
+not_awaited o h s rest after waits = by_owner ((legal_facts o h after.legal.each).waits waits)
+  where
+    none_open : open_run h ≡ None
+    none_open = (rw (no_run o h s rest after.stands) at after.stands.run_is).none_open
+
+    by_owner : IsAwaited h ⊎ IsRunAwaited h → ⊥
+    by_owner (inl w) = none-some w.accepted (ap (λ l. slice_get l 0) (sym rest.finished) ∙ w.oldest)
+    by_owner (inr w) = none-some w.run (sym none_open ∙ (run_facts o h after.legal.each).waits waits (record { owner = owners.Run w.run; frame = w.frame }) w.unanswered w.run (eq-eqb w.run w.run refl))
+
+none_awaited : (o : Opening) (h : List Entry) (s : QueueState) → IsAtRest h → StandsAfter o h s → s.awaited ≡ None
+none_awaited o h s rest after = by_awaited s.awaited refl after.stands.awaited_is
+  where
+    by_awaited : (w : Option Awaited) → s.awaited ≡ w → IsPending o h s w → s.awaited ≡ None
+    by_awaited None is pending = is
+    by_awaited (Some (awaiting.Request sent)) is pending = absurd (not_awaited o h s rest after pending.last.waits)
+    by_awaited (Some (awaiting.Run tn)) is pending = absurd (not_awaited o h s rest after pending.last.waits)
+
+-- no frame of the next request was sent
+unsent : (o : Opening) (h : List Entry) → LogFacts o h → IsAtRest h → (i : ℕ) (x : Sending) → slice_get (sends h) i ≡ Some x → is_request (oldest_number o h) x.owner ≡ false
+unsent o h facts rest i x at = by_test (cases_Bool (is_request (oldest_number o h) x.owner))
+  where
+    by_test : (is_request (oldest_number o h) x.owner ≡ true) ⊎ (is_request (oldest_number o h) x.owner ≡ false) → is_request (oldest_number o h) x.owner ≡ false
+    by_test (inr other) = other
+    by_test (inl own) = absurd (let below = facts.sent_accepted i x at (oldest_number o h) own in let long = length-drop (length (finishes h)) (accepts h) in let none = ap (λ l. length l) rest.finished in omega arith)
+
+-- no client is owed an outcome
+none_in : (lists : List (List OutcomeValue)) (c : ℕ) → sum (map (λ (ds : List OutcomeValue). length ds) lists) ≡ 0 → get_or lists c [] ≡ []
+none_in [] c none = refl
+none_in (ds ∷ lists) zero none = no_items ds (let whole = sum_by-cons (λ (n : ℕ). n) (length ds) (map (λ (es : List OutcomeValue). length es) lists) in omega arith)
+none_in (ds ∷ lists) (suc c) none = none_in lists c (let whole = sum_by-cons (λ (n : ℕ). n) (length ds) (map (λ (es : List OutcomeValue). length es) lists) in omega arith)
+
+none_owed : (o : Opening) (h : List Entry) (s : QueueState) → IsAtRest h → Agrees o h s → uncollected s ≡ 0
+none_owed o h s rest stands = let all = stands.all_outcomes in let none = rest.collected in omega arith
+
+-- runs are numbered from 1
+from_one : (first : ℕ) (last : Option ℕ) → 1 ≤ first → 1 ≤ number_after first last
+from_one first None some = some
+from_one first (Some r) some = omega arith
+
+pub rotated : (o : Opening) (h : List Entry) (s : QueueState) → is_idle h ≡ true → StandsAfter o h s → StandsAfter (opening_after o h) [] s
+unfolding joins accepts asks sends cames finishes answers collectors traded of_request verdicts awaited is_paused is_closed answers_to last_run last_run_without_fault
+rotated o h s idle after = record {
+  legal = empty (opening_after o h);
+  goes_on = rw none tt;
+  stands = record {
+    source_is = stands.source_is;
+    greatest_is = stands.greatest_is;
+    budget_is = stands.budget_is;
+    places_are = rw append-nil stands.places_are;
+    paused_is = stands.paused_is;
+    closed_is = stands.closed_is;
+    next_request_is = omega (arith, stands.next_request_is);
+    next_tn_is = omega (arith, stands.next_tn_is);
+    waiting_are = stands.waiting_are ∙ rest.finished;
+    awaited_is = rw (none_awaited o h s rest after) refl;
+    under_way_is = stands.under_way_is ∙ none_sent (oldest_number o h) (sends h) (unsent o h facts rest);
+    progress = rw (verdicts_unsent h (oldest_number o h) (unsent o h facts rest)) at stands.progress;
+    next_ask_is = omega (arith, stands.next_ask_is);
+    next_run_is = stands.next_run_is;
+    asked_are = stands.asked_are ∙ rest.answered;
+    run_is = rw none (record { none_open = refl; none_left = omega arith });
+    devices_are = stands.devices_are;
+    devices_run_is = stands.devices_run_is;
+    owed_for_each = rw append-nil stands.owed_for_each;
+    outcomes_are = λ c. none_in s.owed c (none_owed o h s rest stands);
+    all_outcomes = rw (none_owed o h s rest stands) refl;
+    first_run = from_one o.next_run (last_run h) stands.first_run;
+  };
+}
+  where
+    stands : Agrees o h s
+    stands = after.stands
+
+    rest : IsAtRest h
+    rest = at_rest h idle
+
+    facts : LogFacts o h
+    facts = legal_facts o h after.legal.each
+
+    none : s.run ≡ None
+    none = no_run o h s rest stands
+
+-- and a session keeps its room
+pub session_rotated : (o : Opening) (h : List Entry) (s : QueueState) (room : ℕ) → 1 ≤ room → is_idle h ≡ true → StandsAfter o h s → SessionInvariant s (record { opening = opening_after o h; entries = []; room = room })
+unfolding accepts asks finishes answers collectors awaited is_closed
+session_rotated o h s room some idle after = record { after = rotated o h s idle after; room = let close = at_most_one (is_closed o h) in omega arith }
+  where
+    at_most_one : (closed : Bool) → (if closed then 0 else 1) ≤ 1
+    at_most_one true = omega arith
+    at_most_one false = omega arith
+
+-- the opening that goes on from where a queue stands
+pub opening_is : (o : Opening) (h : List Entry) (s : QueueState) → Agrees o h s → opening_of s ≡ opening_after o h
+opening_is o h s stands = rw (stands.source_is, stands.greatest_is, stands.budget_is, stands.places_are, stands.paused_is, stands.closed_is, stands.devices_are, stands.devices_run_is, stands.next_request_is, stands.next_ask_is, stands.next_run_is, stands.next_tn_is) refl

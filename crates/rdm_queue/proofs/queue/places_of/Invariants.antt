@@ -1,0 +1,7 @@
+use Rattle.std.proofs.Common.{◌≡◌, take}
+use Rattle.rdm_queue.specs.body.Fields.{places_of}
+use Rattle.rdm_queue.proofs.queue.places_of.Given as goal
+
+-- those of the clients so far
+abbrev pub invariant-loop-client : goal.invariant-loop-client
+invariant-loop-client l = l.places.items ≡ places_of (take l.client-index l.clients)

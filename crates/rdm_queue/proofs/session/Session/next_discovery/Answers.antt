@@ -1,0 +1,17 @@
+use Rattle.std.proofs.Common.{◌∷◌, [], arith}
+use Rattle.rdm_queue.specs.declared.entry.Entry.TheVariants.{Collect}
+use Rattle.rdm_queue.proofs.BodyLemmas.SessionLemmas.{session_grown, room_for}
+use Rattle.rdm_queue.proofs.session.Session.next_discovery.Goals as goal
+
+pub append-requires : goal.append-requires
+append-requires c =
+    let k = c.self.inside.log in
+    let stands = c.in_ok-end.ensures.adds k.opening k.entries c.self.invariant.after in
+    let kept = session_grown c.self.inside.controller c.next_discovery.new.self k (Collect c.args.client ∷ []) c.self.invariant (rw stands.adds.1 at stands.after) (omega arith) in
+    omega (arith, room_for k (Collect c.args.client) kept.room)
+
+pub invariant_of-self-2 : goal.invariant_of-self-2
+invariant_of-self-2 c =
+    let k = c.self.inside.log in
+    let stands = c.in_ok-end.ensures.adds k.opening k.entries c.self.invariant.after in
+    rw c.append.ensures (session_grown c.self.inside.controller c.next_discovery.new.self k (Collect c.args.client ∷ []) c.self.invariant (rw stands.adds.1 at stands.after) (omega arith))
