@@ -6,22 +6,22 @@ use std::fmt;
 use std::time::CpuClock;
 
 /// Work that is timed.
-pub trait Sample {
+pub(crate) trait Sample {
     /// Does the work once, and tells how many steps that were.
     fn run(&mut self) -> Result<u64, Fault>;
 }
 
 /// What is timed.
 #[derive(Clone, Copy, Debug)]
-pub struct Name {
+pub(crate) struct Name {
     /// As the command line names it.
-    pub subject: &'static str,
+    pub(crate) subject: &'static str,
     /// On what.
-    pub scene: &'static str,
+    pub(crate) scene: &'static str,
     /// What is done.
-    pub work: &'static str,
+    pub(crate) work: &'static str,
     /// What its steps are called.
-    pub steps: &'static str,
+    pub(crate) steps: &'static str,
 }
 
 impl fmt::Display for Name {
@@ -38,19 +38,19 @@ impl fmt::Display for Name {
 
 /// How each piece of work is timed.
 #[derive(Drop)]
-pub struct Bench<'a, R> {
+pub(crate) struct Bench<'a, R> {
     /// The clock, and where lines are printed.
-    pub rt: &'a R,
+    pub(crate) rt: &'a R,
     /// Where memory comes from.
-    pub alloc: Global,
+    pub(crate) alloc: Global,
     /// How often a sample repeats its work.
-    pub rounds: usize,
+    pub(crate) rounds: usize,
 }
 
 impl<R: CpuClock + Print + Eprint> Bench<'_, R> {
     /// Times a piece of work. How many steps a sample has goes to standard output; the processor time of a step, by
     /// the sample in the middle and by the fastest one, goes to standard error.
-    pub fn time<S: Sample>(&self, name: &Name, sample: &mut S) -> Result<(), Fault> {
+    pub(crate) fn time<S: Sample>(&self, name: &Name, sample: &mut S) -> Result<(), Fault> {
         let rt = self.rt;
         let mut times = [0; SAMPLES];
         let mut steps = 0;

@@ -13,7 +13,7 @@ use std::alloc::Global;
 use std::time::CpuClock;
 
 /// Times calls on packets with so many bytes of data.
-pub fn time<R: CpuClock + Print + Eprint>(
+pub(crate) fn time<R: CpuClock + Print + Eprint>(
     bench: &Bench<'_, R>,
     length: usize,
 ) -> Result<(), Fault> {

@@ -7,7 +7,7 @@ use rdm_wire::{Uid, UidSet};
 
 /// How their UIDs lie.
 #[derive(Clone, Copy, Debug, PartialEq, Eq)]
-pub enum Spread {
+pub(crate) enum Spread {
     /// One after another, from 0 on: the search has to halve its ranges far down.
     Consecutive,
     /// Anywhere.
@@ -18,7 +18,7 @@ pub enum Spread {
 const MOST_TRIES: u64 = 10_000;
 
 /// So many devices.
-pub fn devices(count: usize, spread: Spread) -> Result<UidSet, Fault>
+pub(crate) fn devices(count: usize, spread: Spread) -> Result<UidSet, Fault>
     ensures { IfOk result (λ devices. length devices ≡ count) }
 {
     let mut set = UidSet::new();

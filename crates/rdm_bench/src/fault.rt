@@ -5,7 +5,7 @@ use thiserror::Error;
 
 /// Why nothing more is timed.
 #[derive(Clone, Copy, Debug, PartialEq, Eq, Error)]
-pub enum Fault {
+pub(crate) enum Fault {
     /// The words ask for nothing.
     #[error("the words ask for nothing")]
     Words,

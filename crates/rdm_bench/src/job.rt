@@ -7,7 +7,7 @@ use rdm_wire::{MOST_DEVICES, MOST_PARAMETER_BYTES};
 
 /// What is timed.
 #[derive(Clone, Copy, Debug, PartialEq, Eq)]
-pub enum Subject {
+pub(crate) enum Subject {
     /// Discovery runs.
     Agent,
     /// Single calls.
@@ -22,7 +22,7 @@ pub enum Subject {
 
 /// What the words ask for.
 #[derive(Clone, Copy, Debug, PartialEq, Eq)]
-pub enum Job {
+pub(crate) enum Job {
     /// Print the sizes of the values.
     Sizes,
     /// Time a subject.
@@ -43,7 +43,7 @@ const MOST_LOGGED: usize = 100_000;
 const MOST_ROUNDS: usize = 1_000;
 
 /// What the words after the program's name ask for; None where they ask for nothing.
-pub fn parse_words(words: &[String]) -> Option<Job>
+pub(crate) fn parse_words(words: &[String]) -> Option<Job>
     ensures some { IfSome result (Asks (map string_bytes words.now)) }
     ensures none { IfNone result (AsksNothing (map string_bytes words.now)) }
 {

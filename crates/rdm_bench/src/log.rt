@@ -15,7 +15,7 @@ const ENTRIES_EACH: usize = 5;
 const ENTRIES_BESIDE: usize = 4;
 
 /// Times logs of so many requests.
-pub fn time<R: CpuClock + Print + Eprint>(
+pub(crate) fn time<R: CpuClock + Print + Eprint>(
     bench: &Bench<'_, R>,
     requests: usize,
 ) -> Result<(), Fault> {

@@ -6,6 +6,7 @@ mod agent;
 mod bench;
 mod calls;
 mod devices;
+mod discoveries;
 mod fault;
 mod job;
 mod log;
@@ -27,7 +28,7 @@ const USAGE: &str = "\
 usage: rdm_bench SUBJECT SIZE ROUNDS | rdm_bench sizes
   agent   discovery runs; SIZE: devices on the line, 1 to 1024
   calls   single calls; SIZE: bytes of parameter data, 0 to 231
-  queue   the queue of requests; SIZE: requests that wait, 1 to 4080
+  queue   the queue of requests and discoveries; SIZE: requests that wait, 1 to 4080
   log     the log of a session; SIZE: requests in it, 1 to 100000
   all     each of these, and the sizes; SIZE: 1 to 231
   sizes   how many bytes the values take

@@ -8,14 +8,14 @@ use rdm_wire::{MOST_PARAMETER_BYTES, ReqClass, Request, Uid};
 use std::alloc::Global;
 
 /// The controller's UID.
-pub fn controller() -> Uid
+pub(crate) fn controller() -> Uid
     ensures { result ≡ 0x7a70_0000_0100 }
 {
     Uid::new(0x7a70, 0x100)
 }
 
 /// The device's UID.
-pub fn device() -> Uid
+pub(crate) fn device() -> Uid
     ensures { result ≡ 0x1234_0000_0001 }
 {
     Uid::new(0x1234, 1)
@@ -23,7 +23,7 @@ pub fn device() -> Uid
 
 /// What a reply says of its data.
 #[derive(Clone, Copy, Debug, PartialEq, Eq)]
-pub enum Part {
+pub(crate) enum Part {
     /// They are all, or the last ones.
     Last,
     /// More follow.
@@ -32,7 +32,7 @@ pub enum Part {
 
 /// The replies with each transaction number, each with so many bytes of data.
 #[derive(Debug, Drop)]
-pub struct Replies {
+pub(crate) struct Replies {
     replies: Vec<LineReply>,
 }
 
@@ -42,7 +42,7 @@ const DATA: [u8; MOST_PARAMETER_BYTES] = [0x5a; MOST_PARAMETER_BYTES];
 const HEADER_LENGTH: u8 = 24;
 
 /// A GET of DEVICE_INFO with so many bytes of data, 231 at most.
-pub fn request(size: u8) -> Result<Request, Fault>
+pub(crate) fn request(size: u8) -> Result<Request, Fault>
     ensures { IfOk result (λ request. length request.param.items ≡ size) }
 {
     let mut param = ArrayVec::new();
@@ -60,7 +60,7 @@ pub fn request(size: u8) -> Result<Request, Fault>
 
 impl Replies {
     /// Writes them.
-    pub fn new(alloc: Global, part: Part, size: u8) -> Result<Replies, Fault> {
+    pub(crate) fn new(alloc: Global, part: Part, size: u8) -> Result<Replies, Fault> {
         let mut replies = Vec::new(alloc);
         for tn in 0..=u8::MAX {
             replies.push(reply(tn, part, size)?)?;
@@ -69,12 +69,12 @@ impl Replies {
     }
 
     /// All of them, by their transaction numbers.
-    pub fn as_slice(&self) -> &[LineReply] {
+    pub(crate) fn as_slice(&self) -> &[LineReply] {
         self.replies.as_slice()
     }
 
     /// A copy of the one with this transaction number.
-    pub fn copied(&self, tn: u8) -> Result<LineReply, Fault> {
+    pub(crate) fn copied(&self, tn: u8) -> Result<LineReply, Fault> {
         match self.replies.get(usize::from(tn)) {
             Some(reply) => Ok(copied(reply)),
             None => Err(Fault::Unexpected("Replies::new")),
@@ -84,7 +84,7 @@ impl Replies {
 
 /// The same bytes again.
 #[inline(never)]
-pub fn copied(reply: &LineReply) -> LineReply
+pub(crate) fn copied(reply: &LineReply) -> LineReply
     ensures { result.items ≡ reply.now.items }
 {
     let mut bytes = LineReply::new();

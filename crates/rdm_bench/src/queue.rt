@@ -1,5 +1,6 @@
-//! The queue of requests while so many wait: one is answered and collected, and another submitted.
+//! The queue while so many requests wait: one is answered and collected, and another submitted. And its discoveries.
 use crate::bench::{Bench, Name, Sample};
+use crate::discoveries;
 use crate::fault::Fault;
 use crate::median::SAMPLES;
 use crate::packets::{Part, Replies, request};
@@ -16,23 +17,42 @@ struct Answer {
     parts: usize,
     // How many bytes each of them has.
     length: u8,
+    collecting: Collecting,
 }
 
-const ANSWERS: [Answer; 3] = [
+/// How its outcome is collected.
+#[derive(Clone, Copy, Debug)]
+enum Collecting {
+    /// By the call for requests, which moves no set of devices.
+    OfRequest,
+    /// By the call for outcomes of either kind.
+    OfEither,
+}
+
+const ANSWERS: [Answer; 4] = [
     Answer {
         name: "answered by 2 bytes",
         parts: 1,
         length: 2,
+        collecting: Collecting::OfRequest,
+    },
+    Answer {
+        name: "answered by 2 bytes, collected as either",
+        parts: 1,
+        length: 2,
+        collecting: Collecting::OfEither,
     },
     Answer {
         name: "answered by 231 bytes",
         parts: 1,
         length: 231,
+        collecting: Collecting::OfRequest,
     },
     Answer {
         name: "answered by 17 parts of 231 bytes",
         parts: 17,
         length: 231,
+        collecting: Collecting::OfRequest,
     },
 ];
 
@@ -42,7 +62,7 @@ const CLIENTS: u8 = 16;
 const ENTRIES_BESIDE: usize = 32;
 
 /// Times requests while so many wait.
-pub fn time<R: CpuClock + Print + Eprint>(
+pub(crate) fn time<R: CpuClock + Print + Eprint>(
     bench: &Bench<'_, R>,
     waiting: usize,
 ) -> Result<(), Fault> {
@@ -53,7 +73,17 @@ pub fn time<R: CpuClock + Print + Eprint>(
         let mut session = new_session(bench.alloc, free)?;
         time_one(bench, "with log", &mut session, waiting, answer)?;
     }
-    Ok(())
+    time_discoveries(bench, waiting)
+}
+
+// The requests wait until no discovery is asked.
+fn time_discoveries<R: CpuClock + Print + Eprint>(
+    bench: &Bench<'_, R>,
+    waiting: usize,
+) -> Result<(), Fault> {
+    let mut controller = new_controller(bench.alloc)?;
+    Turns::new(bench.alloc, &mut controller, waiting, &ANSWERS[0])?;
+    discoveries::time(bench, &mut controller)
 }
 
 fn time_one<R: CpuClock + Print + Eprint, S: Serving>(
@@ -96,6 +126,7 @@ struct Turns<'a, S> {
     last: Replies,
     // How many bytes an outcome has.
     length: usize,
+    collecting: Collecting,
     // The next frame's transaction number.
     tn: u8,
     // Whose outcome is next.
@@ -121,6 +152,7 @@ impl<'a, S: Serving> Turns<'a, S> {
             part: Replies::new(alloc, Part::More, answer.length)?,
             last: Replies::new(alloc, Part::Last, answer.length)?,
             length: usize::from(answer.length).wrapping_mul(answer.parts),
+            collecting: answer.collecting,
             tn: 0,
             collector: 0,
             submitter: 0,
@@ -138,8 +170,13 @@ impl<'a, S: Serving> Turns<'a, S> {
     }
 
     fn collect(&mut self) -> Result<(), Fault> {
-        if self.serving.collect(ClientId(self.collector))? != self.length {
-            return Err(Fault::Unexpected("next_outcome"));
+        let client = ClientId(self.collector);
+        let length = match self.collecting {
+            Collecting::OfRequest => self.serving.collect(client)?,
+            Collecting::OfEither => self.serving.collect_either(client)?,
+        };
+        if length != self.length {
+            return Err(Fault::Unexpected("the length of an answer"));
         }
         self.collector = after(self.collector);
         Ok(())

@@ -2,13 +2,13 @@
 
 /// A generator of numbers (xorshift64*).
 #[derive(Clone, Copy, Debug)]
-pub struct Random {
+pub(crate) struct Random {
     state: u64,
 }
 
 impl Random {
     /// The generator of this seed.
-    pub fn new(seed: u64) -> Random {
+    pub(crate) fn new(seed: u64) -> Random {
         let state = seed
             .wrapping_mul(0x9e37_79b9_7f4a_7c15)
             .wrapping_add(0x123_4567);
@@ -23,7 +23,7 @@ impl Random {
     }
 
     /// The next number.
-    pub fn next(&mut self) -> u64 {
+    pub(crate) fn next(&mut self) -> u64 {
         self.state ^= self.state >> 12;
         self.state ^= self.state << 25;
         self.state ^= self.state >> 27;

@@ -4,6 +4,7 @@ ghost use Rattle.rdm_queue.specs.log.Config.{IsConfig};
 
 use crate::fault::Fault;
 use crate::packets::controller;
+use rdm_agent::DEFAULT_BUDGET;
 use rdm_join::{LineEvent, LineReply};
 use rdm_queue::{
     ClientId, Config, Controller, Log, MOST_FREE_ENTRIES, MOST_PLACES, Outcome, Session,
@@ -12,7 +13,7 @@ use rdm_wire::{Frame, Request};
 use std::alloc::Global;
 
 /// What a controller does, with a log or without.
-pub trait Serving {
+pub(crate) trait Serving {
     /// Lets a client join, with so many places.
     fn join(&mut self, alloc: Global, places: u8) -> Result<ClientId, Fault>;
 
@@ -25,8 +26,11 @@ pub trait Serving {
     /// Takes the line's reply.
     fn deliver(&mut self, alloc: Global, reply: LineReply) -> Result<(), Fault>;
 
-    /// How many bytes the client's next outcome has; there has to be one.
+    /// How many bytes the client's next outcome has, which has to be a request's.
     fn collect(&mut self, client: ClientId) -> Result<usize, Fault>;
+
+    /// The same, where the outcome may be of either kind.
+    fn collect_either(&mut self, client: ClientId) -> Result<usize, Fault>;
 }
 
 impl Serving for Controller {
@@ -54,9 +58,16 @@ impl Serving for Controller {
     }
 
     fn collect(&mut self, client: ClientId) -> Result<usize, Fault> {
+        match self.next_completion(client) {
+            Some((_, done)) => Ok(done.bytes.len()),
+            None => Err(Fault::Unexpected("Controller::next_completion")),
+        }
+    }
+
+    fn collect_either(&mut self, client: ClientId) -> Result<usize, Fault> {
         match self.next_outcome(client) {
-            Some(outcome) => Ok(length_of(&outcome)),
-            None => Err(Fault::Unexpected("Controller::next_outcome")),
+            Some(Outcome::Request { done, .. }) => Ok(done.bytes.len()),
+            _ => Err(Fault::Unexpected("Controller::next_outcome")),
         }
     }
 }
@@ -89,23 +100,22 @@ impl Serving for Session {
     }
 
     fn collect(&mut self, client: ClientId) -> Result<usize, Fault> {
+        match self.next_completion(client) {
+            Some((_, done)) => Ok(done.bytes.len()),
+            None => Err(Fault::Unexpected("Session::next_completion")),
+        }
+    }
+
+    fn collect_either(&mut self, client: ClientId) -> Result<usize, Fault> {
         match self.next_outcome(client) {
-            Some(outcome) => Ok(length_of(&outcome)),
-            None => Err(Fault::Unexpected("Session::next_outcome")),
+            Some(Outcome::Request { done, .. }) => Ok(done.bytes.len()),
+            _ => Err(Fault::Unexpected("Session::next_outcome")),
         }
     }
 }
 
-// How many bytes an outcome has, or how many devices.
-fn length_of(outcome: &Outcome) -> usize {
-    match outcome {
-        Outcome::Request { done, .. } => done.bytes.len(),
-        Outcome::Discovery { done, .. } => done.set.len(),
-    }
-}
-
 /// A controller with all the places that there may be.
-pub fn new_controller(alloc: Global) -> Result<Controller, Fault> {
+pub(crate) fn new_controller(alloc: Global) -> Result<Controller, Fault> {
     match Controller::new(alloc, config()) {
         Ok(controller) => Ok(controller),
         Err(_) => Err(Fault::NoMemory),
@@ -113,7 +123,7 @@ pub fn new_controller(alloc: Global) -> Result<Controller, Fault> {
 }
 
 /// The same with a log of so many free entries, 1,000,000 at most.
-pub fn new_session(alloc: Global, free: usize) -> Result<Session, Fault> {
+pub(crate) fn new_session(alloc: Global, free: usize) -> Result<Session, Fault> {
     match Session::new(alloc, config(), new_log(alloc, free)?) {
         Ok(session) => Ok(session),
         Err(_) => Err(Fault::NoMemory),
@@ -121,7 +131,7 @@ pub fn new_session(alloc: Global, free: usize) -> Result<Session, Fault> {
 }
 
 /// A log of so many free entries, 1,000,000 at most.
-pub fn new_log(alloc: Global, free: usize) -> Result<Log, Fault>
+pub(crate) fn new_log(alloc: Global, free: usize) -> Result<Log, Fault>
     ensures { IfOk result (λ log. log.entries ≡ []) }
 {
     match Log::new(alloc, free.min(MOST_FREE_ENTRIES)) {
@@ -136,6 +146,6 @@ fn config() -> Config
     Config {
         source: controller(),
         places: MOST_PLACES,
-        budget: 1,
+        budget: DEFAULT_BUDGET,
     }
 }

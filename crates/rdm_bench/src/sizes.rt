@@ -2,12 +2,15 @@
 use crate::fault::Fault;
 use rdm_agent::{Agent, Op, OpReply};
 use rdm_join::{Joiner, Judged, LineEvent, Sent};
-use rdm_queue::{Answer, Controller, Entry, Event, Log, Outcome, Session};
+use rdm_queue::{
+    Answer, AskCompletion, Completion, Controller, DiscoveryEnd, Entry, Event, Log, Outcome,
+    OutcomeKind, Session,
+};
 use rdm_wire::{BranchReply, DeviceSet, Frame, Request, Response, UidSet};
 use std::mem::size_of;
 
 /// Prints them to standard output.
-pub fn print(rt: &impl Print) -> Result<(), Fault> {
+pub(crate) fn print(rt: &impl Print) -> Result<(), Fault> {
     let sizes = [
         ("BranchReply", size_of::<BranchReply>()),
         ("UidSet", size_of::<UidSet>()),
@@ -29,6 +32,10 @@ pub fn print(rt: &impl Print) -> Result<(), Fault> {
         ("Event", size_of::<Event>()),
         ("Answer", size_of::<Answer>()),
         ("Outcome", size_of::<Outcome>()),
+        ("OutcomeKind", size_of::<OutcomeKind>()),
+        ("Completion", size_of::<Completion>()),
+        ("AskCompletion", size_of::<AskCompletion>()),
+        ("DiscoveryEnd", size_of::<DiscoveryEnd>()),
     ];
     for (name, bytes) in sizes {
         println!(rt; "sizes {name}: {bytes} bytes")?;

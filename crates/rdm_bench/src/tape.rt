@@ -7,18 +7,19 @@ ghost use Rattle.rdm_agent.specs.Run.{heard_by};
 use crate::fault::Fault;
 use arrayvec::ArrayVec;
 use rdm_agent::{Agent, DEFAULT_BUDGET, Kind, Op, OpReply};
+use rdm_join::LineReply;
 use rdm_wire::{
-    LONGEST_BRANCH_REPLY, LONGEST_PREAMBLE, MuteAck, Uid, UidRange, UidSet, read_branch_reply,
-    write_branch_reply,
+    Command, Device, Frame, LONGEST_BRANCH_REPLY, LONGEST_PREAMBLE, MuteAck, Uid, UidRange, UidSet,
+    encode_response, mute_response, read_branch_reply, read_command, write_branch_reply,
 };
 use std::alloc::Global;
 
 /// The bytes after a branch.
-pub type BranchBytes = ArrayVec<u8, LONGEST_BRANCH_REPLY>;
+pub(crate) type BranchBytes = ArrayVec<u8, LONGEST_BRANCH_REPLY>;
 
 /// What came after one operation.
 #[derive(Debug, Drop)]
-pub enum Taped {
+pub(crate) enum Taped {
     /// Nothing, after an unmute.
     Unmuted,
     /// Whether a mute was acknowledged.
@@ -29,7 +30,7 @@ pub enum Taped {
 
 impl Taped {
     /// What the agent is told of it.
-    pub fn reply(&self) -> OpReply {
+    pub(crate) fn reply(&self) -> OpReply {
         match self {
             Taped::Unmuted => OpReply::Done,
             Taped::Muted(true) => OpReply::Mute(Some(ACK)),
@@ -37,6 +38,34 @@ impl Taped {
             Taped::Branched(bytes) => OpReply::Branch(read_branch_reply(bytes)),
         }
     }
+
+    /// The bytes that come after this frame, which has to ask it.
+    pub(crate) fn answer(&self, frame: &Frame) -> Result<LineReply, Fault> {
+        match self {
+            Taped::Unmuted | Taped::Muted(false) => Ok(LineReply::new()),
+            Taped::Muted(true) => acknowledgement(frame),
+            Taped::Branched(bytes) => {
+                let mut reply = LineReply::new();
+                match reply.try_extend_from_slice(bytes) {
+                    Ok(()) => Ok(reply),
+                    Err(_) => Err(Fault::Unexpected("the length of a branch reply")),
+                }
+            }
+        }
+    }
+}
+
+// What the device answers that this frame mutes.
+fn acknowledgement(frame: &Frame) -> Result<LineReply, Fault> {
+    let Some((Command::Mute(uid), source, tn)) = read_command(frame) else {
+        return Err(Fault::Unexpected("read_command"));
+    };
+    let device = Device {
+        uid,
+        control: ACK.control,
+        binding: ACK.binding,
+    };
+    Ok(encode_response(&mute_response(&device, source, tn)))
 }
 
 // The acknowledgement that each device gives.
@@ -46,7 +75,7 @@ const ACK: MuteAck = MuteAck {
 };
 
 /// What a run hears on a line with these devices that loses nothing, one answer for each of its frames.
-pub fn tape(
+pub(crate) fn tape(
     alloc: Global,
     kind: Kind,
     known: &UidSet,
@@ -75,7 +104,7 @@ pub fn tape(
 }
 
 /// The agent hears the reply to this operation, which has to be what it asks next.
-pub fn hear(agent: &mut Agent, op: Op, reply: OpReply) -> Result<(), Fault>
+pub(crate) fn hear(agent: &mut Agent, op: Op, reply: OpReply) -> Result<(), Fault>
     requires { op ≡ next_op agent.old }
     ensures { OnOk result (agent.new ≡ fed agent.old (heard_by reply)) }
 {
@@ -88,7 +117,7 @@ pub fn hear(agent: &mut Agent, op: Op, reply: OpReply) -> Result<(), Fault>
 }
 
 /// How many devices a run found, which has to have ended without fault.
-pub fn found(agent: Agent) -> Result<usize, Fault> {
+pub(crate) fn found(agent: Agent) -> Result<usize, Fault> {
     let Op::End = agent.next() else {
         return Err(Fault::Unexpected("Agent::next"));
     };

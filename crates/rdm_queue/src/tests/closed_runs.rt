@@ -3,10 +3,17 @@ use super::lines::{event, first_device, run_of_one};
 use super::packets::{ACK, CLIENT, get, reply};
 use crate::{Answer, Config, Event, Log, Outcome, Session};
 use rdm_agent::{DEFAULT_BUDGET, Kind};
+use rdm_join::Status;
 use rdm_wire::Uid;
 use std::alloc::Global;
 use std::process::Abort;
 use std::test::Fail;
+
+/// The frame of the GET of the parameter `0060`, with number 10.
+const FRAME: [u8; 26] = [
+    0xcc, 0x01, 0x18, 0x12, 0x34, 0x00, 0x00, 0x00, 0x01, 0x7a, 0x70, 0x00, 0x00, 0x01, 0x00, 0x0a,
+    0x01, 0x00, 0x00, 0x00, 0x20, 0x00, 0x60, 0x00, 0x02, 0xa2,
+];
 
 /// How many events there are: seven, the ten exchanges of the run, that of the request, and three collects.
 const EVENTS: usize = 32;
@@ -140,22 +147,28 @@ fn a_whole_run(rt: HostRuntime) -> Result<(), Fail> {
     assert!(rt; matches!(&answers[3], Answer::Discover(Ok(0))));
     assert!(rt; matches!(&answers[4], Answer::Discover(Ok(1))));
     assert!(rt; matches!(&answers[5], Answer::Take(Ok(None))));
-    for place in 29..31_usize {
+    assert!(rt;
+        matches!(&answers[27], Answer::Take(Ok(Some(frame))) if frame.as_slice() == FRAME.as_slice())
+    );
+    for number in 0..2_u8 {
+        let place = 29 + usize::from(number);
         assert!(rt;
             matches!(
                 &answers[place],
-                Answer::Collect(Some(Outcome::Discovery { number: Some(_), done }))
-                    if done.run == 1 && done.fault.is_none() && done.set.contains(first_device())
+                Answer::Collect(Some(Outcome::Discovery { number: Some(own), done }))
+                    if *own == u64::from(number)
+                        && done.run == 1
+                        && done.fault.is_none()
+                        && done.set.len() == 1
+                        && done.set.contains(first_device())
             )
         );
     }
     assert!(rt;
         matches!(
             &answers[31],
-            Answer::Collect(Some(Outcome::Request {
-                number: Some(0),
-                ..
-            }))
+            Answer::Collect(Some(Outcome::Request { number: Some(0), done }))
+                if done.status == Status::Completed && done.bytes.as_slice() == [0x5a].as_slice()
         )
     );
     assert_eq!(rt; session.log().entries().len(), 35);

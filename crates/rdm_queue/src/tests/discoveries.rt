@@ -1,15 +1,16 @@
 //! Discoveries, which runs serve.
 use super::lines::{
-    Came, asks, discovers, exchanges, first_device, number_of, rest_of_run, run_of_one, serves,
-    session_for_runs, session_with_budget,
+    Came, asks, discovers, event, exchanges, first_device, number_of, rest_of_run, run_of_one,
+    serves, session_for_runs, session_with_budget,
 };
 use super::packets::{
     ACK, CLIENT, accepts, collected, delivers, get, is_none_taken, reply, silence, taken,
 };
-use crate::{AskFault, ClientId};
+use crate::{AskFault, ClientId, Outcome};
+use arrayvec::ArrayVec;
 use rdm_agent::{AgentFault, Kind};
-use rdm_join::{LineEvent, Status};
-use rdm_wire::Uid;
+use rdm_join::{LineEvent, LineReply, Status};
+use rdm_wire::{Device, Uid};
 use std::alloc::Global;
 use std::process::Abort;
 use std::test::Fail;
@@ -19,6 +20,27 @@ const UNMUTE: u16 = 0x0003;
 const MUTE: u16 = 0x0002;
 
 const BRANCH: u16 = 0x0001;
+
+/// An unmute of all devices, with number 0.
+const FIRST_UNMUTE: [u8; 26] = [
+    0xcc, 0x01, 0x18, 0xff, 0xff, 0xff, 0xff, 0xff, 0xff, 0x7a, 0x70, 0x00, 0x00, 0x01, 0x00, 0x00,
+    0x01, 0x00, 0x00, 0x00, 0x10, 0x00, 0x03, 0x00, 0x07, 0xde,
+];
+
+/// A branch of all UIDs, with number 3.
+const FIRST_BRANCH: [u8; 38] = [
+    0xcc, 0x01, 0x24, 0xff, 0xff, 0xff, 0xff, 0xff, 0xff, 0x7a, 0x70, 0x00, 0x00, 0x01, 0x00, 0x03,
+    0x01, 0x00, 0x00, 0x00, 0x10, 0x00, 0x01, 0x0c, 0x00, 0x00, 0x00, 0x00, 0x00, 0x00, 0xff, 0xff,
+    0xff, 0xff, 0xff, 0xff, 0x0d, 0xf1,
+];
+
+/// What `1234:00000001` answers to the mute with number 4: its control field is 0002, and its binding UID
+/// `1234:00000005`.
+const REPORT: [u8; 34] = [
+    0xcc, 0x01, 0x20, 0x7a, 0x70, 0x00, 0x00, 0x01, 0x00, 0x12, 0x34, 0x00, 0x00, 0x00, 0x01, 0x04,
+    0x00, 0x00, 0x00, 0x00, 0x11, 0x00, 0x02, 0x08, 0x00, 0x02, 0x12, 0x34, 0x00, 0x00, 0x00, 0x05,
+    0x02, 0x8b,
+];
 
 #[test]
 fn one_run_answers_all_that_are_asked(rt: HostRuntime) -> Result<(), Fail> {
@@ -315,5 +337,110 @@ fn noise_everywhere_is_corrupt(rt: HostRuntime) -> Result<(), Fail> {
     );
     let corrupt = Some(AgentFault::Corrupt(Uid::new(0, 0)));
     discovers(&rt, &mut session, 0, 1, corrupt, &[]);
+    Ok(())
+}
+
+#[test]
+fn eight_frames_suffice_for_an_empty_line(rt: HostRuntime) -> Result<(), Fail> {
+    let mut session = session_with_budget(&rt, rt.alloc(), 8)?;
+    assert_eq!(rt; session.discover(CLIENT, Kind::Full), Ok(0));
+    serves(
+        &rt,
+        rt.alloc(),
+        &mut session,
+        0,
+        [Came::Nothing; 8].as_slice(),
+    );
+    discovers(&rt, &mut session, 0, 1, None, &[]);
+    assert_eq!(rt; session.devices_run(), 1);
+    assert!(rt; is_none_taken(&mut session) && session.is_idle());
+    Ok(())
+}
+
+#[test]
+fn a_device_too_many_ends_a_run(rt: HostRuntime) -> Result<(), Fail> {
+    let mut session = session_for_runs(&rt, rt.alloc())?;
+    assert_eq!(rt; session.discover(CLIENT, Kind::Full), Ok(0));
+    serves(
+        &rt,
+        rt.alloc(),
+        &mut session,
+        0,
+        [Came::Nothing; 3].as_slice(),
+    );
+    let mut tn = 3_u8;
+    for number in 0..1025_u32 {
+        let device = Uid::new(0x1234, number);
+        for came in [Came::Spelt(device), Came::Muted(device)] {
+            exchanges(&rt, rt.alloc(), &mut session, tn, came);
+            tn = tn.wrapping_add(1);
+        }
+    }
+    // A join, an ask, 2,053 frames with their replies, and the answer.
+    assert_eq!(rt; session.log().entries().len(), 4109);
+    let outcome = session.next_outcome(CLIENT);
+    assert!(rt;
+        matches!(
+            &outcome,
+            Some(Outcome::Discovery { number: Some(0), done })
+                if done.run == 1
+                    && done.fault == Some(AgentFault::TooMany)
+                    && done.set.len() == 1024
+                    && !done.set.contains(Uid::new(0x1234, 1024))
+        )
+    );
+    assert!(rt; session.devices().len() == 0 && session.devices_run() == 0);
+    assert!(rt; is_none_taken(&mut session));
+    Ok(())
+}
+
+#[test]
+fn a_run_reports_what_devices_say_of_themselves(rt: HostRuntime) -> Result<(), Fail> {
+    let mut session = session_for_runs(&rt, rt.alloc())?;
+    assert_eq!(rt; session.discover(CLIENT, Kind::Full), Ok(0));
+    assert_eq!(rt;
+        taken(&rt, &mut session).as_slice(),
+        FIRST_UNMUTE.as_slice()
+    );
+    delivers(&rt, rt.alloc(), &mut session, silence());
+    serves(
+        &rt,
+        rt.alloc(),
+        &mut session,
+        1,
+        [Came::Nothing; 2].as_slice(),
+    );
+    assert_eq!(rt;
+        taken(&rt, &mut session).as_slice(),
+        FIRST_BRANCH.as_slice()
+    );
+    let spelt = event(&rt, 3, Came::Spelt(first_device()));
+    delivers(&rt, rt.alloc(), &mut session, spelt);
+    let mute = taken(&rt, &mut session);
+    assert!(rt; asks(&mute, MUTE) && number_of(&mute) == Some(4));
+    let mut report: LineReply = ArrayVec::new();
+    assert!(rt; report.try_extend_from_slice(&REPORT).is_ok());
+    delivers(&rt, rt.alloc(), &mut session, LineEvent::Reply(report));
+    serves(
+        &rt,
+        rt.alloc(),
+        &mut session,
+        5,
+        [Came::Nothing; 5].as_slice(),
+    );
+    let found = Device {
+        uid: first_device(),
+        control: 0x0002,
+        binding: Some(Uid::new(0x1234, 5)),
+    };
+    let outcome = session.next_outcome(CLIENT);
+    assert!(rt;
+        matches!(
+            &outcome,
+            Some(Outcome::Discovery { number: Some(0), done })
+                if done.set.len() == 1 && done.set.get(first_device()) == Some(found)
+        )
+    );
+    assert_eq!(rt; session.devices().get(first_device()), Some(found));
     Ok(())
 }

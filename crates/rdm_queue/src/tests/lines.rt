@@ -67,7 +67,7 @@ pub fn session_with_budget(rt: &impl Abort, alloc: Global, budget: u64) -> Resul
         places: 4,
         budget: budget.max(1),
     };
-    let log = Log::new(alloc, 400)?;
+    let log = Log::new(alloc, 5000)?;
     let mut session = Session::new(alloc, config, log).map_err(|(fault, _)| fault)?;
     assert_eq!(rt; session.join_client(alloc, 4), Ok(CLIENT));
     Ok(session)
