@@ -1,29 +1,23 @@
--- A block whose Answers are in bound grows by an entry.
-use Rattle.std.proofs.Common.{◌≡◌, List, [], ◌∷◌, ◌++◌, ap, ◌∙◌, append_assoc, append-nil}
-use Rattle.rdm_join.specs.declared.event.LineEvent.{LineEvent}
+-- Blocks whose Answers are in bound.
+use Rattle.std.proofs.Common.{◌≡◌, List, [], ◌∷◌, ◌++◌, append_assoc, append-nil}
 use Rattle.rdm_queue.specs.declared.entry.Opening.{Opening}
 use Rattle.rdm_queue.specs.declared.entry.Entry.{Entry}
-use Rattle.rdm_queue.specs.declared.entry.Entry.TheVariants.{Came}
 use Rattle.rdm_queue.specs.log.LogState.{LogState, grown}
-use Rattle.rdm_queue.specs.promises.Blocks.{GrowsBy}
 use Rattle.rdm_queue.specs.promises.InBound.{FaultNeedsClose, AnswersInBound}
-use Rattle.rdm_queue.proofs.BodyLemmas.SessionLemmas.{grown_twice}
 
--- an entry more
+-- a block after a block
+pub both_in_bound : (o : Opening) (h block more : List Entry) → AnswersInBound o h block → AnswersInBound o (h ++ block) more → AnswersInBound o h (block ++ more)
+both_in_bound o h [] more all later = rw append-nil at later
+both_in_bound o h (x ∷ block) more all later = (all.0, both_in_bound o (h ++ x ∷ []) block more all.1 (rw (← append_assoc h (x ∷ []) block) at later))
+
 pub block_more : (o : Opening) (h block : List Entry) (e : Entry) → AnswersInBound o h block → FaultNeedsClose o (h ++ block) e → AnswersInBound o h (block ++ e ∷ [])
-block_more o h [] e all is = (rw append-nil at is, tt)
-block_more o h (x ∷ block) e all is = (all.0, block_more o (h ++ x ∷ []) block e all.1 (rw (← append_assoc h (x ∷ []) block) at is))
+block_more o h block e all is = both_in_bound o h block (e ∷ []) all (is, tt)
 
-pub entry_more : (old log new : LogState) (e : Entry) → GrowsBy old (AnswersInBound old.opening old.entries) log → FaultNeedsClose log.opening log.entries e → new ≡ grown log (e ∷ []) → GrowsBy old (AnswersInBound old.opening old.entries) new
-entry_more old log new e so_far is grows = record {
-  block = so_far.block ++ e ∷ [];
-  adds = block_more old.opening old.entries so_far.block e so_far.adds (rw so_far.grows at is);
-  grows = grows ∙ ap (λ k. grown k (e ∷ [])) so_far.grows ∙ grown_twice old so_far.block (e ∷ []);
-}
+-- a block after a log that grew
+pub after_growth : (old log : LogState) (block more : List Entry) → log ≡ grown old block → AnswersInBound log.opening log.entries more → AnswersInBound old.opening (old.entries ++ block) more
+after_growth old log block more is all = rw is at all
 
--- what came is no Answer
-pub came_before : (old log new : LogState) (event : LineEvent) → log ≡ grown old (Came event ∷ []) → GrowsBy log (AnswersInBound log.opening log.entries) new → GrowsBy old (AnswersInBound old.opening old.entries) new
-came_before old log new event is later = by_grown (rw is at later)
-  where
-    by_grown : GrowsBy (grown old (Came event ∷ [])) (AnswersInBound old.opening (old.entries ++ Came event ∷ [])) new → GrowsBy old (AnswersInBound old.opening old.entries) new
-    by_grown more = record { block = Came event ∷ more.block; adds = (tt, more.adds); grows = more.grows ∙ grown_twice old (Came event ∷ []) more.block }
+-- an entry within a block
+pub within_block : (o : Opening) (h front : List Entry) (e : Entry) (back : List Entry) → AnswersInBound o h (front ++ e ∷ back) → FaultNeedsClose o (h ++ front) e
+within_block o h [] e back all = rw append-nil all.0
+within_block o h (x ∷ front) e back all = rw (append_assoc h (x ∷ []) front) at (within_block o (h ++ x ∷ []) front e back all.1)

@@ -21,6 +21,7 @@ pub mod ClosedEvents
 pub mod QuietEvents
 pub mod RisingNumbers
 pub mod CollectedEvents
+pub mod EventsInBound
 pub mod OwnOutcomes
 pub mod DiscoverEvents
 pub mod EventsPromises

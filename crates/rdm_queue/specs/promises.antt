@@ -1,9 +1,10 @@
 -- What each call adds to a log, how a log explains answers, and what clients are promised.
 pub mod Outcomes
+pub mod InBound
 pub mod Blocks
+pub mod EachLog
 pub mod Explains
 pub mod Headline
 pub mod Discoveries
-pub mod InBound
 pub mod Promised
 pub mod EventsHeadline

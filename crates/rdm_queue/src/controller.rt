@@ -41,11 +41,10 @@ impl Controller {
     ghost use Rattle.rdm_queue.specs.log.LogState.{opened, opening_after};
     ghost use Rattle.rdm_queue.specs.promises.Blocks.{JoinAdds, SubmitAdds, PauseAdds, ResumeAdds, CloseAdds};
     ghost use Rattle.rdm_queue.specs.promises.Blocks.{DiscoverAdds, TakeAdds, DeliverAdds, CollectAdds, is_result};
-    ghost use Rattle.rdm_queue.specs.promises.Blocks.{IsWithResults};
-    ghost use Rattle.rdm_queue.specs.body.Agrees.{StandsAfter, StandsAmid, ForEachLog, ForEachBlock, AddsToEach};
-    ghost use Rattle.rdm_queue.specs.body.Agrees.{FinishesAll};
+    ghost use Rattle.rdm_queue.specs.promises.EachLog.{ForEachLog, AddsToEach};
+    ghost use Rattle.rdm_queue.specs.body.Agrees.{StandsAfter, StandsAmid, ForEachBlock, FinishesAll};
     ghost use Rattle.rdm_queue.specs.body.State.{unended, uncollected};
-    ghost use Rattle.rdm_queue.specs.promises.InBound.{FaultNeedsClose, AnswersInBound};
+    ghost use Rattle.rdm_queue.specs.promises.InBound.{FaultNeedsClose};
     ghost use Rattle.rdm_queue.specs.log.Runs.{known_devices, devices_run};
     ghost use Rattle.rdm_queue.specs.promises.Outcomes.{oldest_kind, request_outcome, discovery_outcome};
     ghost use Rattle.rdm_queue.specs.declared.outcome.OutcomeKind.TheVariants as kinds;
@@ -62,7 +61,7 @@ impl Controller {
         })
     }
 
-    /// Lets a client join, with so many places: how many requests it may have outstanding, from their acceptance
+    /// Lets a client join, with this many places: how many requests it may have outstanding, from their acceptance
     /// until their outcomes are collected. The memory for them is reserved here.
     /// Err: the first fault that stands; nothing has changed.
     pub fn join_client(&mut self, alloc: Global, places: u8) -> Result<ClientId, JoinFault>
@@ -85,8 +84,8 @@ impl Controller {
         self.queue.submit(client, request)
     }
 
-    /// Accepts a client's discovery, and gives its number. A run serves all discoveries that are asked when it begins: a
-    /// full one where one of them is, else an incremental one, which mutes the devices known first.
+    /// Accepts a client's discovery, and gives its number. A run serves all discoveries that are asked when it begins.
+    /// It is a full one where one of them is, else an incremental one, which mutes the devices known first.
     /// Err: the first fault that stands; nothing has changed.
     pub fn discover(&mut self, client: ClientId, kind: Kind) -> Result<u64, AskFault>
         ensures adds { AddsToEach self.old (λ o h. DiscoverAdds o h client kind result) self.new }
@@ -95,8 +94,8 @@ impl Controller {
         self.queue.discover(client, kind)
     }
 
-    /// Sends nothing more until `resume`; a run that has begun goes on, and a reply that is
-    /// awaited is still taken. Without effect where it is paused or closed.
+    /// Begins no run and sends no request until `resume`; a run that has begun goes on, and a reply that is awaited is
+    /// still taken. Without effect where it is paused or closed.
     pub fn pause(&mut self)
         ensures adds { AddsToEach self.old PauseAdds self.new }
         ensures unchanged { ForEachLog self.old (λ o h. can_pause o h ≡ false → self.new ≡ self.old) }
@@ -106,7 +105,7 @@ impl Controller {
         }
     }
 
-    /// Sends again. Without effect where it isn't paused, or is closed.
+    /// Begins runs and sends requests again. Without effect where it isn't paused, or is closed.
     pub fn resume(&mut self)
         ensures adds { AddsToEach self.old ResumeAdds self.new }
         ensures unchanged { ForEachLog self.old (λ o h. can_resume o h ≡ false → self.new ≡ self.old) }
@@ -116,10 +115,10 @@ impl Controller {
         }
     }
 
-    /// Refuses all later joins, submits and discovers, and sends nothing more. Where no reply is awaited, all is ended at
-    /// once; else `deliver` does so. In this order: the discoveries of a run that has begun, with Aborted; the requests
-    /// that wait, with status FailedToSend; the other discoveries, with Aborted and run 0. Without effect where it is
-    /// closed.
+    /// Refuses all later joins, submits and discovers, and sends nothing more. Where no reply is awaited, all is ended
+    /// at once; else `deliver` does so. In this order: the discoveries of a run that has begun, with Aborted; the
+    /// requests that wait, with status FailedToSend; the other discoveries, with Aborted and run 0. Without effect where
+    /// it is closed.
     pub fn close(&mut self)
         ensures adds { AddsToEach self.old CloseAdds self.new }
         ensures unchanged { ForEachLog self.old (λ o h. is_closed o h ≡ true → self.new ≡ self.old) }
@@ -130,10 +129,9 @@ impl Controller {
         }
     }
 
-    /// The next frame for the line, with the next transaction number, modulo 256, and port id 1. It is the first of these
-    /// that there is:
-    /// - what a run that has begun asks next;
-    /// - where sending isn't paused, the request that is between two parts;
+    /// The next frame for the line, with the next transaction number, modulo 256, and port id 1. It is what a run that
+    /// has begun asks next; and, where sending isn't paused, the first of these:
+    /// - the request that is between two parts;
     /// - the first unmute of a run for all discoveries that are asked;
     /// - the oldest request that isn't finished.
     ///
@@ -147,15 +145,13 @@ impl Controller {
     }
 
     /// Takes what the line answered to the last frame. A request is finished where that decides its result; where its
-    /// joined data find no memory, with status NoMemory. A run that ends answers all its discoveries alike, in the order
-    /// asked, and without fault its devices are those that `devices` gives. After a close, all else is then ended too,
-    /// as `close` does it. On an honest line with at most 1,024 devices that stay, and with a budget as the bound on
-    /// frames asks, a discovery that it answers has a fault only after a failure or a close.
+    /// joined data find no memory, with status NoMemory. A run that ends answers all its discoveries alike, in the
+    /// order asked, and without fault its devices are those that `devices` gives. After a close, all else is then ended
+    /// too, as `close` does it. On an honest line with at most 1,024 devices that stay, and with a budget as the bound
+    /// on frames asks, a discovery that it answers has a fault only after a failure or a close.
     /// Err: no reply is awaited; nothing has changed, and the event comes back.
     pub fn deliver(&mut self, alloc: Global, event: LineEvent) -> Result<(), (NotAsked, LineEvent)>
-        ensures adds { AddsToEach self.old (λ o h. DeliverAdds h event result) self.new }
-        ensures in_bound { IfOk result (λ done. AddsToEach self.old
-            (λ o h block. IsWithResults (Came event) block × AnswersInBound o h block) self.new) }
+        ensures adds { AddsToEach self.old (λ o h. DeliverAdds o h event result) self.new }
         ensures unchanged { IfErr result (λ e. (e.1 ≡ event) × (self.new ≡ self.old)) }
     {
         if !self.awaits() {
@@ -175,7 +171,8 @@ impl Controller {
         self.queue.next_outcome(client)
     }
 
-    /// Of which kind a client's oldest outcome is that it hasn't collected. None where there is none, or no such client.
+    /// Of which kind a client's oldest outcome is that it hasn't collected. None where there is none, or no such
+    /// client.
     pub fn oldest(&self, client: ClientId) -> Option<OutcomeKind>
         ensures { ForEachLog self.now (λ o h. result ≡ oldest_kind o h client.0) }
     {

@@ -26,7 +26,7 @@ pub struct ClientId(pub u8);
 /// A call that was refused, with what it was given (profile of this project).
 #[derive(Debug, Drop)]
 pub enum Call {
-    /// A join with so many places.
+    /// A join with this many places.
     Join(u8),
     /// A submit of this request.
     Submit(Request),

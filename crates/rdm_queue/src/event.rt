@@ -10,7 +10,7 @@ use std::mem::size_of;
 /// A call of a session (profile of this project).
 #[derive(Debug, Drop)]
 pub enum Event {
-    /// A client joins, with so many places.
+    /// A client joins, with this many places.
     Join(u8),
     /// A client submits a request.
     Submit(ClientId, Request),

@@ -34,8 +34,8 @@ impl Session {
         }
     }
 
-    /// Answers each event by its call, in order, and gives the answers: one for each event. Each takes 32,848 bytes, since
-    /// it has room for the set of a discovery; `answer` gives one at a time.
+    /// Answers each event by its call, in order, and gives the answers: one for each event. Each takes 32,848 bytes,
+    /// since it has room for the set of a discovery; `answer` gives one at a time.
     /// Err: there was no memory for the answers; the session is unchanged, and no call was made.
     pub fn run(&mut self, alloc: Global, events: &[Event]) -> Result<Vec<Answer>, NoMemory>
         ensures explains { IfOk result (λ answers. Explains self.old events.now answers.items self.new) }

@@ -1,8 +1,6 @@
 //! A controller that keeps a log of all that it does.
 ghost use Rattle.std.specs.Prelude.{◌≡◌, if◌then◌else◌};
 ghost use Rattle.rdm_queue.specs.log.LogState.{opened};
-ghost use Rattle.rdm_queue.specs.promises.Blocks.{GrowsBy};
-ghost use Rattle.rdm_queue.specs.promises.InBound.{AnswersInBound};
 ghost use Rattle.rdm_queue.specs.body.SessionInvariant.{SessionAmid, FinishesDue};
 
 use crate::config::Config;
@@ -49,7 +47,6 @@ impl Session {
     ghost use Rattle.rdm_queue.specs.promises.Blocks.{JoinLogs, SubmitLogs, PauseLogs, ResumeLogs, TakeLogs};
     ghost use Rattle.rdm_queue.specs.log.Runs.{known_devices, devices_run};
     ghost use Rattle.rdm_queue.specs.promises.Blocks.{DiscoverLogs, CloseAdds, DeliverAdds, CollectAdds, GrowsBy};
-    ghost use Rattle.rdm_queue.specs.promises.InBound.{AnswersInBound};
     ghost use Rattle.rdm_queue.specs.promises.Outcomes.{oldest_kind, request_outcome, discovery_outcome};
     ghost use Rattle.rdm_queue.specs.declared.outcome.OutcomeKind.TheVariants as kinds;
     ghost use Rattle.rdm_queue.specs.body.Agrees.{StandsAfter};
@@ -234,9 +231,7 @@ impl Session {
     /// only after a failure or a close.
     /// Err: no reply is awaited; nothing has changed, and the event comes back.
     pub fn deliver(&mut self, alloc: Global, event: LineEvent) -> Result<(), (NotAsked, LineEvent)>
-        ensures adds { GrowsBy self.old (DeliverAdds self.old.entries event result) self.new }
-        ensures in_bound { IfOk result (λ done. GrowsBy self.old (AnswersInBound self.old.opening self.old.entries)
-            self.new) }
+        ensures adds { GrowsBy self.old (DeliverAdds self.old.opening self.old.entries event result) self.new }
         ensures legal { Legal self.new.opening self.new.entries }
     {
         if !self.controller.awaits() {
@@ -259,7 +254,8 @@ impl Session {
         Some(outcome)
     }
 
-    /// Of which kind a client's oldest outcome is that it hasn't collected. None where there is none, or no such client.
+    /// Of which kind a client's oldest outcome is that it hasn't collected. None where there is none, or no such
+    /// client.
     pub fn oldest(&self, client: ClientId) -> Option<OutcomeKind>
         ensures { result ≡ oldest_kind self.now.opening self.now.entries client.0 }
     {
@@ -433,8 +429,7 @@ fn opening_of(config: &Config) -> Opening
 // Ends all that is due, with an entry for each.
 fn finish_due(controller: &mut Controller, log: &mut Log)
     requires { SessionAmid controller.old log.old }
-    ensures due { FinishesDue log.old controller.new log.new }
-    ensures in_bound { GrowsBy log.old (AnswersInBound log.old.opening log.old.entries) log.new }
+    ensures { FinishesDue log.old controller.new log.new }
 {
     while let Some(entry) = controller.finish_next() {
         log.append(entry);

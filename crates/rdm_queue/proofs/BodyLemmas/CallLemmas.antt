@@ -31,7 +31,8 @@ use Rattle.rdm_queue.specs.log.Entries.{Accepted}
 use Rattle.rdm_join.specs.Result.{Joined}
 use Rattle.std.proofs.lemmas.Option.{none-some}
 use Rattle.std.proofs.Common.{drop, arith}
-use Rattle.rdm_queue.specs.body.Agrees.{StandsAfter, StandsAmid, StandsWith, ForEachLog, ForEachBlock, AddsToEach, FinishesAll}
+use Rattle.rdm_queue.specs.body.Agrees.{StandsAfter, StandsAmid, ForEachBlock, FinishesAll}
+use Rattle.rdm_queue.specs.promises.EachLog.{ForEachLog, StandsWith, AddsToEach}
 use Rattle.rdm_queue.specs.log.MaySend.{MaySend, NoSend}
 use Rattle.rdm_queue.specs.body.Sending.{IsGiven, to_send}
 use Rattle.std.proofs.lemmas.Bool.{false≢true}

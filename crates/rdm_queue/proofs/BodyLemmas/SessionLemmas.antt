@@ -10,11 +10,13 @@ use Rattle.rdm_queue.specs.log.Entries.{accepts, asks, finishes, answers, collec
 use Rattle.rdm_queue.specs.log.History.{is_closed, awaited, reserved}
 use Rattle.rdm_queue.specs.log.LogState.{LogState, grown, free_entries, is_full_log, opened}
 use Rattle.rdm_queue.specs.promises.Blocks.{UnlessFull, is_result, AllResults, IsWithResults, CloseAdds, DeliverAdds, GrowsBy}
+use Rattle.rdm_queue.specs.promises.InBound.{FaultNeedsClose, AnswersInBound}
 use Rattle.rdm_queue.specs.body.State.{QueueState}
 use Rattle.rdm_queue.specs.body.Agrees.{StandsAfter, StandsAmid}
 use Rattle.rdm_queue.specs.body.SessionInvariant.{HasRoom, SessionInvariant, SessionAmid, FinishesDue}
 use Rattle.rdm_wire.specs.Lists.{EachAfter}
 use Rattle.rdm_queue.specs.log.Legal.{MayFollow}
+use Rattle.rdm_queue.proofs.BoundLemmas.{after_growth}
 use Rattle.rdm_queue.proofs.LogLemmas.RoomLemmas.{added, added_by, taken_block}
 
 -- a block within the free entries
@@ -80,16 +82,16 @@ pub session_first : (s : QueueState) (config : Config) (room : ℕ) → 1 ≤ ro
 unfolding accepts asks finishes answers collectors awaited is_closed
 session_first s config room some after = record { after = after; room = omega (arith, some) }
 
--- an entry, and then what was due
-pub then_due : (old log new : LogState) (e : Entry) (s : QueueState) → log ≡ grown old (e ∷ []) → FinishesDue log s new → GrowsBy old (IsWithResults e) new
-then_due old log new e s is due = record {
+-- an entry that is no Answer, and then what was due
+pub then_due : (old log new : LogState) (e : Entry) (s : QueueState) → FaultNeedsClose old.opening old.entries e → log ≡ grown old (e ∷ []) → FinishesDue log s new → GrowsBy old (λ block. IsWithResults e block × AnswersInBound old.opening old.entries block) new
+then_due old log new e s none is due = record {
   block = e ∷ due.results;
-  adds = record { results = due.results; whole = refl; each = due.each };
+  adds = (record { results = due.results; whole = refl; each = due.each }, (none, after_growth old log (e ∷ []) due.results is due.in_bound));
   grows = due.grows ∙ ap (λ k. grown k due.results) is ∙ grown_twice old (e ∷ []) due.results;
 }
 
-pub close_adds : (old new : LogState) → is_closed old.opening old.entries ≡ false → GrowsBy old (IsWithResults Close) new → GrowsBy old (CloseAdds old.opening old.entries) new
-close_adds old new open_ is = record { block = is.block; adds = rw open_ is.adds; grows = is.grows }
+pub close_adds : (old new : LogState) → is_closed old.opening old.entries ≡ false → GrowsBy old (λ block. IsWithResults Close block × AnswersInBound old.opening old.entries block) new → GrowsBy old (CloseAdds old.opening old.entries) new
+close_adds old new open_ is = record { block = is.block; adds = rw open_ is.adds.0; grows = is.grows }
 
-pub deliver_adds : (old new : LogState) (event : LineEvent) → awaited old.entries ≡ true → GrowsBy old (IsWithResults (Came event)) new → GrowsBy old (DeliverAdds old.entries event (Ok tt)) new
-deliver_adds old new event waits is = record { block = is.block; adds = (waits, is.adds); grows = is.grows }
+pub deliver_adds : (old new : LogState) (event : LineEvent) → awaited old.entries ≡ true → GrowsBy old (λ block. IsWithResults (Came event) block × AnswersInBound old.opening old.entries block) new → GrowsBy old (DeliverAdds old.opening old.entries event (Ok tt)) new
+deliver_adds old new event waits is = record { block = is.block; adds = (waits, is.adds.0, is.adds.1); grows = is.grows }

@@ -36,6 +36,7 @@ use Rattle.rdm_queue.proofs.PromiseLemmas.BlockLemmas.{submit_ok, submit_full}
 use Rattle.rdm_queue.proofs.PromiseLemmas.OwnOutcomes.{own_outcome, reports_the_line}
 use Rattle.rdm_queue.proofs.PromiseLemmas.DiscoverEvents.{asked, discovery_contained, most, collected_by}
 use Rattle.rdm_queue.proofs.PromiseLemmas.CollectedEvents.{collected_once}
+use Rattle.rdm_queue.proofs.PromiseLemmas.EventsInBound.{in_bound}
 use Rattle.rdm_queue.proofs.PromiseLemmas.ClosedEvents.{closes, nothing_after, nothing_closed}
 use Rattle.rdm_queue.proofs.PromiseLemmas.QuietEvents.{idle_after}
 use Rattle.rdm_queue.proofs.PromiseLemmas.RisingNumbers.{numbers_rise, asks_rise}
@@ -123,4 +124,5 @@ events_promised old es rs new explains legal = record {
   collected = collected old es rs new explains legal;
   reported = reported old es rs new explains legal;
   collected_once = collected_once old es rs new explains legal.each;
+  in_bound = in_bound old es rs new explains legal.each;
 }

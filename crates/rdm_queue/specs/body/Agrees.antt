@@ -18,8 +18,8 @@ use Rattle.rdm_queue.specs.declared.queue.Awaited.TheVariants as awaiting
 use Rattle.rdm_queue.specs.log.Entries.{Sending, Answered, sends, finishes, answers, collectors, verdicts}
 use Rattle.rdm_queue.specs.log.History.{awaited, is_paused, is_closed, places, next_request, next_ask, next_tn}
 use Rattle.rdm_queue.specs.log.History.{unfinished, unanswered, was_sent}
-use Rattle.rdm_queue.specs.log.Runs.{entries_before_run, last_run, next_run, open_run, is_answered, asked_before, run_kind, known_at_run}
-use Rattle.rdm_queue.specs.log.Runs.{run_exchanges, known_devices, devices_run}
+use Rattle.rdm_queue.specs.log.Runs.{entries_before_run, last_run, next_run, open_run, is_answered, asked_before}
+use Rattle.rdm_queue.specs.log.Runs.{run_kind, known_at_run, run_exchanges, known_devices, devices_run}
 use Rattle.rdm_queue.specs.log.Clients.{uncollected}
 use Rattle.rdm_wire.specs.Lists.{EachAfter}
 use Rattle.rdm_queue.specs.log.Legal.{MayFollow, Legal}
@@ -65,7 +65,8 @@ IsPending o h s (Some (awaiting.Run tn)) = AwaitsRun o h s tn
 pub record IsRunning (o : Opening) (h : List Entry) (s : QueueState) (r : RunState) : Type 0 where
   pub last : last_run h ≡ Some r.number
   pub aborted : Bool
-  pub has_run : HasRun (run_kind r.number h) (known_at_run o r.number h) o.budget aborted (run_exchanges r.number h) s.agent
+  pub has_run : HasRun (run_kind r.number h) (known_at_run o r.number h) o.budget aborted (run_exchanges r.number h)
+      s.agent
   pub stopped : aborted ≡ true → (is_closed o h ≡ true) × (awaited h ≡ false)
   -- what it serves are the first of those that aren't answered
   pub left : asked_before (last_run h) h ≡ length (answers h) + r.left
@@ -131,22 +132,9 @@ pub record StandsAmid (o : Opening) (h : List Entry) (s : QueueState) : Type 0 w
   pub each : EachAfter (MayFollow o) h
   pub stands : Agrees o h s
 
--- what holds of each log that a queue stands after, and of each that it stands amid
-abbrev pub ForEachLog : QueueState → (Opening → List Entry → Type 0) → Type 0
-ForEachLog s P = (o : Opening) (h : List Entry) → StandsAfter o h s → P o h
-
+-- what holds of each log that a queue stands amid
 abbrev pub ForEachBlock : QueueState → (Opening → List Entry → Type 0) → Type 0
 ForEachBlock s P = (o : Opening) (h : List Entry) → StandsAmid o h s → P o h
-
--- after the log the queue stands with a block more, of which this holds
-pub record StandsWith (o : Opening) (h : List Entry) (Adds : List Entry → Type 0) (new : QueueState) : Type 0 where
-  pub block : List Entry
-  pub adds : Adds block
-  pub after : StandsAfter o (h ++ block) new
-
--- whatever the log is that old stands after, new stands after it with a block more, of which this holds
-abbrev pub AddsToEach : QueueState → (Opening → List Entry → List Entry → Type 0) → QueueState → Type 0
-AddsToEach old Adds new = ForEachLog old (λ o h. StandsWith o h (Adds o h) new)
 
 -- Finishes and Answers, until nothing is due; the Answers are in bound
 pub record FinishesAll (o : Opening) (h : List Entry) (new : QueueState) : Type 0 where

@@ -1,7 +1,7 @@
 -- What a log keeps of its memory.
 use Rattle.std.specs.Prelude.{ℕ, ◌≤◌}
 
--- so many entries stand in a room for at least one, for all of which there is memory
+-- this many entries stand in a room for at least one, for all of which there is memory
 pub record LogInvariant (room len capacity : ℕ) : Type 0 where
   pub some : 1 ≤ room
   pub within : len ≤ room

@@ -4,6 +4,7 @@ use Rattle.rdm_queue.specs.declared.entry.Entry.{Entry}
 use Rattle.rdm_queue.specs.log.History.{reserved}
 use Rattle.rdm_queue.specs.log.LogState.{LogState, grown}
 use Rattle.rdm_queue.specs.promises.Blocks.{AllResults}
+use Rattle.rdm_queue.specs.promises.InBound.{AnswersInBound}
 use Rattle.rdm_queue.specs.body.State.{QueueState}
 use Rattle.rdm_queue.specs.body.Agrees.{StandsAmid, StandsAfter}
 
@@ -21,9 +22,10 @@ pub record SessionAmid (s : QueueState) (k : LogState) : Type 0 where
   pub amid : StandsAmid k.opening k.entries s
   pub room : HasRoom k
 
--- what was due is finished: the log has a Finish more for each, and the session is whole again
+-- what was due is finished: the log has a Finish or an Answer more for each, and the session is whole again
 pub record FinishesDue (old : LogState) (s : QueueState) (new : LogState) : Type 0 where
   pub results : List Entry
   pub each : AllResults results
+  pub in_bound : AnswersInBound old.opening old.entries results
   pub grows : new ≡ grown old results
   pub kept : SessionInvariant s new

@@ -19,7 +19,7 @@ grown k block = record k { entries = k.entries ++ block }
 abbrev pub free_entries : LogState → ℕ
 free_entries k = free_room k.room k.opening k.entries
 
--- so many entries have to be free for each call that a full log refuses
+-- three entries have to be free for each call that a full log refuses
 abbrev pub is_full_log : LogState → Bool
 is_full_log k = nat_lt (free_entries k) 3
 

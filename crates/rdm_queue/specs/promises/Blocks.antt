@@ -30,6 +30,7 @@ use Rattle.rdm_queue.specs.log.Refusals.{number_of_submit_fault, number_of_ask_f
 use Rattle.rdm_queue.specs.log.MaySend.{MaySend, NoSend}
 use Rattle.rdm_queue.specs.log.LogState.{LogState, grown, is_full_log}
 use Rattle.rdm_queue.specs.promises.Outcomes.{outcome_value, outcome_of}
+use Rattle.rdm_queue.specs.promises.InBound.{AnswersInBound}
 
 -- the entry of a refusal
 abbrev pub join_refused : ℕ → JoinFault → Entry
@@ -106,9 +107,12 @@ abbrev pub TakeAdds : Opening → List Entry → Option (ArrayVec ℕ) → List 
 TakeAdds o h (Some frame) block = (owner : Owner) × MaySend o h owner frame × (block ≡ Send owner frame ∷ [])
 TakeAdds o h None block = NoSend o h × (block ≡ [])
 
-abbrev pub DeliverAdds : List Entry → LineEvent → Result (Unit {0}) (NotAsked × LineEvent) → List Entry → Type 0
-DeliverAdds h event (Ok x) block = (awaited h ≡ true) × IsWithResults (Came event) block
-DeliverAdds h event (Err e) block = (awaited h ≡ false) × (e.1 ≡ event) × (block ≡ [])
+-- on a calm line, with a budget that suffices, the Answers of the block have a fault only after a close
+abbrev pub DeliverAdds : Opening → List Entry → LineEvent → Result (Unit {0}) (NotAsked × LineEvent) → List Entry
+    → Type 0
+DeliverAdds o h event (Ok x) block =
+    (awaited h ≡ true) × IsWithResults (Came event) block × AnswersInBound o h block
+DeliverAdds o h event (Err e) block = (awaited h ≡ false) × (e.1 ≡ event) × (block ≡ [])
 
 abbrev pub CollectAdds : Opening → List Entry → ClientId → Option Outcome → List Entry → Type 0
 CollectAdds o h c (Some outcome) block = IsOldest o h c.0 outcome × (block ≡ Collect c ∷ [])

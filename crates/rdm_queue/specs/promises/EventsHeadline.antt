@@ -12,6 +12,7 @@ use Rattle.rdm_join.specs.declared.status.Status.{Status}
 use Rattle.rdm_join.specs.Result.{Joined}
 use Rattle.rdm_agent.specs.Statements.{IsInEach, IsInOne}
 use Rattle.rdm_agent.specs.declared.kind.Kind.{Kind}
+use Rattle.rdm_agent.specs.declared.fault.AgentFault.{AgentFault}
 use Rattle.rdm_queue.specs.declared.entry.ClientId.{ClientId}
 use Rattle.rdm_queue.specs.declared.entry.Opening.{Opening}
 use Rattle.rdm_queue.specs.declared.entry.Entry.{Entry}
@@ -35,6 +36,7 @@ use Rattle.rdm_queue.specs.promises.Outcomes.{outcome_of, completion_of}
 use Rattle.rdm_queue.specs.log.LogState.{LogState, grown, is_full_log}
 use Rattle.rdm_queue.specs.promises.Blocks.{submit_refused, ask_refused}
 use Rattle.rdm_queue.specs.promises.Explains.{IsAnswered, Explains}
+use Rattle.rdm_queue.specs.promises.InBound.{IsCalmRun}
 use Rattle.rdm_queue.specs.promises.Headline.{IsFull, SameQueue, result_count}
 use Rattle.rdm_queue.specs.promises.Discoveries.{HasMostDiscoveries, answer_count}
 use Rattle.rdm_queue.specs.promises.Promised.{Promised}
@@ -192,3 +194,7 @@ pub record EventsPromised (old : LogState) (es : List Event) (rs : List Answer) 
   pub collected_once : (c : ℕ)
       → collected_outcomes new.opening c new.entries new.entries
       ≡ collected_outcomes new.opening c old.entries new.entries ++ given_to c es rs
+  -- on a calm line, with a budget that suffices, a discovery that these events answered has a fault only after a close
+  pub in_bound : (front back : List Entry) (n r : ℕ) (fault : AgentFault) (present : List ℕ)
+      → new.entries ≡ old.entries ++ front ++ entries.Answer n r (Some fault) ∷ back
+      → IsCalmRun new.opening new.entries r present → is_closed new.opening (old.entries ++ front) ≡ true

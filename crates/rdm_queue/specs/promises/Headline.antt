@@ -23,8 +23,9 @@ use Rattle.rdm_queue.specs.declared.fault.SubmitFault.TheVariants.{Full}
 use Rattle.rdm_queue.specs.log.Entries.{Accepted, Finished, Traded, joins, accepts, asks, sends, finishes}
 use Rattle.rdm_queue.specs.log.Entries.{of_request, verdicts, result}
 use Rattle.rdm_queue.specs.log.History.{awaited, is_paused, is_closed, places, next_client, next_request, frames_sent}
-use Rattle.rdm_queue.specs.log.History.{unfinished, unanswered, next_ask}
-use Rattle.rdm_queue.specs.log.Runs.{unserved, open_run, next_run, run_exchanges, known_devices, devices_run}
+use Rattle.rdm_queue.specs.log.History.{unfinished, unanswered, under_way, next_ask}
+use Rattle.rdm_queue.specs.log.Runs.{unserved, served, open_run, next_run, run_frames, run_exchanges, known_devices}
+use Rattle.rdm_queue.specs.log.Runs.{devices_run}
 use Rattle.rdm_queue.specs.log.Clients.{accepts_by, answers_to, uncollected, outstanding_requests}
 use Rattle.rdm_queue.specs.log.Clients.{outstanding_discoveries}
 use Rattle.rdm_queue.specs.log.Refusals.{number_of_submit_fault}
@@ -116,14 +117,17 @@ pub record SameQueue (o : Opening) (h k : List Entry) : Type 0 where
   pub next_number : next_request o k ≡ next_request o h
   pub frames : frames_sent o k ≡ frames_sent o h
   pub waiting : unfinished k ≡ unfinished h
+  pub sent : under_way k ≡ under_way h
   pub results : (n : ℕ) → result n k ≡ result n h
   pub uncollected_of : (c : ℕ) → uncollected o c k ≡ uncollected o c h
   pub outstanding : (c : ℕ) → outstanding_requests o c k ≡ outstanding_requests o c h
   pub next_discovery : next_ask o k ≡ next_ask o h
   pub asked : unanswered k ≡ unanswered h
   pub unserved_ones : unserved k ≡ unserved h
+  pub served_ones : (r : ℕ) → served r k ≡ served r h
   pub run : open_run k ≡ open_run h
   pub next_run_number : next_run o k ≡ next_run o h
+  pub run_sent : (r : ℕ) → run_frames r k ≡ run_frames r h
   pub exchanges : (r : ℕ) → run_exchanges r k ≡ run_exchanges r h
   pub devices : known_devices o k ≡ known_devices o h
   pub devices_from : devices_run o k ≡ devices_run o h

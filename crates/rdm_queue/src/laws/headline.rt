@@ -51,8 +51,9 @@ pub fn legal_keeps_promises()
 
 /// The whole, for every list of events: where a log explains its answers and is legal, each event has one answer, each
 /// accepted request is finished with exactly one result, the joined answer of its own exchanges, first in, first out;
-/// a full queue refuses and changes nothing but the log; nothing starts after a close; and a discovery that is collected
-/// without fault has exactly the devices present, where the exchanges of its run are those of an honest line.
+/// a full queue refuses and changes nothing but the log; and nothing starts after a close. Where the exchanges of a run
+/// are those of an honest line, a discovery of it that is collected without fault has exactly the devices present. It
+/// has a fault only after a failure or a close, where at most 1,024 devices stay and the budget suffices.
 pub fn answers_keep_promises()
     ensures { (old : LogState) (es : List Event) (rs : List Answer) (new : LogState) → Explains old es rs new
         → Legal new.opening new.entries → EventsPromised old es rs new }

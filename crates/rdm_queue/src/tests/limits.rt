@@ -81,7 +81,7 @@ fn serves_4080_places(rt: HostRuntime) -> Result<(), Fail> {
     Ok(())
 }
 
-// Whether an answer of so many parts with 231 bytes each, and of a last one with this length, comes as one.
+// Whether an answer of this many parts with 231 bytes each, and of a last one with this length, comes as one.
 fn is_joined(rt: &impl Abort, alloc: Global, parts: usize, last: u8) -> Result<bool, Fail> {
     let mut session = session_of_one(rt, alloc, 1)?;
     accepts(rt, &mut session, 0);

@@ -16,10 +16,10 @@ pub const ACK: u8 = 0x00;
 /// A reply with a part of the answer.
 pub const ACK_OVERFLOW: u8 = 0x03;
 
-/// A log with so many free entries is large enough for most tests.
+/// A log with this many free entries is large enough for most tests.
 pub const AMPLE: usize = 2000;
 
-/// A session of `7a70:00000100` with so many places, and a log with so many free entries.
+/// A session of `7a70:00000100` with this many places, and a log with this many free entries.
 pub fn session(alloc: Global, places: u16, free: usize) -> Result<Session, Fail> {
     let config = Config {
         source: Uid::new(0x7a70, 0x100),
@@ -92,7 +92,7 @@ pub fn silence() -> LineEvent {
     LineEvent::Reply(ArrayVec::new())
 }
 
-/// The reply to that GET with this transaction number and response type, and so many bytes of data.
+/// The reply to that GET with this transaction number and response type, and this many bytes of data.
 pub fn reply(rt: &impl Abort, tn: u8, response_type: u8, length: u8) -> LineEvent {
     let mut bytes: LineReply = ArrayVec::new();
     let front = [

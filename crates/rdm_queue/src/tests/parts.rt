@@ -28,7 +28,7 @@ const FRAMES: [[u8; 26]; 3] = [
     ],
 ];
 
-// A session with one request, of which so many parts of this length have come.
+// A session with one request, of which this many parts of this length have come.
 fn with_parts(rt: &impl Abort, alloc: Global, count: usize, length: u8) -> Result<Session, Fail> {
     let mut session = session_of_one(rt, alloc, 1)?;
     accepts(rt, &mut session, 0);

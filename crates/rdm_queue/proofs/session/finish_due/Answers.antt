@@ -1,16 +1,19 @@
-use Rattle.std.proofs.Common.{◌++◌, ◌∷◌, [], ap, ◌∙◌}
+use Rattle.std.proofs.Common.{List, ◌++◌, ◌∷◌, [], ap, ◌∙◌}
+use Rattle.rdm_queue.specs.declared.entry.Entry.{Entry}
 use Rattle.rdm_queue.specs.log.LogState.{grown}
+use Rattle.rdm_queue.specs.promises.InBound.{FaultNeedsClose}
 use Rattle.rdm_queue.proofs.BodyLemmas.SessionLemmas.{amid_grown, result_added, grown_twice, all_results_more}
-use Rattle.rdm_queue.proofs.BoundLemmas.{entry_more}
+use Rattle.rdm_queue.proofs.BoundLemmas.{block_more}
 use Rattle.rdm_queue.proofs.session.finish_due.Goals as goal
 
 pub loop-entry-preserved : goal.loop-entry-preserved
 loop-entry-preserved c =
     let amid = c.loop-entry.invariant.amid in
     let so_far = c.loop-entry.invariant.grows in
+    let old = c.args.log.now in
     let e = c.in-Some.entry in
+    let bound : FaultNeedsClose old.opening (old.entries ++ so_far.0) e = rw so_far.3 at (c.in-Some.ensures.in_bound c.loop-entry.log.opening c.loop-entry.log.entries amid.amid) in
     record {
       amid = rw c.append.ensures (amid_grown c.loop-entry.controller c.finish_next.new.self c.loop-entry.log e amid (c.in-Some.ensures.finished.1 c.loop-entry.log.opening c.loop-entry.log.entries amid.amid) (result_added e c.in-Some.ensures.finished.0));
-      grows = (so_far.0 ++ e ∷ [], all_results_more so_far.0 e so_far.1 c.in-Some.ensures.finished.0, c.append.ensures ∙ ap (λ k. grown k (e ∷ [])) so_far.2 ∙ grown_twice c.args.log.now so_far.0 (e ∷ []));
-      in_bound = entry_more c.args.log.now c.loop-entry.log c.append.new.self e c.loop-entry.invariant.in_bound (c.in-Some.ensures.in_bound c.loop-entry.log.opening c.loop-entry.log.entries amid.amid) c.append.ensures;
+      grows = (so_far.0 ++ e ∷ [], all_results_more so_far.0 e so_far.1 c.in-Some.ensures.finished.0, block_more old.opening old.entries so_far.0 e so_far.2 bound, c.append.ensures ∙ ap (λ k. grown k (e ∷ [])) so_far.3 ∙ grown_twice old so_far.0 (e ∷ []));
     }

@@ -1,18 +1,17 @@
 use Rattle.std.proofs.Common.{◌≡◌, List}
 use Rattle.rdm_queue.specs.declared.entry.Entry.{Entry}
 use Rattle.rdm_queue.specs.log.LogState.{grown}
-use Rattle.rdm_queue.specs.promises.Blocks.{AllResults, GrowsBy}
+use Rattle.rdm_queue.specs.promises.Blocks.{AllResults}
 use Rattle.rdm_queue.specs.promises.InBound.{AnswersInBound}
 use Rattle.rdm_queue.specs.body.State.{unended}
 use Rattle.rdm_queue.specs.body.SessionInvariant.{SessionAmid}
 use Rattle.rdm_queue.proofs.session.finish_due.Given as goal
 
--- the entries so far are Finishes and Answers
+-- the entries so far are Finishes, and Answers in bound
 abbrev pub invariant-loop-entry : goal.invariant-loop-entry
 invariant-loop-entry l = record {
   amid : SessionAmid l.controller l.log;
-  grows : (results : List Entry) × AllResults results × (l.log ≡ grown l.fn.log results);
-  in_bound : GrowsBy l.fn.log (AnswersInBound l.fn.log.opening l.fn.log.entries) l.log;
+  grows : (results : List Entry) × AllResults results × AnswersInBound l.fn.log.opening l.fn.log.entries results × (l.log ≡ grown l.fn.log results);
 }
 
 abbrev pub decreases-loop-entry : goal.decreases-loop-entry

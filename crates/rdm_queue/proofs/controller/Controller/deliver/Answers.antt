@@ -8,9 +8,4 @@ pub returns-clause-adds : goal.returns-clause-adds
 returns-clause-adds c = λ o h after.
     let waits : awaited h ≡ true = sym (c.awaits.ensures o h after) ∙ c.if-not-awaits.false in
     let with = with_results o h (Came c.args.event) _ tt (c.finish_due.ensures o (h ++ Came c.args.event ∷ []) (c.hear.ensures o h after waits)) in
-    record { block = with.block; adds = (waits, with.adds.0); after = with.after }
-
-pub returns-clause-in_bound : goal.returns-clause-in_bound
-returns-clause-in_bound c = λ o h after.
-    let waits : awaited h ≡ true = sym (c.awaits.ensures o h after) ∙ c.if-not-awaits.false in
-    with_results o h (Came c.args.event) _ tt (c.finish_due.ensures o (h ++ Came c.args.event ∷ []) (c.hear.ensures o h after waits))
+    record { block = with.block; adds = (waits, with.adds.0, with.adds.1); after = with.after }

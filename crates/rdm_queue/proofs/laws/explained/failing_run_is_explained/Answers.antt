@@ -30,7 +30,7 @@ returns c = (
         record { block = Ask first_client 1 Incremental ∷ []; adds = (refl, refl, refl); grows = refl },
         (
           logged_with answered_failed,
-          record { block = Came Failed ∷ Answer 0 1 (Some LineFailed) ∷ []; adds = (refl, record { results = Answer 0 1 (Some LineFailed) ∷ []; whole = refl; each = (refl, tt) }); grows = refl },
+          record { block = Came Failed ∷ Answer 0 1 (Some LineFailed) ∷ []; adds = (refl, record { results = Answer 0 1 (Some LineFailed) ∷ []; whole = refl; each = (refl, tt) }, (tt, (λ present calm. absurd (calm.calm.no_failure.0 refl), tt))); grows = refl },
           (
             logged_with aborted_log,
             record { block = Close ∷ Answer 1 0 (Some Aborted) ∷ []; adds = record { results = Answer 1 0 (Some Aborted) ∷ []; whole = refl; each = (refl, tt) }; grows = refl },

@@ -24,7 +24,7 @@ returns c = λ none empty. (
       record { block = Send (owners.Request 0) (record { items = sample_frame }) ∷ []; adds = (refl, (owners.Request 0, may_send.1, refl)); grows = refl },
       (
         logged_with finished_one,
-        record { block = Came (Reply (record { items = [] })) ∷ Finish 0 Timeout 0 ∷ []; adds = (refl, record { results = Finish 0 Timeout 0 ∷ []; whole = refl; each = (refl, tt) }); grows = refl },
+        record { block = Came (Reply (record { items = [] })) ∷ Finish 0 Timeout 0 ∷ []; adds = (refl, record { results = Finish 0 Timeout 0 ∷ []; whole = refl; each = (refl, tt) }, (tt, (tt, tt))); grows = refl },
         (
           logged_with collected_one,
           record { block = Collect (record { 0 = 0 }) ∷ []; adds = (record { entry = Finish 0 Timeout 0; oldest = refl; told = rw empty refl }, refl); grows = refl },

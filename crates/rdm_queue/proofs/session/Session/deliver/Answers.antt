@@ -2,7 +2,6 @@ use Rattle.std.proofs.Common.{◌≡◌, true, sym, ◌∙◌, refl}
 use Rattle.rdm_queue.specs.declared.entry.Entry.TheVariants.{Came}
 use Rattle.rdm_queue.specs.log.History.{awaited}
 use Rattle.rdm_queue.proofs.BodyLemmas.SessionLemmas.{amid_begun, then_due, deliver_adds}
-use Rattle.rdm_queue.proofs.BoundLemmas.{came_before}
 use Rattle.rdm_queue.proofs.session.Session.deliver.Goals as goal
 
 pub finish_due-requires : goal.finish_due-requires
@@ -15,7 +14,4 @@ pub returns-clause-adds : goal.returns-clause-adds
 returns-clause-adds c =
     let k = c.self.inside.log in
     let waits : awaited k.entries ≡ true = sym (c.awaits.ensures k.opening k.entries c.self.invariant.after) ∙ c.if-not-awaits.false in
-    rw (← c.self.view_is) (deliver_adds k c.finish_due.new.log c.args.event waits (then_due k c.append.new.self c.finish_due.new.log (Came c.args.event) c.finish_due.new.controller c.append.ensures c.finish_due.ensures.due))
-
-pub returns-clause-in_bound : goal.returns-clause-in_bound
-returns-clause-in_bound c = rw (← c.self.view_is) (came_before c.self.inside.log c.append.new.self c.finish_due.new.log c.args.event c.append.ensures c.finish_due.ensures.in_bound)
+    rw (← c.self.view_is) (deliver_adds k c.finish_due.new.log c.args.event waits (then_due k c.append.new.self c.finish_due.new.log (Came c.args.event) c.finish_due.new.controller tt c.append.ensures c.finish_due.ensures))
