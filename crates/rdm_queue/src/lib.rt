@@ -28,6 +28,7 @@ mod fault;
 pub mod laws;
 mod log;
 mod outcome;
+mod pending;
 mod queue;
 mod run;
 mod session;

@@ -1,87 +1,29 @@
 //! The requests that wait, the discoveries that are asked, the run that serves them, and the outcomes that wait for their
 //! clients.
-ghost use Rattle.std.specs.Prelude.{◌≡◌, ◌⊎◌, ◌<◌, ◌≤◌, length, IfSome, IfNone};
-ghost use Rattle.rdm_join.specs.Result.{ended};
-ghost use Rattle.rdm_join.specs.JoinerStanding.{head_of_standing};
-ghost use Rattle.rdm_join.specs.declared.status.Status.TheVariants.{NoMemory as NoMemoryLeft};
-ghost use Rattle.rdm_queue.specs.promises.Outcomes.{completion_value};
+ghost use Rattle.std.specs.Prelude.{◌≡◌, ◌≤◌, length, IfSome, IfNone};
 ghost use Rattle.rdm_queue.specs.body.Rings.{NoneWaits, IsFirstInLine};
 ghost use Rattle.rdm_queue.specs.body.Fields.{places_of};
+
+mod ending;
 
 use crate::client::{Client, Waiting};
 use crate::config::Config;
 use crate::entry::{
-    ClientId, Entry, MOST_CLIENTS, MOST_DISCOVERIES, NEVER_GIVEN, NEVER_GIVEN_TO_A_DISCOVERY,
-    Opening, Owner,
+    ClientId, MOST_CLIENTS, MOST_DISCOVERIES, NEVER_GIVEN, NEVER_GIVEN_TO_A_DISCOVERY, Opening,
+    Owner,
 };
 use crate::fault::{AskFault, JoinFault, SubmitFault};
 use crate::outcome::{AskCompletion, Completion, DiscoveryEnd, Outcome, OutcomeKind};
+use crate::pending::{Asked, Awaited, Running};
 use arrayvec::ArrayVec;
-use rdm_agent::{Agent, AgentFault, Kind, Op};
-use rdm_join::{Joiner, LineEvent, Sent, Status, Step, judge};
+use rdm_agent::{Agent, Kind, Op};
+use rdm_join::{Joiner, Sent};
 use rdm_wire::{DeviceSet, Frame, Request, UidSet, encode_request};
 use std::alloc::Global;
-use std::default::MadeWith;
 use std::marker::Model;
 
 /// How many discoveries all clients together have outstanding, at most.
 const MOST_ASKED: usize = 64;
-
-/// A discovery that isn't answered.
-#[derive(Clone, Copy, Debug, Drop)]
-pub(crate) struct Asked {
-    client: ClientId,
-    number: u64,
-    kind: Kind,
-}
-
-/// What fills the places of discoveries that aren't asked.
-impl MadeWith<Global> for Asked {
-    fn made_with(_alloc: Global) -> Asked {
-        Asked {
-            client: ClientId(0),
-            number: 0,
-            kind: Kind::Full,
-        }
-    }
-}
-
-/// A run that has begun, until all discoveries that it serves are answered.
-#[derive(Clone, Copy, Debug)]
-pub(crate) struct Running {
-    number: u64,
-    /// It serves this many of the oldest discoveries that aren't answered.
-    left: usize,
-}
-
-impl Running {
-    ghost use Rattle.std.specs.Prelude.{option_map};
-    ghost use Rattle.rdm_queue.specs.body.Fields.{run_is};
-    ghost use Rattle.rdm_queue.specs.body.Ending.{one_less};
-
-    // The run with one discovery less to answer; None where that was the last.
-    fn one_less(&self) -> Option<Running>
-        ensures { option_map run_is result ≡ one_less (run_is self.now) }
-    {
-        if self.left > 1 {
-            Some(Running {
-                number: self.number,
-                left: self.left - 1,
-            })
-        } else {
-            None
-        }
-    }
-}
-
-/// What awaits its reply.
-#[derive(Clone, Copy, Debug)]
-pub(crate) enum Awaited {
-    /// A request, of which this was sent.
-    Request(Sent),
-    /// The agent's next operation, which was sent with this transaction number.
-    Run(u8),
-}
 
 /// What a controller holds. Contracts see how it stands: the requests that aren't finished, what was sent, and the
 /// outcomes that aren't collected.
@@ -131,28 +73,20 @@ impl Queue {
     ghost use Rattle.std.specs.Prelude.{◌≡◌, ◌<◌, ◌+◌, ◌++◌, ◌∷◌, [], ℕ, Bool, ◌==◌, ◌&&◌, false, true, List, length};
     ghost use Rattle.std.specs.Prelude.{drop, sum, map, IfOk, IfErr, IfSome, IfNone, OnOk, OnErr, OnSome, Some, None};
     ghost use Rattle.std.specs.Prelude.{is_some, option_map, slice_get, if◌then◌else◌, ◌≢◌, ◌≤◌};
-    ghost use Rattle.rdm_join.specs.declared.verdict.Sent.{Sent};
     ghost use Rattle.rdm_wire.specs.Devices.{uids_of};
-    ghost use Rattle.rdm_agent.specs.Calls.{next_op, HasRun};
-    ghost use Rattle.rdm_agent.specs.declared.op.Op.TheVariants.{End};
-    ghost use Rattle.rdm_queue.specs.promises.Outcomes.{outcome_value, completion_value};
-    ghost use Rattle.rdm_queue.specs.promises.Outcomes.{request_outcome, discovery_outcome};
+    ghost use Rattle.rdm_agent.specs.Calls.{HasRun};
+    ghost use Rattle.rdm_queue.specs.promises.Outcomes.{outcome_value, request_outcome, discovery_outcome};
     ghost use Rattle.rdm_queue.specs.declared.outcome.OutcomeKind.TheVariants as kinds;
     ghost use Rattle.rdm_queue.specs.promises.Blocks.{RefusesJoin};
     ghost use Rattle.rdm_queue.specs.body.Fields.{accepted_is, run_is};
     ghost use Rattle.rdm_queue.specs.log.Config.{IsConfig};
     ghost use Rattle.rdm_queue.specs.log.Entries.{Accepted, AskedDiscovery};
     ghost use Rattle.rdm_queue.specs.body.State.{QueueState, first_state, first_join_fault, first_submit_fault};
-    ghost use Rattle.rdm_queue.specs.body.State.{first_ask_fault, asked_of, end_of_oldest, due, IsFinished, owed_for};
-    ghost use Rattle.rdm_queue.specs.body.State.{finish_of, finishes_oldest, joins_client, accepts_request};
-    ghost use Rattle.rdm_queue.specs.body.State.{asks_discovery, collects_oldest, owed_to, uncollected, is_closing};
-    ghost use Rattle.rdm_queue.specs.body.State.{HearsRequest, first_kind, TakesOldest, opening_of};
+    ghost use Rattle.rdm_queue.specs.body.State.{first_ask_fault, asked_of, joins_client, accepts_request};
+    ghost use Rattle.rdm_queue.specs.body.State.{asks_discovery, collects_oldest, owed_to, uncollected, first_kind};
+    ghost use Rattle.rdm_queue.specs.body.State.{TakesOldest, opening_of};
     ghost use Rattle.rdm_queue.specs.body.Sending.{to_send, request_to_send, run_to_send, IsGiven, GivesRequest};
-    ghost use Rattle.rdm_queue.specs.body.Sending.{GivesRun, begun, kind_of, hears_run};
-    ghost use Rattle.rdm_queue.specs.body.Ending.{IsEnded, AnswersByRun, AnswersUnserved, HasNothingDue};
-    ghost use Rattle.rdm_queue.specs.body.Ending.{HasRunUnderWay, HasNoneUnserved, agent_at_end, devices_after};
-    ghost use Rattle.rdm_queue.specs.body.Ending.{devices_run_after, answer_of, answers_oldest, one_less};
-    ghost use Rattle.rdm_queue.specs.declared.queue.Awaited.TheVariants as awaiting;
+    ghost use Rattle.rdm_queue.specs.body.Sending.{GivesRun, begun, kind_of};
 
     /// A queue without clients, neither paused nor closed, whose numbers begin at 0.
     pub(crate) fn new(alloc: Global, config: Config) -> Queue
@@ -419,202 +353,6 @@ impl Queue {
         first_in_line(&self.clients)
     }
 
-    /// Takes what the line answered to the last frame. It is of the oldest request, which hasn't ended before, or of the
-    /// run, whose agent hasn't.
-    pub(crate) fn hear(&mut self, alloc: Global, event: &LineEvent)
-        ensures free { self.new.awaited ≡ None }
-        ensures heard { (sent : Sent) → self.old.awaited ≡ Some (awaiting.Request sent)
-            → HearsRequest sent event.now self.old self.new }
-        ensures heard_by_run { (tn : ℕ) → self.old.awaited ≡ Some (awaiting.Run tn) → next_op self.old.agent ≢ End
-            → self.new ≡ hears_run tn event.now self.old }
-    {
-        match self.awaited.take() {
-            None => {}
-            Some(Awaited::Request(sent)) => self.hear_request(alloc, &sent, event),
-            Some(Awaited::Run(tn)) => self.hear_run(tn, event),
-        }
-    }
-
-    // Takes what the line answered to this frame of the oldest request.
-    fn hear_request(&mut self, alloc: Global, sent: &Sent, event: &LineEvent)
-        requires { self.old.awaited ≡ None }
-        ensures free { self.new.awaited ≡ None }
-        ensures heard { HearsRequest sent.now event.now self.old self.new }
-    {
-        if let Step::Done(status) = self.joiner.add(judge(sent, event)) {
-            let done = completion_of(&self.joiner, alloc, status);
-            self.decided = Some(done);
-            self.joiner.reset();
-        }
-    }
-
-    // Takes what the line answered to the agent's next operation, which was sent with this transaction number.
-    fn hear_run(&mut self, tn: u8, event: &LineEvent)
-        requires { self.old.awaited ≡ None }
-        ensures free { self.new.awaited ≡ None }
-        ensures heard { next_op self.old.agent ≢ End → self.new ≡ hears_run tn event.now self.old }
-    {
-        let op = self.agent.next();
-        if op == Op::End {
-            return;
-        }
-        let bytes = match event {
-            LineEvent::Reply(bytes) => Some(bytes.as_slice()),
-            LineEvent::Failed => None,
-        };
-        let reply = op.read_reply(self.config.source, tn, bytes);
-        self.agent.hear(reply);
-    }
-
-    /// Ends what is due next, and gives the entry of its end; None where nothing is due. Due are: the discoveries of a
-    /// run that has ended, and a request that has. Where the queue is closed and awaits no reply, also a run that
-    /// hasn't ended, then the requests that wait, and last the discoveries that no run serves.
-    pub(crate) fn finish_next(&mut self) -> Option<Entry>
-        ensures ended { IfSome result (λ entry. IsEnded self.old entry self.new) }
-        ensures none { IfNone result (HasNothingDue self.old × (self.new ≡ self.old)) }
-    {
-        if self.run.is_some() {
-            return self.answer_by_run();
-        }
-        match self.finish_oldest() {
-            Some(entry) => Some(entry),
-            None => self.answer_unserved(),
-        }
-    }
-
-    // Answers the oldest discovery by its run, where that has ended, or by a close. None where none has.
-    fn answer_by_run(&mut self) -> Option<Entry>
-        requires { is_some self.old.run ≡ true }
-        ensures ended { IfSome result (λ entry. AnswersByRun self.old entry self.new) }
-        ensures none { IfNone result (HasRunUnderWay self.old × (self.new ≡ self.old)) }
-    {
-        self.stop_at_close();
-        let run = self.run?;
-        if self.agent.next() != Op::End {
-            return None;
-        }
-        let fault = self.agent.fault();
-        self.keep_devices(run.number, fault);
-        Some(self.answer_served(&run, &fault))
-    }
-
-    // Stops the run where the queue is closed and awaits no reply.
-    fn stop_at_close(&mut self)
-        ensures { self.new ≡ record self.old { agent = agent_at_end self.old } }
-    {
-        if self.is_closing() {
-            self.agent.stop();
-        }
-    }
-
-    // The devices that are known are those that this run has found, unless it has a fault.
-    fn keep_devices(&mut self, run: u64, fault: Option<AgentFault>)
-        ensures { self.new ≡ record self.old {
-          devices = devices_after fault self.old.agent.found self.old.devices;
-          devices_run = devices_run_after fault run self.old.devices_run;
-        } }
-    {
-        if fault.is_none() {
-            self.devices.copy_from(self.agent.found());
-            self.devices_run = run;
-        }
-    }
-
-    // Answers the oldest discovery by the run that serves it, with this fault and what its agent has found.
-    fn answer_served(&mut self, run: &Running, fault: &Option<AgentFault>) -> Entry
-        requires { self.old.run ≡ Some (run_is run.now) }
-        ensures { (a : AskedDiscovery) × (slice_get self.old.asked 0 ≡ Some a)
-            × (result ≡ answer_of a run.now.number fault.now)
-            × (self.new ≡ record (answers_oldest self.old a run.now.number fault.now self.old.agent.found) {
-              run = one_less (run_is run.now);
-            }) }
-    {
-        self.run = run.one_less();
-        let asked = self.asked.remove(0);
-        let entry = Entry::Answer {
-            number: asked.number,
-            run: run.number,
-            fault: *fault,
-        };
-        self.clients[usize::from(asked.client.0)].answer(
-            asked.number,
-            run.number,
-            *fault,
-            self.agent.found(),
-        );
-        entry
-    }
-
-    // Answers the oldest discovery, which no run serves, by a close. None where none is due.
-    fn answer_unserved(&mut self) -> Option<Entry>
-        requires { self.old.run ≡ None }
-        ensures ended { IfSome result (λ entry. AnswersUnserved self.old entry self.new) }
-        ensures none { IfNone result (HasNoneUnserved self.old × (self.new ≡ self.old)) }
-    {
-        if !self.is_closing() || self.asked.is_empty() {
-            return None;
-        }
-        let asked = self.asked.remove(0);
-        self.clients[usize::from(asked.client.0)].answer(
-            asked.number,
-            0,
-            Some(AgentFault::Aborted),
-            &DeviceSet::new(),
-        );
-        Some(Entry::Answer {
-            number: asked.number,
-            run: 0,
-            fault: Some(AgentFault::Aborted),
-        })
-    }
-
-    // Whether it is closed and awaits no reply, so that all is to be ended.
-    fn is_closing(&self) -> bool
-        ensures { result ≡ is_closing self.now }
-    {
-        self.closed && !self.awaits()
-    }
-
-    // Finishes the oldest request, where it has ended, or by a close. None where none is due.
-    fn finish_oldest(&mut self) -> Option<Entry>
-        requires { self.old.run ≡ None }
-        ensures finished { IfSome result (λ entry. IsFinished self.old entry self.new) }
-        ensures none { IfNone result ((due self.old ≡ None) × (self.new ≡ self.old)) }
-    {
-        let (at, _) = self.oldest()?;
-        let done = self.end_of_oldest()?;
-        Some(self.finish(at, done))
-    }
-
-    // How the oldest request has ended, which is then no longer kept here.
-    fn end_of_oldest(&mut self) -> Option<Completion>
-        ensures end { option_map completion_value result ≡ end_of_oldest self.old }
-        ensures taken { OnSome result (self.new ≡ record self.old { decided = None }) }
-        ensures none { IfNone result (self.new ≡ self.old) }
-    {
-        if let Some(done) = self.decided.take() {
-            return Some(done);
-        }
-        if self.is_closing() {
-            return Some(failed(*self.clients.allocator(), Status::FailedToSend));
-        }
-        None
-    }
-
-    // Finishes the oldest request so, which is this client's, and gives the entry of its end.
-    fn finish(&mut self, at: usize, done: Completion) -> Entry
-        requires oldest { (accepted : Accepted) × (slice_get self.old.waiting 0 ≡ Some accepted)
-            × (accepted.client ≡ at) }
-        requires taken { self.old.decided ≡ None }
-        ensures finished { (accepted : Accepted) × (slice_get self.old.waiting 0 ≡ Some accepted)
-            × (result ≡ finish_of (owed_for (completion_value done) accepted))
-            × (self.new ≡ finishes_oldest self.old (owed_for (completion_value done) accepted)) }
-    {
-        self.joiner.reset();
-        self.under_way = false;
-        self.clients[at].finish_oldest(done)
-    }
-
     /// Of which kind a client's oldest outcome is.
     pub(crate) fn oldest_outcome(&self, client: ClientId) -> Option<OutcomeKind>
         ensures { result ≡ first_kind client.0 self.now }
@@ -784,31 +522,4 @@ fn places_of(clients: &[Client]) -> ArrayVec<u8, MOST_CLIENTS>
         places.push(client.places);
     }
     places
-}
-
-// A completion without an answer, which takes no memory.
-fn failed(alloc: Global, status: Status) -> Completion
-    ensures { completion_value result ≡ ended status }
-{
-    Completion {
-        status,
-        reply: None,
-        bytes: Vec::new(alloc),
-    }
-}
-
-// The completion of a request that has ended so, with its joined data, or with NoMemory where they find none.
-fn completion_of(joiner: &Joiner, alloc: Global, status: Status) -> Completion
-    ensures { (completion_value result
-        ≡ record { status = status; data_ = joiner.now.data_; head = head_of_standing joiner.now })
-        ⊎ ((completion_value result ≡ ended NoMemoryLeft) × (0 < length joiner.now.data_)) }
-{
-    let Ok(bytes) = joiner.take_data(alloc) else {
-        return failed(alloc, Status::NoMemory);
-    };
-    Completion {
-        status,
-        reply: joiner.head(),
-        bytes,
-    }
 }

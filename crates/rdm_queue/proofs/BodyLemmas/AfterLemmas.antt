@@ -27,8 +27,8 @@ use Rattle.rdm_queue.specs.declared.entry.Entry.TheVariants as discovery
 use Rattle.rdm_queue.specs.declared.fault.JoinFault.{JoinFault}
 use Rattle.rdm_queue.specs.declared.fault.SubmitFault.{SubmitFault}
 use Rattle.rdm_queue.specs.declared.fault.AskFault.{AskFault}
-use Rattle.rdm_queue.specs.declared.queue.Awaited.{Awaited}
-use Rattle.rdm_queue.specs.declared.queue.Awaited.TheVariants as awaiting
+use Rattle.rdm_queue.specs.declared.pending.Awaited.{Awaited}
+use Rattle.rdm_queue.specs.declared.pending.Awaited.TheVariants as awaiting
 use Rattle.rdm_queue.specs.log.Legal.{MayFollow}
 use Rattle.rdm_queue.specs.log.Entries.{Accepted, finished_of, answered_of, joins, accepts, asks, sends, cames, finishes, answers, collectors, traded, of_request, verdicts}
 use Rattle.rdm_queue.specs.log.Runs.{last_run, last_run_without_fault}

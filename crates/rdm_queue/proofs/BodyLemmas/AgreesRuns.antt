@@ -13,7 +13,7 @@ use Rattle.rdm_queue.specs.declared.entry.Owner.TheVariants as owners
 use Rattle.rdm_queue.specs.declared.entry.Opening.{Opening}
 use Rattle.rdm_queue.specs.declared.entry.Entry.{Entry}
 use Rattle.rdm_queue.specs.declared.entry.Entry.TheVariants.{Send, Came}
-use Rattle.rdm_queue.specs.declared.queue.Awaited.TheVariants as awaiting
+use Rattle.rdm_queue.specs.declared.pending.Awaited.TheVariants as awaiting
 use Rattle.rdm_queue.specs.log.Entries.{AskedDiscovery, Sending, asks, sends, cames, answers, is_request}
 use Rattle.rdm_queue.specs.log.History.{unanswered}
 use Rattle.rdm_queue.specs.log.Runs.{last_run, asked_before}

@@ -3,8 +3,8 @@ use Rattle.std.proofs.Common.{◌≡◌, ℕ, ◌+◌, Bool, false, List, [], �
 use Rattle.rdm_wire.specs.Lists.{EachAfter}
 use Rattle.rdm_queue.specs.declared.entry.Opening.{Opening}
 use Rattle.rdm_queue.specs.declared.entry.Entry.{Entry}
-use Rattle.rdm_queue.specs.declared.queue.Awaited.{Awaited}
-use Rattle.rdm_queue.specs.declared.queue.Awaited.TheVariants as awaiting
+use Rattle.rdm_queue.specs.declared.pending.Awaited.{Awaited}
+use Rattle.rdm_queue.specs.declared.pending.Awaited.TheVariants as awaiting
 use Rattle.rdm_queue.specs.log.Entries.{Sending, asks, sends, finishes, answers, collectors, sending_of, came_of, collector_of}
 use Rattle.rdm_queue.specs.log.History.{awaits_after, awaited, is_paused, is_closed, places}
 use Rattle.rdm_queue.specs.log.Clients.{answers_to}

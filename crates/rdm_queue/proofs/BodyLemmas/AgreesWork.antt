@@ -21,7 +21,7 @@ use Rattle.rdm_queue.specs.declared.entry.Owner.TheVariants as owners
 use Rattle.rdm_queue.specs.declared.entry.Opening.{Opening}
 use Rattle.rdm_queue.specs.declared.entry.Entry.{Entry}
 use Rattle.rdm_queue.specs.declared.entry.Entry.TheVariants.{Accept, Ask, Send, Came, Collect}
-use Rattle.rdm_queue.specs.declared.queue.Awaited.TheVariants as awaiting
+use Rattle.rdm_queue.specs.declared.pending.Awaited.TheVariants as awaiting
 use Rattle.rdm_queue.specs.log.Entries.{Accepted, AskedDiscovery, Sending, accepts, asks, sends, cames, finishes, collectors, verdicts, result, is_request, is_run}
 use Rattle.rdm_queue.specs.log.History.{awaited, unfinished}
 use Rattle.rdm_queue.specs.log.Clients.{answers_to, collects_by, uncollected, client_of_request}

@@ -8,7 +8,7 @@ use Rattle.std.proofs.lemmas.List.{length-map}
 use Rattle.rdm_wire.specs.declared.device.Device.{Device}
 use Rattle.rdm_agent.specs.declared.fault.AgentFault.{AgentFault}
 use Rattle.rdm_queue.specs.declared.client.Client.{Client}
-use Rattle.rdm_queue.specs.declared.queue.Asked.{Asked}
+use Rattle.rdm_queue.specs.declared.pending.Asked.{Asked}
 use Rattle.rdm_queue.specs.declared.queue.Queue.TheInside.{Inside}
 use Rattle.rdm_queue.specs.log.Entries.{AskedDiscovery}
 use Rattle.rdm_queue.specs.body.Rings.{HasSets, ClientAnswers}

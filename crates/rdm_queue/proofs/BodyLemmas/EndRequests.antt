@@ -10,8 +10,8 @@ use Rattle.rdm_join.specs.Result.{Joined, result_of, ended, or_if_open}
 use Rattle.rdm_join.specs.JoinerStanding.{JoinerStanding}
 use Rattle.rdm_queue.specs.declared.entry.Opening.{Opening}
 use Rattle.rdm_queue.specs.declared.entry.Entry.{Entry}
-use Rattle.rdm_queue.specs.declared.queue.Awaited.{Awaited}
-use Rattle.rdm_queue.specs.declared.queue.Awaited.TheVariants as awaiting
+use Rattle.rdm_queue.specs.declared.pending.Awaited.{Awaited}
+use Rattle.rdm_queue.specs.declared.pending.Awaited.TheVariants as awaiting
 use Rattle.rdm_queue.specs.log.Entries.{Accepted, verdicts, result}
 use Rattle.rdm_queue.specs.log.History.{unfinished}
 use Rattle.rdm_queue.specs.log.MayFinish.{MayFinish, IsClosing, FitsResult}

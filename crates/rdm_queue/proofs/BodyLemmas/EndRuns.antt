@@ -14,8 +14,8 @@ use Rattle.rdm_agent.specs.declared.fault.AgentFault.{AgentFault}
 use Rattle.rdm_agent.proofs.CallLemmas.{runs-own}
 use Rattle.rdm_queue.specs.declared.entry.Opening.{Opening}
 use Rattle.rdm_queue.specs.declared.entry.Entry.{Entry}
-use Rattle.rdm_queue.specs.declared.queue.Awaited.{Awaited}
-use Rattle.rdm_queue.specs.declared.queue.Awaited.TheVariants as awaiting
+use Rattle.rdm_queue.specs.declared.pending.Awaited.{Awaited}
+use Rattle.rdm_queue.specs.declared.pending.Awaited.TheVariants as awaiting
 use Rattle.rdm_queue.specs.log.Entries.{AskedDiscovery, Answered, asks, answers}
 use Rattle.rdm_queue.specs.log.History.{is_closed, unanswered, was_sent}
 use Rattle.rdm_queue.specs.log.Runs.{has_begun, entries_before_run, sends_run, last_run, is_answered, asked_before, unserved, served, run_exchanges, run_devices, run_kind, known_at_run, answer_devices}

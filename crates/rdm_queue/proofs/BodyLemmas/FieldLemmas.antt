@@ -11,7 +11,7 @@ use Rattle.rdm_queue.specs.declared.client.Client.{Client}
 use Rattle.rdm_queue.specs.declared.config.Config.{Config}
 use Rattle.rdm_queue.specs.declared.fault.SubmitFault.TheVariants as submit_faults
 use Rattle.rdm_queue.specs.declared.fault.AskFault.TheVariants as ask_faults
-use Rattle.rdm_queue.specs.declared.queue.Asked.{Asked}
+use Rattle.rdm_queue.specs.declared.pending.Asked.{Asked}
 use Rattle.rdm_queue.specs.log.Entries.{AskedDiscovery}
 use Rattle.rdm_queue.specs.log.Runs.{is_full_kind}
 use Rattle.rdm_queue.specs.log.Config.{IsConfig}

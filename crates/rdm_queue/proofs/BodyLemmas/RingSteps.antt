@@ -11,7 +11,7 @@ use Rattle.rdm_agent.specs.declared.fault.AgentFault.{AgentFault}
 use Rattle.rdm_queue.specs.declared.client.Client.{Client}
 use Rattle.rdm_queue.specs.declared.client.Waiting.{Waiting}
 use Rattle.rdm_queue.specs.declared.entry.Entry.{Entry}
-use Rattle.rdm_queue.specs.declared.queue.Running.{Running}
+use Rattle.rdm_queue.specs.declared.pending.Running.{Running}
 use Rattle.rdm_queue.specs.declared.outcome.Completion.{Completion}
 use Rattle.rdm_queue.specs.log.Entries.{Accepted, AskedDiscovery}
 use Rattle.rdm_queue.specs.promises.Outcomes.{OutcomeValue, completion_value}

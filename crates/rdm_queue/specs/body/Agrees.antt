@@ -13,8 +13,8 @@ use Rattle.rdm_agent.specs.declared.op.Op.TheVariants.{End}
 use Rattle.rdm_queue.specs.declared.entry.Owner.TheVariants as owners
 use Rattle.rdm_queue.specs.declared.entry.Opening.{Opening}
 use Rattle.rdm_queue.specs.declared.entry.Entry.{Entry}
-use Rattle.rdm_queue.specs.declared.queue.Awaited.{Awaited}
-use Rattle.rdm_queue.specs.declared.queue.Awaited.TheVariants as awaiting
+use Rattle.rdm_queue.specs.declared.pending.Awaited.{Awaited}
+use Rattle.rdm_queue.specs.declared.pending.Awaited.TheVariants as awaiting
 use Rattle.rdm_queue.specs.log.Entries.{Sending, Answered, sends, finishes, answers, collectors, verdicts}
 use Rattle.rdm_queue.specs.log.History.{awaited, is_paused, is_closed, places, next_request, next_ask, next_tn}
 use Rattle.rdm_queue.specs.log.History.{unfinished, unanswered, was_sent}

@@ -2,8 +2,8 @@
 use Rattle.std.specs.Prelude.{ℕ, ◌+◌, List, [], ◌∷◌, map, option_map}
 use Rattle.rdm_queue.specs.declared.client.Waiting.{Waiting}
 use Rattle.rdm_queue.specs.declared.client.Client.{Client}
-use Rattle.rdm_queue.specs.declared.queue.Asked.{Asked}
-use Rattle.rdm_queue.specs.declared.queue.Running.{Running}
+use Rattle.rdm_queue.specs.declared.pending.Asked.{Asked}
+use Rattle.rdm_queue.specs.declared.pending.Running.{Running}
 use Rattle.rdm_queue.specs.declared.queue.Queue.TheInside.{Inside}
 use Rattle.rdm_queue.specs.log.Entries.{Accepted, AskedDiscovery}
 use Rattle.rdm_queue.specs.promises.Outcomes.{OutcomeValue, completion_value}

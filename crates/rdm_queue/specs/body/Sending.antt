@@ -20,7 +20,7 @@ use Rattle.rdm_agent.specs.declared.op.Op.{Op}
 use Rattle.rdm_agent.specs.declared.op.Op.TheVariants.{UnmuteAll, Mute, Branch, End}
 use Rattle.rdm_queue.specs.declared.entry.Owner.{Owner}
 use Rattle.rdm_queue.specs.declared.entry.Owner.TheVariants as owners
-use Rattle.rdm_queue.specs.declared.queue.Awaited.TheVariants as awaiting
+use Rattle.rdm_queue.specs.declared.pending.Awaited.TheVariants as awaiting
 use Rattle.rdm_queue.specs.log.Entries.{Accepted, AskedDiscovery}
 use Rattle.rdm_queue.specs.log.Runs.{is_full_kind}
 use Rattle.rdm_queue.specs.body.State.{QueueState, RunState}

@@ -2,7 +2,7 @@ use Rattle.std.proofs.Common.{◌≡◌, ◌<◌, List, [], length, drop, get_or
 use Rattle.std.proofs.lemmas.List.{drop-map}
 use Rattle.rdm_agent.specs.declared.fault.AgentFault.TheVariants.{Aborted}
 use Rattle.rdm_queue.specs.declared.client.Client.{Client}
-use Rattle.rdm_queue.specs.declared.queue.Asked.{Asked}
+use Rattle.rdm_queue.specs.declared.pending.Asked.{Asked}
 use Rattle.rdm_queue.specs.log.Entries.{AskedDiscovery}
 use Rattle.rdm_queue.specs.body.Rings.{ClientAnswers}
 use Rattle.rdm_queue.specs.body.Fields.{state_of, places_of, asked_is, owed_rings}
