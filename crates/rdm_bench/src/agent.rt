@@ -40,7 +40,10 @@ const SCENES: [Scene; 3] = [
 ];
 
 /// Times runs over so many devices.
-pub(crate) fn time<R: CpuClock + Print + Eprint>(bench: &Bench<'_, R>, count: usize) -> Result<(), Fault> {
+pub(crate) fn time<R: CpuClock + Print + Eprint>(
+    bench: &Bench<'_, R>,
+    count: usize,
+) -> Result<(), Fault> {
     for scene in &SCENES {
         time_scene(bench, scene, &devices(count, scene.spread)?)?;
     }

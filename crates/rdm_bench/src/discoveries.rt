@@ -2,6 +2,7 @@
 use crate::bench::{Bench, Name, Sample};
 use crate::devices::{Spread, devices};
 use crate::fault::Fault;
+use crate::packets::controller;
 use crate::tape::{Taped, tape};
 use rdm_agent::Kind;
 use rdm_join::LineEvent;
@@ -33,6 +34,7 @@ pub(crate) fn time<R: CpuClock + Print + Eprint>(
         alloc: bench.alloc,
         controller,
         tape: tape.as_slice(),
+        tn: 0,
         found: DeviceSet::new(),
     };
     bench.time(&name, &mut discoveries)
@@ -44,6 +46,8 @@ struct Discoveries<'a> {
     alloc: Global,
     controller: &'a mut Controller,
     tape: &'a [Taped],
+    // The next frame's transaction number.
+    tn: u8,
     // What the last one found.
     found: DeviceSet,
 }
@@ -57,10 +61,11 @@ impl Discoveries<'_> {
     }
 
     fn exchange(&mut self, taped: &Taped) -> Result<(), Fault> {
-        let Some(frame) = self.controller.take() else {
+        if self.controller.take().is_none() {
             return Err(Fault::Unexpected("Controller::take"));
-        };
-        let event = LineEvent::Reply(taped.answer(&frame)?);
+        }
+        let event = LineEvent::Reply(taped.answer(controller(), self.tn)?);
+        self.tn = self.tn.wrapping_add(1);
         match self.controller.deliver(self.alloc, event) {
             Ok(()) => Ok(()),
             Err(_) => Err(Fault::Unexpected("Controller::deliver")),

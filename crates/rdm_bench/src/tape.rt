@@ -9,8 +9,8 @@ use arrayvec::ArrayVec;
 use rdm_agent::{Agent, DEFAULT_BUDGET, Kind, Op, OpReply};
 use rdm_join::LineReply;
 use rdm_wire::{
-    Command, Device, Frame, LONGEST_BRANCH_REPLY, LONGEST_PREAMBLE, MuteAck, Uid, UidRange, UidSet,
-    encode_response, mute_response, read_branch_reply, read_command, write_branch_reply,
+    Device, LONGEST_BRANCH_REPLY, LONGEST_PREAMBLE, MuteAck, Uid, UidRange, UidSet,
+    encode_response, mute_response, read_branch_reply, write_branch_reply,
 };
 use std::alloc::Global;
 
@@ -22,8 +22,8 @@ pub(crate) type BranchBytes = ArrayVec<u8, LONGEST_BRANCH_REPLY>;
 pub(crate) enum Taped {
     /// Nothing, after an unmute.
     Unmuted,
-    /// Whether a mute was acknowledged.
-    Muted(bool),
+    /// The device that acknowledged a mute; None where none did.
+    Muted(Option<Uid>),
     /// The bytes after a branch.
     Branched(BranchBytes),
 }
@@ -33,17 +33,17 @@ impl Taped {
     pub(crate) fn reply(&self) -> OpReply {
         match self {
             Taped::Unmuted => OpReply::Done,
-            Taped::Muted(true) => OpReply::Mute(Some(ACK)),
-            Taped::Muted(false) => OpReply::Mute(None),
+            Taped::Muted(Some(_)) => OpReply::Mute(Some(ACK)),
+            Taped::Muted(None) => OpReply::Mute(None),
             Taped::Branched(bytes) => OpReply::Branch(read_branch_reply(bytes)),
         }
     }
 
-    /// The bytes that come after this frame, which has to ask it.
-    pub(crate) fn answer(&self, frame: &Frame) -> Result<LineReply, Fault> {
+    /// The bytes that come after it, to this controller and with this transaction number.
+    pub(crate) fn answer(&self, controller: Uid, tn: u8) -> Result<LineReply, Fault> {
         match self {
-            Taped::Unmuted | Taped::Muted(false) => Ok(LineReply::new()),
-            Taped::Muted(true) => acknowledgement(frame),
+            Taped::Unmuted | Taped::Muted(None) => Ok(LineReply::new()),
+            Taped::Muted(Some(uid)) => Ok(acknowledgement(*uid, controller, tn)),
             Taped::Branched(bytes) => {
                 let mut reply = LineReply::new();
                 match reply.try_extend_from_slice(bytes) {
@@ -55,17 +55,14 @@ impl Taped {
     }
 }
 
-// What the device answers that this frame mutes.
-fn acknowledgement(frame: &Frame) -> Result<LineReply, Fault> {
-    let Some((Command::Mute(uid), source, tn)) = read_command(frame) else {
-        return Err(Fault::Unexpected("read_command"));
-    };
+// What this device answers to its mute.
+fn acknowledgement(uid: Uid, controller: Uid, tn: u8) -> LineReply {
     let device = Device {
         uid,
         control: ACK.control,
         binding: ACK.binding,
     };
-    Ok(encode_response(&mute_response(&device, source, tn)))
+    encode_response(&mute_response(&device, controller, tn))
 }
 
 // The acknowledgement that each device gives.
@@ -146,8 +143,11 @@ impl Line<'_> {
         }
     }
 
-    fn mutes(&mut self, uid: Uid) -> bool {
-        !uid.is_broadcast() && self.present.contains(uid) && self.muted.insert(uid).is_ok()
+    fn mutes(&mut self, uid: Uid) -> Option<Uid> {
+        let is_muted = !uid.is_broadcast()
+            && self.present.contains(uid)
+            && self.muted.insert(uid).is_ok();
+        if is_muted { Some(uid) } else { None }
     }
 
     fn branched(&self, range: UidRange) -> BranchBytes {
