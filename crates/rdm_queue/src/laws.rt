@@ -16,7 +16,10 @@ pub use discoveries::{
     answers_tell_the_line, exactly_one_answer, first_asked_first_answered, full_client_is_refused,
     legal_keeps_discoveries, own_discoveries, runs_answer_what_was_asked,
 };
-pub use explained::{each_event_is_answered, not_explained, parts_are_joined, sample_is_explained};
+pub use explained::{
+    each_event_is_answered, not_explained, parts_are_joined, sample_is_explained,
+    wasted_run_is_not_explained,
+};
 pub use headline::{
     answers_keep_promises, exactly_one_result, first_in_first_out, full_queue_refuses,
     joined_answer, legal_keeps_promises, nothing_after_close, own_requests,

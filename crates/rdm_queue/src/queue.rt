@@ -1,5 +1,5 @@
-//! The requests that wait, the discoveries that are asked, the run that serves them, and the outcomes that wait for their
-//! clients.
+//! The requests that wait, the discoveries that are asked, the run that serves them, and the outcomes that wait for
+//! their clients.
 ghost use Rattle.std.specs.Prelude.{◌≡◌, ◌≤◌, length, IfSome, IfNone};
 ghost use Rattle.rdm_queue.specs.body.Rings.{NoneWaits, IsFirstInLine};
 ghost use Rattle.rdm_queue.specs.body.Fields.{places_of};
@@ -250,7 +250,7 @@ impl Queue {
         self.paused = paused;
     }
 
-    /// Refuses all later joins and submits, and sends nothing more.
+    /// Refuses all later joins, submits and discovers, and sends nothing more.
     pub(crate) fn set_closed(&mut self)
         ensures { self.new ≡ record self.old { closed = true } }
     {
@@ -387,7 +387,8 @@ impl Queue {
 
     /// Takes a client's oldest outcome out, where that is a request's.
     pub(crate) fn next_completion(&mut self, client: ClientId) -> Option<(u64, Completion)>
-        ensures taken { IfSome result (λ r. TakesOldest self.old client.0 (outcome_value (request_outcome r)) self.new) }
+        ensures taken { IfSome result (λ r. TakesOldest self.old client.0
+            (outcome_value (request_outcome r)) self.new) }
         ensures none { IfNone result (first_kind client.0 self.old ≢ Some kinds.Request) }
         ensures unchanged { IfNone result (self.new ≡ self.old) }
     {

@@ -76,8 +76,8 @@ pub record ClientFinishes (old : Client) (done : Completion) (entry : Entry) (ne
   pub rings : SameRings old new
 
 -- its discovery of this number was answered so
-pub record ClientAnswers (old : Client) (number run : ℕ) (fault : Option AgentFault) (found : List Device) (new : Client)
-    : Type 0 where
+pub record ClientAnswers (old : Client) (number run : ℕ) (fault : Option AgentFault) (found : List Device)
+    (new : Client) : Type 0 where
   pub waiting : new.waiting.items ≡ old.waiting.items
   pub outcomes : new.outcomes.items ≡ old.outcomes.items ++ owed.Discovery number run fault ∷ []
   pub sets : new.sets.items ≡ old.sets.items ++ found ∷ []

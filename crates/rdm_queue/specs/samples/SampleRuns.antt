@@ -18,6 +18,7 @@ use Rattle.rdm_queue.specs.declared.event.Event.TheVariants as events
 use Rattle.rdm_queue.specs.declared.event.Answer.{Answer as EventAnswer}
 use Rattle.rdm_queue.specs.declared.event.Answer.TheVariants as answers
 use Rattle.rdm_join.specs.declared.status.Status.TheVariants.{FailedToSend}
+use Rattle.rdm_queue.specs.log.LogState.{LogState}
 use Rattle.rdm_queue.specs.samples.Sample.{sample_opening, sample_request}
 
 abbrev pub first_client : ClientId
@@ -148,6 +149,26 @@ then_unsent = aborted_first ++ Finish 0 FailedToSend 0 ∷ []
 -- the line fails after a close
 abbrev pub failed_late : List Entry
 failed_late = begun_run ++ Close ∷ Came Failed ∷ []
+
+-- a run on a line without devices, for which eight frames suffice: three unmutes and five branches. It has a budget of
+-- eight, and wastes one of them on a mute of a UID that no reply spelt
+abbrev pub wasted_traffic : List (List ℕ × List ℕ)
+wasted_traffic =
+    (unmute_frame source 0, []) ∷ (unmute_frame source 1, []) ∷ (unmute_frame source 2, [])
+    ∷ (mute_frame device source 3, [])
+    ∷ (whole_branch 4, []) ∷ (whole_branch 5, []) ∷ (whole_branch 6, []) ∷ []
+
+abbrev pub wasted_sent : List Entry
+wasted_sent = asked_one ++ logged_traffic 1 wasted_traffic ++ sent_for_run 1 (whole_branch 7) ∷ []
+
+abbrev pub wasted_run : List Entry
+wasted_run = wasted_sent ++ came_with [] ∷ []
+
+abbrev pub wasted_opening : Opening
+wasted_opening = record sample_opening { budget = 8 }
+
+abbrev pub wasted_with : List Entry → LogState
+wasted_with h = record { opening = wasted_opening; entries = h; room = 40 }
 
 -- the calls of aborted_log and then a Collect, and their answers
 abbrev pub collected_failed : List Entry

@@ -1,8 +1,11 @@
 //! Answers that a log explains, and answers that none does.
-ghost use Rattle.std.specs.Prelude.{◌≡◌, ℕ, List, [], ◌∷◌, Ok, Err, Some, None, slice_get};
+ghost use Rattle.std.specs.Prelude.{◌≡◌, ℕ, List, [], ◌∷◌, ◌++◌, Ok, Err, Some, None, slice_get};
 ghost use Rattle.std.specs.Global.{Vec};
 ghost use Rattle.rdm_queue.specs.declared.fault.LogFull.{LogFull};
+ghost use Rattle.rdm_join.specs.declared.event.LineEvent.TheVariants.{Reply};
 ghost use Rattle.rdm_agent.specs.declared.kind.Kind.TheVariants.{Full};
+ghost use Rattle.rdm_agent.specs.declared.fault.AgentFault.TheVariants.{Exhausted};
+ghost use Rattle.rdm_queue.specs.declared.entry.Entry.TheVariants as entries;
 ghost use Rattle.rdm_queue.specs.declared.fault.SubmitFault.TheVariants as faults;
 ghost use Rattle.rdm_queue.specs.declared.fault.AskFault.TheVariants as ask_faults;
 ghost use Rattle.rdm_queue.specs.declared.event.Event.{Event};
@@ -10,6 +13,7 @@ ghost use Rattle.rdm_queue.specs.declared.event.Event.TheVariants as events;
 ghost use Rattle.rdm_queue.specs.declared.event.Answer.{Answer};
 ghost use Rattle.rdm_queue.specs.declared.event.Answer.TheVariants as answers;
 ghost use Rattle.rdm_queue.specs.log.LogState.{LogState};
+ghost use Rattle.rdm_queue.specs.promises.InBound.{IsCalmRun};
 ghost use Rattle.rdm_queue.specs.promises.Explains.{Explains};
 ghost use Rattle.rdm_queue.specs.promises.EventsHeadline.{AnsweredAt};
 ghost use Rattle.rdm_join.specs.Result.{result_of};
@@ -19,6 +23,7 @@ ghost use Rattle.rdm_queue.specs.samples.SampleParts.{wide_opening, joined_log, 
 ghost use Rattle.rdm_queue.specs.samples.Sample.{sample_request, join_only, accepted_one, closed_log, logged_with};
 ghost use Rattle.rdm_queue.specs.samples.Sample.{sample_events, sample_answers};
 ghost use Rattle.rdm_queue.specs.samples.SampleRuns.{asked_one, failing_events, failing_answers, collected_failed};
+ghost use Rattle.rdm_queue.specs.samples.SampleRuns.{wasted_opening, wasted_with, wasted_sent, wasted_run};
 
 /// A whole log explains the answers to its events: a join, a submit, a take, a deliver, a collect, a close.
 pub fn sample_is_explained()
@@ -64,6 +69,14 @@ pub fn not_explained()
     ensures no_entry { Explains (logged_with []) (events.Pause ∷ []) (answers.Pause (Ok tt) ∷ []) (logged_with []) → ⊥ }
     ensures exchanged { (new : LogState) → Explains (logged_with [])
         (events.Pause ∷ events.Close ∷ []) (answers.Close ∷ answers.Pause (Ok tt) ∷ []) new → ⊥ }
+{}
+
+/// A line without devices is calm, and eight frames suffice for a run. So no log explains that the reply to a run's
+/// eighth frame is followed by its Answer with Exhausted, where the queue isn't closed.
+pub fn wasted_run_is_not_explained()
+    ensures calm { IsCalmRun wasted_opening wasted_run 1 [] }
+    ensures fault { Explains (wasted_with wasted_sent) (events.Deliver (Reply (record { items = [] })) ∷ [])
+        (answers.Deliver (Ok tt) ∷ []) (wasted_with (wasted_run ++ entries.Answer 0 1 (Some Exhausted) ∷ [])) → ⊥ }
 {}
 
 /// A whole log whose request is answered in two parts is legal, and joins them.

@@ -1,5 +1,4 @@
-use Rattle.std.proofs.Common.{List, ◌++◌, ◌∷◌, [], ap, ◌∙◌}
-use Rattle.rdm_queue.specs.declared.entry.Entry.{Entry}
+use Rattle.std.proofs.Common.{◌++◌, ◌∷◌, [], ap, ◌∙◌}
 use Rattle.rdm_queue.specs.log.LogState.{grown}
 use Rattle.rdm_queue.specs.promises.InBound.{FaultNeedsClose}
 use Rattle.rdm_queue.proofs.BodyLemmas.SessionLemmas.{amid_grown, result_added, grown_twice, all_results_more}
