@@ -117,8 +117,8 @@ impl Controller {
 
     /// Refuses all later joins, submits and discovers, and sends nothing more. Where no reply is awaited, all is ended
     /// at once; else `deliver` does so. In this order: the discoveries of a run that has begun, with Aborted; the
-    /// requests that wait, with status FailedToSend; the other discoveries, with Aborted and run 0. Without effect where
-    /// it is closed.
+    /// requests that wait, with status FailedToSend; the other discoveries, with Aborted and run 0. Without effect
+    /// where it is closed.
     pub fn close(&mut self)
         ensures adds { AddsToEach self.old CloseAdds self.new }
         ensures unchanged { ForEachLog self.old (λ o h. is_closed o h ≡ true → self.new ≡ self.old) }

@@ -39,7 +39,8 @@ impl Model for Session {
 }
 
 impl Session {
-    ghost use Rattle.std.specs.Prelude.{◌≡◌, ◌≢◌, [], length, ◌+◌, IfOk, IfErr, OnOk, OnErr, IfNone, IfSome, Some, true, false};
+    ghost use Rattle.std.specs.Prelude.{◌≡◌, ◌≢◌, [], length, ◌+◌, IfOk, IfErr, OnOk, OnErr, IfNone, IfSome, Some};
+    ghost use Rattle.std.specs.Prelude.{true, false};
     ghost use Rattle.rdm_queue.specs.log.History.{awaited, is_paused, is_closed, is_idle, reserved};
     ghost use Rattle.rdm_queue.specs.log.Legal.{Legal};
     ghost use Rattle.rdm_queue.specs.log.Config.{IsConfig};
@@ -370,8 +371,8 @@ impl Session {
     /// may be the next one, once it is [`cleared`](Log::cleared).
     ///
     /// An entry takes 296 bytes. A request takes 5 entries where one frame is enough for it, and 2 for each frame
-    /// more. A discovery takes 3, and its run 2 for each frame, of which a run with `n` devices and `k` known ones on an
-    /// honest line has at most `8 + 370 n + 5 k`.
+    /// more. A discovery takes 3, and its run 2 for each frame, of which a run with `n` devices and `k` known ones on
+    /// an honest line has at most `8 + 370 n + 5 k`.
     ///
     /// The numbers of requests, discoveries, runs and frames go on, and so do the clients with their places, the
     /// devices and their run, and whether it is paused or closed: they stand in the new log's opening. The new log has

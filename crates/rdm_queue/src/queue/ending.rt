@@ -30,8 +30,8 @@ impl Queue {
     ghost use Rattle.rdm_queue.specs.body.Ending.{devices_run_after, answer_of, answers_oldest, one_less};
     ghost use Rattle.rdm_queue.specs.declared.pending.Awaited.TheVariants as awaiting;
 
-    /// Takes what the line answered to the last frame. It is of the oldest request, which hasn't ended before, or of the
-    /// run, whose agent hasn't.
+    /// Takes what the line answered to the last frame. It is of the oldest request, which hasn't ended before, or of
+    /// the run, whose agent hasn't.
     pub(crate) fn hear(&mut self, alloc: Global, event: &LineEvent)
         ensures free { self.new.awaited ≡ None }
         ensures heard { (sent : Sent) → self.old.awaited ≡ Some (awaiting.Request sent)
