@@ -1,4 +1,7 @@
 //! Outcomes collected by their kind.
+ghost use Rattle.std.specs.Prelude.{◌≡◌, false};
+ghost use Rattle.rdm_wire.specs.Uid.{is_broadcast};
+
 use super::lines::{event, first_device, run_of_one, serves, session_for_runs};
 use super::packets::{ACK, CLIENT, accepts, delivers, get, reply, taken};
 use crate::{ClientId, Config, Controller, DiscoveryEnd, OutcomeKind};
@@ -9,7 +12,9 @@ use std::process::Abort;
 use std::test::Fail;
 
 // What a set holds that was never written.
-fn other_device() -> Device {
+fn other_device() -> Device
+    ensures { is_broadcast result.uid ≡ false }
+{
     Device {
         uid: Uid::new(0x5678, 9),
         control: 0,
