@@ -1,0 +1,16 @@
+pub mod Counting
+pub mod SeatLemmas
+pub mod ListLemmas
+pub mod GrowthLemmas
+pub mod LaneLemmas
+pub mod LineLemmas
+pub mod StepLemmas
+pub mod FitLemmas
+pub mod ServeLemmas
+pub mod MovingLemmas
+pub mod ExchangeLemmas
+pub mod WorkLemmas
+pub mod EndLemmas
+pub mod OpenLemmas
+pub mod SessionLemmas
+pub mod PartLemmas

@@ -1,0 +1,6 @@
+use Rattle.std.proofs.Common.{◌≡◌, take}
+use Rattle.rdm_lanes.specs.Opened.{join_entries}
+use Rattle.rdm_lanes.proofs.opening.join_all.Given as goal
+
+abbrev pub invariant-loop-n : goal.invariant-loop-n
+invariant-loop-n l = l.session ≡ record l.fn.session { entries = join_entries 0 (take l.n-index l.places) }
