@@ -7,3 +7,5 @@ pub mod Forms
 pub mod SceneFiles
 pub mod Report
 pub mod Input
+pub mod SessionFiles
+pub mod SessionReport

@@ -12,13 +12,14 @@ use Rattle.rdm_agent.specs.declared.kind.Kind.{Kind}
 use Rattle.rdm_agent.specs.declared.kind.Kind.TheVariants.{Full, Incremental}
 use Rattle.rdm_line.specs.SimRuns.{NoFiveSuccessive}
 use Rattle.rdm_port.specs.declared.job.Job.{Job}
-use Rattle.rdm_port.specs.declared.job.Job.TheVariants.{Decode, Encode, Discover}
+use Rattle.rdm_port.specs.declared.job.Job.TheVariants.{Decode, Encode, Discover, Run}
 use Rattle.rdm_port.specs.declared.job.WordsFault.{WordsFault}
 use Rattle.rdm_port.specs.declared.answer.Answer.{Answer}
 use Rattle.rdm_port.specs.declared.answer.Answer.TheVariants.{Line, Lines}
 use Rattle.rdm_port.specs.declared.scene.file.SceneFile.{SceneFile}
+use Rattle.rdm_port.specs.declared.session.file.SessionFile.{SessionFile}
 use Rattle.rdm_port.specs.declared.fault.Fault.{Fault}
-use Rattle.rdm_port.specs.Fault.{ReadsScene, IsFaultOf, fault_line, fault_status}
+use Rattle.rdm_port.specs.Fault.{ReadsScene, ReadsSession, IsFaultOf, fault_line, fault_status}
 use Rattle.rdm_port.specs.Report.{line_of, report_text, report_status}
 use Rattle.rdm_port.specs.SceneDiscovery.{IsSceneDiscovery, IsHonestReport}
 
@@ -65,6 +66,8 @@ abbrev pub Answers : Job → Option (List ℕ) → List ℕ → ℕ → Type 0
 Answers (Decode digits) known text status = Decodes digits.now text × (status ≡ 0)
 Answers (Encode uid) known text status = Encodes uid.now text × (status ≡ 0)
 Answers (Discover file incremental) known text status = Discovers incremental known text status
+-- which results the threads come to isn't said
+Answers (Run file) known text status = ((session : SessionFile) × ReadsSession known session) × (status ≡ 0)
 
 -- the text and the status that a command line is answered with
 abbrev pub IsOutcome : Result Job WordsFault → Option (List ℕ) → List ℕ → ℕ → Type 0

@@ -80,8 +80,8 @@ fn scene_of(alloc: Global, bytes: &[u8]) -> Result<SceneFile, Refused>
     }
 }
 
-// Why bytes weren't read as JSON.
-fn no_json(error: &serde_json::Error) -> Refused
+/// Why bytes weren't read as JSON.
+pub(crate) fn no_json(error: &serde_json::Error) -> Refused
     ensures memory { IsMemory error.now → result.0 ≡ Fault.Memory }
     ensures text { ¬ IsMemory error.now → result.0 ≡ Fault.Json }
 {

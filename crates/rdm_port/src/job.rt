@@ -3,6 +3,7 @@ ghost use Rattle.std.specs.Prelude.{◌≡◌, ◌≢◌, IfOk, IfSome, IfNone, 
 ghost use Rattle.clap.specs.Words.{app_of, with_subcommand, found_of, rows_of, subcommand_rows_of, kind_of};
 ghost use Rattle.clap.specs.declared.builder.command.Command.TheViews.{out-Command as fields_of};
 ghost use Rattle.rdm_port.specs.Words.{Asks, AsksNothing, IsGiven, bare, commands, one_argument, discover_words};
+ghost use Rattle.rdm_port.specs.Words.{run_words, is_locked};
 ghost use Rattle.rdm_port.specs.Words.{is_set, file_of, texts_of};
 
 use clap::error::ErrorKind;
@@ -23,6 +24,8 @@ pub enum Job<'a> {
         /// Whether the run mutes the scene's known devices first.
         incremental: bool,
     },
+    /// Run the session of the file with this path, behind a lock.
+    Run(&'a str),
 }
 
 impl<'a> Job<'a> {
@@ -32,7 +35,7 @@ impl<'a> Job<'a> {
     {
         match self {
             Job::Decode(_) | Job::Encode(_) => None,
-            Job::Discover { file, .. } => Some(*file),
+            Job::Discover { file, .. } | Job::Run(file) => Some(*file),
         }
     }
 }
@@ -70,9 +73,11 @@ fn command<'a>(alloc: Global) -> Result<Command<'a>, AllocError>
     let decode = subcommand(alloc, "decode", "hex")?;
     let encode = subcommand(alloc, "encode", "uid")?;
     let discover = discover(alloc)?;
+    let run = run(alloc)?;
     let command = with_command(bare(alloc), decode)?;
     let command = with_command(command, encode)?;
-    with_command(command, discover)
+    let command = with_command(command, discover)?;
+    with_command(command, run)
 }
 
 // The command line with one more command.
@@ -120,6 +125,15 @@ fn discover<'a>(alloc: Global) -> Result<Command<'a>, AllocError>
     subcommand(alloc, "discover", "file")?.arg(flag)
 }
 
+// The command that runs a session: a file, and which port its clients have.
+fn run<'a>(alloc: Global) -> Result<Command<'a>, AllocError>
+    ensures app { IfOk result (λ command. app_of command ≡ run_words) }
+    ensures local { IfOk result (λ command. (fields_of command).has_globals ≡ false) }
+{
+    let port = Arg::new(alloc, "port").long("port");
+    subcommand(alloc, "run", "file")?.arg(port)
+}
+
 // The job of the command that was given.
 fn given<'a>(matches: &ArgMatches<'a>) -> Option<Job<'a>>
     ensures some { IfSome result (λ job. IsGiven (subcommand_rows_of matches.now) job) }
@@ -133,6 +147,7 @@ fn given<'a>(matches: &ArgMatches<'a>) -> Option<Job<'a>>
             file: given.get_str("file")?,
             incremental: has_flag(given, "incremental"),
         }),
+        "run" if is_locked(given) => Some(Job::Run(given.get_str("file")?)),
         _ => None,
     }
 }
@@ -144,6 +159,16 @@ fn has_flag(given: &ArgMatches<'_>, flag: &str) -> bool
     match given.get_str(flag) {
         Some(text) => text == "true",
         None => false,
+    }
+}
+
+// Whether the locked port was given, or none.
+fn is_locked(given: &ArgMatches<'_>) -> bool
+    ensures { result ≡ is_locked (rows_of (found_of given.now)) }
+{
+    match given.get_str("port") {
+        Some(text) => text == "locked",
+        None => true,
     }
 }
 

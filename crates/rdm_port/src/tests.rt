@@ -2,4 +2,5 @@
 mod discovering;
 mod files;
 mod replies;
+mod running;
 mod tapes;

@@ -39,7 +39,7 @@ fn prints_one_line(rt: HostRuntime) -> Result<(), Fail> {
     for (words, line, status) in rows {
         let mut written = Vec::new(rt.alloc());
         let job = parse_words(rt.alloc(), words);
-        let given = perform(rt.alloc(), job, &mut io::empty(), &mut written);
+        let given = perform(&rt, rt.alloc(), job, &mut io::empty(), &mut written);
         assert_eq!(rt; given, status, "{line}");
         assert_eq!(rt; written.as_slice(), line.as_bytes(), "{line}");
     }
@@ -123,7 +123,7 @@ fn tells_a_writer_that_fails(rt: HostRuntime) {
     ];
     for job in rows {
         let mut short: ArrayVec<u8, 4> = ArrayVec::new();
-        assert_eq!(rt; perform(rt.alloc(), job, &mut io::empty(), &mut short), 1);
+        assert_eq!(rt; perform(&rt, rt.alloc(), job, &mut io::empty(), &mut short), 1);
         assert!(rt; short.is_full());
     }
 }
@@ -168,7 +168,7 @@ fn goes_on_where_it_was_interrupted(rt: HostRuntime) {
         };
         let job = Ok(Job::Decode("fe"));
         assert_eq!(rt;
-            perform(rt.alloc(), job, &mut io::empty(), &mut writer),
+            perform(&rt, rt.alloc(), job, &mut io::empty(), &mut writer),
             status
         );
         assert_eq!(rt; writer.taken.as_slice(), taken);
@@ -179,6 +179,6 @@ fn goes_on_where_it_was_interrupted(rt: HostRuntime) {
 fn needs_no_more_room_than_the_line(rt: HostRuntime) {
     let mut whole: ArrayVec<u8, 20> = ArrayVec::new();
     let job = Err(WordsFault::Words);
-    assert_eq!(rt; perform(rt.alloc(), job, &mut io::empty(), &mut whole), 2);
+    assert_eq!(rt; perform(&rt, rt.alloc(), job, &mut io::empty(), &mut whole), 2);
     assert_eq!(rt; whole.as_slice(), b"fault: command line\n".as_slice());
 }
