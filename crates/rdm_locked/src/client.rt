@@ -149,17 +149,11 @@ impl<'a, L: Ledger, C: Tells, A: TellsAsk> LockedClient<'a, L, C, A> {
             return None;
         }
         let oldest = self.port.inside.lock(rt).oldest(self.number)?;
-        // A `map` might move the whole of a discovery's outcome, 32 KB large.
-        match oldest {
-            OutcomeKind::Request => match self.collect_request(rt) {
-                Some(told) => Some(Collected::Request(told)),
-                None => None,
-            },
-            OutcomeKind::Discovery => match self.collect_discovery(rt) {
-                Some(told) => Some(Collected::Ask(told)),
-                None => None,
-            },
+        if oldest == OutcomeKind::Request {
+            let told = self.collect_request(rt)?;
+            return Some(Collected::Request(told));
         }
+        self.collect_discovery(rt)
     }
 
     // Collects the oldest outcome where it is a request's and a callback is held for it.
@@ -192,9 +186,9 @@ impl<'a, L: Ledger, C: Tells, A: TellsAsk> LockedClient<'a, L, C, A> {
     // Collects the oldest outcome where it is a discovery's and a callback is held for it. It isn't inlined, so that
     // the path of a request has no set.
     #[inline(never)]
-    fn collect_discovery<R: Wait>(&mut self, rt: &R) -> Option<AskTold>
+    fn collect_discovery<R: Wait>(&mut self, rt: &R) -> Option<Collected>
         ensures collected { IfSome result (λ told.
-            CollectsDiscovery A.calls A.tag_of self.old.desk told self.new.desk) }
+            Collects C.calls C.tag_of A.calls A.tag_of self.old.desk told self.new.desk) }
         ensures counted { OnSome result (self.new.calls.count ≡ self.old.calls.count + 1) }
         ensures none { IfNone result ((self.new.desk ≡ self.old.desk) × (self.new.calls.count ≡ self.old.calls.count)) }
         ensures client { self.new.number ≡ self.old.number }
@@ -217,7 +211,7 @@ impl<'a, L: Ledger, C: Tells, A: TellsAsk> LockedClient<'a, L, C, A> {
             .collect_discovery(*number, &mut set, calls);
         let DiscoveryEnd { run, fault, .. } = collected?;
         match desk.settle_ask(AskCompletion { run, fault, set }) {
-            Ok(told) => Some(told),
+            Ok(told) => Some(Collected::Ask(told)),
             Err(_) => unreachable!(),
         }
     }
