@@ -37,7 +37,7 @@ pub record SendsPart (r : ℕ) (h : List Entry) : Type 0 where
   pub before : List Sending
   pub during : List Sending
   pub after : List Sending
-  pub whole : sends h ≡ before ++ during ++ after
+  pub whole : sends h ≡ before ++ (during ++ after)
   pub others_before : NoneOf r before
   pub own : AllOf r during
   pub others_after : NoneOf r after
@@ -49,11 +49,11 @@ all_push P (y ∷ xs) x all p = (all.0, all_push P xs x all.1 p)
 
 none_any : (r : ℕ) (ss : List Sending) → list_any (λ (s : Sending). is_run r s.owner) ss ≡ false → NoneOf r ss
 none_any r [] none = tt
-none_any r (s ∷ ss) none = by_test (is_run r s.owner) refl
+none_any r (s ∷ ss) none = by_test (none_any r ss) (is_run r s.owner) refl
   where
-    by_test : (b : Bool) → is_run r s.owner ≡ b → NoneOf r (s ∷ ss)
-    by_test true is = absurd (true≢false (sym (ap (λ (b : Bool). b || list_any (λ (s : Sending). is_run r s.owner) ss) is) ∙ none))
-    by_test false is = (is, none_any r ss (sym (ap (λ (b : Bool). b || list_any (λ (s : Sending). is_run r s.owner) ss) is) ∙ none))
+    by_test : (list_any (λ (s : Sending). is_run r s.owner) ss ≡ false → NoneOf r ss) → (b : Bool) → is_run r s.owner ≡ b → NoneOf r (s ∷ ss)
+    by_test rest true is = absurd (true≢false (sym (ap (λ (b : Bool). b || list_any (λ (s : Sending). is_run r s.owner) ss) is) ∙ none))
+    by_test rest false is = (is, rest (sym (ap (λ (b : Bool). b || list_any (λ (s : Sending). is_run r s.owner) ss) is) ∙ none))
 
 -- an entry that sends nothing
 unsent : (r : ℕ) (h : List Entry) (e : Entry) → sending_of e ≡ None → (open_run (h ++ e ∷ []) ≡ Some r → open_run h ≡ Some r) → SendsPart r h → SendsPart r (h ++ e ∷ [])
@@ -73,11 +73,11 @@ stays_open r h e sent answer is = sym (open_run_same h (h ++ e ∷ []) (sends_sa
 
 any_front : {X : Type 0} (p : X → Bool) (xs : List X) (x : X) → list_any p (xs ++ x ∷ []) ≡ false → list_any p xs ≡ false
 any_front p [] x none = refl
-any_front p (y ∷ xs) x none = by_test (p y) refl
+any_front p (y ∷ xs) x none = by_test (any_front p xs x) (p y) refl
   where
-    by_test : (b : Bool) → p y ≡ b → list_any p (y ∷ xs) ≡ false
-    by_test true is = absurd (true≢false (sym (ap (λ (b : Bool). b || list_any p (xs ++ x ∷ [])) is) ∙ none))
-    by_test false is = ap (λ (b : Bool). b || list_any p xs) is ∙ any_front p xs x (sym (ap (λ (b : Bool). b || list_any p (xs ++ x ∷ [])) is) ∙ none)
+    by_test : (list_any p (xs ++ x ∷ []) ≡ false → list_any p xs ≡ false) → (b : Bool) → p y ≡ b → list_any p (y ∷ xs) ≡ false
+    by_test rest true is = absurd (true≢false (sym (ap (λ (b : Bool). b || list_any p (xs ++ x ∷ [])) is) ∙ none))
+    by_test rest false is = ap (λ (b : Bool). b || list_any p xs) is ∙ rest (sym (ap (λ (b : Bool). b || list_any p (xs ++ x ∷ [])) is) ∙ none)
 
 answered_open : (r : ℕ) (h : List Entry) (e : Entry) (b : Answered) → sending_of e ≡ None → answered_of e ≡ Some b → open_run (h ++ e ∷ []) ≡ Some r → open_run h ≡ Some r
 answered_open r h e b sent answer is =
@@ -130,9 +130,9 @@ later_sent r h frame goes p = by_over p.over
       after = [];
       whole =
           sends_more h (Send (owners.Run r) frame) s refl
-          ∙ ap (λ (ss : List Sending). ss ++ s ∷ []) (p.whole ∙ ap (λ (ss : List Sending). p.before ++ p.during ++ ss) none)
+          ∙ ap (λ (ss : List Sending). ss ++ s ∷ []) (p.whole ∙ ap (λ (ss : List Sending). p.before ++ (p.during ++ ss)) none)
           ∙ append_assoc p.before (p.during ++ []) (s ∷ [])
-          ∙ ap (λ (ss : List Sending). p.before ++ ss ++ s ∷ []) (append-nil p.during)
+          ∙ ap (λ (ss : List Sending). p.before ++ (ss ++ s ∷ [])) (append-nil p.during)
           ∙ ap (λ (ss : List Sending). p.before ++ ss) (sym (append-nil (p.during ++ s ∷ [])));
       others_before = p.others_before;
       own = all_push (λ (s : Sending). is_run r s.owner ≡ true) p.during s p.own (eq-eqb r r refl);
@@ -197,7 +197,7 @@ pub record RunPart (r : ℕ) (h : List Entry) : Type 0 where
   pub before : List Exchange
   pub during : List Exchange
   pub after : List Exchange
-  pub whole : exchanges h ≡ before ++ during ++ after
+  pub whole : exchanges h ≡ before ++ (during ++ after)
   pub own : run_exchanges r h ≡ map seen_event during
 
 abbrev of_run : ℕ → List Traded → List Traded
@@ -217,13 +217,16 @@ none_own r [] es all = refl
 none_own r (s ∷ ss) [] all = refl
 none_own r (s ∷ ss) (e ∷ es) all = rw all.0 (none_own r ss es all.1)
 
+abbrev none_came : List LineEvent
+none_came = []
+
+zip_nil : (ss : List Sending) → zip ss none_came ≡ []
+zip_nil [] = refl
+zip_nil (s ∷ ss) = refl
+
 zip_parts : (us vs : List Sending) (es : List LineEvent) → zip (us ++ vs) es ≡ zip us (take (length us) es) ++ zip vs (drop (length us) es)
 zip_parts [] vs es = refl
-zip_parts (a ∷ us) vs [] = nothing vs
-  where
-    nothing : (vs : List Sending) → zip (a ∷ (us ++ vs)) [] ≡ zip (a ∷ us) [] ++ zip vs []
-    nothing [] = refl
-    nothing (b ∷ vs) = refl
+zip_parts (a ∷ us) vs [] = sym (zip_nil vs)
 zip_parts (a ∷ us) vs (e ∷ es) = ap (λ (ps : List (Sending × LineEvent)). (a, e) ∷ ps) (zip_parts us vs es)
 
 seen_twice : (ts : List Traded) → map seen_of ts ≡ map seen_event (map exchange_of ts)
@@ -255,7 +258,7 @@ run_part o h each r = record {
     last : List Traded
     last = map traded_of (zip p.after (drop (length p.during) rest))
 
-    all : map traded_of (zip (sends h) (cames h)) ≡ first ++ middle ++ last
+    all : map traded_of (zip (sends h) (cames h)) ≡ first ++ (middle ++ last)
     all =
         ap (λ (ss : List Sending). map traded_of (zip ss (cames h))) p.whole
         ∙ ap (map traded_of) (zip_parts p.before (p.during ++ p.after) (cames h))

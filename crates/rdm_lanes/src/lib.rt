@@ -36,3 +36,6 @@ pub use ring_outcome::RingOutcome;
 pub use session_run::{RunFault, run_session};
 pub use together::LanesEnd;
 pub use worker::{Worker, WorkerEnd};
+
+#[cfg(test)]
+mod tests;
