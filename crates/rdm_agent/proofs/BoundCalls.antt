@@ -1,27 +1,27 @@
 -- The bound, call by call.
 use Rattle.std.proofs.Common.{◌≡◌, ℕ, ◌≤◌, false, List, length, Some, None, sym, ◌∙◌, subst}
 use Rattle.rdm_agent.specs.Machine.{AgentState, fault_of, found_uids}
-use Rattle.rdm_agent.specs.Calls.{next_op, HasRun, RunSoFar}
-use Rattle.rdm_agent.specs.Bound.{enough_for, IsUndisturbed, StaysInBound, EndsWithin}
+use Rattle.rdm_agent.specs.Calls.{next_op, HasRunBy, RunSoFar}
+use Rattle.rdm_agent.specs.Bound.{enough_by, IsUndisturbed, StaysInBound, EndsWithin}
 use Rattle.rdm_agent.specs.declared.fault.AgentFault.{AgentFault}
 use Rattle.rdm_agent.specs.declared.op.Op.TheVariants.{End}
-use Rattle.rdm_agent.proofs.BoundRuns.{ends_in_bound}
+use Rattle.rdm_agent.proofs.BoundRuns.{ends_in_bound_by}
 use Rattle.rdm_agent.proofs.CallLemmas.{runs-own, none_ends, next_none, frames-counted, end-finds_all}
 
-module _ (a : AgentState) (run : RunSoFar) (stands : HasRun run.kind run.known run.budget run.aborted run.exchanges a) (present : List ℕ) (calm : IsUndisturbed present run) where
-  not_aborted : HasRun run.kind run.known run.budget false run.exchanges a
-  not_aborted = subst (λ b. HasRun run.kind run.known run.budget b run.exchanges a) calm.not_aborted stands
+module _ (a : AgentState) (run : RunSoFar) (stands : HasRunBy run.search run.kind run.known run.budget run.aborted run.exchanges a) (present : List ℕ) (calm : IsUndisturbed present run) where
+  not_aborted : HasRunBy run.search run.kind run.known run.budget false run.exchanges a
+  not_aborted = subst (λ b. HasRunBy run.search run.kind run.known run.budget b run.exchanges a) calm.not_aborted stands
 
-  within : EndsWithin (enough_for present run.kind run.known) a
-  within = ends_in_bound run.kind run.known run.budget run.exchanges a not_aborted.devices (runs-own run.kind run.known run.budget run.exchanges a not_aborted) present calm.calm calm.budgeted
+  within : EndsWithin (enough_by run.search present run.kind run.known) a
+  within = ends_in_bound_by run.search run.kind run.known run.budget run.exchanges a not_aborted.devices (runs-own run.kind run.known run.budget run.exchanges a not_aborted) present calm.calm calm.budgeted
 
-  pub frames-in_bound : a.frames ≤ enough_for present run.kind run.known
+  pub frames-in_bound : a.frames ≤ enough_by run.search present run.kind run.known
   frames-in_bound = within.at_most
 
-  pub frames-ended : a.frames ≡ enough_for present run.kind run.known → next_op a ≡ End
+  pub frames-ended : a.frames ≡ enough_by run.search present run.kind run.known → next_op a ≡ End
   frames-ended all = none_ends a (within.ends all)
 
-  pub next-in_bound : length run.exchanges ≡ enough_for present run.kind run.known → next_op a ≡ End
+  pub next-in_bound : length run.exchanges ≡ enough_by run.search present run.kind run.known → next_op a ≡ End
   next-in_bound all = frames-ended ((frames-counted a run.kind run.known run.budget run.aborted run.exchanges stands).0 ∙ all)
 
   module _ (end : next_op a ≡ End) where
@@ -37,5 +37,5 @@ module _ (a : AgentState) (run : RunSoFar) (stands : HasRun run.kind run.known r
     pub end-finds : found_uids a ≡ present
     end-finds = end-finds_all a end no_fault run.kind run.known run.budget run.aborted run.exchanges stands present calm.calm.honest
 
-pub stays_in_bound : (a : AgentState) (run : RunSoFar) → HasRun run.kind run.known run.budget run.aborted run.exchanges a → StaysInBound a run
+pub stays_in_bound : (a : AgentState) (run : RunSoFar) → HasRunBy run.search run.kind run.known run.budget run.aborted run.exchanges a → StaysInBound a run
 stays_in_bound a run stands present calm = (frames-in_bound a run stands present calm, frames-ended a run stands present calm)

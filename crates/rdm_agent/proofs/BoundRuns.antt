@@ -9,18 +9,21 @@ use Rattle.rdm_wire.specs.Span.{whole}
 use Rattle.rdm_wire.specs.Honest.{Asked, Heard, Seen, LineState, HonestStep, Chain, before_run}
 use Rattle.rdm_wire.specs.Honest.Heard.{Failed, Silent, One, Acked, Noise}
 use Rattle.rdm_agent.specs.Certificate.{known_of}
-use Rattle.rdm_agent.specs.Machine.{Phase, AgentState, Runs, start, wanted, fed, found_uids, fault_of, heard_by_phase}
-use Rattle.rdm_agent.specs.Machine.Phase.{Unmuting, MutingKnown, Searching, MutingRead, Ended}
-use Rattle.rdm_agent.proofs.Potential.{is_left, left_in, worth, Costs, Affords}
-use Rattle.rdm_agent.specs.Bound.{enough_for, EndsWithin, EndsInBound, EndsByDefault}
+use Rattle.rdm_agent.specs.Machine.{Phase, AgentState, Runs, start_by, wanted, fed, found_uids, fault_of, heard_by_phase}
+use Rattle.rdm_agent.specs.Machine.Phase.{Unmuting, MutingKnown, Searching, MutingRead, Sweeping, MutingSwept, Doubting, Ended}
+use Rattle.rdm_agent.proofs.Potential.{is_left, left_in, worth, Ahead, Costs, Affords}
+use Rattle.rdm_agent.specs.Bound.{enough_for, enough_by, EndsWithin, EndsInBoundBy, EndsInBound, EndsByDefault}
 use Rattle.rdm_agent.specs.declared.kind.Kind.{Kind}
+use Rattle.rdm_agent.specs.declared.search.Search.{Search}
+use Rattle.rdm_agent.specs.declared.search.Search.TheVariants.{Steady, Quick}
 use Rattle.rdm_agent.specs.declared.limits.TheConstants.{DEFAULT_BUDGET}
 use Rattle.rdm_agent.specs.declared.kind.Kind.TheVariants.{Full, Incremental}
 use Rattle.rdm_agent.proofs.OneDevice.{NotFailed}
 use Rattle.rdm_agent.proofs.LeftLemmas.{no_more_than}
 use Rattle.rdm_agent.proofs.CoverLemmas.{Covers-some, worth-fewer}
 use Rattle.rdm_agent.proofs.PaidLemmas.{unmuting-affords, known-affords, searching-affords, read-affords, read-some}
-use Rattle.rdm_agent.proofs.Runs.{stands, wanted_next}
+use Rattle.rdm_agent.proofs.SweepPaid.{sweeping-affords, swept-affords, doubting-affords}
+use Rattle.rdm_agent.proofs.Runs.{stands_by, wanted_next}
 
 module _ (present : List ℕ) (set : IsDeviceSet present) (few : length present ≤ MOST_DEVICES) (total : ℕ) where
   -- an exchange leaves a run within its bound
@@ -30,11 +33,14 @@ module _ (present : List ℕ) (set : IsDeviceSet present) (few : length present 
       After : Heard → Phase → Option Asked → Type 0
       After h phase o = MatchOption o (Unit {0}) (λ q. HonestStep present s q h new → Affords present total new (heard_by_phase a phase h))
 
-      by_phase : (phase : Phase) (h : Heard) → h ≢ Failed → Costs present s (found_uids a) phase affords.cost → After h phase (wanted phase)
+      by_phase : (phase : Phase) (h : Heard) → h ≢ Failed → Costs a.search present s (found_uids a) phase affords.cost → After h phase (wanted phase)
       by_phase (Unmuting more known) h sound costs = λ step. unmuting-affords present set few total affords.cost s new a affords.within more known h affords.finds costs
       by_phase (MutingKnown u tries known) h sound costs = λ step. known-affords present set few total affords.cost s new a affords.within u tries known h sound affords.finds step costs
       by_phase (Searching silences top below) h sound costs = λ step. searching-affords present set few total affords.cost s new a affords.within silences top below h sound affords.finds step costs
       by_phase (MutingRead u tries top below) h sound costs = λ step. read-affords present set few total affords.cost s new a affords.within u tries top below h sound affords.finds step costs
+      by_phase (Sweeping sweep top below) h sound costs = λ step. sweeping-affords present set few total affords.cost s new a affords.within sweep top below h sound affords.finds step costs
+      by_phase (MutingSwept u tries sweep top below) h sound costs = λ step. swept-affords present set few total affords.cost s new a affords.within u tries sweep top below h sound affords.finds step costs
+      by_phase (Doubting sweep top below) h sound costs = λ step. doubting-affords present set few total affords.cost s new a affords.within sweep top below h sound affords.finds step costs
       by_phase (Ended fault) h sound costs = tt
 
       at_phase : (h : Heard) → h ≢ Failed → HonestStep present s asked h new → Affords present total new (heard_by_phase a a.phase h)
@@ -57,16 +63,19 @@ runs-afford present set few total kind known budget (e ∷ x) s a b sound (inr s
     (fed-affords present set few total s step.0 a e.asked e.heard sound.0 (wanted_next kind known budget a e.asked run.0).1 step.1 affords)
 
 -- a run that goes on still costs an exchange at least
-ended_or_pays : (present : List ℕ) (s : LineState) (found : List ℕ) (phase : Phase) (cost : ℕ) → Costs present s found phase cost → (phase ≡ Ended None) ⊎ ((2 ≤ cost) × (wanted phase ≢ None))
-ended_or_pays present s found (Unmuting more known) cost c = let some = c.some in let is = c.cost_is in inr (omega arith, λ p. cc)
-ended_or_pays present s found (MutingKnown u tries known) cost c = let few = c.few in let is = c.cost_is in inr (omega arith, λ p. cc)
-ended_or_pays present s found (Searching silences top below) cost c = let few = c.few in let is = c.cost_is in let some = Covers-some present found top below c.ranges c.covered in inr (omega arith, λ p. cc)
-ended_or_pays present s found (MutingRead u tries top below) cost c = let few = c.few in let is = c.cost_is in let some = read-some present s found u tries top below cost c in inr (omega arith, λ p. cc)
-ended_or_pays present s found (Ended fault) cost c = inl (ap Ended c)
+ended_or_pays : (search : Search) (present : List ℕ) (s : LineState) (found : List ℕ) (phase : Phase) (cost : ℕ) → Costs search present s found phase cost → (phase ≡ Ended None) ⊎ ((2 ≤ cost) × (wanted phase ≢ None))
+ended_or_pays search present s found (Unmuting more known) cost c = let some = c.some in let is = c.cost_is in inr (omega arith, λ p. cc)
+ended_or_pays search present s found (MutingKnown u tries known) cost c = let few = c.few in let is = c.cost_is in inr (omega arith, λ p. cc)
+ended_or_pays search present s found (Searching silences top below) cost c = let few = c.few in let is = c.cost_is in let some = Covers-some present found top below c.ranges c.covered in inr (omega arith, λ p. cc)
+ended_or_pays search present s found (MutingRead u tries top below) cost c = let few = c.few in let is = c.cost_is in let some = read-some present s found u tries top below cost c in inr (omega arith, λ p. cc)
+ended_or_pays search present s found (Sweeping sweep top below) cost c = let below = c.below in let enough = c.enough in inr (omega arith, λ p. cc)
+ended_or_pays search present s found (MutingSwept u tries sweep top below) cost c = let few = c.few in let below = c.below in let enough = c.enough in inr (omega arith, λ p. cc)
+ended_or_pays search present s found (Doubting sweep top below) cost c = let below = c.below in let enough = c.enough in inr (omega arith, λ p. cc)
+ended_or_pays search present s found (Ended fault) cost c = inl (ap Ended c)
 
 -- so it has ended without fault once all is paid
 ends_within : (present : List ℕ) (s : LineState) (b : AgentState) (most : ℕ) → most ≤ b.budget → Affords present (2 * most) s b → EndsWithin most b
-ends_within present s b most enough affords = by_phase (ended_or_pays present s (found_uids b) b.phase affords.cost affords.costs)
+ends_within present s b most enough affords = by_phase (ended_or_pays b.search present s (found_uids b) b.phase affords.cost affords.costs)
   where
     within : 2 * b.frames + affords.cost ≤ 2 * most
     within = affords.within
@@ -83,18 +92,16 @@ ends_within present s b most enough affords = by_phase (ended_or_pays present s 
       no_fault = λ end. absurd (pays.1 (rw (lt-ltb b.frames b.budget (omega arith)) at end));
     }
 
--- what the whole range, the unmutes and the known UIDs cost
-start-affords : (present : List ℕ) (muted : ℕ → Bool) (kind : Kind) (known : List ℕ) (budget : ℕ) → Affords present (2 * enough_for present kind known) (before_run muted) (start kind known budget)
-start-affords present muted kind known budget = record {
-  cost = 6 + 10 * length (known_of kind known) + (10 + length present * 740);
-  costs = record {
-    ranges = 10 + length present * 740;
-    some = omega arith;
-    none_found = refl;
-    covered = (48, 0, refl, all, tt);
-    cost_is = omega arith;
-  };
-  within = omega arith;
+-- what the unmutes, the known UIDs and the search cost
+abbrev search_cost : Search → List ℕ → ℕ
+search_cost Steady present = 10 + length present * 740
+search_cost Quick present = 220 + length present * 740
+
+start-affords : (search : Search) (present : List ℕ) (muted : ℕ → Bool) (kind : Kind) (known : List ℕ) (budget : ℕ) → Affords present (2 * enough_by search present kind known) (before_run muted) (start_by search kind known budget)
+start-affords search present muted kind known budget = record {
+  cost = 6 + 10 * length (known_of kind known) + search_cost search present;
+  costs = record { ranges = search_cost search present; some = omega arith; none_found = refl; ahead = ahead search; cost_is = omega arith };
+  within = within search;
   finds = record { devices = λ u there. absurd (true≢false (sym there)); muted = λ u there. absurd (true≢false (sym there)); counted = nobody_found };
 }
   where
@@ -104,16 +111,35 @@ start-affords present muted kind known budget = record {
     all : worth 48 (left_in present [] whole) + 0 ≤ 10 + length present * 740
     all = let most = worth-fewer 48 (left_in present [] whole) (length present) (no_more_than (is_left [] whole) present) in omega arith
 
-pub ends_in_bound : EndsInBound
-ends_in_bound kind known budget x b set run present calm enough =
+    ahead : (search : Search) → Ahead search present [] (search_cost search present)
+    ahead Steady = (48, 0, refl, all, tt)
+    ahead Quick = omega (arith, nobody_found)
+
+    within : (search : Search) → 2 * 0 + (6 + 10 * length (known_of kind known) + search_cost search present) ≤ 2 * enough_by search present kind known
+    within Steady = omega arith
+    within Quick = omega arith
+
+pub ends_in_bound_by : (search : Search) → EndsInBoundBy search
+ends_in_bound_by search kind known budget x b set run present calm enough =
     let honest = calm.honest in
-    let paid = runs-afford present honest.0 calm.few (2 * enough_for present kind known) kind known budget x (before_run honest.1) (start kind known budget) b calm.no_failure honest.2 run (start-affords present honest.1 kind known budget) in
-    ends_within present paid.0 b (enough_for present kind known) (rw (stands kind known budget x b set run).budget_is enough) paid.1
+    let paid = runs-afford present honest.0 calm.few (2 * enough_by search present kind known) kind known budget x (before_run honest.1) (start_by search kind known budget) b calm.no_failure honest.2 run (start-affords search present honest.1 kind known budget) in
+    ends_within present paid.0 b (enough_by search present kind known) (rw (stands_by search kind known budget x b set run).budget_is enough) paid.1
+
+-- the same of the steady search
+pub ends_in_bound : EndsInBound
+ends_in_bound = ends_in_bound_by Steady
 
 -- the budget by default suffices
 pub default_suffices : (present known : List ℕ) (kind : Kind) → length present ≤ 1024 → length known ≤ 1024 → enough_for present kind known ≤ DEFAULT_BUDGET
 default_suffices present known Full few few_known = omega arith
 default_suffices present known Incremental few few_known = omega arith
+
+-- for a quick search too, but where there are most devices and as many known UIDs
+pub quick_suffices : (present known : List ℕ) (kind : Kind) → length present ≤ 1024 → length known ≤ 1024 → (length present ≤ 1023) ⊎ (length (known_of kind known) ≤ 1003) → enough_by Quick present kind known ≤ DEFAULT_BUDGET
+quick_suffices present known Full few few_known (inl fewer) = omega arith
+quick_suffices present known Full few few_known (inr fewer) = omega arith
+quick_suffices present known Incremental few few_known (inl fewer) = omega arith
+quick_suffices present known Incremental few few_known (inr fewer) = omega arith
 
 pub ends_by_default : EndsByDefault
 ends_by_default kind known budget x b set run present calm few_known is = ends_in_bound kind known budget x b set run present calm (rw is (default_suffices present known kind calm.few few_known))

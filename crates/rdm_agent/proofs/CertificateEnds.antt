@@ -1,28 +1,31 @@
 -- A run that has a certificate has ended, without fault: what clears the greatest UID is the end of the search.
-use Rattle.std.proofs.Common.{◌≡◌, ℕ, zero, suc, ◌+◌, ◌^◌, ◌<◌, ◌≤◌, Bool, true, false, cond, List, [], ◌∷◌, ◌++◌, length, append_assoc, append-nil, Option, None, Some, refl, sym, ap, ◌∙◌, subst, inl, inr, true≢false, arith}
+use Rattle.std.proofs.Common.{◌≡◌, ℕ, zero, suc, ◌+◌, ◌-◌, ◌*◌, ◌^◌, ◌<◌, ◌≤◌, Bool, true, false, cond, List, [], ◌∷◌, ◌++◌, length, append_assoc, append-nil, Option, None, Some, refl, sym, ap, ◌∙◌, subst, inl, inr, true≢false, arith}
 use Rattle.std.specs.Prelude.{◌≢◌, ◌⊎◌, ◌==◌, nat_le, nat_lt, MatchOption}
 use Rattle.std.proofs.lemmas.Bool.{eqb-false, leb-true, and_parts, cond_both}
 use Rattle.std.specs.List.{AllByRecursion}
 use Rattle.std.proofs.lemmas.List.{length-append}
 use Rattle.rdm_wire.specs.Uid.{has, IsDevice, IsDeviceSet}
 use Rattle.rdm_wire.specs.Devices.{uids_of}
-use Rattle.rdm_wire.specs.Span.{Span}
+use Rattle.rdm_wire.specs.Span.{Span, whole, middle, lower_half, upper_half}
 use Rattle.rdm_wire.specs.Honest.{Asked, Heard, Seen}
 use Rattle.rdm_wire.specs.Honest.Asked.{Unmute, Branch, Mute, Other}
 use Rattle.rdm_wire.specs.Honest.Heard.{Acked, Failed, Silent, One, Noise}
 use Rattle.rdm_agent.specs.Run.{acked_uid, muted_uid, acked_in, muted_in, InSuccession, IsSilentBranch}
 use Rattle.rdm_agent.specs.Certificate.{SearchShows}
-use Rattle.rdm_agent.specs.Machine.{Phase, AgentState, Runs, start, wanted, fed, fault_of, heard_by_phase, search_below, found_uids}
-use Rattle.rdm_agent.specs.Machine.Phase.{Unmuting, MutingKnown, Searching, MutingRead, Ended}
+use Rattle.rdm_agent.specs.Machine.{Phase, AgentState, Runs, start_by, wanted, fed, fault_of, heard_by_phase, search_below, found_uids, Sweep, probe, counted, suspecting, is_sibling, sweep_to, sweep_past, sweep_silent}
+use Rattle.rdm_agent.specs.Machine.Phase.{Unmuting, MutingKnown, Searching, MutingRead, Sweeping, MutingSwept, Doubting, Ended}
 use Rattle.rdm_agent.specs.Sound.{IsStack}
 use Rattle.rdm_agent.specs.Statements.{CertificateIsTheEnd}
 use Rattle.rdm_agent.specs.declared.kind.Kind.{Kind}
+use Rattle.rdm_agent.specs.declared.search.Search.{Search}
+use Rattle.rdm_agent.specs.declared.search.Search.TheVariants.{Steady}
 use Rattle.rdm_agent.specs.declared.limits.TheConstants.{TRIES}
 use Rattle.rdm_agent.proofs.Members.{member, first_part, last_part, heads, tails, put-has, has-put, has-first}
 use Rattle.rdm_agent.proofs.Sets.{has-set_of}
 use Rattle.rdm_agent.proofs.Stacks.{IsStack-pop, IsStack-ends}
+use Rattle.rdm_agent.proofs.SweepPhase.{probe_is}
 use Rattle.rdm_agent.proofs.Invariant.{EndsWith, InPhase}
-use Rattle.rdm_agent.proofs.Runs.{stands, wanted_next}
+use Rattle.rdm_agent.proofs.Runs.{stands_by, wanted_next}
 use Rattle.rdm_agent.proofs.CallLemmas.{runs-push}
 
 -- the greatest UID, which no device has
@@ -88,12 +91,16 @@ module _ {P : Seen → Type 0} where
       aside : (back : List Seen) (last : Seen) → s.front ++ s.run ++ (back ++ last ∷ []) ≡ (s.front ++ s.run ++ back) ++ last ∷ []
       aside back last = sym (append_assoc (s.front ++ s.run) back (last ∷ []))
 
--- while the search goes on, the top range was silent no more often at the end than the phase counts
+-- while the search goes on, the top range was silent no more often at the end than the phase counts. In a sweep no range
+-- with the end of the top one, or with a greater one, was
 abbrev FewSilent : Phase → List Seen → Type 0
 FewSilent (Searching silences top below) x = (n : ℕ) → EndsWith n (IsSilentBranch top.lo top.hi) x → n ≤ silences
 FewSilent (Unmuting more known) x = Unit {0}
 FewSilent (MutingKnown u tries known) x = Unit {0}
 FewSilent (MutingRead u tries top below) x = Unit {0}
+FewSilent (Sweeping sweep top below) x = (lo hi n : ℕ) → top.hi ≤ hi → EndsWith n (IsSilentBranch lo hi) x → n ≤ 0
+FewSilent (MutingSwept u tries sweep top below) x = Unit {0}
+FewSilent (Doubting sweep top below) x = (lo hi n : ℕ) → top.hi ≤ hi → EndsWith n (IsSilentBranch lo hi) x → n ≤ 0
 FewSilent (Ended fault) x = Unit {0}
 
 -- and no range with the greatest UID was silent five times in succession, unless the run has ended without fault
@@ -120,6 +127,9 @@ other_exchange phase new x e goes loud k = record {
     of_phase (Unmuting more known) = tt
     of_phase (MutingKnown u tries known) = tt
     of_phase (MutingRead u tries top below) = tt
+    of_phase (Sweeping sweep top below) = λ lo hi n far ends. none lo hi 0 n ends
+    of_phase (MutingSwept u tries sweep top below) = tt
+    of_phase (Doubting sweep top below) = λ lo hi n far ends. none lo hi 0 n ends
     of_phase (Ended fault) = tt
 
 -- the top range is silent once more
@@ -182,6 +192,113 @@ module _ (silences : ℕ) (top : Span) (below : List Span) (x : List Seen) (stac
   branch_silent : IsUncleared (cond ((silences + 1) == TRIES) (search_below below) (Searching (silences + 1) top below)) (x ++ again ∷ [])
   branch_silent = cond_both ((silences + 1) == TRIES) _ _ (λ p. IsUncleared p (x ++ again ∷ [])) (λ five. taken_off below stack) (λ not. silent_again (eqb-false (silences + 1) TRIES not))
 
+-- a sweep's top range is silent: the next one ends above it
+module _ (sweep : Sweep) (n : ℕ) (top : Span) (x : List Seen) where
+  abbrev swept_again : Seen
+  swept_again = record { asked = Branch (probe sweep.suspect top).lo (probe sweep.suspect top).hi; heard = Silent }
+
+  module _ (below : List Span) (stack : IsStack top below) (k : IsUncleared (Sweeping sweep top below) x) where
+    -- no silent branch of a range that ends above the top one is at the end
+    above : (lo hi m : ℕ) → top.hi + 1 ≤ hi → EndsWith m (IsSilentBranch lo hi) (x ++ swept_again ∷ []) → m ≤ 0
+    above lo hi zero far ends = omega arith
+    above lo hi (suc m) far ends = absurd (let to = (probe_is sweep.suspect top).to in let same = high (grown_end m x swept_again ends).0.0 in omega (arith, same, to, far))
+      where
+        high : Branch (probe sweep.suspect top).lo (probe sweep.suspect top).hi ≡ Branch lo hi → (probe sweep.suspect top).hi ≡ hi
+        high e = cc
+
+    -- nor were five of one range
+    not_five : (lo hi : ℕ) → greatest ≤ hi → InSuccession TRIES (IsSilentBranch lo hi) (x ++ swept_again ∷ []) → ⊥
+    not_five lo hi far five = elim (grown_succession TRIES x swept_again five) [
+      | inl before ↦ not_ended (k.cleared_last lo hi far before)
+      | inr ends ↦ let last = (grown_end 4 x swept_again ends).1 in let end = (IsStack-ends top below stack).1 in let none : 4 ≤ 0 = k.few lo hi 4 (omega (arith, far, end)) last in omega (arith, none)
+    ]
+      where
+        not_ended : Sweeping sweep top below ≢ Ended None
+        not_ended e = cc
+
+    -- the steady search begins, where the whole range was silent no more often than it counts
+    steadily : (silences : ℕ) → FewSilent (Searching silences whole []) (x ++ swept_again ∷ []) → IsUncleared (Searching silences whole []) (x ++ swept_again ∷ [])
+    steadily silences few = record { cleared_last = λ lo hi far five. absurd (not_five lo hi far five); few = few }
+
+    goes_to : (memory : Sweep) (r : Span) (rs : List Span) → top.hi + 1 ≤ r.hi → top.hi < greatest → IsUncleared (sweep_to memory n r rs) (x ++ swept_again ∷ [])
+    goes_to memory r rs up under = cond_both (nat_lt memory.made (100 * (n + 1))) _ _ (λ p. IsUncleared p (x ++ swept_again ∷ []))
+        (λ goes. record { cleared_last = λ lo hi far five. absurd (not_five lo hi far five); few = λ lo hi m far ends. above lo hi m (omega (arith, far, up)) ends })
+        (λ out. steadily 0 (λ m ends. above whole.lo whole.hi m (omega (arith, under)) ends))
+
+  swept_silent : (below : List Span) → IsStack top below → IsUncleared (Sweeping sweep top below) x → IsUncleared (sweep_silent (counted sweep) n top below) (x ++ swept_again ∷ [])
+  swept_silent [] stack k = cond_both (top.lo == 0) 1 0 (λ c. IsUncleared (Searching c whole []) (x ++ swept_again ∷ []))
+      (λ first. steadily [] stack k 1 once)
+      (λ other. steadily [] stack k 0 (none (eqb-false top.lo 0 other)))
+    where
+      end : top.hi + 1 ≡ 2 ^ 48
+      end = stack.rest
+
+      once : (m : ℕ) → EndsWith m (IsSilentBranch whole.lo whole.hi) (x ++ swept_again ∷ []) → m ≤ 1
+      once zero ends = omega arith
+      once (suc m) ends = let before : m ≤ 0 = k.few whole.lo whole.hi m (omega (arith, end)) (grown_end m x swept_again ends).1 in omega (arith, before)
+
+      low : Branch (probe sweep.suspect top).lo (probe sweep.suspect top).hi ≡ Branch whole.lo whole.hi → (probe sweep.suspect top).lo ≡ whole.lo
+      low e = cc
+
+      none : (top.lo ≡ 0 → ⊥) → (m : ℕ) → EndsWith m (IsSilentBranch whole.lo whole.hi) (x ++ swept_again ∷ []) → m ≤ 0
+      none other zero ends = omega arith
+      none other (suc m) ends =
+          let first : (probe sweep.suspect top).lo ≡ 0 = low (grown_end m x swept_again ends).0.0 in let asked = probe_is sweep.suspect top in let near = asked.near in
+          let is : probe sweep.suspect top ≡ top = asked.same.1 (λ one. omega (arith, near, first, one, end)) in absurd (other (sym (ap (λ (r : Span). r.lo) is) ∙ first))
+  swept_silent (r ∷ rs) stack k = cond_both (is_sibling top r) _ _ (λ p. IsUncleared p (x ++ swept_again ∷ []))
+      (λ sibling. cond_both (middle r == 0) _ _ (λ p. IsUncleared p (x ++ swept_again ∷ []))
+      (λ least. goes_to (r ∷ rs) stack k (suspecting 0 (counted sweep)) (upper_half r) rs (omega (arith, at, ends)) under)
+      (λ half. goes_to (r ∷ rs) stack k (counted sweep) (lower_half r) (upper_half r ∷ rs) (omega (arith, at, ends)) under))
+      (λ other. goes_to (r ∷ rs) stack k (counted sweep) r rs (omega (arith, at, ends)) under)
+    where
+      at : r.lo ≡ top.hi + 1
+      at = stack.rest.3
+
+      ends : r.lo ≤ r.hi
+      ends = (IsStack-ends r rs (IsStack-pop top r rs stack)).0
+
+      under : top.hi < greatest
+      under = let last = (IsStack-ends r rs (IsStack-pop top r rs stack)).1 in omega (arith, at, ends, last)
+
+-- the two UIDs below a sweep's top range are silent: no range that ends at its end or above it was
+module _ (sweep : Sweep) (n : ℕ) (top : Span) (below : List Span) (x : List Seen) (stack : IsStack top below) (some : 1 < top.lo) (k : IsUncleared (Doubting sweep top below) x) where
+  abbrev pair_again : Seen
+  pair_again = record { asked = Branch (top.lo - 2) (top.lo - 1); heard = Silent }
+
+  bounds : (top.lo ≤ top.hi) × (top.hi < 2 ^ 48)
+  bounds = IsStack-ends top below stack
+
+  still : (lo hi m : ℕ) → top.hi ≤ hi → EndsWith m (IsSilentBranch lo hi) (x ++ pair_again ∷ []) → m ≤ 0
+  still lo hi zero far ends = omega arith
+  still lo hi (suc m) far ends = absurd (let same = high (grown_end m x pair_again ends).0.0 in let low = bounds.0 in omega (arith, same, far, low, some))
+    where
+      high : Branch (top.lo - 2) (top.lo - 1) ≡ Branch lo hi → top.lo - 1 ≡ hi
+      high e = cc
+
+  no_five : (lo hi : ℕ) → greatest ≤ hi → InSuccession TRIES (IsSilentBranch lo hi) (x ++ pair_again ∷ []) → ⊥
+  no_five lo hi far five = elim (grown_succession TRIES x pair_again five) [
+    | inl before ↦ not_ended (k.cleared_last lo hi far before)
+    | inr ends ↦ let end = bounds.1 in let none : 5 ≤ 0 = still lo hi 5 (omega (arith, far, end)) ends in omega (arith, none)
+  ]
+    where
+      not_ended : Doubting sweep top below ≢ Ended None
+      not_ended e = cc
+
+  steady_next : IsUncleared (Searching 0 whole []) (x ++ pair_again ∷ [])
+  steady_next = record { cleared_last = λ lo hi far five. absurd (no_five lo hi far five); few = λ m ends. let end = bounds.1 in still whole.lo whole.hi m (omega (arith, end)) ends }
+
+  doubt_silent : IsUncleared (sweep_past (counted sweep) n top below) (x ++ pair_again ∷ [])
+  doubt_silent = by_rest below stack
+    where
+      by_rest : (rest : List Span) → IsStack top rest → IsUncleared (sweep_past (counted sweep) n top rest) (x ++ pair_again ∷ [])
+      by_rest [] s = steady_next
+      by_rest (r ∷ rs) s = cond_both (nat_lt (sweep.made + 1) (100 * (n + 1))) _ _ (λ p. IsUncleared p (x ++ pair_again ∷ []))
+          (λ goes. record {
+            cleared_last = λ lo hi far five. absurd (no_five lo hi far five);
+            few = λ lo hi m far ends. let at = s.rest.3 in let up = (IsStack-ends r rs (IsStack-pop top r rs s)).0 in still lo hi m (omega (arith, far, at, up)) ends;
+          })
+          (λ out. steady_next)
+
 module _ (kind : Kind) (known : List ℕ) (budget : ℕ) where
   -- what is asked but a branch is no silent branch, and so is what is heard but silence
   loud : (asked : Asked) (heard : Heard) → ((lo hi : ℕ) → asked ≡ Branch lo hi → heard ≡ Silent → ⊥) → (lo hi : ℕ) → IsSilentBranch lo hi (record { asked = asked; heard = heard }) → ⊥
@@ -202,6 +319,17 @@ module _ (kind : Kind) (known : List ℕ) (budget : ℕ) where
     by_phase (Searching silences top below) Noise sound p k = other_exchange (Searching silences top below) _ x _ (λ e. cc) (loud (Branch top.lo top.hi) Noise (λ lo hi e s. cc)) k
     by_phase (Searching silences top below) Failed sound p k = absurd (sound refl)
     by_phase (MutingRead u tries top below) h sound p k = other_exchange (MutingRead u tries top below) _ x _ (λ e. cc) (loud (Mute u) h (λ lo hi e s. cc)) k
+    by_phase (Sweeping sweep top below) Silent sound p k = swept_silent sweep (length a.found) top x below p.stack k
+    by_phase (Sweeping sweep top below) (One u) sound p k = other_exchange (Sweeping sweep top below) _ x _ (λ e. cc) (loud (Branch (probe sweep.suspect top).lo (probe sweep.suspect top).hi) (One u) (λ lo hi e s. cc)) k
+    by_phase (Sweeping sweep top below) (Acked ack) sound p k = other_exchange (Sweeping sweep top below) _ x _ (λ e. cc) (loud (Branch (probe sweep.suspect top).lo (probe sweep.suspect top).hi) (Acked ack) (λ lo hi e s. cc)) k
+    by_phase (Sweeping sweep top below) Noise sound p k = other_exchange (Sweeping sweep top below) _ x _ (λ e. cc) (loud (Branch (probe sweep.suspect top).lo (probe sweep.suspect top).hi) Noise (λ lo hi e s. cc)) k
+    by_phase (Sweeping sweep top below) Failed sound p k = absurd (sound refl)
+    by_phase (MutingSwept u tries sweep top below) h sound p k = other_exchange (MutingSwept u tries sweep top below) _ x _ (λ e. cc) (loud (Mute u) h (λ lo hi e s. cc)) k
+    by_phase (Doubting sweep top below) Silent sound p k = doubt_silent sweep (length a.found) top below x p.sweeps.stack p.some k
+    by_phase (Doubting sweep top below) (One u) sound p k = other_exchange (Doubting sweep top below) _ x _ (λ e. cc) (loud (Branch (top.lo - 2) (top.lo - 1)) (One u) (λ lo hi e s. cc)) k
+    by_phase (Doubting sweep top below) (Acked ack) sound p k = other_exchange (Doubting sweep top below) _ x _ (λ e. cc) (loud (Branch (top.lo - 2) (top.lo - 1)) (Acked ack) (λ lo hi e s. cc)) k
+    by_phase (Doubting sweep top below) Noise sound p k = other_exchange (Doubting sweep top below) _ x _ (λ e. cc) (loud (Branch (top.lo - 2) (top.lo - 1)) Noise (λ lo hi e s. cc)) k
+    by_phase (Doubting sweep top below) Failed sound p k = absurd (sound refl)
     by_phase (Ended fault) h sound p k = tt
 
     goes_on : (phase : Phase) (asked : Asked) → wanted phase ≡ Some asked → phase ≢ Ended None
@@ -218,13 +346,13 @@ module _ (kind : Kind) (known : List ℕ) (budget : ℕ) where
     fed-uncleared asked (Acked ack) w p k = subst (After (Acked ack) a.phase) w (by_phase a.phase (Acked ack) (λ q. cc) p k)
     fed-uncleared asked Noise w p k = subst (After Noise a.phase) w (by_phase a.phase Noise (λ q. cc) p k)
 
-  runs-uncleared : IsDeviceSet known → (front x : List Seen) (a b : AgentState) → Runs (start kind known budget) front a → Runs a x b → IsUncleared a.phase front → IsUncleared b.phase (front ++ x)
-  runs-uncleared set front [] a b before end k = subst (λ l. IsUncleared b.phase l) (sym (append-nil front)) (subst (λ (c : AgentState). IsUncleared c.phase front) (sym end) k)
-  runs-uncleared set front (e ∷ x) a b before run k =
+  runs-uncleared : (search : Search) → IsDeviceSet known → (front x : List Seen) (a b : AgentState) → Runs (start_by search kind known budget) front a → Runs a x b → IsUncleared a.phase front → IsUncleared b.phase (front ++ x)
+  runs-uncleared search set front [] a b before end k = subst (λ l. IsUncleared b.phase l) (sym (append-nil front)) (subst (λ (c : AgentState). IsUncleared c.phase front) (sym end) k)
+  runs-uncleared search set front (e ∷ x) a b before run k =
       let w = wanted_next kind known budget a e.asked run.0 in
       subst (λ l. IsUncleared b.phase l) (append_assoc front (e ∷ []) x)
-      (runs-uncleared set (front ++ e ∷ []) x (fed a e.heard) b (runs-push front (start kind known budget) a e.asked e.heard before run.0) run.1
-      (fed-uncleared front a e.asked e.heard w.1 (stands kind known budget front a set before).phase k))
+      (runs-uncleared search set (front ++ e ∷ []) x (fed a e.heard) b (runs-push front (start_by search kind known budget) a e.asked e.heard before run.0) run.1
+      (fed-uncleared front a e.asked e.heard w.1 (stands_by search kind known budget front a set before).phase k))
 
 -- before the first exchange
 begins : (phase : Phase) → FewSilent phase [] → IsUncleared phase []
@@ -259,11 +387,11 @@ greatest_absent kind known x s c h = no_device (member _ (muted_in x) greatest c
     no_device : IsDevice greatest → ⊥
     no_device d = true≢false d.own
 
-pub certificate_ends : CertificateIsTheEnd
-certificate_ends kind known budget x b set run s certificate = (asks_nothing (nat_lt b.frames b.budget), ap fault_of over)
+pub certificate_ends_by : (search : Search) → CertificateIsTheEnd search
+certificate_ends_by search kind known budget x b set run s certificate = (asks_nothing (nat_lt b.frames b.budget), ap fault_of over)
   where
     k : IsUncleared b.phase x
-    k = runs-uncleared kind known budget set [] x (start kind known budget) b refl run (begins (start kind known budget).phase tt)
+    k = runs-uncleared kind known budget search set [] x (start_by search kind known budget) b refl run (begins (start_by search kind known budget).phase tt)
 
     over : b.phase ≡ Ended None
     over = elim (certificate.search.cleared greatest (omega arith)) [
@@ -274,3 +402,7 @@ certificate_ends kind known budget x b set run s certificate = (asks_nothing (na
     asks_nothing : (goes : Bool) → cond goes (wanted b.phase) None ≡ None
     asks_nothing true = ap wanted over
     asks_nothing false = refl
+
+-- the same of the steady search
+pub certificate_ends : CertificateIsTheEnd Steady
+certificate_ends = certificate_ends_by Steady

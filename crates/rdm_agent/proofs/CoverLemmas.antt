@@ -66,7 +66,7 @@ module _ (present found : List ℕ) where
         gone false = refl
 
   -- of a range of one UID at most one device is left
-  one_uid : (r : Span) → r.hi ≤ r.lo → IsAscending present → left_in present found r ≤ 1
+  pub one_uid : (r : Span) → r.hi ≤ r.lo → IsAscending present → left_in present found r ≤ 1
   one_uid r one ascending = at_most_one (is_left found r) present r.lo ascending at_lo
     where
       at_lo : (u : ℕ) → is_left found r u ≡ true → u ≡ r.lo

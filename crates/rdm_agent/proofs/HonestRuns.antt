@@ -9,49 +9,61 @@ use Rattle.rdm_wire.specs.HonestOver.{HonestOver}
 use Rattle.rdm_agent.specs.Run.{acked_in}
 use Rattle.rdm_agent.specs.Certificate.{Certificate}
 use Rattle.rdm_agent.specs.Cause.{Cause}
-use Rattle.rdm_agent.specs.Machine.{AgentState, Runs, start, next_of, fault_of, found_uids}
+use Rattle.rdm_agent.specs.Machine.{AgentState, Runs, start_by, next_of, fault_of, found_uids}
 use Rattle.rdm_agent.specs.Statements.{FindsAll, FindsEach, FindsNoPhantom, FindsStaying, FindsNoStranger}
 use Rattle.rdm_agent.specs.declared.kind.Kind.{Kind}
+use Rattle.rdm_agent.specs.declared.search.Search.{Search}
+use Rattle.rdm_agent.specs.declared.search.Search.TheVariants.{Steady}
 use Rattle.rdm_agent.proofs.OneDevice.{found}
 use Rattle.rdm_agent.proofs.Honest.{devices, no_phantom}
 use Rattle.rdm_agent.proofs.ChangingDevices.{honest_over_to_each, no_stranger, staying_device}
 use Rattle.rdm_agent.proofs.Sets.{has-set_of, has-once, has-take}
-use Rattle.rdm_agent.proofs.Runs.{stands, ends_certified, ends_at_failure}
+use Rattle.rdm_agent.proofs.Runs.{stands_by, ends_certified_by, ends_at_failure_by}
 
 -- a run without fault has its certificate
-certificate : (kind : Kind) (known : List ℕ) (budget : ℕ) (x : List Seen) (b : AgentState) → IsDeviceSet known → Runs (start kind known budget) x b → next_of b ≡ None → fault_of b.phase ≡ None → Certificate kind known x b.found
-certificate kind known budget x b set run end fault = subst (λ f. MatchOption f (Certificate kind known x b.found) (λ g. Cause budget ⊥ g x)) fault (ends_certified kind known budget x b set run end).0
+certificate : (search : Search) (kind : Kind) (known : List ℕ) (budget : ℕ) (x : List Seen) (b : AgentState) → IsDeviceSet known → Runs (start_by search kind known budget) x b → next_of b ≡ None → fault_of b.phase ≡ None → Certificate kind known x b.found
+certificate search kind known budget x b set run end fault = subst (λ f. MatchOption f (Certificate kind known x b.found) (λ g. Cause budget ⊥ g x)) fault (ends_certified_by search kind known budget x b set run end).0
 
 -- on an honest line that is the devices
-pub finds_all : FindsAll
-finds_all kind known budget x b set run present end fault honest = devices kind known x (found_uids b) present (certificate kind known budget x b set run end fault).search honest
+pub finds_all_by : (search : Search) → FindsAll search
+finds_all_by search kind known budget x b set run present end fault honest = devices kind known x (found_uids b) present (certificate search kind known budget x b set run end fault).search honest
 
 -- and it has each device to which the line was honest
-pub finds_each : FindsEach
-finds_each kind known budget x b set run u end fault device honest = found kind known x (found_uids b) u device (certificate kind known budget x b set run end fault).search honest
+pub finds_each_by : (search : Search) → FindsEach search
+finds_each_by search kind known budget x b set run u end fault device honest = found kind known x (found_uids b) u device (certificate search kind known budget x b set run end fault).search honest
 
 -- what is found is acknowledged
-acked : (kind : Kind) (known : List ℕ) (budget : ℕ) (x : List Seen) (b : AgentState) (u : ℕ) → IsDeviceSet known → Runs (start kind known budget) x b → has (found_uids b) u ≡ true → has (acked_in x) u ≡ true
-acked kind known budget x b u set run here = sym (has-once (acked_in x) u) ∙ has-take MOST_DEVICES (once (acked_in x)) u first
+acked : (search : Search) (kind : Kind) (known : List ℕ) (budget : ℕ) (x : List Seen) (b : AgentState) (u : ℕ) → IsDeviceSet known → Runs (start_by search kind known budget) x b → has (found_uids b) u ≡ true → has (acked_in x) u ≡ true
+acked search kind known budget x b u set run here = sym (has-once (acked_in x) u) ∙ has-take MOST_DEVICES (once (acked_in x)) u first
   where
     first : has (take MOST_DEVICES (once (acked_in x))) u ≡ true
-    first = sym (has-set_of (take MOST_DEVICES (once (acked_in x))) u) ∙ ap (λ us. has us u) (sym (stands kind known budget x b set run).reports) ∙ here
+    first = sym (has-set_of (take MOST_DEVICES (once (acked_in x))) u) ∙ ap (λ us. has us u) (sym (stands_by search kind known budget x b set run).reports) ∙ here
 
 -- and so a device
-pub finds_no_phantom : FindsNoPhantom
-finds_no_phantom kind known budget x b set run present u honest here =
-    no_phantom present x u (ends_at_failure kind known budget x b set run).0 honest (acked kind known budget x b u set run here)
+pub finds_no_phantom_by : (search : Search) → FindsNoPhantom search
+finds_no_phantom_by search kind known budget x b set run present u honest here =
+    no_phantom present x u (ends_at_failure_by search kind known budget x b set run).0 honest (acked search kind known budget x b u set run here)
 
 -- that was present at some exchange
-pub finds_no_stranger : FindsNoStranger
-finds_no_stranger kind known budget x b set run sets u honest here =
-    no_stranger sets x u (ends_at_failure kind known budget x b set run).0 honest (acked kind known budget x b u set run here)
+pub finds_no_stranger_by : (search : Search) → FindsNoStranger search
+finds_no_stranger_by search kind known budget x b set run sets u honest here =
+    no_stranger sets x u (ends_at_failure_by search kind known budget x b set run).0 honest (acked search kind known budget x b u set run here)
 
 -- a device that stays is found
-pub finds_staying : FindsStaying
-finds_staying kind known budget x b set run sets u end fault honest each =
-    finds_each kind known budget x b set run u end fault (device x (certificate kind known budget x b set run end fault) honest) (honest_over_to_each sets u x each honest)
+pub finds_staying_by : (search : Search) → FindsStaying search
+finds_staying_by search kind known budget x b set run sets u end fault honest each =
+    finds_each_by search kind known budget x b set run u end fault (device x (certificate search kind known budget x b set run end fault) honest) (honest_over_to_each sets u x each honest)
   where
     device : (y : List Seen) → Certificate kind known y b.found → HonestOver sets y → IsDevice u
     device [] c h = let begun = c.search.unmutes in cc
     device (e ∷ y) c h = staying_device sets u e y each h
+
+-- the same of the steady search
+pub finds_all : FindsAll Steady
+finds_all = finds_all_by Steady
+
+pub finds_staying : FindsStaying Steady
+finds_staying = finds_staying_by Steady
+
+pub finds_no_stranger : FindsNoStranger Steady
+finds_no_stranger = finds_no_stranger_by Steady

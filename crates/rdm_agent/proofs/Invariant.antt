@@ -5,15 +5,15 @@ use Rattle.std.specs.List.{AllByRecursion, before_first}
 use Rattle.rdm_wire.specs.Uid.{has, set_of, IsDevice}
 use Rattle.rdm_wire.specs.declared.uid_set.TheConstants.{MOST_DEVICES}
 use Rattle.rdm_wire.specs.Lists.{EachAfter, once}
-use Rattle.rdm_wire.specs.Span.{Span}
+use Rattle.rdm_wire.specs.Span.{Span, whole}
 use Rattle.rdm_wire.specs.Honest.{Seen}
 use Rattle.rdm_wire.specs.Honest.Asked.{Unmute, Branch}
 use Rattle.rdm_wire.specs.Honest.Heard.{One}
 use Rattle.rdm_agent.specs.Run.{muted_in, acked_in, reported, is_branch, AsFirstAcked, IsSilentBranch, IsLostMute}
 use Rattle.rdm_agent.specs.Certificate.{SearchShows, IsTried, IsCleared, MutesNamed, known_of}
 use Rattle.rdm_agent.specs.Cause.{Cause, IsCorrupt}
-use Rattle.rdm_agent.specs.Machine.{Phase, AgentState, is_new, found_uids}
-use Rattle.rdm_agent.specs.Machine.Phase.{Unmuting, MutingKnown, Searching, MutingRead, Ended}
+use Rattle.rdm_agent.specs.Machine.{Phase, AgentState, Sweep, is_new, found_uids, probe}
+use Rattle.rdm_agent.specs.Machine.Phase.{Unmuting, MutingKnown, Searching, MutingRead, Sweeping, MutingSwept, Doubting, Ended}
 use Rattle.rdm_agent.specs.declared.kind.Kind.{Kind}
 use Rattle.rdm_agent.specs.declared.fault.AgentFault.{AgentFault}
 use Rattle.rdm_agent.proofs.OneDevice.{NotFailed}
@@ -94,6 +94,25 @@ pub record IsMutingRead (known : List ℕ) (u tries : ℕ) (top : Span) (below :
   pub new : is_new found top u ≡ true
   pub spelt : WasSpelt u tries top x
 
+-- a sweep branches its top range; the steady search may begin at any time
+pub record IsSweeping (known : List ℕ) (top : Span) (below : List Span) (x : List Seen) (found : List ℕ) : Type 0 where
+  pub searches : Searches known None whole [] x found
+  pub stack : IsStack top below
+  pub not_corrupt : (u : ℕ) → IsCorrupt u x → ⊥
+
+-- what a sweep's top range spelt, as it was asked, is muted, so far in vain
+pub record IsMutingSwept (known : List ℕ) (u tries : ℕ) (sweep : Sweep) (top : Span) (below : List Span) (x : List Seen) (found : List ℕ) : Type 0 where
+  pub searches : Searches known (Some u) whole [] x found
+  pub stack : IsStack top below
+  pub few : tries < TRIES
+  pub new : is_new found top u ≡ true
+  pub spelt : WasSpelt u tries (probe sweep.suspect top) x
+
+-- a range of one UID collided in a sweep, and two UIDs are below it
+pub record IsDoubting (known : List ℕ) (top : Span) (below : List Span) (x : List Seen) (found : List ℕ) : Type 0 where
+  pub sweeps : IsSweeping known top below x found
+  pub some : 1 < top.lo
+
 -- a run without fault has its certificate, one with a fault its cause; a failure is last
 pub record HasEnded (kind : Kind) (known : List ℕ) (budget : ℕ) (fault : Option AgentFault) (x : List Seen) (found : List ℕ) : Type 0 where
   pub before : List Seen
@@ -108,6 +127,9 @@ InPhase kind known budget (Unmuting more left) x found = (1 ≤ more) × IsUnmut
 InPhase kind known budget (MutingKnown u tries left) x found = IsMutingKnown (known_of kind known) u tries left x found
 InPhase kind known budget (Searching silences top below) x found = IsSearching (known_of kind known) silences top below x found
 InPhase kind known budget (MutingRead u tries top below) x found = IsMutingRead (known_of kind known) u tries top below x found
+InPhase kind known budget (Sweeping sweep top below) x found = IsSweeping (known_of kind known) top below x found
+InPhase kind known budget (MutingSwept u tries sweep top below) x found = IsMutingSwept (known_of kind known) u tries sweep top below x found
+InPhase kind known budget (Doubting sweep top below) x found = IsDoubting (known_of kind known) top below x found
 InPhase kind known budget (Ended fault) x found = HasEnded kind known budget fault x found
 
 -- the agent stands after these exchanges

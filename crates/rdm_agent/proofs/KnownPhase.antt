@@ -4,14 +4,17 @@ use Rattle.std.specs.Prelude.{◌⊎◌, ◌==◌}
 use Rattle.std.specs.List.{AllByRecursion}
 use Rattle.std.proofs.lemmas.Bool.{eqb-true, or_cases}
 use Rattle.rdm_wire.specs.Uid.{has}
+use Rattle.rdm_wire.specs.Span.{whole}
 use Rattle.rdm_wire.specs.Honest.{Heard, Seen, is_acked}
 use Rattle.rdm_wire.specs.Honest.Asked.{Mute}
 use Rattle.rdm_wire.specs.Honest.Heard.{Acked}
 use Rattle.rdm_wire.specs.declared.mute_ack.MuteAck.{MuteAck}
 use Rattle.rdm_agent.specs.Run.{muted_uid, muted_by, muted_in, is_branch, InSuccession, IsLostMute}
 use Rattle.rdm_agent.specs.Certificate.{known_of}
-use Rattle.rdm_agent.specs.Machine.{search_from}
+use Rattle.rdm_agent.specs.Machine.{search_from, first_phase}
 use Rattle.rdm_agent.specs.declared.kind.Kind.{Kind}
+use Rattle.rdm_agent.specs.declared.search.Search.{Search}
+use Rattle.rdm_agent.specs.declared.search.Search.TheVariants.{Steady, Quick}
 use Rattle.rdm_agent.specs.declared.limits.TheConstants.{TRIES}
 use Rattle.rdm_agent.proofs.OneDevice.{NotFailed}
 use Rattle.rdm_agent.proofs.Pushes.{All-push, has-front, has-at, no_branch-before}
@@ -19,7 +22,7 @@ use Rattle.rdm_agent.proofs.Stacks.{IsStack-whole}
 use Rattle.rdm_agent.proofs.CorruptLemmas.{not_corrupt-no_branch}
 use Rattle.rdm_agent.proofs.FoundLemmas.{found-same}
 use Rattle.rdm_agent.proofs.UnderWay.{EndsWith-none, named-mute, lost-acks_none, under_way-lost, under_way-acked, under_way-given_up, under_way-taken_up}
-use Rattle.rdm_agent.proofs.Invariant.{IsFound, MutesKnown, InPhase}
+use Rattle.rdm_agent.proofs.Invariant.{IsFound, MutesKnown, Searches, InPhase}
 
 five_muted : (u : ℕ) (x : List Seen) → InSuccession TRIES (IsLostMute u) x → has (muted_in x) u ≡ true
 five_muted u x s = by_run s.run s.many s.each s.whole
@@ -77,9 +80,9 @@ module _ (known : List ℕ) (u : ℕ) (left : List ℕ) (x : List Seen) (found :
     others_muted = others x (λ v muted. muted) (five_muted u x five);
   }
 
--- the next known UID is muted, or the search begins
-pub known-next : (kind : Kind) (known : List ℕ) (budget : ℕ) (left : List ℕ) (x : List Seen) (found : List ℕ) → MutesKnown (known_of kind known) None left x found → InPhase kind known budget (search_from left) x found
-known-next kind known budget [] x found m = record {
+-- where no known UID is left the search begins, of either kind
+module _ (kind : Kind) (known : List ℕ) (budget : ℕ) (x : List Seen) (found : List ℕ) (m : MutesKnown (known_of kind known) None [] x found) where
+  searches : Searches (known_of kind known) None whole [] x found
   searches = record {
     under_way = m.under_way;
     known_first = λ v k. elim (m.others_muted v k) [
@@ -88,12 +91,16 @@ known-next kind known budget [] x found m = record {
     ];
     stack = IsStack-whole;
     cleared = λ v below. absurd (omega (arith, below));
-  };
-  few = omega arith;
-  silent = EndsWith-none _ x;
-  not_corrupt = λ u c. not_corrupt-no_branch u x m.no_branch c;
-}
-known-next kind known budget (u ∷ left) x found m = record {
+  }
+
+  begins : (search : Search) → InPhase kind known budget (first_phase search) x found
+  begins Steady = record { searches = searches; few = omega arith; silent = EndsWith-none _ x; not_corrupt = λ u c. not_corrupt-no_branch u x m.no_branch c }
+  begins Quick = record { searches = searches; stack = IsStack-whole; not_corrupt = λ u c. not_corrupt-no_branch u x m.no_branch c }
+
+-- the next known UID is muted, or the search begins
+pub known-next : (kind : Kind) (known : List ℕ) (budget : ℕ) (search : Search) (left : List ℕ) (x : List Seen) (found : List ℕ) → MutesKnown (known_of kind known) None left x found → InPhase kind known budget (search_from search left) x found
+known-next kind known budget search [] x found m = begins kind known budget x found m search
+known-next kind known budget search (u ∷ left) x found m = record {
   muting = record {
     under_way = under_way-taken_up (known_of kind known) u x found m.under_way;
     no_branch = m.no_branch;

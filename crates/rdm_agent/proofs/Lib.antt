@@ -17,6 +17,8 @@ pub mod KnownPhase
 pub mod SearchPhase
 pub mod UnmutePhase
 pub mod RunLemmas
+pub mod SweepPhase
+pub mod SweepRuns
 pub mod Runs
 pub mod HonestRuns
 pub mod Carried
@@ -24,6 +26,7 @@ pub mod Potential
 pub mod LeftLemmas
 pub mod CoverLemmas
 pub mod PaidLemmas
+pub mod SweepPaid
 pub mod BoundRuns
 pub mod BoundCalls
 pub mod FirstAcked

@@ -14,8 +14,10 @@ use Rattle.rdm_wire.specs.Honest.Heard.{Failed, Silent, One, Acked, Noise}
 use Rattle.rdm_wire.specs.declared.mute_ack.MuteAck.{MuteAck}
 use Rattle.rdm_agent.specs.Machine.{Phase, AgentState, to_phase, to_found, split, search_from, search_below, is_new, found_uids, branch_heard, known_heard, mute_heard, heard_by_phase}
 use Rattle.rdm_agent.specs.Machine.Phase.{Unmuting, MutingKnown, Searching, MutingRead, Ended}
-use Rattle.rdm_agent.proofs.Potential.{unfound, is_left, left_in, Covers, Costs, CostsKnown, CostsSearching, CostsRead, Finds, Affords}
+use Rattle.rdm_agent.proofs.Potential.{Ahead, sweep_cost, unfound, is_left, left_in, Covers, Costs, CostsKnown, CostsSearching, CostsRead, Finds, Affords}
 use Rattle.rdm_agent.specs.declared.limits.TheConstants.{TRIES}
+use Rattle.rdm_agent.specs.declared.search.Search.{Search}
+use Rattle.rdm_agent.specs.declared.search.Search.TheVariants.{Steady, Quick}
 use Rattle.rdm_agent.specs.declared.fault.AgentFault.TheVariants.{TooMany}
 use Rattle.rdm_agent.proofs.Members.{member}
 use Rattle.rdm_agent.proofs.Sets.{has-with_uid, length-with_uid}
@@ -23,33 +25,45 @@ use Rattle.rdm_agent.proofs.LeftLemmas.{no_more, one_fewer, first_passes}
 use Rattle.rdm_agent.proofs.CoverLemmas.{Covers-some, Covers-left, Covers-found, Covers-device, Covers-split}
 
 -- a phase that costs an exchange less
-pub record Cheaper (present : List ℕ) (line : LineState) (found : List ℕ) (cost : ℕ) (phase : Phase) : Type 0 where
+pub record Cheaper (search : Search) (present : List ℕ) (line : LineState) (found : List ℕ) (cost : ℕ) (phase : Phase) : Type 0 where
   pub left : ℕ
   pub saves : left + 2 ≤ cost
-  pub costs : Costs present line found phase left
+  pub costs : Costs search present line found phase left
 
 -- the known UIDs that are left are muted, and then the search begins
-search_from-costs : (present found : List ℕ) (line : LineState) (cost : ℕ) (known : List ℕ) (n : ℕ) → 10 * length known + n + 2 ≤ cost → Covers present found (whole ∷ []) n → Cheaper present line found cost (search_from known)
-search_from-costs present found line cost [] n enough covered =
-    record { left = n; saves = omega arith; costs = record { ranges = n; few = omega arith; covered = covered; cost_is = omega arith } }
-search_from-costs present found line cost (u ∷ known) n enough covered =
-    record { left = 10 + 10 * length known + n; saves = omega arith; costs = record { ranges = n; few = omega arith; covered = covered; cost_is = omega arith } }
+pub search_from-costs : (search : Search) (present found : List ℕ) (line : LineState) (cost : ℕ) (known : List ℕ) (n : ℕ) → 10 * length known + n + 2 ≤ cost → Ahead search present found n → Cheaper search present line found cost (search_from search known)
+search_from-costs Steady present found line cost [] n enough ahead =
+    record { left = n; saves = omega arith; costs = record { ranges = n; few = omega arith; covered = ahead; cost_is = omega arith } }
+search_from-costs Quick present found line cost [] n enough ahead =
+    record { left = n; saves = omega arith; costs = record { below = omega arith; enough = omega (arith, ahead) } }
+search_from-costs search present found line cost (u ∷ known) n enough ahead =
+    record { left = 10 + 10 * length known + n; saves = omega arith; costs = record { ranges = n; few = omega arith; ahead = ahead; cost_is = omega arith } }
 
 -- the next range is searched, or none is left
-search_below-costs : (present found : List ℕ) (line : LineState) (cost : ℕ) (below : List Span) (n : ℕ) → n + 2 ≤ cost → Covers present found below n → Cheaper present line found cost (search_below below)
-search_below-costs present found line cost [] n enough covered = record { left = 0; saves = omega arith; costs = refl }
-search_below-costs present found line cost (r ∷ rs) n enough covered = record { left = n; saves = enough; costs = record { ranges = n; few = omega arith; covered = covered; cost_is = omega arith } }
+pub search_below-costs : (search : Search) (present found : List ℕ) (line : LineState) (cost : ℕ) (below : List Span) (n : ℕ) → n + 2 ≤ cost → Covers present found below n → Cheaper search present line found cost (search_below below)
+search_below-costs search present found line cost [] n enough covered = record { left = 0; saves = omega arith; costs = refl }
+search_below-costs search present found line cost (r ∷ rs) n enough covered = record { left = n; saves = enough; costs = record { ranges = n; few = omega arith; covered = covered; cost_is = omega arith } }
 
 -- a range in which two devices are left is split, and pays for five branches and five mutes
-split-costs : (present found : List ℕ) (line : LineState) (cost : ℕ) (top : Span) (below : List Span) (n : ℕ) → IsAscending present → 2 ≤ left_in present found top → n ≤ cost + 18 → Covers present found (top ∷ below) n
-    → Cheaper present line found cost (split top below)
-split-costs present found line cost top below n ascending two enough covered =
+pub split-costs : (search : Search) (present found : List ℕ) (line : LineState) (cost : ℕ) (top : Span) (below : List Span) (n : ℕ) → IsAscending present → 2 ≤ left_in present found top → n ≤ cost + 18 → Covers present found (top ∷ below) n
+    → Cheaper search present line found cost (split top below)
+split-costs search present found line cost top below n ascending two enough covered =
     let halved = Covers-split present found top below n ascending two covered in let pays = halved.2 in
-    cond_both (top.lo == top.hi) _ _ (Cheaper present line found cost) (λ one. absurd (halved.0 (eqb-true top.lo top.hi one)))
+    cond_both (top.lo == top.hi) _ _ (Cheaper search present line found cost) (λ one. absurd (halved.0 (eqb-true top.lo top.hi one)))
     (λ several. record { left = halved.1; saves = omega arith; costs = record { ranges = halved.1; few = omega arith; covered = halved.3; cost_is = omega arith } })
 
+-- a device that is acknowledged is found already, or one more is found and one fewer left
+abbrev pub CountsOneMore : List ℕ → List ℕ → ℕ → List ℕ → Type 0
+CountsOneMore present found u more = ((has found u ≡ true) × (more ≡ found)) ⊎ ((length more ≡ length found + 1) × (length (unfound present more) + 1 ≤ length (unfound present found)))
+
+-- what is enough for the search stays so
+Ahead-found : (search : Search) (present found more : List ℕ) (u : ℕ) → ((v : ℕ) → has found v ≡ true → has more v ≡ true) → CountsOneMore present found u more → (n : ℕ) → Ahead search present found n → Ahead search present more n
+Ahead-found Steady present found more u grows one_more n ahead = Covers-found present found more grows (whole ∷ []) n ahead
+Ahead-found Quick present found more u grows (inl same) n ahead = subst (λ us. sweep_cost present us ≤ n) (sym same.1) ahead
+Ahead-found Quick present found more u grows (inr one_more) n ahead = let longer = one_more.0 in let fewer = one_more.1 in omega (arith, ahead, longer, fewer)
+
 -- a mute unmutes nobody
-mute-keeps : (present : List ℕ) (s new : LineState) (u : ℕ) (h : Heard) → HonestStep present s (Mute u) h new → (v : ℕ) → s.muted v ≡ true → new.muted v ≡ true
+pub mute-keeps : (present : List ℕ) (s new : LineState) (u : ℕ) (h : Heard) → HonestStep present s (Mute u) h new → (v : ℕ) → s.muted v ≡ true → new.muted v ≡ true
 mute-keeps present s new u h step v muted = elim (cases_Bool (u == v)) [
   | inl is ↦ of_same (eqb-true u v is)
   | inr other ↦ step.0 v other ∙ muted
@@ -65,7 +79,7 @@ mute-keeps present s new u h step v muted = elim (cases_Bool (u == v)) [
     of_same is = subst (λ (w : ℕ). new.muted w ≡ true) is (at_own (subst (λ (w : ℕ). s.muted w ≡ true) (sym is) muted) (has present u) step.1)
 
 -- who acknowledges is present, and muted
-acked-mute : (present : List ℕ) (s new : LineState) (u : ℕ) (ack : MuteAck) → HonestStep present s (Mute u) (Acked ack) new → (has present u ≡ true) × (new.muted u ≡ true)
+pub acked-mute : (present : List ℕ) (s new : LineState) (u : ℕ) (ack : MuteAck) → HonestStep present s (Mute u) (Acked ack) new → (has present u ≡ true) × (new.muted u ≡ true)
 acked-mute present s new u ack step = by_presence (has present u) step.1
   where
     loud : Acked ack ≡ Silent → ⊥
@@ -77,7 +91,7 @@ acked-mute present s new u ack step = by_presence (has present u) step.1
     by_presence false absent = absurd (loud absent.0)
 
 -- a device's mute that is lost is one more in succession, and no more than four
-lost-mute : (present : List ℕ) (s new : LineState) (u : ℕ) (h : Heard) → is_acked h ≡ false → HonestStep present s (Mute u) h new → has present u ≡ true → (new.lost_mutes ≡ s.lost_mutes + 1) × (s.lost_mutes + 1 ≤ 4)
+pub lost-mute : (present : List ℕ) (s new : LineState) (u : ℕ) (h : Heard) → is_acked h ≡ false → HonestStep present s (Mute u) h new → has present u ≡ true → (new.lost_mutes ≡ s.lost_mutes + 1) × (s.lost_mutes + 1 ≤ 4)
 lost-mute present s new u h lost step here = of_moves (subst (λ b. MatchBool b (MuteMoves u s h new) ((h ≡ Silent) × KeepsMuted u s new × Counts new 0 0 0)) here step.1)
   where
     of_moves : MuteMoves u s h new → (new.lost_mutes ≡ s.lost_mutes + 1) × (s.lost_mutes + 1 ≤ 4)
@@ -85,11 +99,11 @@ lost-mute present s new u h lost step here = of_moves (subst (λ b. MatchBool b 
     of_moves (inr silent) = (silent.2.mutes, silent.2.few_mutes)
 
 -- what is found stays so while no device is unmuted
-Finds-keeps : (present found : List ℕ) (s new : LineState) → ((u : ℕ) → s.muted u ≡ true → new.muted u ≡ true) → Finds present s found → Finds present new found
+pub Finds-keeps : (present found : List ℕ) (s new : LineState) → ((u : ℕ) → s.muted u ≡ true → new.muted u ≡ true) → Finds present s found → Finds present new found
 Finds-keeps present found s new keeps f = record { devices = f.devices; muted = λ u here. keeps u (f.muted u here); counted = f.counted }
 
 -- what may be a new device of a range is left there, and a device that is left may be new
-new-left : (found : List ℕ) (r : Span) (u : ℕ) → is_new found r u ≡ true → is_left found r u ≡ true
+pub new-left : (found : List ℕ) (r : Span) (u : ℕ) → is_new found r u ≡ true → is_left found r u ≡ true
 new-left found r u new = let parts = and_parts (not (is_broadcast u) && is_within r.lo r.hi u) (not (has found u)) new in
     and_from (is_within r.lo r.hi u) (not (has found u)) (and_parts (not (is_broadcast u)) (is_within r.lo r.hi u) parts.0).1 parts.1
 
@@ -98,7 +112,7 @@ left-new found r u device left = let parts = and_parts (is_within r.lo r.hi u) (
     and_from (not (is_broadcast u) && is_within r.lo r.hi u) (not (has found u)) (and_from (not (is_broadcast u)) (is_within r.lo r.hi u) (ap not device.own) parts.0) parts.1
 
 -- what came spells a device that isn't found yet
-record SpellsNew (present found : List ℕ) (top : Span) (h : Heard) : Type 0 where
+pub record SpellsNew (present found : List ℕ) (top : Span) (h : Heard) : Type 0 where
   pub uid : ℕ
   pub heard : h ≡ One uid
   pub here : has present uid ≡ true
@@ -109,7 +123,7 @@ abbrev is_due : LineState → Span → ℕ → Bool
 is_due s top u = is_within top.lo top.hi u && not (s.muted u)
 
 -- what comes after a branch spells a new device, or two devices are left
-answered : (present found : List ℕ) (s : LineState) (top : Span) (h : Heard) → IsDeviceSet present → h ≢ Silent → Finds present s found → MayReply (due_in present s.muted top.lo top.hi) h → SpellsNew present found top h ⊎ (2 ≤ left_in present found top)
+pub answered : (present found : List ℕ) (s : LineState) (top : Span) (h : Heard) → IsDeviceSet present → h ≢ Silent → Finds present s found → MayReply (due_in present s.muted top.lo top.hi) h → SpellsNew present found top h ⊎ (2 ≤ left_in present found top)
 answered present found s top h set loud f reply = by_due (due_in present s.muted top.lo top.hi) refl reply
   where
     -- a device that is found is muted, and so not due
@@ -170,30 +184,30 @@ read-some present s found u tries top below cost c = Covers-left present found t
 
 module _ (present : List ℕ) (set : IsDeviceSet present) (few : length present ≤ MOST_DEVICES) (total cost : ℕ) (s new : LineState) (a : AgentState) (within : 2 * a.frames + cost ≤ total) where
   -- the phase goes on
-  to_phase-affords : (phase : Phase) → Finds present new (found_uids a) → Cheaper present new (found_uids a) cost phase → Affords present total new (to_phase a phase)
+  pub to_phase-affords : (phase : Phase) → Finds present new (found_uids a) → Cheaper a.search present new (found_uids a) cost phase → Affords present total new (to_phase a phase)
   to_phase-affords phase f cheaper = let saves = cheaper.saves in record { cost = cheaper.left; costs = cheaper.costs; within = omega arith; finds = f }
 
   -- a device is found
-  to_found-affords : (u : ℕ) (ack : MuteAck) (phase : Phase) → has present u ≡ true → new.muted u ≡ true → ((v : ℕ) → s.muted v ≡ true → new.muted v ≡ true) → Finds present s (found_uids a)
-      → ((more : List ℕ) → ((v : ℕ) → has (found_uids a) v ≡ true → has more v ≡ true) → has more u ≡ true → Cheaper present new more cost phase) → Affords present total new (to_found a (device_from u ack) phase)
+  pub to_found-affords : (u : ℕ) (ack : MuteAck) (phase : Phase) → has present u ≡ true → new.muted u ≡ true → ((v : ℕ) → s.muted v ≡ true → new.muted v ≡ true) → Finds present s (found_uids a)
+      → ((more : List ℕ) → ((v : ℕ) → has (found_uids a) v ≡ true → has more v ≡ true) → has more u ≡ true → CountsOneMore present (found_uids a) u more → Cheaper a.search present new more cost phase) → Affords present total new (to_found a (device_from u ack) phase)
   to_found-affords u ack phase here muted keeps f onward = cond_both (has (found_uids a) u) _ _ P at_old (λ absent. cond_both (nat_lt (length (found_uids a)) MOST_DEVICES) _ _ P (at_new absent) (at_full absent))
     where
       P : AgentState → Type 0
       P b = Affords present total new b
 
       at_old : has (found_uids a) u ≡ true → P (to_phase a phase)
-      at_old old = to_phase-affords phase (Finds-keeps present (found_uids a) s new keeps f) (onward (found_uids a) (λ v there. there) old)
+      at_old old = to_phase-affords phase (Finds-keeps present (found_uids a) s new keeps f) (onward (found_uids a) (λ v there. there) old (inl (old, refl)))
 
       grown : uids_of (with_device (device_from u ack) a.found) ≡ with_uid u (found_uids a)
       grown = uids_of-with_device (device_from u ack) a.found
 
       at_new : has (found_uids a) u ≡ false → nat_lt (length (found_uids a)) MOST_DEVICES ≡ true
-          → P (record { budget = a.budget; frames = a.frames + 1; found = with_device (device_from u ack) a.found; phase = phase })
+          → P (record { budget = a.budget; frames = a.frames + 1; search = a.search; found = with_device (device_from u ack) a.found; phase = phase })
       at_new absent room =
-          let cheaper = onward (with_uid u (found_uids a)) (λ v there. has-with_uid u (found_uids a) v ∙ or_right (v == u) (has (found_uids a) v) there) (has-with_uid u (found_uids a) u ∙ or_left (u == u) (has (found_uids a) u) (eq-eqb u u refl)) in
+          let cheaper = onward (with_uid u (found_uids a)) (λ v there. has-with_uid u (found_uids a) v ∙ or_right (v == u) (has (found_uids a) v) there) (has-with_uid u (found_uids a) u ∙ or_left (u == u) (has (found_uids a) u) (eq-eqb u u refl)) (inr (length-with_uid u (found_uids a) absent, unfound-fewer present (found_uids a) u here absent)) in
           let saves = cheaper.saves in record {
             cost = cheaper.left;
-            costs = subst (λ us. Costs present new us phase cheaper.left) (sym grown) cheaper.costs;
+            costs = subst (λ us. Costs a.search present new us phase cheaper.left) (sym grown) cheaper.costs;
             within = omega arith;
             finds = subst (Finds present new) (sym grown) (Finds-more present (found_uids a) u here absent s new muted keeps f);
           }
@@ -202,35 +216,35 @@ module _ (present : List ℕ) (set : IsDeviceSet present) (few : length present 
       at_full absent full = let room = has_room present (found_uids a) u here absent s few f in let none = ltb-false (length (found_uids a)) MOST_DEVICES full in absurd (omega arith)
 
   -- an unmute
-  pub unmuting-affords : (more : ℕ) (known : List ℕ) (h : Heard) → Finds present s (found_uids a) → Costs present s (found_uids a) (Unmuting more known) cost → Affords present total new (heard_by_phase a (Unmuting more known) h)
-  unmuting-affords more known h f costs = to_phase-affords (cond (nat_lt 1 more) (Unmuting (more - 1) known) (search_from known)) finds (cond_both (nat_lt 1 more) _ _ (Cheaper present new (found_uids a) cost) goes_on ends)
+  pub unmuting-affords : (more : ℕ) (known : List ℕ) (h : Heard) → Finds present s (found_uids a) → Costs a.search present s (found_uids a) (Unmuting more known) cost → Affords present total new (heard_by_phase a (Unmuting more known) h)
+  unmuting-affords more known h f costs = to_phase-affords (cond (nat_lt 1 more) (Unmuting (more - 1) known) (search_from a.search known)) finds (cond_both (nat_lt 1 more) _ _ (Cheaper a.search present new (found_uids a) cost) goes_on ends)
     where
       finds : Finds present new (found_uids a)
       finds = record { devices = f.devices; muted = λ u there. absurd (true≢false (sym there ∙ ap (λ us. has us u) costs.none_found)); counted = f.counted }
 
-      goes_on : nat_lt 1 more ≡ true → Cheaper present new (found_uids a) cost (Unmuting (more - 1) known)
+      goes_on : nat_lt 1 more ≡ true → Cheaper a.search present new (found_uids a) cost (Unmuting (more - 1) known)
       goes_on two = let above : 1 < more = ltb-true 1 more two in let is = costs.cost_is in
-          record { left = cost - 2; saves = omega arith; costs = record { ranges = costs.ranges; some = omega arith; none_found = costs.none_found; covered = costs.covered; cost_is = omega arith } }
+          record { left = cost - 2; saves = omega arith; costs = record { ranges = costs.ranges; some = omega arith; none_found = costs.none_found; ahead = costs.ahead; cost_is = omega arith } }
 
-      ends : nat_lt 1 more ≡ false → Cheaper present new (found_uids a) cost (search_from known)
-      ends one = let some = costs.some in let is = costs.cost_is in search_from-costs present (found_uids a) new cost known costs.ranges (omega arith) costs.covered
+      ends : nat_lt 1 more ≡ false → Cheaper a.search present new (found_uids a) cost (search_from a.search known)
+      ends one = let some = costs.some in let is = costs.cost_is in search_from-costs a.search present (found_uids a) new cost known costs.ranges (omega arith) costs.ahead
 
   -- a mute of a known UID that is lost
-  known_lost-affords : (u tries : ℕ) (known : List ℕ) (h : Heard) → Finds present s (found_uids a) → HonestStep present s (Mute u) h new → CostsKnown present (found_uids a) tries known cost
-      → Affords present total new (to_phase a (cond ((tries + 1) == TRIES) (search_from known) (MutingKnown u (tries + 1) known)))
+  known_lost-affords : (u tries : ℕ) (known : List ℕ) (h : Heard) → Finds present s (found_uids a) → HonestStep present s (Mute u) h new → CostsKnown a.search present (found_uids a) tries known cost
+      → Affords present total new (to_phase a (cond ((tries + 1) == TRIES) (search_from a.search known) (MutingKnown u (tries + 1) known)))
   known_lost-affords u tries known h f step costs =
       let few = costs.few in let is = costs.cost_is in
-      to_phase-affords (cond ((tries + 1) == TRIES) (search_from known) (MutingKnown u (tries + 1) known)) (Finds-keeps present (found_uids a) s new (mute-keeps present s new u h step) f)
-      (cond_both ((tries + 1) == TRIES) _ _ (Cheaper present new (found_uids a) cost) (λ five. search_from-costs present (found_uids a) new cost known costs.ranges (omega arith) costs.covered)
+      to_phase-affords (cond ((tries + 1) == TRIES) (search_from a.search known) (MutingKnown u (tries + 1) known)) (Finds-keeps present (found_uids a) s new (mute-keeps present s new u h step) f)
+      (cond_both ((tries + 1) == TRIES) _ _ (Cheaper a.search present new (found_uids a) cost) (λ five. search_from-costs a.search present (found_uids a) new cost known costs.ranges (omega arith) costs.ahead)
       (λ fewer. let other : tries + 1 ≡ TRIES → ⊥ = eqb-false (tries + 1) TRIES fewer in let less : tries + 1 ≤ 4 = grind arith in
-      record { left = cost - 2; saves = omega arith; costs = record { ranges = costs.ranges; few = less; covered = costs.covered; cost_is = omega arith } }))
+      record { left = cost - 2; saves = omega arith; costs = record { ranges = costs.ranges; few = less; ahead = costs.ahead; cost_is = omega arith } }))
 
   -- a mute of a known UID
-  pub known-affords : (u tries : ℕ) (known : List ℕ) (h : Heard) → h ≢ Failed → Finds present s (found_uids a) → HonestStep present s (Mute u) h new → CostsKnown present (found_uids a) tries known cost → Affords present total new (known_heard a u tries known h)
+  pub known-affords : (u tries : ℕ) (known : List ℕ) (h : Heard) → h ≢ Failed → Finds present s (found_uids a) → HonestStep present s (Mute u) h new → CostsKnown a.search present (found_uids a) tries known cost → Affords present total new (known_heard a u tries known h)
   known-affords u tries known (Acked ack) sound f step costs =
       let acked = acked-mute present s new u ack step in let few = costs.few in let is = costs.cost_is in
-      to_found-affords u ack (search_from known) acked.0 acked.1 (mute-keeps present s new u (Acked ack) step) f
-      (λ more grows now. search_from-costs present more new cost known costs.ranges (omega arith) (Covers-found present (found_uids a) more grows (whole ∷ []) costs.ranges costs.covered))
+      to_found-affords u ack (search_from a.search known) acked.0 acked.1 (mute-keeps present s new u (Acked ack) step) f
+      (λ more grows now one_more. search_from-costs a.search present more new cost known costs.ranges (omega arith) (Ahead-found a.search present (found_uids a) more u grows one_more costs.ranges costs.ahead))
   known-affords u tries known Failed sound f step costs = absurd (sound refl)
   known-affords u tries known Silent sound f step costs = known_lost-affords u tries known Silent f step costs
   known-affords u tries known (One v) sound f step costs = known_lost-affords u tries known (One v) f step costs
@@ -239,7 +253,7 @@ module _ (present : List ℕ) (set : IsDeviceSet present) (few : length present 
   -- the top range is branched, and it is split
   split-affords : (silences : ℕ) (top : Span) (below : List Span) → Finds present new (found_uids a) → CostsSearching present (found_uids a) silences (top ∷ below) cost → 2 ≤ left_in present (found_uids a) top → Affords present total new (to_phase a (split top below))
   split-affords silences top below f costs two = let few = costs.few in let is = costs.cost_is in
-      to_phase-affords (split top below) f (split-costs present (found_uids a) new cost top below costs.ranges set.ascending two (omega arith) costs.covered)
+      to_phase-affords (split top below) f (split-costs a.search present (found_uids a) new cost top below costs.ranges set.ascending two (omega arith) costs.covered)
 
   -- it is silent
   silent-affords : (silences : ℕ) (top : Span) (below : List Span) → Finds present new (found_uids a) → CostsSearching present (found_uids a) silences (top ∷ below) cost
@@ -247,8 +261,8 @@ module _ (present : List ℕ) (set : IsDeviceSet present) (few : length present 
   silent-affords silences top below f costs =
       let few = costs.few in let is = costs.cost_is in let some : 10 ≤ costs.ranges = Covers-some present (found_uids a) top below costs.ranges costs.covered in
       to_phase-affords (cond ((silences + 1) == TRIES) (search_below below) (Searching (silences + 1) top below)) f
-      (cond_both ((silences + 1) == TRIES) _ _ (Cheaper present new (found_uids a) cost)
-      (λ five. let fits = costs.covered.3 in search_below-costs present (found_uids a) new cost below costs.covered.1 (omega arith) costs.covered.4)
+      (cond_both ((silences + 1) == TRIES) _ _ (Cheaper a.search present new (found_uids a) cost)
+      (λ five. let fits = costs.covered.3 in search_below-costs a.search present (found_uids a) new cost below costs.covered.1 (omega arith) costs.covered.4)
       (λ fewer. let other : silences + 1 ≡ TRIES → ⊥ = eqb-false (silences + 1) TRIES fewer in let less : silences + 1 ≤ 4 = grind arith in
       record { left = cost - 2; saves = omega arith; costs = record { ranges = costs.ranges; few = less; covered = costs.covered; cost_is = omega arith } }))
 
@@ -306,8 +320,8 @@ module _ (present : List ℕ) (set : IsDeviceSet present) (few : length present 
   read_lost-affords u tries top below h lost f step costs =
       let few = costs.few in let is = costs.cost_is in let some = read-some present s (found_uids a) u tries top below cost costs in
       to_phase-affords (cond ((tries + 1) == TRIES) (split top below) (MutingRead u (tries + 1) top below)) (Finds-keeps present (found_uids a) s new (mute-keeps present s new u h step) f)
-      (cond_both ((tries + 1) == TRIES) _ _ (Cheaper present new (found_uids a) cost)
-      (λ five. split-costs present (found_uids a) new cost top below costs.ranges set.ascending (two (eqb-true (tries + 1) TRIES five) costs.spelt) (omega arith) costs.covered)
+      (cond_both ((tries + 1) == TRIES) _ _ (Cheaper a.search present new (found_uids a) cost)
+      (λ five. split-costs a.search present (found_uids a) new cost top below costs.ranges set.ascending (two (eqb-true (tries + 1) TRIES five) costs.spelt) (omega arith) costs.covered)
       (λ fewer. let other : tries + 1 ≡ TRIES → ⊥ = eqb-false (tries + 1) TRIES fewer in let less : tries + 1 ≤ 4 = grind arith in record {
         left = cost - 2;
         saves = omega arith;
@@ -326,7 +340,7 @@ module _ (present : List ℕ) (set : IsDeviceSet present) (few : length present 
   read-affords u tries top below (Acked ack) sound f step costs =
       let acked = acked-mute present s new u ack step in let few = costs.few in let is = costs.cost_is in
       to_found-affords u ack (Searching 0 top below) acked.0 acked.1 (mute-keeps present s new u (Acked ack) step) f
-      (λ more grows now.
+      (λ more grows now one_more.
       let paid = Covers-device present (found_uids a) more grows u top below costs.ranges acked.0 (new-left (found_uids a) top u costs.new) now costs.covered in let fewer = paid.1 in
       record { left = paid.0; saves = omega arith; costs = record { ranges = paid.0; few = omega arith; covered = paid.2; cost_is = omega arith } })
   read-affords u tries top below Failed sound f step costs = absurd (sound refl)

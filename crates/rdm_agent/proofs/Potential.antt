@@ -1,11 +1,13 @@
 -- What a run on an honest line still costs at most, in half exchanges: half of one is the least that a level adds.
-use Rattle.std.specs.Prelude.{◌≡◌, ◌⊎◌, ℕ, ◌+◌, ◌*◌, ◌^◌, ◌≤◌, Bool}
+use Rattle.std.specs.Prelude.{◌≡◌, ◌⊎◌, ℕ, ◌+◌, ◌*◌, ◌^◌, ◌<◌, ◌≤◌, Bool}
 use Rattle.std.specs.Prelude.{true, ◌&&◌, not, List, [], ◌∷◌, length, filter, None}
 use Rattle.rdm_wire.specs.Uid.{has, is_within}
 use Rattle.rdm_wire.specs.Span.{Span, whole}
 use Rattle.rdm_wire.specs.Honest.{LineState}
-use Rattle.rdm_agent.specs.Machine.{Phase, AgentState, found_uids, is_new}
-use Rattle.rdm_agent.specs.Machine.Phase.{Unmuting, MutingKnown, Searching, MutingRead, Ended}
+use Rattle.rdm_agent.specs.Machine.{Phase, AgentState, Sweep, found_uids, is_new, probe}
+use Rattle.rdm_agent.specs.Machine.Phase.{Unmuting, MutingKnown, Searching, MutingRead, Sweeping, MutingSwept, Doubting, Ended}
+use Rattle.rdm_agent.specs.declared.search.Search.{Search}
+use Rattle.rdm_agent.specs.declared.search.Search.TheVariants.{Steady, Quick}
 
 -- the present devices that aren't found, and those of them in a range
 abbrev pub unfound : List ℕ → List ℕ → List ℕ
@@ -29,19 +31,29 @@ Covers present found (r ∷ rs) n =
     (level : ℕ) × (rest : ℕ) × (r.hi + 1 ≡ r.lo + 2 ^ level)
     × (worth level (left_in present found r) + rest ≤ n) × Covers present found rs rest
 
+-- what a sweep costs at most, and the search after it: two hundred for each device that is found and two hundred more, and
+-- ten for its last mutes; what covers all UIDs where the others are left
+abbrev pub sweep_cost : List ℕ → List ℕ → ℕ
+sweep_cost present found = 220 + 200 * length found + 740 * length (unfound present found)
+
+-- n half exchanges are enough for the search, before it begins
+abbrev pub Ahead : Search → List ℕ → List ℕ → ℕ → Type 0
+Ahead Steady present found n = Covers present found (whole ∷ []) n
+Ahead Quick present found n = sweep_cost present found ≤ n
+
 -- two half exchanges for each unmute, ten for each known UID, and what covers all UIDs
-pub record CostsUnmuting (present found : List ℕ) (more : ℕ) (known : List ℕ) (cost : ℕ) : Type 0 where
+pub record CostsUnmuting (search : Search) (present found : List ℕ) (more : ℕ) (known : List ℕ) (cost : ℕ) : Type 0 where
   pub ranges : ℕ
   pub some : 1 ≤ more
   pub none_found : found ≡ []
-  pub covered : Covers present found (whole ∷ []) ranges
+  pub ahead : Ahead search present found ranges
   pub cost_is : cost ≡ 2 * more + 10 * length known + ranges
 
 -- ten for each known UID without the tries made, and what covers all UIDs
-pub record CostsKnown (present found : List ℕ) (tries : ℕ) (known : List ℕ) (cost : ℕ) : Type 0 where
+pub record CostsKnown (search : Search) (present found : List ℕ) (tries : ℕ) (known : List ℕ) (cost : ℕ) : Type 0 where
   pub ranges : ℕ
   pub few : tries ≤ 4
-  pub covered : Covers present found (whole ∷ []) ranges
+  pub ahead : Ahead search present found ranges
   pub cost_is : cost + 2 * tries ≡ 10 + 10 * length known + ranges
 
 -- what covers the open ranges, without the silences
@@ -63,13 +75,31 @@ pub record CostsRead (present : List ℕ) (line : LineState) (found : List ℕ)
   pub covered : Covers present found (top ∷ below) ranges
   pub cost_is : cost + 10 + 2 * tries ≡ ranges
 
+-- what a sweep costs, without the exchanges that it made; it is below its limit
+pub record CostsSweeping (present found : List ℕ) (sweep : Sweep) (cost : ℕ) : Type 0 where
+  pub below : sweep.made < 100 * (length found + 1)
+  pub enough : sweep_cost present found ≤ cost + 2 * sweep.made
+
+-- the same in the midst of a series of mutes, which may go on past the limit
+pub record CostsSwept (present : List ℕ) (line : LineState) (found : List ℕ)
+    (u tries : ℕ) (sweep : Sweep) (top : Span) (cost : ℕ) : Type 0 where
+  pub few : tries ≤ 4
+  pub below : sweep.made ≤ 100 * (length found + 1) + tries
+  pub enough : sweep_cost present found ≤ cost + 2 * sweep.made
+  pub new : is_new found top u ≡ true
+  pub lost : has present u ≡ true → tries ≤ line.lost_mutes
+  pub spelt : (has present u ≡ true) ⊎ (2 ≤ left_in present found (probe sweep.suspect top))
+
 -- a phase still costs so many half exchanges at most; a run that has ended costs nothing, and has no fault
-abbrev pub Costs : List ℕ → LineState → List ℕ → Phase → ℕ → Type 0
-Costs present line found (Unmuting more known) cost = CostsUnmuting present found more known cost
-Costs present line found (MutingKnown u tries known) cost = CostsKnown present found tries known cost
-Costs present line found (Searching silences top below) cost = CostsSearching present found silences (top ∷ below) cost
-Costs present line found (MutingRead u tries top below) cost = CostsRead present line found u tries top below cost
-Costs present line found (Ended fault) cost = fault ≡ None
+abbrev pub Costs : Search → List ℕ → LineState → List ℕ → Phase → ℕ → Type 0
+Costs search present line found (Unmuting more known) cost = CostsUnmuting search present found more known cost
+Costs search present line found (MutingKnown u tries known) cost = CostsKnown search present found tries known cost
+Costs search present line found (Searching silences top below) cost = CostsSearching present found silences (top ∷ below) cost
+Costs search present line found (MutingRead u tries top below) cost = CostsRead present line found u tries top below cost
+Costs search present line found (Sweeping sweep top below) cost = CostsSweeping present found sweep cost
+Costs search present line found (MutingSwept u tries sweep top below) cost = CostsSwept present line found u tries sweep top cost
+Costs search present line found (Doubting sweep top below) cost = CostsSweeping present found sweep cost
+Costs search present line found (Ended fault) cost = fault ≡ None
 
 -- the found UIDs are muted devices, and there are no more than devices
 pub record Finds (present : List ℕ) (line : LineState) (found : List ℕ) : Type 0 where
@@ -80,6 +110,6 @@ pub record Finds (present : List ℕ) (line : LineState) (found : List ℕ) : Ty
 -- the exchanges so far and what is still to come make no more than total half exchanges
 pub record Affords (present : List ℕ) (total : ℕ) (line : LineState) (a : AgentState) : Type 0 where
   pub cost : ℕ
-  pub costs : Costs present line (found_uids a) a.phase cost
+  pub costs : Costs a.search present line (found_uids a) a.phase cost
   pub within : 2 * a.frames + cost ≤ total
   pub finds : Finds present line (found_uids a)

@@ -37,14 +37,14 @@ use Rattle.rdm_agent.specs.Cause.{IsCorrupt}
 use Rattle.rdm_agent.proofs.Invariant.{EndsWith, IsFound, MutesKnown, Searches, IsUnmuting, IsMutingKnown, IsSearching, IsMutingRead, WasSpelt, InPhase, RunInvariant}
 
 -- an exchange
-abbrev exchange : Asked → Heard → Seen
+abbrev pub exchange : Asked → Heard → Seen
 exchange asked h = record { asked = asked; heard = h }
 
-few_more : (n : ℕ) → n < TRIES → (n + 1 ≡ TRIES → ⊥) → n + 1 < TRIES
+pub few_more : (n : ℕ) → n < TRIES → (n + 1 ≡ TRIES → ⊥) → n + 1 < TRIES
 few_more n few fewer = grind arith
 
 -- one more mute of what was spelt is lost
-WasSpelt-push : (u tries : ℕ) (top : Span) (x : List Seen) (h : Heard) → is_acked h ≡ false → WasSpelt u tries top x → WasSpelt u (tries + 1) top (x ++ exchange (Mute u) h ∷ [])
+pub WasSpelt-push : (u tries : ℕ) (top : Span) (x : List Seen) (h : Heard) → is_acked h ≡ false → WasSpelt u tries top x → WasSpelt u (tries + 1) top (x ++ exchange (Mute u) h ∷ [])
 WasSpelt-push u tries top x h lost w = record {
   before = w.before;
   mutes = w.mutes ++ exchange (Mute u) h ∷ [];
@@ -53,7 +53,7 @@ WasSpelt-push u tries top x h lost w = record {
   lost = All-push (IsLostMute u) w.mutes (exchange (Mute u) h) w.lost (refl, lost);
 }
 
-WasSpelt-succession : (u n : ℕ) (top : Span) (x : List Seen) → WasSpelt u n top x → InSuccession n (IsLostMute u) x
+pub WasSpelt-succession : (u n : ℕ) (top : Span) (x : List Seen) → WasSpelt u n top x → InSuccession n (IsLostMute u) x
 WasSpelt-succession u n top x w = record {
   front = w.before ++ exchange (Branch top.lo top.hi) (One u) ∷ [];
   run = w.mutes;
@@ -81,7 +81,7 @@ module _ (kind : Kind) (known : List ℕ) (budget : ℕ) (x : List Seen) (a : Ag
   reported-same e none = s.reports ∙ ap (λ us. set_of (take MOST_DEVICES (once us))) (sym (read-push_none acked_by x e none))
 
   -- an acknowledgement comes
-  to_found-stands : (u : ℕ) (ack : MuteAck) (phase : Phase) → AllByRecursion NotFailed x → IsFound x (found_uids a)
+  pub to_found-stands : (u : ℕ) (ack : MuteAck) (phase : Phase) → AllByRecursion NotFailed x → IsFound x (found_uids a)
       → ((more : List ℕ) → IsFound (x ++ exchange (Mute u) (Acked ack) ∷ []) more → ((v : ℕ) → has (found_uids a) v ≡ true → has more v ≡ true) → has more u ≡ true → InPhase kind known budget phase (x ++ exchange (Mute u) (Acked ack) ∷ []) more)
       → RunInvariant kind known budget (x ++ exchange (Mute u) (Acked ack) ∷ []) (to_found a (device_from u ack) phase)
   to_found-stands u ack phase sound f onward = cond_both (has (found_uids a) u) _ _ P at_old (λ new. cond_both (nat_lt (length (found_uids a)) MOST_DEVICES) _ _ P (at_new new) (at_full new))
@@ -102,7 +102,7 @@ module _ (kind : Kind) (known : List ℕ) (budget : ℕ) (x : List Seen) (a : Ag
       grown : uids_of (with_device d a.found) ≡ with_uid u (found_uids a)
       grown = uids_of-with_device d a.found
 
-      at_new : has (found_uids a) u ≡ false → nat_lt (length (found_uids a)) MOST_DEVICES ≡ true → P (record { budget = a.budget; frames = a.frames + 1; found = with_device d a.found; phase = phase })
+      at_new : has (found_uids a) u ≡ false → nat_lt (length (found_uids a)) MOST_DEVICES ≡ true → P (record { budget = a.budget; frames = a.frames + 1; search = a.search; found = with_device d a.found; phase = phase })
       at_new new space = let is_found : IsFound (x ++ e ∷ []) (with_uid u (found_uids a)) = found-new x (found_uids a) e f u refl new (ltb-true (length (found_uids a)) MOST_DEVICES space) in record {
         budget_is = s.budget_is;
         frames_are = (counted e).0;
@@ -127,10 +127,10 @@ module _ (kind : Kind) (known : List ℕ) (budget : ℕ) (x : List Seen) (a : Ag
 
   -- an unmute
   pub unmuting-stands : (more : ℕ) (left : List ℕ) (h : Heard) → h ≢ Failed → InPhase kind known budget (Unmuting more left) x (found_uids a) → RunInvariant kind known budget (x ++ exchange Unmute h ∷ []) (heard_by_phase a (Unmuting more left) h)
-  unmuting-stands more left h sound p = to_phase-stands (exchange Unmute h) (cond (nat_lt 1 more) (Unmuting (more - 1) left) (search_from left)) (reported-same (exchange Unmute h) refl)
+  unmuting-stands more left h sound p = to_phase-stands (exchange Unmute h) (cond (nat_lt 1 more) (Unmuting (more - 1) left) (search_from a.search left)) (reported-same (exchange Unmute h) refl)
       (cond_both (nat_lt 1 more) _ _ (λ q. InPhase kind known budget q (x ++ exchange Unmute h ∷ []) (found_uids a))
       (λ two. let above : 1 < more = ltb-true 1 more two in (omega arith, pushed))
-      (λ one. known-next kind known budget left (x ++ exchange Unmute h ∷ []) (found_uids a) (unmuted (known_of kind known) left (x ++ exchange Unmute h ∷ []) (found_uids a) (at_end one))))
+      (λ one. known-next kind known budget a.search left (x ++ exchange Unmute h ∷ []) (found_uids a) (unmuted (known_of kind known) left (x ++ exchange Unmute h ∷ []) (found_uids a) (at_end one))))
     where
       pushed : IsUnmuting (known_of kind known) (more - 1) left (x ++ exchange Unmute h ∷ []) (found_uids a)
       pushed = unmuting-push (known_of kind known) more left x (found_uids a) h p.0 sound p.1
@@ -140,10 +140,10 @@ module _ (kind : Kind) (known : List ℕ) (budget : ℕ) (x : List Seen) (a : Ag
 
   -- a known UID is muted
   known_lost-stands : (u tries : ℕ) (left : List ℕ) (h : Heard) → h ≢ Failed → is_acked h ≡ false → IsMutingKnown (known_of kind known) u tries left x (found_uids a)
-      → RunInvariant kind known budget (x ++ exchange (Mute u) h ∷ []) (to_phase a (cond ((tries + 1) == TRIES) (search_from left) (MutingKnown u (tries + 1) left)))
-  known_lost-stands u tries left h sound lost p = to_phase-stands e (cond ((tries + 1) == TRIES) (search_from left) (MutingKnown u (tries + 1) left)) (reported-same e (lost-acks_none u h lost))
+      → RunInvariant kind known budget (x ++ exchange (Mute u) h ∷ []) (to_phase a (cond ((tries + 1) == TRIES) (search_from a.search left) (MutingKnown u (tries + 1) left)))
+  known_lost-stands u tries left h sound lost p = to_phase-stands e (cond ((tries + 1) == TRIES) (search_from a.search left) (MutingKnown u (tries + 1) left)) (reported-same e (lost-acks_none u h lost))
       (cond_both ((tries + 1) == TRIES) _ _ (λ q. InPhase kind known budget q (x ++ e ∷ []) (found_uids a))
-      (λ five. known-next kind known budget left (x ++ e ∷ []) (found_uids a) (known-given_up (known_of kind known) u left (x ++ e ∷ []) (found_uids a) muting (EndsWith-succession (subst (λ n. EndsWith n (IsLostMute u) (x ++ e ∷ [])) (eqb-true (tries + 1) TRIES five) ends))))
+      (λ five. known-next kind known budget a.search left (x ++ e ∷ []) (found_uids a) (known-given_up (known_of kind known) u left (x ++ e ∷ []) (found_uids a) muting (EndsWith-succession (subst (λ n. EndsWith n (IsLostMute u) (x ++ e ∷ [])) (eqb-true (tries + 1) TRIES five) ends))))
       (λ fewer. record { muting = muting; few = few_more tries p.few (eqb-false (tries + 1) TRIES fewer); lost = ends }))
     where
       e : Seen
@@ -156,8 +156,8 @@ module _ (kind : Kind) (known : List ℕ) (budget : ℕ) (x : List Seen) (a : Ag
       ends = EndsWith-push e p.lost (refl, lost)
 
   pub known-stands : (u tries : ℕ) (left : List ℕ) (h : Heard) → h ≢ Failed → IsMutingKnown (known_of kind known) u tries left x (found_uids a) → RunInvariant kind known budget (x ++ exchange (Mute u) h ∷ []) (known_heard a u tries left h)
-  known-stands u tries left (Acked ack) sound p = to_found-stands u ack (search_from left) p.muting.under_way.no_failure p.muting.under_way.is_found
-      (λ more is_found grows here. known-next kind known budget left (x ++ exchange (Mute u) (Acked ack) ∷ []) more (known-acked (known_of kind known) u left x (found_uids a) p.muting ack more is_found grows here))
+  known-stands u tries left (Acked ack) sound p = to_found-stands u ack (search_from a.search left) p.muting.under_way.no_failure p.muting.under_way.is_found
+      (λ more is_found grows here. known-next kind known budget a.search left (x ++ exchange (Mute u) (Acked ack) ∷ []) more (known-acked (known_of kind known) u left x (found_uids a) p.muting ack more is_found grows here))
   known-stands u tries left Failed sound p = absurd (sound refl)
   known-stands u tries left Silent sound p = known_lost-stands u tries left Silent sound refl p
   known-stands u tries left (One v) sound p = known_lost-stands u tries left (One v) sound refl p
@@ -226,7 +226,7 @@ module _ (kind : Kind) (known : List ℕ) (budget : ℕ) (x : List Seen) (a : Ag
   searching-stands silences top below Noise sound p = collided-stands silences top below Noise sound (λ q. cc) (λ u q. cc) p
 
   -- what the top range spelt is muted
-  read_is : (u tries : ℕ) (top : Span) → WasSpelt u tries top x → has (read_in x) u ≡ true
+  pub read_is : (u tries : ℕ) (top : Span) → WasSpelt u tries top x → has (read_in x) u ≡ true
   read_is u tries top w = subst (λ l. has (read_in l) u ≡ true) (sym w.whole) (has-at read_by w.before (exchange (Branch top.lo top.hi) (One u)) w.mutes u refl)
 
   mute_lost-stands : (u tries : ℕ) (top : Span) (below : List Span) (h : Heard) → h ≢ Failed → is_acked h ≡ false → IsMutingRead (known_of kind known) u tries top below x (found_uids a)

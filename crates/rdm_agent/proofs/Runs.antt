@@ -1,5 +1,5 @@
 -- What is shown of whole runs.
-use Rattle.std.proofs.Common.{◌≡◌, ℕ, ◌+◌, ◌<◌, ◌≤◌, Bool, true, false, cond, List, [], ◌∷◌, ◌++◌, length, map, Option, None, Some, refl, sym, ap, ◌∙◌, subst, append_assoc, append-nil, arith}
+use Rattle.std.proofs.Common.{◌≡◌, ℕ, ◌+◌, ◌-◌, ◌<◌, ◌≤◌, Bool, true, false, cond, List, [], ◌∷◌, ◌++◌, length, map, Option, None, Some, refl, sym, ap, ◌∙◌, subst, append_assoc, append-nil, arith}
 use Rattle.std.specs.Prelude.{◌≢◌, nat_lt, MatchOption}
 use Rattle.std.specs.List.{AllByRecursion}
 use Rattle.std.proofs.lemmas.Bool.{ltb-false, le-ltb, cond-false}
@@ -11,10 +11,12 @@ use Rattle.rdm_wire.specs.Honest.Heard.{Acked, Failed, Silent, One, Noise}
 use Rattle.rdm_agent.specs.Run.{FailureIsLast}
 use Rattle.rdm_agent.specs.Certificate.{Certificate, SearchShows, known_of}
 use Rattle.rdm_agent.specs.Cause.{Cause, IsCorrupt, EndsFailed, AllReported}
-use Rattle.rdm_agent.specs.Machine.{Phase, AgentState, Runs, start, next_of, wanted, fed, fault_of, heard_by_phase, to_phase, open_ranges, found_uids}
-use Rattle.rdm_agent.specs.Machine.Phase.{Unmuting, MutingKnown, Searching, MutingRead, Ended}
-use Rattle.rdm_agent.specs.Statements.{AsksInOrder, EndsAtFailure, EndsAtBudget, FindsAcknowledged, HasFewRanges, EndsCertified, IsInOrder}
+use Rattle.rdm_agent.specs.Machine.{Phase, AgentState, Runs, start, start_by, next_of, wanted, fed, fault_of, heard_by_phase, to_phase, open_ranges, found_uids, probe}
+use Rattle.rdm_agent.specs.Machine.Phase.{Unmuting, MutingKnown, Searching, MutingRead, Sweeping, MutingSwept, Doubting, Ended}
+use Rattle.rdm_agent.specs.Statements.{AsksInOrder, EndsAtFailure, EndsAtBudget, GoesOnSoundly, FindsAcknowledged, HasFewRanges, EndsCertified, IsInOrder}
 use Rattle.rdm_agent.specs.declared.kind.Kind.{Kind}
+use Rattle.rdm_agent.specs.declared.search.Search.{Search}
+use Rattle.rdm_agent.specs.declared.search.Search.TheVariants.{Steady}
 use Rattle.rdm_agent.specs.declared.kind.Kind.TheVariants.{Full, Incremental}
 use Rattle.rdm_agent.specs.declared.fault.AgentFault.{AgentFault}
 use Rattle.rdm_agent.specs.declared.fault.AgentFault.TheVariants.{LineFailed, Exhausted}
@@ -28,6 +30,8 @@ use Rattle.rdm_agent.proofs.CorruptLemmas.{is_new-device, not_corrupt-no_branch,
 use Rattle.rdm_agent.proofs.UnmutePhase.{no_branches}
 use Rattle.rdm_agent.proofs.Stacks.{IsStack-length, IsStack-ends}
 use Rattle.rdm_agent.proofs.RunLemmas.{to_phase-stands, reported-same, unmuting-stands, known-stands, searching-stands, muting-stands, is_muting_read-device}
+use Rattle.rdm_agent.proofs.SweepPhase.{probe_is, probe-new}
+use Rattle.rdm_agent.proofs.SweepRuns.{sweeping-stands, swept-stands, doubting-stands, is_muting_swept-device}
 use Rattle.rdm_agent.proofs.Invariant.{IsFound, InPhase, IsUnderWay, RunInvariant}
 
 module _ (kind : Kind) (known : List ℕ) (budget : ℕ) where
@@ -46,6 +50,13 @@ module _ (kind : Kind) (known : List ℕ) (budget : ℕ) where
     is_found = w.is_found;
     not_corrupt = λ v c. not_corrupt-spelt v u tries top x found w.is_found (IsStack-ends top below p.searches.stack).1 (is_new-device found top u p.new) p.spelt p.few c;
   }
+  is_open (Sweeping sweep top below) x found p = let w = p.searches.under_way in record { no_failure = w.no_failure; is_found = w.is_found; not_corrupt = p.not_corrupt }
+  is_open (MutingSwept u tries sweep top below) x found p = let w = p.searches.under_way in record {
+    no_failure = w.no_failure;
+    is_found = w.is_found;
+    not_corrupt = λ v c. not_corrupt-spelt v u tries (probe sweep.suspect top) x found w.is_found (let end = (IsStack-ends top below p.stack).1 in let to = (probe_is sweep.suspect top).to in omega arith) (probe-new sweep.suspect found top u p.new) p.spelt p.few c;
+  }
+  is_open (Doubting sweep top below) x found p = let w = p.sweeps.searches.under_way in record { no_failure = w.no_failure; is_found = w.is_found; not_corrupt = p.sweeps.not_corrupt }
   is_open (Ended fault) x found p = tt
 
   module _ (x : List Seen) (a : AgentState) (s : RunInvariant kind known budget x a) (goes : nat_lt a.frames a.budget ≡ true) where
@@ -59,6 +70,9 @@ module _ (kind : Kind) (known : List ℕ) (budget : ℕ) where
     by_phase (MutingKnown u tries left) h sound p = known-stands kind known budget x a s goes u tries left h sound p
     by_phase (Searching silences top below) h sound p = searching-stands kind known budget x a s goes silences top below h sound p
     by_phase (MutingRead u tries top below) h sound p = muting-stands kind known budget x a s goes u tries top below h sound p
+    by_phase (Sweeping sweep top below) h sound p = sweeping-stands kind known budget x a s goes sweep top below h sound p
+    by_phase (MutingSwept u tries sweep top below) h sound p = swept-stands kind known budget x a s goes u tries sweep top below h sound p
+    by_phase (Doubting sweep top below) h sound p = doubting-stands kind known budget x a s goes sweep top below h sound p
     by_phase (Ended fault) h sound p = tt
 
     failed-stands : (asked : Asked) → wanted a.phase ≡ Some asked → RunInvariant kind known budget (x ++ record { asked = asked; heard = Failed } ∷ []) (to_phase a (Ended (Some LineFailed)))
@@ -105,8 +119,8 @@ known_devices Full known set = tt
 known_devices Incremental known set = set.devices
 
 -- an agent that ran stands after its exchanges
-pub stands : (kind : Kind) (known : List ℕ) (budget : ℕ) (x : List Seen) (b : AgentState) → IsDeviceSet known → Runs (start kind known budget) x b → RunInvariant kind known budget x b
-stands kind known budget x b set run = runs-stand kind known budget [] x (start kind known budget) b (record {
+pub stands_by : (search : Search) (kind : Kind) (known : List ℕ) (budget : ℕ) (x : List Seen) (b : AgentState) → IsDeviceSet known → Runs (start_by search kind known budget) x b → RunInvariant kind known budget x b
+stands_by search kind known budget x b set run = runs-stand kind known budget [] x (start_by search kind known budget) b (record {
   budget_is = refl;
   frames_are = refl;
   within = omega arith;
@@ -138,14 +152,23 @@ wants_in_order kind known budget (Unmuting more left) x found p = ((λ early. re
 wants_in_order kind known budget (MutingKnown u tries left) x found p = ((λ early. absurd (too_early (begun-length (known_of kind known) (Some u) x found p.muting.under_way) early)), λ late. p.muting.devices.0)
 wants_in_order kind known budget (Searching silences top below) x found p = ((λ early. absurd (too_early (begun-length (known_of kind known) None x found p.searches.under_way) early)), λ late. IsStack-ends top below p.searches.stack)
 wants_in_order kind known budget (MutingRead u tries top below) x found p = ((λ early. absurd (too_early (begun-length (known_of kind known) (Some u) x found p.searches.under_way) early)), λ late. is_muting_read-device (known_of kind known) u tries top below x found p)
+wants_in_order kind known budget (Sweeping sweep top below) x found p = (
+  (λ early. absurd (too_early (begun-length (known_of kind known) None x found p.searches.under_way) early)),
+  λ late. let ends = IsStack-ends top below p.stack in let low = ends.0 in let high = ends.1 in let asked = probe_is sweep.suspect top in let from = asked.from in let to = asked.to in (omega arith, omega arith),
+)
+wants_in_order kind known budget (MutingSwept u tries sweep top below) x found p = ((λ early. absurd (too_early (begun-length (known_of kind known) (Some u) x found p.searches.under_way) early)), λ late. is_muting_swept-device (known_of kind known) u tries sweep top below x found p)
+wants_in_order kind known budget (Doubting sweep top below) x found p = (
+  (λ early. absurd (too_early (begun-length (known_of kind known) None x found p.sweeps.searches.under_way) early)),
+  λ late. let ends = IsStack-ends top below p.sweeps.stack in let low = ends.0 in let high = ends.1 in (omega arith, omega arith),
+)
 wants_in_order kind known budget (Ended fault) x found p = tt
 
 -- three unmutes, then branches and mutes of devices, counted and within the budget
-pub asks_in_order : AsksInOrder
-asks_in_order kind known budget x b set run = (asked (nat_lt b.frames b.budget), s.frames_are, s.within)
+pub asks_in_order_by : (search : Search) → AsksInOrder search
+asks_in_order_by search kind known budget x b set run = (asked (nat_lt b.frames b.budget), s.frames_are, s.within)
   where
     s : RunInvariant kind known budget x b
-    s = stands kind known budget x b set run
+    s = stands_by search kind known budget x b set run
 
     asked : (goes : Bool) → MatchOption (cond goes (wanted b.phase) None) (Unit {0}) (IsInOrder (length x))
     asked true = wants_in_order kind known budget b.phase x (found_uids b) s.phase
@@ -165,17 +188,22 @@ ended kind known budget (Unmuting more left) x found goes p end used = exhausted
 ended kind known budget (MutingKnown u tries left) x found goes p end used = exhausted kind known budget x found (is_open kind known budget (MutingKnown u tries left) x found p) (used (not_wanted goes (Mute u) end))
 ended kind known budget (Searching silences top below) x found goes p end used =
     exhausted kind known budget x found (is_open kind known budget (Searching silences top below) x found p) (used (not_wanted goes (Branch top.lo top.hi) end))
+ended kind known budget (Sweeping sweep top below) x found goes p end used =
+    exhausted kind known budget x found (is_open kind known budget (Sweeping sweep top below) x found p) (used (not_wanted goes (Branch (probe sweep.suspect top).lo (probe sweep.suspect top).hi) end))
+ended kind known budget (MutingSwept u tries sweep top below) x found goes p end used = exhausted kind known budget x found (is_open kind known budget (MutingSwept u tries sweep top below) x found p) (used (not_wanted goes (Mute u) end))
+ended kind known budget (Doubting sweep top below) x found goes p end used =
+    exhausted kind known budget x found (is_open kind known budget (Doubting sweep top below) x found p) (used (not_wanted goes (Branch (top.lo - 2) (top.lo - 1)) end))
 ended kind known budget (MutingRead u tries top below) x found goes p end used = exhausted kind known budget x found (is_open kind known budget (MutingRead u tries top below) x found p) (used (not_wanted goes (Mute u) end))
 
 -- its certificate, or its fault's cause; and it reports what was acknowledged
-pub ends_certified : EndsCertified
-ends_certified kind known budget x b set run end = (
+pub ends_certified_by : (search : Search) → EndsCertified search
+ends_certified_by search kind known budget x b set run end = (
   certified (fault_of b.phase) (ended kind known budget b.phase x (found_uids b) (nat_lt b.frames b.budget) s.phase end used),
   record { uids = s.reports; first = s.first },
 )
   where
     s : RunInvariant kind known budget x b
-    s = stands kind known budget x b set run
+    s = stands_by search kind known budget x b set run
 
     certified : (f : Option AgentFault) → MatchOption f (SearchShows kind known x (found_uids b)) (λ g. Cause budget ⊥ g x) → MatchOption f (Certificate kind known x b.found) (λ g. Cause budget ⊥ g x)
     certified None shows = record { search = shows; first = s.first }
@@ -185,14 +213,17 @@ ends_certified kind known budget x b set run end = (
     used out = let most : b.budget ≤ b.frames = ltb-false b.frames b.budget out in let same = s.budget_is in let frames = s.frames_are in let within = s.within in omega arith
 
 -- no more than 49 ranges are open
-pub few_open_ranges : HasFewRanges
-few_open_ranges kind known budget x b set run = few b.phase (stands kind known budget x b set run).phase
+pub few_open_ranges_by : (search : Search) → HasFewRanges search
+few_open_ranges_by search kind known budget x b set run = few b.phase (stands_by search kind known budget x b set run).phase
   where
     few : (phase : Phase) → InPhase kind known budget phase x (found_uids b) → open_ranges phase ≤ 49
     few (Unmuting more left) p = omega arith
     few (MutingKnown u tries left) p = omega arith
     few (Searching silences top below) p = IsStack-length top below p.searches.stack
     few (MutingRead u tries top below) p = IsStack-length top below p.searches.stack
+    few (Sweeping sweep top below) p = IsStack-length top below p.stack
+    few (MutingSwept u tries sweep top below) p = IsStack-length top below p.stack
+    few (Doubting sweep top below) p = IsStack-length top below p.sweeps.stack
     few (Ended fault) p = omega arith
 
 -- a failure is the last exchange
@@ -217,38 +248,66 @@ failed_phase kind known budget (Ended fault) x found p = ((λ front back e whole
 failed_phase kind known budget (Unmuting more left) x found p = none_failed x (is_open kind known budget (Unmuting more left) x found p).no_failure
 failed_phase kind known budget (MutingKnown u tries left) x found p = none_failed x (is_open kind known budget (MutingKnown u tries left) x found p).no_failure
 failed_phase kind known budget (Searching silences top below) x found p = none_failed x (is_open kind known budget (Searching silences top below) x found p).no_failure
+failed_phase kind known budget (Sweeping sweep top below) x found p = none_failed x (is_open kind known budget (Sweeping sweep top below) x found p).no_failure
+failed_phase kind known budget (MutingSwept u tries sweep top below) x found p = none_failed x (is_open kind known budget (MutingSwept u tries sweep top below) x found p).no_failure
+failed_phase kind known budget (Doubting sweep top below) x found p = none_failed x (is_open kind known budget (Doubting sweep top below) x found p).no_failure
 failed_phase kind known budget (MutingRead u tries top below) x found p = none_failed x (is_open kind known budget (MutingRead u tries top below) x found p).no_failure
 
 -- an agent asks nothing after a failure
-pub ends_at_failure : EndsAtFailure
-ends_at_failure kind known budget x b set run = (f.0, λ failed. nothing (nat_lt b.frames b.budget) (f.1 failed))
+pub ends_at_failure_by : (search : Search) → EndsAtFailure search
+ends_at_failure_by search kind known budget x b set run = (f.0, λ failed. nothing (nat_lt b.frames b.budget) (f.1 failed))
   where
     f : FailureIsLast x × (EndsFailed x → wanted b.phase ≡ None)
-    f = failed_phase kind known budget b.phase x (found_uids b) (stands kind known budget x b set run).phase
+    f = failed_phase kind known budget b.phase x (found_uids b) (stands_by search kind known budget x b set run).phase
 
     nothing : (goes : Bool) → wanted b.phase ≡ None → cond goes (wanted b.phase) None ≡ None
     nothing true none = none
     nothing false none = refl
 
 -- an agent that goes on has found all that was acknowledged
-pub all_reported : (kind : Kind) (known : List ℕ) (budget : ℕ) (x : List Seen) (b : AgentState) (asked : Asked) → IsDeviceSet known → Runs (start kind known budget) x b → next_of b ≡ Some asked → AllReported x
-all_reported kind known budget x b asked set run next = IsFound-all_reported x (found_uids b) going.is_found
+pub all_reported_by : (search : Search) (kind : Kind) (known : List ℕ) (budget : ℕ) (x : List Seen) (b : AgentState) (asked : Asked) → IsDeviceSet known → Runs (start_by search kind known budget) x b → next_of b ≡ Some asked → AllReported x
+all_reported_by search kind known budget x b asked set run next = IsFound-all_reported x (found_uids b) going.is_found
   where
     going : IsOpen kind known budget x (found_uids b)
-    going = subst (λ o. MatchOption o (Unit {0}) (λ q. IsOpen kind known budget x (found_uids b))) (wanted_next kind known budget b asked next).1 (is_open kind known budget b.phase x (found_uids b) (stands kind known budget x b set run).phase)
+    going = subst (λ o. MatchOption o (Unit {0}) (λ q. IsOpen kind known budget x (found_uids b))) (wanted_next kind known budget b asked next).1 (is_open kind known budget b.phase x (found_uids b) (stands_by search kind known budget x b set run).phase)
+
+-- nor has it met a failure or a corrupt UID
+pub goes_on_soundly_by : (search : Search) → GoesOnSoundly search
+goes_on_soundly_by search kind known budget x b set run goes = by_next (next_of b) refl
+  where
+    by_next : (next : Option Asked) → next_of b ≡ next → AllByRecursion NotFailed x × ((u : ℕ) → IsCorrupt u x → ⊥)
+    by_next None end = absurd (goes end)
+    by_next (Some asked) next = let going : IsOpen kind known budget x (found_uids b) = subst (λ o. MatchOption o (Unit {0}) (λ q. IsOpen kind known budget x (found_uids b))) (wanted_next kind known budget b asked next).1 (is_open kind known budget b.phase x (found_uids b) (stands_by search kind known budget x b set run).phase) in
+        (going.no_failure, going.not_corrupt)
 
 -- one whose budget is used up asks nothing
-pub ends_at_budget : EndsAtBudget
-ends_at_budget kind known budget x b set run used = let s = stands kind known budget x b set run in
+pub ends_at_budget_by : (search : Search) → EndsAtBudget search
+ends_at_budget_by search kind known budget x b set run used = let s = stands_by search kind known budget x b set run in
     cond-false (nat_lt b.frames b.budget) (wanted b.phase) None (le-ltb b.frames b.budget (let same = s.budget_is in let frames = s.frames_are in omega arith))
 
 -- at any moment an agent has found what it reports
-pub finds_acknowledged : FindsAcknowledged
-finds_acknowledged kind known budget x b set run = (record { uids = s.reports; first = s.first }, λ goes. by_next goes (next_of b) refl)
+pub finds_acknowledged_by : (search : Search) → FindsAcknowledged search
+finds_acknowledged_by search kind known budget x b set run = (record { uids = s.reports; first = s.first }, λ goes. by_next goes (next_of b) refl)
   where
     s : RunInvariant kind known budget x b
-    s = stands kind known budget x b set run
+    s = stands_by search kind known budget x b set run
 
     by_next : next_of b ≢ None → (next : Option Asked) → next_of b ≡ next → AllReported x
     by_next goes None end = absurd (goes end)
-    by_next goes (Some asked) next = all_reported kind known budget x b asked set run next
+    by_next goes (Some asked) next = all_reported_by search kind known budget x b asked set run next
+
+-- the same of the steady search
+pub goes_on_soundly : GoesOnSoundly Steady
+goes_on_soundly = goes_on_soundly_by Steady
+
+pub stands : (kind : Kind) (known : List ℕ) (budget : ℕ) (x : List Seen) (b : AgentState) → IsDeviceSet known → Runs (start kind known budget) x b → RunInvariant kind known budget x b
+stands = stands_by Steady
+
+pub asks_in_order : AsksInOrder Steady
+asks_in_order = asks_in_order_by Steady
+
+pub ends_at_budget : EndsAtBudget Steady
+ends_at_budget = ends_at_budget_by Steady
+
+pub all_reported : (kind : Kind) (known : List ℕ) (budget : ℕ) (x : List Seen) (b : AgentState) (asked : Asked) → IsDeviceSet known → Runs (start kind known budget) x b → next_of b ≡ Some asked → AllReported x
+all_reported = all_reported_by Steady

@@ -9,8 +9,9 @@ use Rattle.rdm_agent.specs.Machine.{AgentState, Runs, start}
 use Rattle.rdm_agent.specs.Machine.Phase.{Ended}
 use Rattle.rdm_agent.specs.SampleRun.{exchange, sample_uid, absent_uid, sample_device, other_device, incremental_run}
 use Rattle.rdm_agent.specs.declared.kind.Kind.TheVariants.{Incremental}
+use Rattle.rdm_agent.specs.declared.search.Search.TheVariants.{Steady}
 use Rattle.rdm_agent.specs.declared.limits.TheConstants.{DEFAULT_BUDGET}
-use Rattle.rdm_agent.proofs.Runs.{ends_certified}
+use Rattle.rdm_agent.proofs.Runs.{ends_certified_by}
 use Rattle.rdm_agent.proofs.SampleHonest.{none_muted, one_muted, line, counts, Goes, unmutes, silent}
 use Rattle.rdm_agent.proofs.SampleLines.{both, both_muted}
 
@@ -49,7 +50,7 @@ incremental_honest = (
 
 -- what it comes to
 abbrev ended : AgentState
-ended = record { budget = DEFAULT_BUDGET; frames = 17; found = sample_device ∷ other_device ∷ []; phase = Ended None }
+ended = record { budget = DEFAULT_BUDGET; frames = 17; search = Steady; found = sample_device ∷ other_device ∷ []; phase = Ended None }
 
 abbrev known : List ℕ
 known = sample_uid ∷ absent_uid ∷ []
@@ -64,4 +65,4 @@ pub incremental_runs : Runs (start Incremental known DEFAULT_BUDGET) incremental
 incremental_runs = (refl, (refl, (refl, (refl, (refl, (refl, (refl, (refl, (refl, (refl, (refl, (refl, (refl, (refl, (refl, (refl, (refl, refl)))))))))))))))))
 
 pub incremental_certified : Certificate Incremental known incremental_run (sample_device ∷ other_device ∷ [])
-incremental_certified = (ends_certified Incremental known DEFAULT_BUDGET incremental_run ended known_devices incremental_runs refl).0
+incremental_certified = (ends_certified_by Steady Incremental known DEFAULT_BUDGET incremental_run ended known_devices incremental_runs refl).0

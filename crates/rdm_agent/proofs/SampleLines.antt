@@ -5,7 +5,7 @@ use Rattle.rdm_wire.specs.Uid.{has}
 use Rattle.rdm_wire.specs.Honest.{LineState, HonestTo, HonestTrace, HonestStep, KeepsMuted, MuteMoves, Counts, before_run}
 use Rattle.rdm_wire.specs.Honest.Asked.{Mute}
 use Rattle.rdm_wire.specs.Honest.Heard.{Failed, Silent, Noise}
-use Rattle.rdm_agent.specs.SampleRun.{sample_uid, other_uid, colliding_run, failed_run, garbled_run}
+use Rattle.rdm_agent.specs.SampleRun.{sample_uid, other_uid, colliding_run, swept_run, failed_run, garbled_run}
 use Rattle.rdm_agent.proofs.SampleHonest.{none_muted, one_muted, line, counts, unmutes, silent}
 
 abbrev pub both : List ℕ
@@ -41,6 +41,34 @@ colliding_honest = (
                     silent both both_muted 0x800000000000 0xffffffffffff 5 [] refl tt,
                   ),
                 )),
+          ),
+        ),
+      )),
+)
+
+pub swept_honest : HonestTrace both swept_run
+swept_honest = (
+  colliding_honest.0,
+  none_muted,
+  unmutes both 0 3 (drop 3 swept_run) (λ n.
+      inr (
+        line none_muted 0 0 0,
+        (tt, (λ u. refl), counts none_muted 0 0 0 (omega arith) (omega arith)),
+        inr (
+          line none_muted 0 0 0,
+          (inl refl, (λ u. refl), counts none_muted 0 0 0 (omega arith) (omega arith)),
+          inr (
+            line one_muted 0 0 0,
+            ((λ v other. other), inl (refl, refl, counts one_muted 0 0 0 (omega arith) (omega arith))),
+            inr (
+              line one_muted 0 0 0,
+              (inl refl, (λ u. refl), counts one_muted 0 0 0 (omega arith) (omega arith)),
+              inr (
+                line both_muted 0 0 0,
+                ((λ v other. ap (λ t. cond t true (one_muted v)) other), inl (refl, refl, counts both_muted 0 0 0 (omega arith) (omega arith))),
+                silent both both_muted 0 0xffffffffffff 5 [] refl tt,
+              ),
+            ),
           ),
         ),
       )),

@@ -8,6 +8,8 @@ use Rattle.rdm_agent.specs.Machine.{AgentState, next_of, fault_of}
 use Rattle.rdm_agent.specs.Calls.{RunSoFar, next_op}
 use Rattle.rdm_agent.specs.Statements.{OfEachRun}
 use Rattle.rdm_agent.specs.declared.kind.Kind.{Kind}
+use Rattle.rdm_agent.specs.declared.search.Search.{Search}
+use Rattle.rdm_agent.specs.declared.search.Search.TheVariants.{Steady, Quick}
 use Rattle.rdm_agent.specs.declared.op.Op.TheVariants.{End}
 use Rattle.rdm_agent.specs.declared.limits.TheConstants.{DEFAULT_BUDGET}
 
@@ -19,6 +21,11 @@ most_frames devices known = 8 + 370 * devices + 5 * known
 abbrev pub enough_for : List ℕ → Kind → List ℕ → ℕ
 enough_for present kind known = most_frames (length present) (length (known_of kind known))
 
+-- what suffices for a run that makes this search; a quick one's sweep adds 105
+abbrev pub enough_by : Search → List ℕ → Kind → List ℕ → ℕ
+enough_by Steady present kind known = enough_for present kind known
+enough_by Quick present kind known = 113 + 370 * length present + 5 * length (known_of kind known)
+
 -- an honest line with these devices, of which a run can report all, and no failure
 pub record IsCalm (present : List ℕ) (x : List Seen) : Type 0 where
   pub honest : HonestTrace present x
@@ -29,11 +36,12 @@ pub record IsCalm (present : List ℕ) (x : List Seen) : Type 0 where
 pub record IsUndisturbed (present : List ℕ) (run : RunSoFar) : Type 0 where
   pub calm : IsCalm present run.exchanges
   pub not_aborted : run.aborted ≡ false
-  pub budgeted : enough_for present run.kind run.known ≤ run.budget
+  pub budgeted : enough_by run.search present run.kind run.known ≤ run.budget
 
 -- a run after one exchange more, as one makes that wasn't aborted
 abbrev pub with_exchange : RunSoFar → Seen → RunSoFar
 with_exchange run e = record {
+  search = run.search;
   kind = run.kind;
   known = run.known;
   budget = run.budget;
@@ -44,8 +52,8 @@ with_exchange run e = record {
 -- after such a run an agent made no more exchanges than suffice, and has ended once it made as many
 abbrev pub StaysInBound : AgentState → RunSoFar → Type 0
 StaysInBound a run = (present : List ℕ) → IsUndisturbed present run
-    → (a.frames ≤ enough_for present run.kind run.known)
-    × (a.frames ≡ enough_for present run.kind run.known → next_op a ≡ End)
+    → (a.frames ≤ enough_by run.search present run.kind run.known)
+    × (a.frames ≡ enough_by run.search present run.kind run.known → next_op a ≡ End)
 
 -- no more exchanges than suffice are made, the run has ended once they are made, and it ends without fault
 pub record EndsWithin (most : ℕ) (b : AgentState) : Type 0 where
@@ -53,12 +61,17 @@ pub record EndsWithin (most : ℕ) (b : AgentState) : Type 0 where
   pub ends : b.frames ≡ most → next_of b ≡ None
   pub no_fault : next_of b ≡ None → fault_of b.phase ≡ None
 
--- so does each run on a calm line with the budget that suffices
+-- so does each run of this search on a calm line with the budget that suffices
+abbrev pub EndsInBoundBy : Search → Type 0
+EndsInBoundBy search = OfEachRun search (λ kind known budget x b. (present : List ℕ) → IsCalm present x
+    → enough_by search present kind known ≤ budget → EndsWithin (enough_by search present kind known) b)
+
+-- each of the steady search
 abbrev pub EndsInBound : Type 0
-EndsInBound = OfEachRun (λ kind known budget x b. (present : List ℕ)
+EndsInBound = OfEachRun Steady (λ kind known budget x b. (present : List ℕ)
     → IsCalm present x → enough_for present kind known ≤ budget → EndsWithin (enough_for present kind known) b)
 
 -- and each with the budget by default, where a set has room for the known UIDs
 abbrev pub EndsByDefault : Type 0
-EndsByDefault = OfEachRun (λ kind known budget x b. (present : List ℕ)
+EndsByDefault = OfEachRun Steady (λ kind known budget x b. (present : List ℕ)
     → IsCalm present x → length known ≤ 1024 → budget ≡ DEFAULT_BUDGET → EndsWithin (enough_for present kind known) b)

@@ -4,9 +4,11 @@ use Rattle.rdm_wire.specs.Uid.{IsDeviceSet}
 use Rattle.rdm_wire.specs.declared.device.Device.{Device}
 use Rattle.rdm_wire.specs.Honest.{Asked, Seen}
 use Rattle.rdm_wire.specs.Honest.Asked.{Unmute, Branch, Mute, Other}
-use Rattle.rdm_agent.specs.Machine.{AgentState, Runs, start, next_of}
+use Rattle.rdm_agent.specs.Machine.{AgentState, Runs, start_by, next_of}
 use Rattle.rdm_agent.specs.Machine.Phase.{Ended}
 use Rattle.rdm_agent.specs.declared.kind.Kind.{Kind}
+use Rattle.rdm_agent.specs.declared.search.Search.{Search}
+use Rattle.rdm_agent.specs.declared.search.Search.TheVariants.{Steady}
 use Rattle.rdm_agent.specs.declared.fault.AgentFault.{AgentFault}
 use Rattle.rdm_agent.specs.declared.fault.AgentFault.TheVariants.{Aborted}
 use Rattle.rdm_agent.specs.declared.op.Op.{Op}
@@ -37,7 +39,13 @@ fits _ _ = false
 
 -- the agent, ended before its own end
 abbrev pub ended_by_abort : AgentState → AgentState
-ended_by_abort a = record { budget = a.budget; frames = a.frames; found = a.found; phase = Ended (Some Aborted) }
+ended_by_abort a = record {
+  budget = a.budget;
+  frames = a.frames;
+  search = a.search;
+  found = a.found;
+  phase = Ended (Some Aborted);
+}
 
 -- what a run answers: the set, and its fault before it
 abbrev pub run_result : Option AgentFault → List Device → Result (List Device) (AgentFault × List Device)
@@ -45,15 +53,20 @@ run_result None found = Ok found
 run_result (Some fault) found = Err (fault, found)
 
 -- the agent was started so, and has made these exchanges; and was then aborted, or wasn't
-pub record HasRun (kind : Kind) (known : List ℕ) (budget : ℕ) (aborted : Bool) (x : List Seen) (a : AgentState)
-    : Type 0 where
+pub record HasRunBy (search : Search) (kind : Kind) (known : List ℕ) (budget : ℕ) (aborted : Bool) (x : List Seen)
+    (a : AgentState) : Type 0 where
   pub devices : IsDeviceSet known
   pub before : AgentState
-  pub runs : Runs (start kind known budget) x before
+  pub runs : Runs (start_by search kind known budget) x before
   pub is : MatchBool aborted ((next_op before ≢ ops.End) × (a ≡ ended_by_abort before)) (a ≡ before)
+
+-- of the steady search
+abbrev pub HasRun : Kind → List ℕ → ℕ → Bool → List Seen → AgentState → Type 0
+HasRun kind known budget aborted x a = HasRunBy Steady kind known budget aborted x a
 
 -- how a run was started, what it has exchanged, and whether it was then aborted
 pub record RunSoFar : Type 0 where
+  pub search : Search
   pub kind : Kind
   pub known : List ℕ
   pub budget : ℕ
@@ -62,4 +75,5 @@ pub record RunSoFar : Type 0 where
 
 -- P holds of each run that the agent may stand after
 abbrev pub AfterEach : AgentState → (RunSoFar → Type 0) → Type 0
-AfterEach a P = (run : RunSoFar) → HasRun run.kind run.known run.budget run.aborted run.exchanges a → P run
+AfterEach a P =
+    (run : RunSoFar) → HasRunBy run.search run.kind run.known run.budget run.aborted run.exchanges a → P run

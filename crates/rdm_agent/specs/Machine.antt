@@ -1,33 +1,45 @@
 -- The agent as a machine over what it hears.
-use Rattle.std.specs.Prelude.{◌≡◌, ℕ, ◌+◌, ◌-◌, Bool, ◌&&◌, not, List, [], ◌∷◌, length, fold, Option, Some, None}
-use Rattle.std.specs.Prelude.{◌==◌, nat_lt, if◌then◌else◌}
+use Rattle.std.specs.Prelude.{◌≡◌, ℕ, ◌+◌, ◌-◌, ◌*◌, Bool, false, ◌&&◌, not, List, [], ◌∷◌, length, fold}
+use Rattle.std.specs.Prelude.{Option, Some, None, ◌==◌, nat_lt, if◌then◌else◌}
 use Rattle.rdm_wire.specs.Uid.{has, is_within, is_broadcast}
 use Rattle.rdm_wire.specs.Devices.{uids_of, with_device}
 use Rattle.rdm_wire.specs.declared.device.Device.{Device}
 use Rattle.rdm_wire.specs.declared.uid_set.TheConstants.{MOST_DEVICES}
-use Rattle.rdm_wire.specs.Span.{Span, whole, lower_half, upper_half}
+use Rattle.rdm_wire.specs.Span.{Span, whole, middle, lower_half, upper_half}
 use Rattle.rdm_wire.specs.Honest.{Asked, Heard, Seen}
 use Rattle.rdm_wire.specs.Honest.Asked.{Unmute, Branch, Mute}
 use Rattle.rdm_wire.specs.Honest.Heard.{Failed, Silent, One, Acked, Noise}
 use Rattle.rdm_agent.specs.Run.{device_from}
 use Rattle.rdm_agent.specs.Certificate.{known_of}
 use Rattle.rdm_agent.specs.declared.kind.Kind.{Kind}
+use Rattle.rdm_agent.specs.declared.search.Search.{Search}
+use Rattle.rdm_agent.specs.declared.search.Search.TheVariants.{Steady, Quick}
 use Rattle.rdm_agent.specs.declared.fault.AgentFault.{AgentFault}
 use Rattle.rdm_agent.specs.declared.limits.TheConstants.{TRIES, UNMUTES}
 use Rattle.rdm_agent.specs.declared.fault.AgentFault.TheVariants.{Corrupt, TooMany, Exhausted, LineFailed}
 
+-- what a sweep remembers: how many exchanges it made, and the UID that it gave up last
+pub record Sweep : Type 0 where
+  pub made : ℕ
+  pub suspect : Option ℕ
+
 -- unmutes still to send; a known UID with the tries made; the top range with its silences and the ranges below;
--- a UID that the top range spelt, with the tries made; the end
+-- a UID that the top range spelt, with the tries made; the same two of a sweep, and whether a range of one UID collided
+-- by itself; the end
 pub data Phase : Type 0 where
   Unmuting : (more : ℕ) (known : List ℕ) → Phase
   MutingKnown : (u tries : ℕ) (known : List ℕ) → Phase
   Searching : (silences : ℕ) (top : Span) (below : List Span) → Phase
   MutingRead : (u tries : ℕ) (top : Span) (below : List Span) → Phase
+  Sweeping : (sweep : Sweep) (top : Span) (below : List Span) → Phase
+  MutingSwept : (u tries : ℕ) (sweep : Sweep) (top : Span) (below : List Span) → Phase
+  Doubting : (sweep : Sweep) (top : Span) (below : List Span) → Phase
   Ended : (fault : Option AgentFault) → Phase
 
 pub record AgentState : Type 0 where
   pub budget : ℕ
   pub frames : ℕ
+  pub search : Search
   pub found : List Device
   pub phase : Phase
 
@@ -35,13 +47,36 @@ pub record AgentState : Type 0 where
 abbrev pub found_uids : AgentState → List ℕ
 found_uids a = uids_of a.found
 
-abbrev pub start : Kind → List ℕ → ℕ → AgentState
-start kind known budget = record {
+abbrev pub start_by : Search → Kind → List ℕ → ℕ → AgentState
+start_by search kind known budget = record {
   budget = budget;
   frames = 0;
+  search = search;
   found = [];
   phase = Unmuting UNMUTES (known_of kind known);
 }
+
+-- of the steady search
+abbrev pub start : Kind → List ℕ → ℕ → AgentState
+start kind known budget = start_by Steady kind known budget
+
+-- a UID that a sweep remembers
+abbrev pub is_suspect : Option ℕ → ℕ → Bool
+is_suspect None u = false
+is_suspect (Some v) u = v == u
+
+abbrev pub is_one : Span → Bool
+is_one r = r.lo == r.hi
+
+-- what a sweep branches for its top range. One UID is branched together with the UID below it, which was swept before;
+-- alone where that one was just given up
+abbrev pub probe : Option ℕ → Span → Span
+probe suspect r =
+    if is_one r && not (is_suspect suspect (r.lo - 1)) then record { lo = r.lo - 1; hi = r.hi } else r
+
+-- where that collided, what is branched to see whether it was the UID below that replied
+abbrev pub lower_pair : Span → Span
+lower_pair r = record { lo = r.lo - 2; hi = r.lo - 1 }
 
 -- what a phase asks; nothing at the end
 abbrev pub wanted : Phase → Option Asked
@@ -49,15 +84,26 @@ wanted (Unmuting more known) = Some Unmute
 wanted (MutingKnown u tries known) = Some (Mute u)
 wanted (Searching silences top below) = Some (Branch top.lo top.hi)
 wanted (MutingRead u tries top below) = Some (Mute u)
+wanted (Sweeping sweep top below) = Some (Branch (probe sweep.suspect top).lo (probe sweep.suspect top).hi)
+wanted (MutingSwept u tries sweep top below) = Some (Mute u)
+wanted (Doubting sweep top below) = Some (Branch (lower_pair top).lo (lower_pair top).hi)
 wanted (Ended fault) = None
 
 -- what the agent asks next: None is the end
 abbrev pub next_of : AgentState → Option Asked
 next_of a = if nat_lt a.frames a.budget then wanted a.phase else None
 
-abbrev pub search_from : List ℕ → Phase
-search_from [] = Searching 0 whole []
-search_from (u ∷ us) = MutingKnown u 0 us
+-- a quick search sweeps first
+abbrev pub first_sweep : Sweep
+first_sweep = record { made = 0; suspect = None }
+
+abbrev pub first_phase : Search → Phase
+first_phase Steady = Searching 0 whole []
+first_phase Quick = Sweeping first_sweep whole []
+
+abbrev pub search_from : Search → List ℕ → Phase
+search_from search [] = first_phase search
+search_from search (u ∷ us) = MutingKnown u 0 us
 
 abbrev pub search_below : List Span → Phase
 search_below [] = Ended None
@@ -73,8 +119,65 @@ split r below =
 abbrev pub is_new : List ℕ → Span → ℕ → Bool
 is_new found r u = not (is_broadcast u) && is_within r.lo r.hi u && not (has found u)
 
+-- a sweep after one exchange more, and one that gives up a UID
+abbrev pub counted : Sweep → Sweep
+counted sweep = record { made = sweep.made + 1; suspect = sweep.suspect }
+
+abbrev pub suspecting : ℕ → Sweep → Sweep
+suspecting u sweep = record { made = sweep.made; suspect = Some u }
+
+-- where so many devices are found, a sweep goes on while it made fewer exchanges than 100 for each of them and 100
+-- more; then the steady search begins
+abbrev pub sweep_to : Sweep → ℕ → Span → List Span → Phase
+sweep_to sweep found top below =
+    if nat_lt sweep.made (100 * (found + 1)) then Sweeping sweep top below else Searching 0 whole []
+
+abbrev pub sweep_below : Sweep → ℕ → List Span → Phase
+sweep_below sweep found [] = Searching 0 whole []
+sweep_below sweep found (r ∷ rs) = sweep_to sweep found r rs
+
+-- the two halves, the lower one on top; UID 0, below which there is none, is given up
+abbrev pub sweep_halves : Sweep → ℕ → Span → List Span → Phase
+sweep_halves sweep found r below =
+    if middle r == 0 then sweep_to (suspecting 0 sweep) found (upper_half r) below
+    else sweep_to sweep found (lower_half r) (upper_half r ∷ below)
+
+-- whether r is the upper half to the lower half top, and has halves itself
+abbrev pub is_sibling : Span → Span → Bool
+is_sibling top r = ((r.hi - r.lo) == (top.hi - top.lo)) && not (is_one r)
+
+-- the top range was silent. Where it was a lower half, the upper one holds what collided. The silence of the whole
+-- range counts in the steady search
+abbrev pub sweep_silent : Sweep → ℕ → Span → List Span → Phase
+sweep_silent sweep found top [] = Searching (if top.lo == 0 then 1 else 0) whole []
+sweep_silent sweep found top (r ∷ rs) =
+    if is_sibling top r then sweep_halves sweep found r rs else sweep_to sweep found r rs
+
+-- one UID is given up
+abbrev pub sweep_past : Sweep → ℕ → Span → List Span → Phase
+sweep_past sweep found top below = sweep_below (suspecting top.lo sweep) found below
+
+-- one UID collided with the one below it
+abbrev pub sweep_doubt : Sweep → ℕ → Span → List Span → Phase
+sweep_doubt sweep found top below =
+    if nat_lt 1 top.lo && nat_lt sweep.made (100 * (found + 1)) then Doubting sweep top below
+    else sweep_past sweep found top below
+
+-- the top range collided, as asked. One UID that was asked alone is corrupt
+abbrev pub sweep_apart : Span → Sweep → ℕ → Span → List Span → Phase
+sweep_apart asked sweep found top below =
+    if is_one asked then Ended (Some (Corrupt asked.lo))
+    else (if is_one top then sweep_doubt sweep found top below
+    else sweep_halves sweep found top below)
+
 abbrev pub to_phase : AgentState → Phase → AgentState
-to_phase a phase = record { budget = a.budget; frames = a.frames + 1; found = a.found; phase = phase }
+to_phase a phase = record {
+  budget = a.budget;
+  frames = a.frames + 1;
+  search = a.search;
+  found = a.found;
+  phase = phase;
+}
 
 -- a device is found, and the phase goes on; one too many ends the run
 abbrev pub to_found : AgentState → Device → Phase → AgentState
@@ -83,6 +186,7 @@ to_found a d phase =
     else (if nat_lt (length (found_uids a)) MOST_DEVICES then record {
       budget = a.budget;
       frames = a.frames + 1;
+      search = a.search;
       found = with_device d a.found;
       phase = phase;
     }
@@ -96,21 +200,52 @@ branch_heard a silences top below (One u) =
 branch_heard a silences top below _ = to_phase a (split top below)
 
 abbrev pub known_heard : AgentState → ℕ → ℕ → List ℕ → Heard → AgentState
-known_heard a u tries known (Acked ack) = to_found a (device_from u ack) (search_from known)
+known_heard a u tries known (Acked ack) = to_found a (device_from u ack) (search_from a.search known)
 known_heard a u tries known _ =
-    to_phase a (if (tries + 1) == TRIES then search_from known else MutingKnown u (tries + 1) known)
+    to_phase a (if (tries + 1) == TRIES then search_from a.search known else MutingKnown u (tries + 1) known)
 
 abbrev pub mute_heard : AgentState → ℕ → ℕ → Span → List Span → Heard → AgentState
 mute_heard a u tries top below (Acked ack) = to_found a (device_from u ack) (Searching 0 top below)
 mute_heard a u tries top below _ =
     to_phase a (if (tries + 1) == TRIES then split top below else MutingRead u (tries + 1) top below)
 
+-- what a sweep's branch spelt is muted, unless it is remembered; in a range of its own it always is
+abbrev pub is_wanted : List ℕ → Sweep → Span → ℕ → Bool
+is_wanted found sweep top u =
+    is_new found top u && not (is_suspect sweep.suspect u && not (is_one (probe sweep.suspect top)))
+
+abbrev pub sweep_heard : AgentState → Sweep → Span → List Span → Heard → AgentState
+sweep_heard a sweep top below Silent = to_phase a (sweep_silent (counted sweep) (length a.found) top below)
+sweep_heard a sweep top below (One u) =
+    to_phase a (if is_wanted (found_uids a) sweep top u then MutingSwept u 0 (counted sweep) top below
+    else sweep_apart (probe sweep.suspect top) (counted sweep) (length a.found) top below)
+sweep_heard a sweep top below _ =
+    to_phase a (sweep_apart (probe sweep.suspect top) (counted sweep) (length a.found) top below)
+
+-- where the pair below is silent the top UID itself collided, and is given up; otherwise the one below is the suspect
+abbrev pub doubt_heard : AgentState → Sweep → Span → List Span → Heard → AgentState
+doubt_heard a sweep top below Silent = to_phase a (sweep_past (counted sweep) (length a.found) top below)
+doubt_heard a sweep top below _ =
+    to_phase a (sweep_to (suspecting (top.lo - 1) (counted sweep)) (length a.found) top below)
+
+-- a series of mutes is never cut short
+abbrev pub swept_heard : AgentState → ℕ → ℕ → Sweep → Span → List Span → Heard → AgentState
+swept_heard a u tries sweep top below (Acked ack) =
+    to_found a (device_from u ack) (sweep_below (counted sweep) (length a.found + 1) below)
+swept_heard a u tries sweep top below _ =
+    to_phase a (if (tries + 1) == TRIES
+    then sweep_apart (probe sweep.suspect top) (suspecting u (counted sweep)) (length a.found) top below
+    else MutingSwept u (tries + 1) (counted sweep) top below)
+
 abbrev pub heard_by_phase : AgentState → Phase → Heard → AgentState
 heard_by_phase a (Unmuting more known) heard =
-    to_phase a (if nat_lt 1 more then Unmuting (more - 1) known else search_from known)
+    to_phase a (if nat_lt 1 more then Unmuting (more - 1) known else search_from a.search known)
 heard_by_phase a (MutingKnown u tries known) heard = known_heard a u tries known heard
 heard_by_phase a (Searching silences top below) heard = branch_heard a silences top below heard
 heard_by_phase a (MutingRead u tries top below) heard = mute_heard a u tries top below heard
+heard_by_phase a (Sweeping sweep top below) heard = sweep_heard a sweep top below heard
+heard_by_phase a (MutingSwept u tries sweep top below) heard = swept_heard a u tries sweep top below heard
+heard_by_phase a (Doubting sweep top below) heard = doubt_heard a sweep top below heard
 heard_by_phase a (Ended fault) heard = a
 
 -- the agent after a reply
@@ -137,6 +272,9 @@ open_ranges (Unmuting more known) = 1
 open_ranges (MutingKnown u tries known) = 1
 open_ranges (Searching silences top below) = length below + 1
 open_ranges (MutingRead u tries top below) = length below + 1
+open_ranges (Sweeping sweep top below) = length below + 1
+open_ranges (MutingSwept u tries sweep top below) = length below + 1
+open_ranges (Doubting sweep top below) = length below + 1
 open_ranges (Ended fault) = 0
 
 -- the agent after a list of replies

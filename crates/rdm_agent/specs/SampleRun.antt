@@ -57,6 +57,14 @@ colliding_run =
     ∷ exchange (Mute other_uid) (Acked (record { control = 0; binding = None }))
     ∷ replicate 5 (exchange upper_branch Silent))))
 
+-- the same line, swept
+abbrev pub swept_run : List Seen
+swept_run =
+    replicate 3 (exchange Unmute Silent) ++ (exchange all_branch Noise ∷ exchange lower_branch (One sample_uid)
+    ∷ exchange (Mute sample_uid) (Acked sample_ack) ∷ exchange upper_branch (One other_uid)
+    ∷ exchange (Mute other_uid) (Acked (record { control = 0; binding = None }))
+    ∷ replicate 5 (exchange all_branch Silent))
+
 -- the line fails at the first branch
 abbrev pub failed_run : List Seen
 failed_run = replicate 3 (exchange Unmute Silent) ++ exchange all_branch Failed ∷ []

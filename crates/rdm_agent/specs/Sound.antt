@@ -5,6 +5,7 @@ use Rattle.rdm_wire.specs.Uid.{IsDevice}
 use Rattle.rdm_wire.specs.Span.{Span}
 use Rattle.rdm_agent.specs.Machine.{Phase}
 use Rattle.rdm_agent.specs.Machine.Phase.{Unmuting, MutingKnown, Searching, MutingRead, Ended}
+use Rattle.rdm_agent.specs.Machine.Phase.{Sweeping, MutingSwept, Doubting}
 use Rattle.rdm_agent.specs.declared.limits.TheConstants.{TRIES}
 
 -- ranges that cover the UIDs from one on, each of 2^l UIDs where l is at least the level, and rises
@@ -20,12 +21,16 @@ pub record IsStack (top : Span) (below : List Span) : Type 0 where
   pub size : top.hi + 1 ≡ top.lo + 2 ^ level
   pub rest : Ascends (top.hi + 1) level below
 
--- a phase's UIDs are devices', its counts below TRIES, its ranges halves of halves
+-- a phase's UIDs are devices', its counts below TRIES or small, its ranges halves of halves
 abbrev pub IsSound : Phase → Type 0
 IsSound (Unmuting more known) = AllByRecursion IsDevice known
 IsSound (MutingKnown u tries known) = IsDevice u × (tries < TRIES) × AllByRecursion IsDevice known
 IsSound (Searching silences top below) = (silences < TRIES) × IsStack top below
 IsSound (MutingRead u tries top below) = IsDevice u × (tries < TRIES) × IsStack top below
+IsSound (Sweeping sweep top below) = (sweep.made < 2 ^ 20) × IsStack top below
+IsSound (MutingSwept u tries sweep top below) =
+    IsDevice u × (tries < TRIES) × (sweep.made ≤ 2 ^ 20 + tries) × IsStack top below
+IsSound (Doubting sweep top below) = (sweep.made < 2 ^ 20) × (1 < top.lo) × IsStack top below
 IsSound (Ended fault) = Unit {0}
 
 -- no range waits before the search

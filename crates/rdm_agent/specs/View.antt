@@ -4,9 +4,16 @@ use Rattle.rdm_wire.specs.Span.{Span}
 use Rattle.rdm_agent.specs.Machine as machine
 use Rattle.rdm_agent.specs.Machine.Phase.{Unmuting as unmuting, MutingKnown as muting_known, Searching as searching}
 use Rattle.rdm_agent.specs.Machine.Phase.{MutingRead as muting_read, Ended as ended}
+use Rattle.rdm_agent.specs.Machine.Phase.{Sweeping as sweeping, MutingSwept as muting_swept, Doubting as doubting}
+use Rattle.rdm_agent.specs.declared.sweep.Sweep.{Sweep}
 use Rattle.rdm_agent.specs.declared.phase.Phase.{Phase}
 use Rattle.rdm_agent.specs.declared.phase.Phase.TheVariants.{Unmuting, MutingKnown, Searching, MutingRead, Ended}
+use Rattle.rdm_agent.specs.declared.phase.Phase.TheVariants.{Sweeping, MutingSwept, Doubting}
 use Rattle.rdm_agent.specs.declared.progress.Progress.{Progress}
+
+-- the machine's sweep
+abbrev pub sweep_of : Sweep → machine.Sweep
+sweep_of sweep = record { made = sweep.made; suspect = sweep.suspect }
 
 -- the machine's phase, with the known UIDs that are left and the ranges below the top one
 abbrev pub phase_of : Phase → List ℕ → List Span → machine.Phase
@@ -14,6 +21,9 @@ phase_of (Unmuting more) known below = unmuting more known
 phase_of (MutingKnown uid tries) known below = muting_known uid tries known
 phase_of (Searching top silences) known below = searching silences top below
 phase_of (MutingRead uid tries top) known below = muting_read uid tries top below
+phase_of (Sweeping top sweep) known below = sweeping (sweep_of sweep) top below
+phase_of (MutingSwept uid tries top sweep) known below = muting_swept uid tries (sweep_of sweep) top below
+phase_of (Doubting top sweep) known below = doubting (sweep_of sweep) top below
 phase_of (Ended fault) known below = ended fault
 
 -- the same of all that a run keeps
@@ -25,6 +35,7 @@ abbrev pub state_of : ℕ → ℕ → Phase → Progress → machine.AgentState
 state_of budget frames phase p = record {
   budget = budget;
   frames = frames;
+  search = p.search;
   found = p.found;
   phase = seen_phase phase p;
 }

@@ -5,13 +5,13 @@ ghost use Rattle.rdm_wire.specs.Uid.{has, IsDevice};
 ghost use Rattle.rdm_wire.specs.Devices.{uids_of};
 ghost use Rattle.rdm_wire.specs.Honest.{HonestTrace, HonestTo};
 ghost use Rattle.rdm_wire.specs.HonestOver.{HonestOver};
-ghost use Rattle.rdm_agent.specs.Machine.{start, fed, fault_of, open_ranges};
+ghost use Rattle.rdm_agent.specs.Machine.{start, start_by, fed, fault_of, open_ranges};
 ghost use Rattle.rdm_agent.specs.Run.{asked_by, heard_by, seen_op, IsReport};
-ghost use Rattle.rdm_agent.specs.Calls.{fits, next_op, run_result, ended_by_abort, HasRun, AfterEach};
+ghost use Rattle.rdm_agent.specs.Calls.{fits, next_op, run_result, ended_by_abort, HasRun, HasRunBy, AfterEach};
 ghost use Rattle.rdm_agent.specs.Certificate.{Certificate};
 ghost use Rattle.rdm_agent.specs.Cause.{Cause, EndsFailed};
 ghost use Rattle.rdm_agent.specs.Statements.{IsInOrder, IsInEach, IsInOne};
-ghost use Rattle.rdm_agent.specs.Bound.{IsUndisturbed, StaysInBound, enough_for, with_exchange};
+ghost use Rattle.rdm_agent.specs.Bound.{IsUndisturbed, StaysInBound, enough_by, with_exchange};
 ghost use Rattle.rdm_agent.specs.declared.op.Op.TheVariants.{End};
 
 use crate::fault::AgentFault;
@@ -22,13 +22,14 @@ use crate::op::{Op, OpReply};
 use crate::phase::Phase;
 use crate::progress::Progress;
 use crate::ranges::RangesBelow;
+use crate::search::Search;
 use rdm_wire::{DeviceSet, UidSet};
 use std::marker::Model;
 use std::mem::size_of;
 
 /// One discovery run, between an exchange and the next (profile of this project, over E1.20's discovery commands).
 ///
-/// It is a plain value of 41,816 bytes, allocates nothing and keeps no exchanges. Contracts see the state of the
+/// It is a plain value of 41,848 bytes, allocates nothing and keeps no exchanges. Contracts see the state of the
 /// machine that a run is: its budget, how many exchanges it has made, the devices found, and its phase.
 #[derive(Debug, Drop)]
 pub struct Agent {
@@ -39,7 +40,7 @@ pub struct Agent {
 }
 
 // What the docs say of its size.
-const _: () = prove!(size_of::<Agent>() == 41_816);
+const _: () = prove!(size_of::<Agent>() == 41_848);
 
 impl Model for Agent {
     ghost use Rattle.rdm_agent.specs.Machine.{AgentState};
@@ -55,16 +56,26 @@ impl Model for Agent {
 }
 
 impl Agent {
-    /// Begins a run that may make `budget` exchanges. An incremental one mutes the devices of `known` first.
+    /// Begins a run that may make `budget` exchanges. An incremental one mutes the devices of `known` first. The search
+    /// is [`Search::Steady`].
     pub fn start(kind: Kind, known: &UidSet, budget: u64) -> Agent
         ensures state { result ≡ start kind known.now budget }
         ensures has_run { HasRun kind known.now budget false [] result }
+    {
+        Agent::start_by(Search::Steady, kind, known, budget)
+    }
+
+    /// Begins a run as [`Agent::start`] does, that searches so.
+    pub fn start_by(search: Search, kind: Kind, known: &UidSet, budget: u64) -> Agent
+        ensures state { result ≡ start_by search kind known.now budget }
+        ensures has_run { HasRunBy search kind known.now budget false [] result }
     {
         Agent {
             budget,
             frames: 0,
             phase: Phase::Unmuting { more: UNMUTES },
             progress: Progress {
+                search,
                 known: KnownLeft::new(kind, known),
                 found: DeviceSet::new(),
                 below: RangesBelow::new(),
@@ -85,7 +96,7 @@ impl Agent {
 
         // On an honest line the run has ended once it made as many exchanges as suffice for the devices.
         ensures in_bound { AfterEach self.now (λ run. (present : List ℕ) → IsUndisturbed present run
-            → length run.exchanges ≡ enough_for present run.kind run.known → result ≡ End) }
+            → length run.exchanges ≡ enough_by run.search present run.kind run.known → result ≡ End) }
     {
         if self.frames < self.budget {
             self.phase.op()
@@ -100,7 +111,7 @@ impl Agent {
         ensures state { self.new ≡ fed self.old (heard_by reply) }
         ensures has_run { AfterEach self.old (λ run.
             let exchanges = run.exchanges ++ seen_op (next_op self.old, reply) ∷ [] in
-            HasRun run.kind run.known run.budget false exchanges self.new) }
+            HasRunBy run.search run.kind run.known run.budget false exchanges self.new) }
 
         // On an honest line: no more exchanges than suffice for the devices, and then the run has ended.
         ensures in_bound { AfterEach self.old (λ run.
@@ -116,7 +127,7 @@ impl Agent {
         ensures state { result ≡ fed self (heard_by reply) }
         ensures has_run { AfterEach self (λ run.
             let exchanges = run.exchanges ++ seen_op (next_op self, reply) ∷ [] in
-            HasRun run.kind run.known run.budget false exchanges result) }
+            HasRunBy run.search run.kind run.known run.budget false exchanges result) }
 
         // On an honest line: no more exchanges than suffice for the devices, and then the run has ended.
         ensures in_bound { AfterEach self (λ run.
@@ -130,7 +141,7 @@ impl Agent {
     pub fn stop(&mut self)
         ensures state { next_op self.old ≢ End → self.new ≡ ended_by_abort self.old }
         ensures has_run { AfterEach self.old (λ run.
-            next_op self.old ≢ End → HasRun run.kind run.known run.budget true run.exchanges self.new) }
+            next_op self.old ≢ End → HasRunBy run.search run.kind run.known run.budget true run.exchanges self.new) }
         ensures unchanged { next_op self.old ≡ End → self.new ≡ self.old }
     {
         if self.next() != Op::End {
@@ -142,7 +153,7 @@ impl Agent {
     pub fn abort(mut self) -> Agent
         ensures state { next_op self ≢ End → result ≡ ended_by_abort self }
         ensures has_run { AfterEach self (λ run.
-            next_op self ≢ End → HasRun run.kind run.known run.budget true run.exchanges result) }
+            next_op self ≢ End → HasRunBy run.search run.kind run.known run.budget true run.exchanges result) }
         ensures unchanged { next_op self ≡ End → result ≡ self }
     {
         self.stop();
@@ -220,7 +231,11 @@ impl Agent {
     {
         match self.phase {
             Phase::Unmuting { .. } | Phase::MutingKnown { .. } => 1,
-            Phase::Searching { .. } | Phase::MutingRead { .. } => self.progress.below.len() + 1,
+            Phase::Searching { .. }
+            | Phase::MutingRead { .. }
+            | Phase::Sweeping { .. }
+            | Phase::MutingSwept { .. }
+            | Phase::Doubting { .. } => self.progress.below.len() + 1,
             Phase::Ended(_) => 0,
         }
     }
@@ -232,9 +247,9 @@ impl Agent {
 
         // On an honest line: no more than suffice for the devices, and then the run has ended.
         ensures in_bound { AfterEach self.now (λ run. (present : List ℕ) → IsUndisturbed present run
-            → result ≤ enough_for present run.kind run.known) }
+            → result ≤ enough_by run.search present run.kind run.known) }
         ensures ended { AfterEach self.now (λ run. (present : List ℕ) → IsUndisturbed present run
-            → result ≡ enough_for present run.kind run.known → next_op self.now ≡ End) }
+            → result ≡ enough_by run.search present run.kind run.known → next_op self.now ≡ End) }
     {
         self.frames
     }

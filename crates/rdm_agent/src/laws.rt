@@ -1,6 +1,6 @@
 //! Laws of whole runs, each the contract of a function that does nothing: what a run asks, how it ends, and what it
 //! finds on an honest line. [`OpReply`](crate::OpReply) says what is heard; the definitions stand in `specs`.
-ghost use Rattle.std.specs.Prelude.{◌≡◌, ◌≢◌, ◌≤◌, ◌++◌, ℕ, List, [], ◌∷◌, map, length, true, false, replicate};
+ghost use Rattle.std.specs.Prelude.{◌≡◌, ◌≢◌, ◌≤◌, ◌⊎◌, ◌++◌, ℕ, List, [], ◌∷◌, map, length, true, false, replicate};
 ghost use Rattle.std.specs.Prelude.{Option, Some, None};
 ghost use Rattle.rdm_wire.specs.Uid.{has, IsDevice};
 ghost use Rattle.rdm_wire.specs.Devices.{uids_of};
@@ -11,36 +11,42 @@ ghost use Rattle.rdm_wire.specs.Honest.Heard.{Silent, Noise};
 ghost use Rattle.rdm_wire.specs.Frames.{asked_in, seen_exchange};
 ghost use Rattle.rdm_agent.specs.SampleRun.{sample_uid, sample_device, sample_run, lossy_run};
 ghost use Rattle.rdm_agent.specs.SampleRun.{other_uid, other_device, colliding_run, failed_run, garbled_run};
-ghost use Rattle.rdm_agent.specs.SampleRun.{absent_uid, incremental_run};
-ghost use Rattle.rdm_agent.specs.Machine.{AgentState, fed, fed_all, start, next_of, fault_of, open_ranges, Runs};
+ghost use Rattle.rdm_agent.specs.SampleRun.{absent_uid, incremental_run, swept_run};
+ghost use Rattle.rdm_agent.specs.Machine.{AgentState, fed, fed_all, start, start_by, next_of, fault_of};
+ghost use Rattle.rdm_agent.specs.Machine.{open_ranges, Runs};
 ghost use Rattle.rdm_agent.specs.Machine.Phase.{Ended};
-ghost use Rattle.rdm_agent.specs.Statements.{AsksInOrder, EndsAtFailure, EndsAtBudget, FindsAcknowledged};
+ghost use Rattle.rdm_agent.specs.Statements.{AsksInOrder, EndsAtFailure, EndsAtBudget, GoesOnSoundly};
 ghost use Rattle.rdm_agent.specs.Statements.{HasFewRanges, EndsCertified, FindsAll, FindsEach, FindsNoPhantom};
-ghost use Rattle.rdm_agent.specs.Statements.{CertificateIsTheEnd};
+ghost use Rattle.rdm_agent.specs.Statements.{FindsAcknowledged, CertificateIsTheEnd};
 ghost use Rattle.rdm_agent.specs.Statements.{FindsStaying, FindsNoStranger, IsInEach, IsInOne};
 ghost use Rattle.rdm_agent.specs.declared.limits.TheConstants.{DEFAULT_BUDGET, MOST_RANGES, TRIES, UNMUTES};
 ghost use Rattle.rdm_agent.specs.declared.kind.Kind.{Kind};
 ghost use Rattle.rdm_agent.specs.declared.kind.Kind.TheVariants.{Full, Incremental};
+ghost use Rattle.rdm_agent.specs.declared.search.Search.{Search};
+ghost use Rattle.rdm_agent.specs.declared.search.Search.TheVariants.{Steady, Quick};
 ghost use Rattle.rdm_agent.specs.declared.fault.AgentFault.{AgentFault};
 ghost use Rattle.rdm_agent.specs.declared.fault.AgentFault.TheVariants.{Exhausted, LineFailed};
 ghost use Rattle.rdm_agent.specs.Run.{acked_in, asked_by, FailureIsLast};
-ghost use Rattle.rdm_agent.specs.Calls.{next_op, HasRun, AfterEach};
+ghost use Rattle.rdm_agent.specs.Calls.{next_op, HasRunBy, AfterEach};
 ghost use Rattle.rdm_agent.specs.OpFrames.{op_frame, IsSendable};
-ghost use Rattle.rdm_agent.specs.Bound.{most_frames, enough_for, IsUndisturbed, EndsInBound, EndsByDefault};
+ghost use Rattle.rdm_agent.specs.Bound.{most_frames, enough_for, enough_by, IsUndisturbed};
+ghost use Rattle.rdm_agent.specs.Bound.{EndsInBound, EndsInBoundBy, EndsByDefault};
 ghost use Rattle.rdm_agent.specs.declared.op.Op.{Op};
 ghost use Rattle.rdm_agent.specs.declared.op.Op.TheVariants.{End};
-ghost use Rattle.rdm_agent.specs.Certificate.{Certificate};
+ghost use Rattle.rdm_agent.specs.Certificate.{Certificate, known_of};
 
 /// A run unmutes three times, and then asks for branches and for mutes of devices. It counts its exchanges, and asks
-/// nothing after a failure nor where its budget is used up. It has found what was acknowledged, and keeps at most
-/// [`MOST_RANGES`](crate::MOST_RANGES) ranges open. This holds of full and of incremental runs, for every known set
-/// and budget, at any moment, and whatever the line replies.
+/// nothing after a failure, nor after exchanges that show a corrupt UID, nor where its budget is used up. It has found
+/// what was acknowledged, and keeps at most [`MOST_RANGES`](crate::MOST_RANGES) ranges open. This holds of either
+/// search, of full and of incremental runs, for every known set and budget, at any moment, and whatever the line
+/// replies.
 pub fn run_asks_in_order()
-    ensures in_order { AsksInOrder }
-    ensures ends_at_failure { EndsAtFailure }
-    ensures ends_at_budget { EndsAtBudget }
-    ensures acknowledged { FindsAcknowledged }
-    ensures few_ranges { HasFewRanges }
+    ensures in_order { (search : Search) → AsksInOrder search }
+    ensures ends_at_failure { (search : Search) → EndsAtFailure search }
+    ensures ends_at_budget { (search : Search) → EndsAtBudget search }
+    ensures goes_on { (search : Search) → GoesOnSoundly search }
+    ensures acknowledged { (search : Search) → FindsAcknowledged search }
+    ensures few_ranges { (search : Search) → HasFewRanges search }
 {}
 
 /// A run that ends without fault has its certificate: each of the 2^48 UIDs is acknowledged, or lies in a range that
@@ -48,47 +54,53 @@ pub fn run_asks_in_order()
 /// reports the acknowledged UIDs (as many as a set has room for, where there is one too many), whatever the line
 /// replies.
 pub fn run_has_certificate()
-    ensures { EndsCertified }
+    ensures { (search : Search) → EndsCertified search }
 {}
 
 /// A run has a certificate, of whatever set, only once it has ended without fault. So a fault is never told of a run
 /// whose exchanges show all: not for want of frames at the very end, and not for an abort.
 pub fn certificate_is_the_end()
-    ensures { CertificateIsTheEnd }
+    ensures { (search : Search) → CertificateIsTheEnd search }
 {}
 
 /// On an honest line a run that ends without fault finds exactly the devices, whatever bytes colliding replies make.
 /// Where a line is honest to one device, that device is found, whatever others do.
 pub fn honest_run_finds_all()
-    ensures all { FindsAll }
-    ensures each { FindsEach }
+    ensures all { (search : Search) → FindsAll search }
+    ensures each { (search : Search) → FindsEach search }
 {}
 
 /// On an honest line whose devices come and leave, a run that ends without fault finds each device that was present at
 /// every exchange; and no run finds one that was present at none, not when it has ended with a fault and not before.
 /// That a device which came during the run is found isn't promised.
 pub fn changing_devices()
-    ensures staying { FindsStaying }
-    ensures no_stranger { FindsNoStranger }
+    ensures staying { (search : Search) → FindsStaying search }
+    ensures no_stranger { (search : Search) → FindsNoStranger search }
 {}
 
 /// On an honest line no UID is found that isn't a device's: not when a run has ended with a fault, and not before.
 pub fn no_phantom()
-    ensures { FindsNoPhantom }
+    ensures { (search : Search) → FindsNoPhantom search }
 {}
 
 /// On an honest line with `n` devices, at most 1,024, a run with `k` known UIDs (0 in a full one) makes at most
 /// `8 + 370 n + 5 k` exchanges. The premise is that no exchange failed and that its budget is no less. Once it made as
-/// many it has ended, and at its end it has no fault, whatever bytes colliding replies make.
+/// many it has ended, and at its end it has no fault, whatever bytes colliding replies make. Of a quick search the same
+/// holds with `113 + 370 n + 5 k` exchanges.
 pub fn honest_run_ends()
-    ensures { EndsInBound }
+    ensures steady { EndsInBound }
+    ensures quick { EndsInBoundBy Quick }
 {}
 
-/// The budget by default suffices for each such run, with up to 1,024 devices and as many known UIDs.
+/// The budget by default suffices for each such run of the steady search, with up to 1,024 devices and as many known
+/// UIDs. For a quick one it suffices too, but where 1,024 devices and more than 1,003 known UIDs come together.
 pub fn default_budget_suffices()
     ensures most { (present known : List ℕ) (kind : Kind) →
         length present ≤ 1024 → length known ≤ 1024 → enough_for present kind known ≤ DEFAULT_BUDGET }
     ensures ends { EndsByDefault }
+    ensures quick { (present known : List ℕ) (kind : Kind) → length present ≤ 1024 → length known ≤ 1024
+        → (length present ≤ 1023) ⊎ (length (known_of kind known) ≤ 1003)
+        → enough_by Quick present kind known ≤ DEFAULT_BUDGET }
 {}
 
 /// The same of a list of exchanges, whoever asked. On an honest line a certificate's set is that of the devices, and
@@ -111,9 +123,14 @@ pub fn honest_certificate()
 /// Whole runs: an empty line; a line that answers each branch by a byte; budgets of 8, 7 and 0.
 pub fn worked_runs()
     ensures empty { fed_all (start Full [] DEFAULT_BUDGET) (replicate 8 Silent)
-        ≡ record { budget = DEFAULT_BUDGET; frames = 8; found = []; phase = Ended None } }
-    ensures corrupt { fed_all (start Full [] DEFAULT_BUDGET) (replicate 3 Silent ++ replicate 49 Noise)
-        ≡ record { budget = DEFAULT_BUDGET; frames = 52; found = []; phase = Ended (Some (AgentFault.Corrupt 0)) } }
+        ≡ record { budget = DEFAULT_BUDGET; frames = 8; search = Steady; found = []; phase = Ended None } }
+    ensures corrupt { fed_all (start Full [] DEFAULT_BUDGET) (replicate 3 Silent ++ replicate 49 Noise) ≡ (record {
+      budget = DEFAULT_BUDGET;
+      frames = 52;
+      search = Steady;
+      found = [];
+      phase = Ended (Some (AgentFault.Corrupt 0));
+    }) }
     ensures in_budget { (fed_all (start Full [] 8) (replicate 8 Silent)).phase ≡ Ended None }
     ensures exhausted { next_of (fed_all (start Full [] 7) (replicate 7 Silent)) ≡ None }
     ensures exhausted_fault { fault_of (fed_all (start Full [] 7) (replicate 7 Silent)).phase ≡ Some Exhausted }
@@ -129,8 +146,13 @@ pub fn worked_runs()
 pub fn honest_run()
     ensures honest { HonestTrace (sample_uid ∷ []) sample_run }
     ensures certified { Certificate Full [] sample_run (sample_device ∷ []) }
-    ensures ends { Runs (start Full [] DEFAULT_BUDGET) sample_run
-        (record { budget = DEFAULT_BUDGET; frames = 10; found = sample_device ∷ []; phase = Ended None }) }
+    ensures ends { Runs (start Full [] DEFAULT_BUDGET) sample_run (record {
+      budget = DEFAULT_BUDGET;
+      frames = 10;
+      search = Steady;
+      found = sample_device ∷ [];
+      phase = Ended None;
+    }) }
 {}
 
 /// An incremental run that knows a device and a UID that isn't there any more. The first acknowledgement is lost, and
@@ -142,6 +164,7 @@ pub fn incremental_sample()
     ensures ends { Runs (start Incremental (sample_uid ∷ absent_uid ∷ []) DEFAULT_BUDGET) incremental_run (record {
       budget = DEFAULT_BUDGET;
       frames = 17;
+      search = Steady;
       found = sample_device ∷ other_device ∷ [];
       phase = Ended None;
     }) }
@@ -151,9 +174,9 @@ pub fn incremental_sample()
 /// 378 exchanges, and with 1,024 devices 378,888.
 pub fn undisturbed_run()
     ensures undisturbed { IsUndisturbed (sample_uid ∷ [])
-        (record { kind = Full; known = []; budget = 378; aborted = false; exchanges = sample_run }) }
+        (record { search = Steady; kind = Full; known = []; budget = 378; aborted = false; exchanges = sample_run }) }
     ensures ends { Runs (start Full [] 378) sample_run
-        (record { budget = 378; frames = 10; found = sample_device ∷ []; phase = Ended None }) }
+        (record { budget = 378; frames = 10; search = Steady; found = sample_device ∷ []; phase = Ended None }) }
     ensures one_device { most_frames 1 0 ≡ 378 }
     ensures most_devices { most_frames 1024 0 ≡ 378888 }
 {}
@@ -163,8 +186,13 @@ pub fn undisturbed_run()
 pub fn honest_losses()
     ensures up_to_four { (branches mutes : ℕ) →
         branches ≤ 4 → mutes ≤ 4 → HonestTrace (sample_uid ∷ []) (lossy_run branches mutes) }
-    ensures found { fed_all (start Full [] DEFAULT_BUDGET) (map (λ e. e.heard) (lossy_run 4 4))
-        ≡ record { budget = DEFAULT_BUDGET; frames = 18; found = sample_device ∷ []; phase = Ended None } }
+    ensures found { fed_all (start Full [] DEFAULT_BUDGET) (map (λ e. e.heard) (lossy_run 4 4)) ≡ (record {
+      budget = DEFAULT_BUDGET;
+      frames = 18;
+      search = Steady;
+      found = sample_device ∷ [];
+      phase = Ended None;
+    }) }
     ensures five_branches { ¬ HonestTrace (sample_uid ∷ []) (lossy_run 5 0) }
     ensures five_mutes { ¬ HonestTrace (sample_uid ∷ []) (lossy_run 0 5) }
 {}
@@ -176,6 +204,7 @@ pub fn honest_lines()
     ensures both_found { Runs (start Full [] DEFAULT_BUDGET) colliding_run (record {
       budget = DEFAULT_BUDGET;
       frames = 18;
+      search = Steady;
       found = sample_device ∷ other_device ∷ [];
       phase = Ended None;
     }) }
@@ -183,11 +212,37 @@ pub fn honest_lines()
     ensures failed { Runs (start Full [] DEFAULT_BUDGET) failed_run (record {
       budget = DEFAULT_BUDGET;
       frames = 4;
+      search = Steady;
       found = [];
       phase = Ended (Some LineFailed);
     }) }
     ensures to_one { HonestTo sample_uid garbled_run }
     ensures to_no_set { (present : List ℕ) → ¬ HonestTrace present garbled_run }
+{}
+
+/// Quick searches. The first silence of an empty line is one of the five. The line of [`honest_run`] takes ten
+/// exchanges, as ever. Two devices that collide take 13, where the steady search takes 18. A line that answers each
+/// branch by a byte is corrupt, at the first UID that is branched alone.
+pub fn quick_runs()
+    ensures empty { fed_all (start_by Quick Full [] DEFAULT_BUDGET) (replicate 8 Silent)
+        ≡ record { budget = DEFAULT_BUDGET; frames = 8; search = Quick; found = []; phase = Ended None } }
+    ensures one { Runs (start_by Quick Full [] DEFAULT_BUDGET) sample_run (record {
+      budget = DEFAULT_BUDGET;
+      frames = 10;
+      search = Quick;
+      found = sample_device ∷ [];
+      phase = Ended None;
+    }) }
+    ensures honest { HonestTrace (sample_uid ∷ other_uid ∷ []) swept_run }
+    ensures two { Runs (start_by Quick Full [] DEFAULT_BUDGET) swept_run (record {
+      budget = DEFAULT_BUDGET;
+      frames = 13;
+      search = Quick;
+      found = sample_device ∷ other_device ∷ [];
+      phase = Ended None;
+    }) }
+    ensures corrupt { (fed_all (start_by Quick Full [] DEFAULT_BUDGET) (replicate 3 Silent ++ replicate 49 Noise)).phase
+        ≡ Ended (Some (AgentFault.Corrupt 1)) }
 {}
 
 /// The numbers of the profile.
@@ -206,5 +261,6 @@ pub fn frames_carry_operations()
     ensures goes_on { (a : AgentState) (s tn : ℕ) (answer : Option (List ℕ)) →
         next_op a ≢ End → IsSendable (next_op a) s tn → AfterEach a (λ run.
         let exchange = seen_exchange (op_frame (next_op a) s tn) answer in
-        HasRun run.kind run.known run.budget false (run.exchanges ++ exchange ∷ []) (fed a exchange.heard)) }
+        let exchanges = run.exchanges ++ exchange ∷ [] in
+        HasRunBy run.search run.kind run.known run.budget false exchanges (fed a exchange.heard)) }
 {}

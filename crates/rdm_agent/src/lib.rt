@@ -11,6 +11,8 @@ mod op;
 mod phase;
 mod progress;
 mod ranges;
+mod search;
+mod sweep;
 #[cfg(test)]
 mod tests;
 
@@ -19,3 +21,4 @@ pub use fault::AgentFault;
 pub use kind::Kind;
 pub use limits::{DEFAULT_BUDGET, MOST_RANGES, TRIES, UNMUTES};
 pub use op::{Op, OpReply};
+pub use search::Search;

@@ -12,6 +12,9 @@ pub const TRIES: u8 = 5;
 /// E1.20's discovery branch; that they are split in halves is this project's profile.
 pub const MOST_RANGES: usize = 49;
 
+/// A sweep makes a branch only while it made fewer exchanges than this for each device found, and this many more.
+pub(crate) const SWEEP_FRAMES: usize = 100;
+
 // What a device adds: 24 splits of ten exchanges, 24 last ranges of five, and ten of its own.
 const FRAMES_PER_DEVICE: u64 = 370;
 

@@ -6,6 +6,7 @@ ghost use Rattle.rdm_agent.specs.Calls.{op_of};
 
 use crate::fault::AgentFault;
 use crate::op::Op;
+use crate::sweep::{Sweep, lower_pair};
 use rdm_wire::{Uid, UidRange};
 
 /// Where a run stands. Contracts see it together with the known UIDs that are left and the ranges below the top one.
@@ -39,6 +40,31 @@ pub(crate) enum Phase {
         /// The range.
         top: UidRange,
     },
+    /// The top range is branched once, in a sweep.
+    Sweeping {
+        /// The range.
+        top: UidRange,
+        /// What the sweep remembers.
+        sweep: Sweep,
+    },
+    /// A UID that the top range's branch spelt in a sweep is being muted, and so many tries had no answer.
+    MutingSwept {
+        /// The UID.
+        uid: Uid,
+        /// Below [`TRIES`](crate::TRIES).
+        tries: u8,
+        /// The range.
+        top: UidRange,
+        /// What the sweep remembers.
+        sweep: Sweep,
+    },
+    /// A range of one UID collided in a sweep with the UID below it, and it is asked whether that one replied.
+    Doubting {
+        /// The range.
+        top: UidRange,
+        /// What the sweep remembers.
+        sweep: Sweep,
+    },
     /// The run has ended.
     Ended(Option<AgentFault>),
 }
@@ -52,8 +78,12 @@ impl Phase {
     {
         match self {
             Phase::Unmuting { .. } => Op::UnmuteAll,
-            Phase::MutingKnown { uid, .. } | Phase::MutingRead { uid, .. } => Op::Mute(uid),
+            Phase::MutingKnown { uid, .. }
+            | Phase::MutingRead { uid, .. }
+            | Phase::MutingSwept { uid, .. } => Op::Mute(uid),
             Phase::Searching { top, .. } => Op::Branch(top),
+            Phase::Sweeping { top, sweep } => Op::Branch(sweep.probe(top)),
+            Phase::Doubting { top, .. } => Op::Branch(lower_pair(top)),
             Phase::Ended(_) => Op::End,
         }
     }

@@ -50,6 +50,13 @@ impl RangesBelow {
         self.ranges.push(range);
     }
 
+    /// Drops all.
+    pub(crate) fn clear(&mut self)
+        ensures { self.new ≡ [] }
+    {
+        self.ranges.clear();
+    }
+
     /// Takes the front one; `None` where there is none.
     pub(crate) fn pop(&mut self) -> Option<UidRange>
         ensures { MatchOption result ((self.old ≡ []) × (self.new ≡ [])) (λ r. self.old ≡ r ∷ self.new) }

@@ -4,4 +4,5 @@ mod by_hand;
 mod bytes;
 mod faults;
 mod line;
+mod quick;
 mod runs;

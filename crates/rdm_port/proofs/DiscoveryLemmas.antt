@@ -5,6 +5,7 @@ use Rattle.rdm_wire.specs.declared.device.Device.{Device}
 use Rattle.rdm_join.specs.Exchange.{seen_event}
 use Rattle.rdm_agent.specs.Machine.{AgentState, start, fault_of}
 use Rattle.rdm_agent.specs.Calls.{next_op, run_result, HasRun, RunSoFar, AfterEach}
+use Rattle.rdm_agent.specs.declared.search.Search.TheVariants.{Steady}
 use Rattle.rdm_agent.specs.declared.kind.Kind.{Kind}
 use Rattle.rdm_agent.specs.declared.fault.AgentFault.{AgentFault}
 use Rattle.rdm_agent.specs.declared.op.Op.TheVariants.{End}
@@ -60,7 +61,7 @@ reported L step source kind known budget n frames old line a found d ended repor
 }
   where
     run : RunSoFar
-    run = record { kind = kind; known = known; budget = budget; aborted = false; exchanges = map seen_event d.exchanges }
+    run = record { search = Steady; kind = kind; known = known; budget = budget; aborted = false; exchanges = map seen_event d.exchanges }
 
     same : frames ≡ n
     same = (counts run d.run).0 ∙ seen_many d.exchanges ∙ d.many

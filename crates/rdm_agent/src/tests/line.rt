@@ -23,7 +23,7 @@ pub(crate) fn ack_of(device: Device) -> MuteAck {
 /// A device of a line, and the exchanges at which it is present: from one number on, from 0, and up to another.
 #[derive(Clone, Copy)]
 pub(crate) struct OnLine {
-    device: Device,
+    pub(crate) device: Device,
     from: u64,
     until: u64,
 }
@@ -42,6 +42,17 @@ pub(crate) fn between(device: Device, from: u64, until: u64) -> OnLine {
     }
 }
 
+/// How a device misbehaves.
+#[derive(Clone, Copy, Debug, PartialEq, Eq)]
+pub(crate) enum Fault {
+    /// It acknowledges no mute, and isn't muted.
+    NeverMutes,
+    /// Its reply to a branch has too few bytes to spell a UID.
+    AnswersShort,
+    /// It acknowledges its mute, and goes on answering branches.
+    GoesOn,
+}
+
 /// Devices on a line, which answer each exchange but the lost ones.
 #[derive(Drop)]
 pub(crate) struct TestLine<'a> {
@@ -50,6 +61,8 @@ pub(crate) struct TestLine<'a> {
     pub(crate) spelt: Option<Uid>,
     /// The number of the exchange whose reply is lost, from 0.
     pub(crate) lost: Option<u64>,
+    /// The device that misbehaves, if one does.
+    pub(crate) bad: Option<(Uid, Fault)>,
     muted: UidSet,
     exchanges: u64,
 }
@@ -61,6 +74,7 @@ impl<'a> TestLine<'a> {
             devices,
             spelt: None,
             lost: None,
+            bad: None,
             muted: UidSet::new(),
             exchanges: 0,
         }
@@ -89,7 +103,7 @@ impl<'a> TestLine<'a> {
     // What a device replies that is muted.
     fn muted(&mut self, uid: Uid) -> Option<MuteAck> {
         let found = self.devices.iter().find(|d| d.device.uid == uid)?;
-        if uid.is_broadcast() || !self.is_present(found) {
+        if uid.is_broadcast() || !self.is_present(found) || self.has(uid, Fault::NeverMutes) {
             return None;
         }
         let _ = self.muted.insert(uid);
@@ -101,7 +115,8 @@ impl<'a> TestLine<'a> {
         let mut reply = BranchReply::Silent;
         for found in self.devices {
             let uid = found.device.uid;
-            if !range.contains(uid) || self.muted.contains(uid) || !self.is_present(found) {
+            let quiet = self.muted.contains(uid) && !self.has(uid, Fault::GoesOn);
+            if !range.contains(uid) || quiet || !self.is_present(found) {
                 continue;
             }
             if reply != BranchReply::Silent {
@@ -110,9 +125,18 @@ impl<'a> TestLine<'a> {
                     .take()
                     .map_or(BranchReply::Collision, BranchReply::One);
             }
-            reply = BranchReply::One(uid);
+            reply = if self.has(uid, Fault::AnswersShort) {
+                BranchReply::Collision
+            } else {
+                BranchReply::One(uid)
+            };
         }
         reply
+    }
+
+    // Whether a device misbehaves so.
+    fn has(&self, uid: Uid, fault: Fault) -> bool {
+        self.bad == Some((uid, fault))
     }
 
     // Whether a device is present at this exchange.

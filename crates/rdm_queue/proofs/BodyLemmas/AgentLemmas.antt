@@ -11,19 +11,14 @@ use Rattle.rdm_wire.specs.Honest.Heard.{Failed}
 use Rattle.rdm_agent.specs.Run.{IsReport, asked_by, devices_in}
 use Rattle.rdm_agent.specs.Cause.{Cause, IsCorrupt}
 use Rattle.rdm_agent.specs.Certificate.{Certificate}
-use Rattle.rdm_agent.specs.Machine.{Phase, AgentState, Runs, start, next_of, wanted, fault_of, found_uids}
-use Rattle.rdm_agent.specs.Machine.Phase.{Unmuting, MutingKnown, Searching, MutingRead, Ended}
+use Rattle.rdm_agent.specs.Machine.{AgentState, Runs, start, next_of, fault_of}
 use Rattle.rdm_agent.specs.Calls.{next_op, HasRun}
 use Rattle.rdm_agent.specs.declared.kind.Kind.{Kind}
 use Rattle.rdm_agent.specs.declared.op.Op.TheVariants.{End}
 use Rattle.rdm_agent.specs.declared.fault.AgentFault.{AgentFault}
 use Rattle.rdm_agent.specs.declared.fault.AgentFault.TheVariants.{Corrupt, TooMany, Exhausted, LineFailed, Aborted}
-use Rattle.rdm_agent.proofs.Runs.{stands, all_reported, wanted_next, asks_in_order, ends_at_budget}
+use Rattle.rdm_agent.proofs.Runs.{goes_on_soundly, all_reported, asks_in_order, ends_at_budget}
 use Rattle.rdm_agent.proofs.CertificateEnds.{certificate_ends}
-use Rattle.rdm_agent.proofs.CorruptLemmas.{is_new-device, not_corrupt-no_branch, not_corrupt-spelt}
-use Rattle.rdm_agent.proofs.UnmutePhase.{no_branches}
-use Rattle.rdm_agent.proofs.Stacks.{IsStack-ends}
-use Rattle.rdm_agent.proofs.Invariant.{InPhase}
 use Rattle.rdm_agent.proofs.CallLemmas.{next_asked, runs-own, fault-certified, fault-caused, found-report}
 use Rattle.rdm_queue.specs.declared.entry.Opening.{Opening}
 use Rattle.rdm_queue.specs.declared.entry.Entry.{Entry}
@@ -32,26 +27,11 @@ use Rattle.rdm_queue.specs.log.Runs.{run_kind, known_at_run, run_exchanges, run_
 use Rattle.rdm_queue.specs.log.Due.{IsDone, GoesOn}
 use Rattle.rdm_queue.specs.log.MayAnswer.{IsAborted, Shows}
 
--- while something is wanted, no exchange has failed and none is corrupt
-record IsOpen (x : List Seen) : Type 0 where
-  no_failure : AllByRecursion (λ e. e.heard ≢ Failed) x
-  not_corrupt : (u : ℕ) → IsCorrupt u x → ⊥
-
-is_open : (kind : Kind) (known : List ℕ) (budget : ℕ) (phase : Phase) (x : List Seen) (found : List ℕ) → InPhase kind known budget phase x found → MatchOption (wanted phase) (Unit {0}) (λ asked. IsOpen x)
-is_open kind known budget (Unmuting more left) x found p = record { no_failure = p.1.no_failure; not_corrupt = λ u c. not_corrupt-no_branch u x (no_branches x p.1.unmutes) c }
-is_open kind known budget (MutingKnown u tries left) x found p = record { no_failure = p.muting.under_way.no_failure; not_corrupt = λ v c. not_corrupt-no_branch v x p.muting.no_branch c }
-is_open kind known budget (Searching silences top below) x found p = record { no_failure = p.searches.under_way.no_failure; not_corrupt = p.not_corrupt }
-is_open kind known budget (MutingRead u tries top below) x found p = record {
-  no_failure = p.searches.under_way.no_failure;
-  not_corrupt = λ v c. not_corrupt-spelt v u tries top x found p.searches.under_way.is_found (IsStack-ends top below p.searches.stack).1 (is_new-device found top u p.new) p.spelt p.few c;
-}
-is_open kind known budget (Ended fault) x found p = tt
-
 -- a run whose agent asks for more goes on
 goes_by_runs : (o : Opening) (h : List Entry) (r : ℕ) (a : AgentState) (aborted : Bool) (s : HasRun (run_kind r h) (known_at_run o r h) o.budget aborted (run_exchanges r h) a) (b : AgentState) → Runs (start (run_kind r h) (known_at_run o r h) o.budget) (run_exchanges r h) b → next_op b ≢ End → GoesOn o h r
 goes_by_runs o h r a aborted s b runs goes = record {
-  no_failure = open_.no_failure;
-  not_corrupt = open_.not_corrupt;
+  no_failure = open_.0;
+  not_corrupt = open_.1;
   all_reported = all_reported kind known o.budget x b _ s.devices runs next;
   in_budget = below (cases_lt (length x) o.budget);
   not_done = λ done. goes (ap_none (certificate_ends kind known o.budget x b s.devices runs (run_devices r h) done).0);
@@ -69,11 +49,11 @@ goes_by_runs o h r a aborted s b runs goes = record {
     next : next_of b ≡ Some (asked_by (next_op b))
     next = next_asked b goes
 
-    open_ : IsOpen x
-    open_ = subst (λ q. MatchOption q (Unit {0}) (λ asked. IsOpen x)) (wanted_next kind known o.budget b _ next).1 (is_open kind known o.budget b.phase x (found_uids b) (stands kind known o.budget x b s.devices runs).phase)
-
     ap_none : next_of b ≡ None → next_op b ≡ End
     ap_none none = absurd (none-some _ (sym none ∙ next))
+
+    open_ : AllByRecursion (λ e. e.heard ≢ Failed) x × ((u : ℕ) → IsCorrupt u x → ⊥)
+    open_ = goes_on_soundly kind known o.budget x b s.devices runs (λ none. goes (ap_none none))
 
     below : (length x < o.budget) ⊎ (o.budget ≤ length x) → length x < o.budget
     below (inl less) = less

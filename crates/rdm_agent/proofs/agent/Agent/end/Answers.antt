@@ -1,6 +1,6 @@
 use Rattle.std.proofs.Common.{◌≡◌, sym, subst}
 use Rattle.rdm_agent.specs.Machine.{AgentState}
-use Rattle.rdm_agent.specs.Calls.{next_op, HasRun, RunSoFar}
+use Rattle.rdm_agent.specs.Calls.{next_op, HasRunBy, RunSoFar}
 use Rattle.rdm_agent.specs.declared.op.Op.TheVariants.{End}
 use Rattle.rdm_agent.specs.contracts.agent.Agent.{the_view}
 use Rattle.rdm_agent.proofs.CallLemmas.{end-certified, end-finds_all, end-finds_each, end-finds_staying, end-caused, found-present, found-no_stranger}
@@ -12,8 +12,8 @@ module _ (view a : AgentState) (is : view ≡ a) where
   ends : next_op a ≡ End → next_op view ≡ End
   ends end = subst (λ b. next_op b ≡ End) (sym is) end
 
-  stands : (run : RunSoFar) → HasRun run.kind run.known run.budget run.aborted run.exchanges a → HasRun run.kind run.known run.budget run.aborted run.exchanges view
-  stands run s = subst (λ b. HasRun run.kind run.known run.budget run.aborted run.exchanges b) (sym is) s
+  stands : (run : RunSoFar) → HasRunBy run.search run.kind run.known run.budget run.aborted run.exchanges a → HasRunBy run.search run.kind run.known run.budget run.aborted run.exchanges view
+  stands run s = subst (λ b. HasRunBy run.search run.kind run.known run.budget run.aborted run.exchanges b) (sym is) s
 
 pub returns-in-None-clause-certified : goal.returns-in-None-clause-certified
 returns-in-None-clause-certified c = λ run s.

@@ -12,7 +12,7 @@ use Rattle.rdm_agent.proofs.progress.Progress.find.Goals as goal
 
 -- a device that is found, where there is room for it
 found : (a : AgentState) (d : Device) (phase : Phase) (b : Bool) → has (found_uids a) d.uid ≡ b → IsDeviceSet (found_uids a) → (has (found_uids a) d.uid ≡ false → length (found_uids a) < MOST_DEVICES)
-    → record { budget = a.budget; frames = a.frames + 1; found = with_device d a.found; phase = phase } ≡ to_found a d phase
+    → record { budget = a.budget; frames = a.frames + 1; search = a.search; found = with_device d a.found; phase = phase } ≡ to_found a d phase
 found a d phase true e devices room = rw (e, with_device-present d a.found devices.ascending e) refl
 found a d phase false e devices room = rw (e, lt-ltb (length (found_uids a)) MOST_DEVICES (room e)) refl
 
