@@ -26,3 +26,4 @@ pub mod EndLemmas
 pub mod CallLemmas
 pub mod SessionLemmas
 pub mod RotateLemmas
+pub mod SearchLemmas

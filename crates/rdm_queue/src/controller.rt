@@ -4,7 +4,7 @@ use crate::entry::{ClientId, Entry, Opening, Owner};
 use crate::fault::{AskFault, JoinFault, NoMemory, NotAsked, SubmitFault};
 use crate::outcome::{Completion, DiscoveryEnd, Outcome, OutcomeKind};
 use crate::queue::Queue;
-use rdm_agent::Kind;
+use rdm_agent::{Kind, Search};
 use rdm_join::LineEvent;
 use rdm_wire::{DeviceSet, Frame, Request};
 use std::alloc::Global;
@@ -46,6 +46,7 @@ impl Controller {
     ghost use Rattle.rdm_queue.specs.body.State.{unended, uncollected};
     ghost use Rattle.rdm_queue.specs.promises.InBound.{FaultNeedsClose};
     ghost use Rattle.rdm_queue.specs.log.Runs.{known_devices, devices_run};
+    ghost use Rattle.rdm_agent.specs.declared.search.Search.TheVariants.{Steady};
     ghost use Rattle.rdm_queue.specs.promises.Outcomes.{oldest_kind, request_outcome, discovery_outcome};
     ghost use Rattle.rdm_queue.specs.declared.outcome.OutcomeKind.TheVariants as kinds;
 
@@ -54,11 +55,38 @@ impl Controller {
     /// Err: there was no memory.
     pub fn new(alloc: Global, config: Config) -> Result<Controller, NoMemory>
         requires { IsConfig config }
-        ensures { IfOk result (λ c. StandsAfter (opened config) [] c) }
+        ensures stands { IfOk result (λ c. StandsAfter (opened config) [] c) }
+        ensures search { IfOk result (λ c. c.search ≡ Steady) }
     {
         Ok(Controller {
             queue: Queue::new(alloc, config),
         })
+    }
+
+    /// The same controller, whose runs search so; without this call they search steadily. Nothing waits, is under way,
+    /// is asked or is uncollected, as in a new controller.
+    pub fn with_search(mut self, search: Search) -> Controller
+        requires idle { ForEachLog self (λ o h. is_idle h ≡ true) }
+        ensures search { result.search ≡ search }
+        ensures stands { ForEachLog self (λ o h. StandsAfter o h result) }
+    {
+        self.set_search(search);
+        self
+    }
+
+    /// Lets its runs search so, where it is idle.
+    pub(crate) fn set_search(&mut self, search: Search)
+        ensures search { self.new.search ≡ search }
+        ensures stands { ForEachLog self.old (λ o h. is_idle h ≡ true → StandsAfter o h self.new) }
+    {
+        self.queue.set_search(search);
+    }
+
+    /// How its runs search.
+    pub fn search(&self) -> Search
+        ensures { result ≡ self.now.search }
+    {
+        self.queue.search()
     }
 
     /// Lets a client join, with this many places: how many requests it may have outstanding, from their acceptance
@@ -67,6 +95,7 @@ impl Controller {
     pub fn join_client(&mut self, alloc: Global, places: u8) -> Result<ClientId, JoinFault>
         ensures adds { AddsToEach self.old (λ o h. JoinAdds o h places result) self.new }
         ensures unchanged { OnErr result (self.new ≡ self.old) }
+        ensures search { self.new.search ≡ self.old.search }
     {
         self.queue.join_client(alloc, places)
     }
@@ -80,6 +109,7 @@ impl Controller {
     ) -> Result<u64, (SubmitFault, Request)>
         ensures adds { AddsToEach self.old (λ o h. SubmitAdds o h client request result) self.new }
         ensures unchanged { IfErr result (λ e. (e.1 ≡ request) × (self.new ≡ self.old)) }
+        ensures search { self.new.search ≡ self.old.search }
     {
         self.queue.submit(client, request)
     }
@@ -90,6 +120,7 @@ impl Controller {
     pub fn discover(&mut self, client: ClientId, kind: Kind) -> Result<u64, AskFault>
         ensures adds { AddsToEach self.old (λ o h. DiscoverAdds o h client kind result) self.new }
         ensures unchanged { OnErr result (self.new ≡ self.old) }
+        ensures search { self.new.search ≡ self.old.search }
     {
         self.queue.discover(client, kind)
     }
@@ -99,6 +130,7 @@ impl Controller {
     pub fn pause(&mut self)
         ensures adds { AddsToEach self.old PauseAdds self.new }
         ensures unchanged { ForEachLog self.old (λ o h. can_pause o h ≡ false → self.new ≡ self.old) }
+        ensures search { self.new.search ≡ self.old.search }
     {
         if self.can_pause() {
             self.queue.set_paused(true);
@@ -109,6 +141,7 @@ impl Controller {
     pub fn resume(&mut self)
         ensures adds { AddsToEach self.old ResumeAdds self.new }
         ensures unchanged { ForEachLog self.old (λ o h. can_resume o h ≡ false → self.new ≡ self.old) }
+        ensures search { self.new.search ≡ self.old.search }
     {
         if self.can_resume() {
             self.queue.set_paused(false);
@@ -122,6 +155,7 @@ impl Controller {
     pub fn close(&mut self)
         ensures adds { AddsToEach self.old CloseAdds self.new }
         ensures unchanged { ForEachLog self.old (λ o h. is_closed o h ≡ true → self.new ≡ self.old) }
+        ensures search { self.new.search ≡ self.old.search }
     {
         if !self.queue.is_closed() {
             self.shut();
@@ -139,6 +173,7 @@ impl Controller {
     pub fn take(&mut self) -> Option<Frame>
         ensures adds { AddsToEach self.old (λ o h. TakeAdds o h result) self.new }
         ensures unchanged { IfNone result (self.new ≡ self.old) }
+        ensures search { self.new.search ≡ self.old.search }
     {
         let (_, frame) = self.give()?;
         Some(frame)
@@ -151,8 +186,9 @@ impl Controller {
     /// on frames asks, a discovery that it answers has a fault only after a failure or a close.
     /// Err: no reply is awaited; nothing has changed, and the event comes back.
     pub fn deliver(&mut self, alloc: Global, event: LineEvent) -> Result<(), (NotAsked, LineEvent)>
-        ensures adds { AddsToEach self.old (λ o h. DeliverAdds o h event result) self.new }
+        ensures adds { AddsToEach self.old (λ o h. DeliverAdds self.old.search o h event result) self.new }
         ensures unchanged { IfErr result (λ e. (e.1 ≡ event) × (self.new ≡ self.old)) }
+        ensures search { self.new.search ≡ self.old.search }
     {
         if !self.awaits() {
             return Err((NotAsked, event));
@@ -167,6 +203,7 @@ impl Controller {
     pub fn next_outcome(&mut self, client: ClientId) -> Option<Outcome>
         ensures adds { AddsToEach self.old (λ o h. CollectAdds o h client result) self.new }
         ensures unchanged { IfNone result (self.new ≡ self.old) }
+        ensures search { self.new.search ≡ self.old.search }
     {
         self.queue.next_outcome(client)
     }
@@ -186,6 +223,7 @@ impl Controller {
             (λ o h. CollectAdds o h client (Some (request_outcome r))) self.new) }
         ensures none { IfNone result (ForEachLog self.old (λ o h. oldest_kind o h client.0 ≢ Some kinds.Request)) }
         ensures unchanged { IfNone result (self.new ≡ self.old) }
+        ensures search { self.new.search ≡ self.old.search }
     {
         self.queue.next_completion(client)
     }
@@ -198,6 +236,7 @@ impl Controller {
             (λ o h. CollectAdds o h client (Some (discovery_outcome end set.new))) self.new) }
         ensures none { IfNone result (ForEachLog self.old (λ o h. oldest_kind o h client.0 ≢ Some kinds.Discovery)) }
         ensures unchanged { IfNone result ((self.new ≡ self.old) × (set.new ≡ set.old)) }
+        ensures search { self.new.search ≡ self.old.search }
     {
         self.queue.next_discovery(client, set)
     }
@@ -263,20 +302,23 @@ impl Controller {
         ensures frame { IfSome result (λ given. ForEachLog self.old (λ o h. MaySend o h given.0 given.1
             × StandsAfter o (h ++ Send given.0 given.1 ∷ []) self.new)) }
         ensures none { IfNone result (ForEachLog self.old (λ o h. NoSend o h) × (self.new ≡ self.old)) }
+        ensures search { self.new.search ≡ self.old.search }
     {
         self.queue.take()
     }
 
     /// Closes, where it isn't closed. What is then due is still to be finished.
     pub(crate) fn shut(&mut self)
-        ensures { ForEachLog self.old (λ o h. is_closed o h ≡ false → StandsAmid o (h ++ Close ∷ []) self.new) }
+        ensures closes { ForEachLog self.old (λ o h. is_closed o h ≡ false → StandsAmid o (h ++ Close ∷ []) self.new) }
+        ensures search { self.new.search ≡ self.old.search }
     {
         self.queue.set_closed();
     }
 
     /// Takes what the line answered, where a reply is awaited. What is then due is still to be finished.
     pub(crate) fn hear(&mut self, alloc: Global, event: &LineEvent)
-        ensures { ForEachLog self.old (λ o h. awaited h ≡ true → StandsAmid o (h ++ Came event.now ∷ []) self.new) }
+        ensures hears { ForEachLog self.old (λ o h. awaited h ≡ true → StandsAmid o (h ++ Came event.now ∷ []) self.new) }
+        ensures search { self.new.search ≡ self.old.search }
     {
         self.queue.hear(alloc, event);
     }
@@ -286,16 +328,18 @@ impl Controller {
         ensures finished { IfSome result (λ entry. (is_result entry ≡ true)
             × ForEachBlock self.old (λ o h. StandsAmid o (h ++ entry ∷ []) self.new)) }
         ensures fewer { OnSome result (unended self.new < unended self.old) }
-        ensures in_bound { IfSome result (λ entry. ForEachBlock self.old (λ o h. FaultNeedsClose o h entry)) }
+        ensures in_bound { IfSome result (λ entry. ForEachBlock self.old (λ o h. FaultNeedsClose self.old.search o h entry)) }
         ensures settled { IfNone result (ForEachBlock self.old (λ o h. StandsAfter o h self.old)
             × (self.new ≡ self.old)) }
+        ensures search { self.new.search ≡ self.old.search }
     {
         self.queue.finish_next()
     }
 
     // Ends all that is due.
     fn finish_due(&mut self)
-        ensures { ForEachBlock self.old (λ o h. FinishesAll o h self.new) }
+        ensures finishes { ForEachBlock self.old (λ o h. FinishesAll self.old.search o h self.new) }
+        ensures search { self.new.search ≡ self.old.search }
     {
         while self.finish_next().is_some() {}
     }

@@ -2,6 +2,7 @@
 use crate::entry::{Entry, Opening};
 use crate::fault::NoMemory;
 use arrayvec::ArrayVec;
+use rdm_agent::Search;
 use rdm_wire::{DeviceSet, Uid};
 use std::alloc::Global;
 use std::marker::Model;
@@ -19,6 +20,8 @@ pub struct Log {
     opening: Opening,
     entries: Vec<Entry>,
     room: usize,
+    /// How the runs of its session search. No entry says so, and no rule on logs looks at it.
+    search: Search,
 }
 
 impl Model for Log {
@@ -29,21 +32,21 @@ impl Model for Log {
 
     ghost use Rattle.rdm_queue.specs.body.LogInvariant.{LogInvariant};
 
-    ghost view = { λ l. record { opening = l.opening; entries = l.entries.items; room = l.room } };
+    ghost view = { λ l. record { opening = l.opening; entries = l.entries.items; room = l.room; search = l.search } };
 
     ghost invariant = { λ l. LogInvariant l.room (vec_len l.entries) (vec_capacity l.entries) };
 }
 
 impl Log {
     ghost use Rattle.std.specs.Prelude.{◌≡◌, ◌+◌, ◌<◌, ◌≤◌, [], ◌∷◌, IfOk, length};
-    ghost use Rattle.rdm_queue.specs.log.LogState.{grown, blank_opening};
+    ghost use Rattle.rdm_queue.specs.log.LogState.{grown, blank_opening, blank_log};
 
     /// A log without entries, with room for this many, 0 to 1,000,000, and one more for a close. Its opening has 0
     /// everywhere, no places and no devices, is neither paused nor closed, and is written when a session begins.
     /// Err: there was no memory.
     pub fn new(alloc: Global, free: usize) -> Result<Log, NoMemory>
         requires { free ≤ 1000000 }
-        ensures { IfOk result (λ log. log ≡ record { opening = blank_opening; entries = []; room = free + 1 }) }
+        ensures { IfOk result (λ log. log ≡ blank_log (free + 1)) }
     {
         let room = free + 1;
         let Ok(entries) = Vec::with_capacity(alloc, room) else {
@@ -53,6 +56,7 @@ impl Log {
             opening: Log::blank(),
             entries,
             room,
+            search: Search::Steady,
         })
     }
 
@@ -70,6 +74,13 @@ impl Log {
         self.entries.as_slice()
     }
 
+    /// How the runs of its session search; steadily, until a session is told otherwise.
+    pub fn search(&self) -> Search
+        ensures { result ≡ self.now.search }
+    {
+        self.search
+    }
+
     /// The entries that there is room for, those that stand among them.
     pub(crate) fn room(&self) -> usize
         ensures room { result ≡ self.now.room }
@@ -79,37 +90,40 @@ impl Log {
         self.room
     }
 
-    /// The same log after another opening.
-    pub(crate) fn after(self, opening: Opening) -> Log
-        ensures log { result ≡ record self { opening = opening } }
+    /// The same log after another opening, of a session whose runs search so.
+    pub(crate) fn after(self, opening: Opening, search: Search) -> Log
+        ensures log { result ≡ record self { opening = opening; search = search } }
         ensures some { 1 ≤ self.room }
     {
-        let Log {
-            opening: _,
-            entries,
-            room,
-        } = self;
+        let Log { entries, room, .. } = self;
         Log {
             opening,
             entries,
             room,
+            search,
         }
+    }
+
+    /// The same log, of a session whose runs search so.
+    pub(crate) fn set_search(&mut self, search: Search)
+        ensures { self.new ≡ record self.old { search = search } }
+    {
+        self.search = search;
     }
 
     /// The log without its entries, with the same room, and with the opening of a new log.
     pub fn cleared(self) -> Log
-        ensures { result ≡ record { opening = blank_opening; entries = []; room = self.room } }
+        ensures { result ≡ blank_log self.room }
     {
         let Log {
-            opening: _,
-            mut entries,
-            room,
+            mut entries, room, ..
         } = self;
         entries.clear();
         Log {
             opening: Log::blank(),
             entries,
             room,
+            search: Search::Steady,
         }
     }
 

@@ -16,7 +16,7 @@ use crate::fault::{AskFault, JoinFault, SubmitFault};
 use crate::outcome::{AskCompletion, Completion, DiscoveryEnd, Outcome, OutcomeKind};
 use crate::pending::{Asked, Awaited, Running};
 use arrayvec::ArrayVec;
-use rdm_agent::{Agent, Kind, Op};
+use rdm_agent::{Agent, Kind, Op, Search};
 use rdm_join::{Joiner, Sent};
 use rdm_wire::{DeviceSet, Frame, Request, UidSet, encode_request};
 use std::alloc::Global;
@@ -30,6 +30,8 @@ const MOST_ASKED: usize = 64;
 #[derive(Debug, Drop)]
 pub(crate) struct Queue {
     config: Config,
+    /// How its runs search.
+    search: Search,
     /// The clients, each with the rings of what it has outstanding.
     clients: ArrayVec<Client, MOST_CLIENTS, Global>,
     paused: bool,
@@ -74,7 +76,7 @@ impl Queue {
     ghost use Rattle.std.specs.Prelude.{drop, sum, map, IfOk, IfErr, IfSome, IfNone, OnOk, OnErr, OnSome, Some, None};
     ghost use Rattle.std.specs.Prelude.{is_some, option_map, slice_get, if◌then◌else◌, ◌≢◌, ◌≤◌};
     ghost use Rattle.rdm_wire.specs.Devices.{uids_of};
-    ghost use Rattle.rdm_agent.specs.Calls.{HasRun};
+    ghost use Rattle.rdm_agent.specs.Calls.{HasRunBy};
     ghost use Rattle.rdm_queue.specs.promises.Outcomes.{outcome_value, request_outcome, discovery_outcome};
     ghost use Rattle.rdm_queue.specs.declared.outcome.OutcomeKind.TheVariants as kinds;
     ghost use Rattle.rdm_queue.specs.promises.Blocks.{RefusesJoin};
@@ -95,6 +97,7 @@ impl Queue {
     {
         Queue {
             config,
+            search: Search::Steady,
             clients: ArrayVec::new_in(alloc),
             paused: false,
             closed: false,
@@ -112,6 +115,20 @@ impl Queue {
             devices: DeviceSet::new(),
             devices_run: 0,
         }
+    }
+
+    /// How its runs search.
+    pub(crate) fn search(&self) -> Search
+        ensures { result ≡ self.now.search }
+    {
+        self.search
+    }
+
+    /// Lets the runs that begin from now on search so.
+    pub(crate) fn set_search(&mut self, search: Search)
+        ensures { self.new ≡ record self.old { search = search } }
+    {
+        self.search = search;
     }
 
     // The first fault of a join, want of memory aside.
@@ -304,15 +321,20 @@ impl Queue {
         requires none { self.old.run ≡ None }
         requires some { 0 < length self.old.asked }
         ensures begun { self.new ≡ begun self.old }
-        ensures starts { HasRun (kind_of self.old.asked) (uids_of self.old.devices) self.old.budget false []
-            (begun self.old).agent }
+        ensures starts { HasRunBy self.old.search (kind_of self.old.asked) (uids_of self.old.devices)
+            self.old.budget false [] (begun self.old).agent }
     {
         self.run = Some(Running {
             number: self.next_run,
             left: self.asked.len(),
         });
         self.next_run += 1;
-        self.agent = Agent::start(self.asked_kind(), &self.devices.uids(), self.config.budget);
+        self.agent = Agent::start_by(
+            self.search,
+            self.asked_kind(),
+            &self.devices.uids(),
+            self.config.budget,
+        );
     }
 
     // Full where one of the discoveries that are asked is.

@@ -11,7 +11,7 @@ use crate::fault::{AskFault, JoinFault, LogFull, NoMemory, NotAsked, NotIdle, Su
 use crate::log::{LEAST_FREE, Log};
 use crate::outcome::{Completion, DiscoveryEnd, Outcome, OutcomeKind};
 use arrayvec::ArrayVec;
-use rdm_agent::Kind;
+use rdm_agent::{Kind, Search};
 use rdm_join::LineEvent;
 use rdm_wire::{DeviceSet, Frame, Request};
 use std::alloc::Global;
@@ -51,6 +51,7 @@ impl Session {
     ghost use Rattle.rdm_queue.specs.promises.Outcomes.{oldest_kind, request_outcome, discovery_outcome};
     ghost use Rattle.rdm_queue.specs.declared.outcome.OutcomeKind.TheVariants as kinds;
     ghost use Rattle.rdm_queue.specs.body.Agrees.{StandsAfter};
+    ghost use Rattle.rdm_agent.specs.declared.search.Search.TheVariants.{Steady};
 
     /// A session without clients, neither paused nor closed, whose numbers begin at 0, and those of its discovery runs
     /// at 1. It writes the log's opening. The controller's UID isn't broadcast, there are at most
@@ -59,7 +60,7 @@ impl Session {
     pub fn new(alloc: Global, config: Config, log: Log) -> Result<Session, (NoMemory, Log)>
         requires config_is { IsConfig config }
         requires empty { log.entries ≡ [] }
-        ensures ok { IfOk result (λ s. s ≡ record log { opening = opened config }) }
+        ensures ok { IfOk result (λ s. s ≡ record log { opening = opened config; search = Steady }) }
         ensures err { IfErr result (λ e. e.1 ≡ log) }
     {
         let opening = opening_of(&config);
@@ -68,8 +69,19 @@ impl Session {
         };
         Ok(Session {
             controller,
-            log: log.after(opening),
+            log: log.after(opening, Search::Steady),
         })
+    }
+
+    /// The same session, whose runs search so; without this call they search steadily. It is idle, as a new one is. Its
+    /// log says how ([`Log::search`]).
+    pub fn with_search(mut self, search: Search) -> Session
+        requires idle { is_idle self.entries ≡ true }
+        ensures { result ≡ record self { search = search } }
+    {
+        self.controller.set_search(search);
+        self.log.set_search(search);
+        self
     }
 
     /// Lets a client join, as [`Controller::join_client`] does. A refusal but LogFull is an entry.
@@ -232,7 +244,7 @@ impl Session {
     /// only after a failure or a close.
     /// Err: no reply is awaited; nothing has changed, and the event comes back.
     pub fn deliver(&mut self, alloc: Global, event: LineEvent) -> Result<(), (NotAsked, LineEvent)>
-        ensures adds { GrowsBy self.old (DeliverAdds self.old.opening self.old.entries event result) self.new }
+        ensures adds { GrowsBy self.old (DeliverAdds self.old.search self.old.opening self.old.entries event result) self.new }
         ensures legal { Legal self.new.opening self.new.entries }
     {
         if !self.controller.awaits() {
@@ -375,8 +387,8 @@ impl Session {
     /// an honest line has at most `8 + 370 n + 5 k`.
     ///
     /// The numbers of requests, discoveries, runs and frames go on, and so do the clients with their places, the
-    /// devices and their run, and whether it is paused or closed: they stand in the new log's opening. The new log has
-    /// no entries.
+    /// devices and their run, and whether it is paused or closed: they stand in the new log's opening. Its runs search
+    /// as before. The new log has no entries.
     /// Err: the session isn't idle. It comes back as it was, and so does the new log.
     pub fn rotate(mut self, log: Log) -> Result<(Session, Log), (NotIdle, Session, Log)>
         requires empty { log.entries ≡ [] }
@@ -386,6 +398,7 @@ impl Session {
           opening = opening_after self.opening self.entries;
           entries = [];
           room = log.room;
+          search = self.search;
         }) }
         ensures handed_back { IfOk result (λ r. r.1 ≡ self) }
         ensures unchanged { IfErr result (λ e. (e.1 ≡ self) × (e.2 ≡ log)) }
@@ -393,7 +406,8 @@ impl Session {
         if !self.is_idle() {
             return Err((NotIdle, self, log));
         }
-        let old_log = mem::replace(&mut self.log, log.after(self.controller.opening()));
+        let next_log = log.after(self.controller.opening(), self.controller.search());
+        let old_log = mem::replace(&mut self.log, next_log);
         Ok((self, old_log))
     }
 

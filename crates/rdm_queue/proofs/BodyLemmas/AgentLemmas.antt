@@ -11,14 +11,15 @@ use Rattle.rdm_wire.specs.Honest.Heard.{Failed}
 use Rattle.rdm_agent.specs.Run.{IsReport, asked_by, devices_in}
 use Rattle.rdm_agent.specs.Cause.{Cause, IsCorrupt}
 use Rattle.rdm_agent.specs.Certificate.{Certificate}
-use Rattle.rdm_agent.specs.Machine.{AgentState, Runs, start, next_of, fault_of}
-use Rattle.rdm_agent.specs.Calls.{next_op, HasRun}
+use Rattle.rdm_agent.specs.Machine.{AgentState, Runs, start_by, next_of, fault_of}
+use Rattle.rdm_agent.specs.Calls.{next_op, HasRunBy}
+use Rattle.rdm_agent.specs.declared.search.Search.{Search}
 use Rattle.rdm_agent.specs.declared.kind.Kind.{Kind}
 use Rattle.rdm_agent.specs.declared.op.Op.TheVariants.{End}
 use Rattle.rdm_agent.specs.declared.fault.AgentFault.{AgentFault}
 use Rattle.rdm_agent.specs.declared.fault.AgentFault.TheVariants.{Corrupt, TooMany, Exhausted, LineFailed, Aborted}
-use Rattle.rdm_agent.proofs.Runs.{goes_on_soundly, all_reported, asks_in_order, ends_at_budget}
-use Rattle.rdm_agent.proofs.CertificateEnds.{certificate_ends}
+use Rattle.rdm_agent.proofs.Runs.{goes_on_soundly_by, all_reported_by, asks_in_order_by, ends_at_budget_by}
+use Rattle.rdm_agent.proofs.CertificateEnds.{certificate_ends_by}
 use Rattle.rdm_agent.proofs.CallLemmas.{next_asked, runs-own, fault-certified, fault-caused, found-report}
 use Rattle.rdm_queue.specs.declared.entry.Opening.{Opening}
 use Rattle.rdm_queue.specs.declared.entry.Entry.{Entry}
@@ -28,13 +29,13 @@ use Rattle.rdm_queue.specs.log.Due.{IsDone, GoesOn}
 use Rattle.rdm_queue.specs.log.MayAnswer.{IsAborted, Shows}
 
 -- a run whose agent asks for more goes on
-goes_by_runs : (o : Opening) (h : List Entry) (r : ℕ) (a : AgentState) (aborted : Bool) (s : HasRun (run_kind r h) (known_at_run o r h) o.budget aborted (run_exchanges r h) a) (b : AgentState) → Runs (start (run_kind r h) (known_at_run o r h) o.budget) (run_exchanges r h) b → next_op b ≢ End → GoesOn o h r
-goes_by_runs o h r a aborted s b runs goes = record {
+goes_by_runs : {search : Search} → (o : Opening) (h : List Entry) (r : ℕ) (a : AgentState) (aborted : Bool) (s : HasRunBy search (run_kind r h) (known_at_run o r h) o.budget aborted (run_exchanges r h) a) (b : AgentState) → Runs (start_by search (run_kind r h) (known_at_run o r h) o.budget) (run_exchanges r h) b → next_op b ≢ End → GoesOn o h r
+goes_by_runs {search} o h r a aborted s b runs goes = record {
   no_failure = open_.0;
   not_corrupt = open_.1;
-  all_reported = all_reported kind known o.budget x b _ s.devices runs next;
+  all_reported = all_reported_by search kind known o.budget x b _ s.devices runs next;
   in_budget = below (cases_lt (length x) o.budget);
-  not_done = λ done. goes (ap_none (certificate_ends kind known o.budget x b s.devices runs (run_devices r h) done).0);
+  not_done = λ done. goes (ap_none (certificate_ends_by search kind known o.budget x b s.devices runs (run_devices r h) done).0);
 }
   where
     kind : Kind
@@ -53,18 +54,18 @@ goes_by_runs o h r a aborted s b runs goes = record {
     ap_none none = absurd (none-some _ (sym none ∙ next))
 
     open_ : AllByRecursion (λ e. e.heard ≢ Failed) x × ((u : ℕ) → IsCorrupt u x → ⊥)
-    open_ = goes_on_soundly kind known o.budget x b s.devices runs (λ none. goes (ap_none none))
+    open_ = goes_on_soundly_by search kind known o.budget x b s.devices runs (λ none. goes (ap_none none))
 
     below : (length x < o.budget) ⊎ (o.budget ≤ length x) → length x < o.budget
     below (inl less) = less
-    below (inr most) = let within = (asks_in_order kind known o.budget x b s.devices runs).2 in absurd (goes (ap_none (ends_at_budget kind known o.budget x b s.devices runs (omega arith))))
+    below (inr most) = let within = (asks_in_order_by search kind known o.budget x b s.devices runs).2 in absurd (goes (ap_none (ends_at_budget_by search kind known o.budget x b s.devices runs (omega arith))))
 
-pub agent_goes_on : (o : Opening) (h : List Entry) (r : ℕ) (a : AgentState) → HasRun (run_kind r h) (known_at_run o r h) o.budget false (run_exchanges r h) a → next_op a ≢ End → GoesOn o h r
-agent_goes_on o h r a s goes = goes_by_runs o h r a false s a (runs-own _ _ _ _ a s) goes
+pub agent_goes_on : {search : Search} → (o : Opening) (h : List Entry) (r : ℕ) (a : AgentState) → HasRunBy search (run_kind r h) (known_at_run o r h) o.budget false (run_exchanges r h) a → next_op a ≢ End → GoesOn o h r
+agent_goes_on {search} o h r a s goes = goes_by_runs o h r a false s a (runs-own _ _ _ _ a s) goes
 
 -- and so did one that was stopped
-pub stopped_went_on : (o : Opening) (h : List Entry) (r : ℕ) (a : AgentState) → HasRun (run_kind r h) (known_at_run o r h) o.budget true (run_exchanges r h) a → GoesOn o h r
-stopped_went_on o h r a s = goes_by_runs o h r a true s s.before s.runs s.is.0
+pub stopped_went_on : {search : Search} → (o : Opening) (h : List Entry) (r : ℕ) (a : AgentState) → HasRunBy search (run_kind r h) (known_at_run o r h) o.budget true (run_exchanges r h) a → GoesOn o h r
+stopped_went_on {search} o h r a s = goes_by_runs o h r a true s s.before s.runs s.is.0
 
 -- a report is determined by the exchanges
 report_is : (ds : List Device) (f : ℕ → Option Device) → AllByRecursion (λ d. f d.uid ≡ Some d) ds → filter_map f (uids_of ds) ≡ ds
@@ -74,8 +75,8 @@ report_is (d ∷ ds) f all = rw all.0 (ap (λ l. d ∷ l) (report_is ds f all.1)
 pub report_devices : (x : List Seen) (s : List Device) → IsReport x s → s ≡ reported_devices x
 report_devices x s is = sym (report_is s (device_with (devices_in x)) is.first) ∙ ap (filter_map (device_with (devices_in x))) is.uids
 
-pub agent_found : (o : Opening) (h : List Entry) (r : ℕ) (a : AgentState) (aborted : Bool) → HasRun (run_kind r h) (known_at_run o r h) o.budget aborted (run_exchanges r h) a → a.found ≡ run_devices r h
-agent_found o h r a aborted s = report_devices (run_exchanges r h) a.found (found-report a _ _ _ aborted (run_exchanges r h) s)
+pub agent_found : {search : Search} → (o : Opening) (h : List Entry) (r : ℕ) (a : AgentState) (aborted : Bool) → HasRunBy search (run_kind r h) (known_at_run o r h) o.budget aborted (run_exchanges r h) a → a.found ≡ run_devices r h
+agent_found {search} o h r a aborted s = report_devices (run_exchanges r h) a.found (found-report a _ _ _ aborted (run_exchanges r h) s)
 
 -- what an agent that has ended shows
 another_abort : (budget : ℕ) (P Q : Type 0) (f : AgentFault) (x : List Seen) → (P → Q) → Cause budget P f x → Cause budget Q f x
@@ -85,14 +86,14 @@ another_abort budget P Q Exhausted x more cause = cause
 another_abort budget P Q LineFailed x more cause = cause
 another_abort budget P Q Aborted x more cause = (more cause.0, cause.1)
 
-not_done : (o : Opening) (h : List Entry) (r : ℕ) (a : AgentState) (aborted : Bool) (f : AgentFault) → HasRun (run_kind r h) (known_at_run o r h) o.budget aborted (run_exchanges r h) a → fault_of a.phase ≡ Some f → IsDone o h r → ⊥
-not_done o h r a false f s is done = none-some f (sym (certificate_ends _ _ _ _ a s.devices (runs-own _ _ _ _ a s) (run_devices r h) done).1 ∙ is)
-not_done o h r a true f s is done = (stopped_went_on o h r a s).not_done done
+not_done : {search : Search} → (o : Opening) (h : List Entry) (r : ℕ) (a : AgentState) (aborted : Bool) (f : AgentFault) → HasRunBy search (run_kind r h) (known_at_run o r h) o.budget aborted (run_exchanges r h) a → fault_of a.phase ≡ Some f → IsDone o h r → ⊥
+not_done {search} o h r a false f s is done = none-some f (sym (certificate_ends_by search _ _ _ _ a s.devices (runs-own _ _ _ _ a s) (run_devices r h) done).1 ∙ is)
+not_done {search} o h r a true f s is done = (stopped_went_on o h r a s).not_done done
 
-pub agent_shows : (o : Opening) (h : List Entry) (r : ℕ) (a : AgentState) (aborted : Bool) → HasRun (run_kind r h) (known_at_run o r h) o.budget aborted (run_exchanges r h) a → (aborted ≡ true → is_closed o h ≡ true) → next_op a ≡ End → Shows o h r (fault_of a.phase)
-agent_shows o h r a aborted s closed end = by_fault (fault_of a.phase) refl
+pub agent_shows : {search : Search} → (o : Opening) (h : List Entry) (r : ℕ) (a : AgentState) (aborted : Bool) → HasRunBy search (run_kind r h) (known_at_run o r h) o.budget aborted (run_exchanges r h) a → (aborted ≡ true → is_closed o h ≡ true) → next_op a ≡ End → Shows o h r (fault_of a.phase)
+agent_shows {search} o h r a aborted s closed end = by_fault (fault_of a.phase) refl
   where
-    aborts : (b : Bool) → HasRun (run_kind r h) (known_at_run o r h) o.budget b (run_exchanges r h) a → (b ≡ true → is_closed o h ≡ true) → b ≡ true → IsAborted o h r
+    aborts : (b : Bool) → HasRunBy search (run_kind r h) (known_at_run o r h) o.budget b (run_exchanges r h) a → (b ≡ true → is_closed o h ≡ true) → b ≡ true → IsAborted o h r
     aborts true own shut is = record { closed = shut is; goes_on = stopped_went_on o h r a own }
     aborts false own shut is = record { closed = shut is; goes_on = absurd (false≢true is) }
 

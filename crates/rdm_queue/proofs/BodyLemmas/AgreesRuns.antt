@@ -40,7 +40,8 @@ use Rattle.rdm_wire.specs.Frames.{asked_in, heard_in}
 use Rattle.rdm_wire.specs.Honest.{Seen}
 use Rattle.rdm_join.specs.Exchange.{bytes_heard}
 use Rattle.rdm_agent.specs.Run.{asked_by}
-use Rattle.rdm_agent.specs.Calls.{next_op, HasRun}
+use Rattle.rdm_agent.specs.Calls.{next_op, HasRunBy}
+use Rattle.rdm_agent.specs.declared.search.Search.{Search}
 use Rattle.rdm_agent.specs.Machine.{AgentState, fed}
 use Rattle.rdm_agent.specs.OpFrames.{op_frame}
 use Rattle.rdm_agent.specs.declared.op.Op.TheVariants.{End}
@@ -62,7 +63,7 @@ use Rattle.rdm_queue.proofs.BodyLemmas.OutcomeLemmas.{some_at}
 use Rattle.rdm_queue.proofs.BodyLemmas.AgreesWork.{unanswered_of, count_more, owed_more}
 
 -- an agent that asks for more wasn't stopped
-pub not_stopped : (kind : Kind) (known : List ℕ) (budget : ℕ) (aborted : Bool) (x : List Seen) (a : AgentState) → HasRun kind known budget aborted x a → next_op a ≢ End → HasRun kind known budget false x a
+pub not_stopped : {search : Search} (kind : Kind) (known : List ℕ) (budget : ℕ) (aborted : Bool) (x : List Seen) (a : AgentState) → HasRunBy search kind known budget aborted x a → next_op a ≢ End → HasRunBy search kind known budget false x a
 not_stopped kind known budget false x a is goes = is
 not_stopped kind known budget true x a is goes = absurd (goes (rw is.is.1 (aborted_ends is.before)))
 
@@ -152,7 +153,7 @@ all_unserved h none = ap (λ n. drop n (unanswered h)) (zero_of _ _ none)
     zero_of n m p = omega arith
 
 -- a run begins with its first frame
-pub stands_begin : (o : Opening) (h : List Entry) (s : QueueState) (frame : ArrayVec ℕ) → EachAfter (MayFollow o) h → MayFollow o h (Send (owners.Run s.next_run) frame) → RunFacts o h → AskFacts o h → length (sends h) ≡ length (cames h) → s.run ≡ None → s.under_way ≡ false → 1 ≤ length s.asked → 1 ≤ s.next_run → HasRun (kind_of s.asked) (uids_of s.devices) s.budget false [] (begun s).agent → next_op (begun s).agent ≢ End
+pub stands_begin : (o : Opening) (h : List Entry) (s : QueueState) (frame : ArrayVec ℕ) → EachAfter (MayFollow o) h → MayFollow o h (Send (owners.Run s.next_run) frame) → RunFacts o h → AskFacts o h → length (sends h) ≡ length (cames h) → s.run ≡ None → s.under_way ≡ false → 1 ≤ length s.asked → 1 ≤ s.next_run → HasRunBy s.search (kind_of s.asked) (uids_of s.devices) s.budget false [] (begun s).agent → next_op (begun s).agent ≢ End
     → frame.items ≡ op_frame (next_op (begun s).agent) s.source s.next_tn → asked_in frame.items ≡ asked_by (next_op (begun s).agent) → Agrees o h s → Agrees o (h ++ Send (owners.Run s.next_run) frame ∷ []) (gives_run (begun s))
 stands_begin o h s frame each may run_facts ask_facts even none way some from starts goes frame_is asks_is stands = record {
   source_is = stands.source_is;
@@ -242,7 +243,7 @@ stands_run_came o h s tn event each may facts was stands = record {
   run_is = subst (λ q. RunIs o k new q) (sym w.run_is) (record {
     last = last_run_same h k (sends_same h e refl) ∙ before.last;
     aborted = false;
-    has_run = rw (run_exchanges_came_own h _ event w.run.number x (eq-eqb w.run.number w.run.number refl), served_stays w.run.number h (e ∷ []) started, entries_before_run_stays w.run.number h (e ∷ []) started) (subst (λ n. HasRun (run_kind w.run.number h) (known_at_run o w.run.number h) o.budget false (run_exchanges w.run.number h ++ seen ∷ []) (fed s.agent (heard_in (op_frame (next_op s.agent) n tn) (bytes_heard event)))) (sym stands.source_is) heard);
+    has_run = rw (run_exchanges_came_own h _ event w.run.number x (eq-eqb w.run.number w.run.number refl), served_stays w.run.number h (e ∷ []) started, entries_before_run_stays w.run.number h (e ∷ []) started) (subst (λ n. HasRunBy s.search (run_kind w.run.number h) (known_at_run o w.run.number h) o.budget false (run_exchanges w.run.number h ++ seen ∷ []) (fed s.agent (heard_in (op_frame (next_op s.agent) n tn) (bytes_heard event)))) (sym stands.source_is) heard);
     stopped = λ no. absurd (false≢true no);
     left = rw (last_run_same h k (sends_same h e refl), answered_same h e refl) (asked_stays h e (last_run h) refl ∙ before.left);
     some = before.some;
@@ -283,7 +284,7 @@ stands_run_came o h s tn event each may facts was stands = record {
     seen : Seen
     seen = record { asked = asked_in w.frame.items; heard = heard_in w.frame.items (bytes_heard event) }
 
-    heard : HasRun (run_kind w.run.number h) (known_at_run o w.run.number h) o.budget false (run_exchanges w.run.number h ++ seen ∷ []) (fed s.agent (heard_in (op_frame (next_op s.agent) o.source tn) (bytes_heard event)))
+    heard : HasRunBy s.search (run_kind w.run.number h) (known_at_run o w.run.number h) o.budget false (run_exchanges w.run.number h ++ seen ∷ []) (fed s.agent (heard_in (op_frame (next_op s.agent) o.source tn) (bytes_heard event)))
     heard = hears-has_run s.agent _ seen (next_asked s.agent w.goes_on ∙ ap Some (sym w.asks)) (ap (λ b. fed s.agent (heard_in b (bytes_heard event))) (sym w.same)) _ _ _ before.aborted _ before.has_run
 
 -- what an Answer leaves of a run's exchanges, and which devices are known after it

@@ -76,7 +76,7 @@ stands_same o h e s ps paused closed owed each may work places_are paused_is clo
   next_ask_is = rw work.same_asks stands.next_ask_is;
   next_run_is = rw work.running.same_last stands.next_run_is;
   asked_are = rw (work.same_asks, work.running.same_answers) stands.asked_are;
-  run_is = run_same o h k s new s.run work.running refl (inl refl) stands.run_is;
+  run_is = run_same o h k s new s.run work.running refl refl (inl refl) stands.run_is;
   devices_are = stands.devices_are ∙ sym (known_step o h e each may work.running.same_answers);
   devices_run_is = devices_run_same o h k s.devices_run work.running.same_answers stands.devices_run_is;
   owed_for_each = long;

@@ -3,6 +3,7 @@ use Rattle.std.proofs.Common.{◌≡◌, ℕ, ◌∙◌, ◌<◌, Bool, true, fa
 use Rattle.std.specs.Prelude.{◌≢◌, IfOk, IfErr, IfSome, IfNone, OnErr, OnSome, option_map, slice_get}
 use Rattle.arrayvec.specs.ArrayVec.{ArrayVec}
 use Rattle.rdm_wire.specs.declared.request.Request.{Request}
+use Rattle.rdm_agent.specs.declared.search.Search.{Search}
 use Rattle.rdm_queue.specs.declared.entry.ClientId.{ClientId}
 use Rattle.rdm_queue.specs.declared.entry.Owner.{Owner}
 use Rattle.rdm_queue.specs.declared.entry.Opening.{Opening}
@@ -133,7 +134,7 @@ pub ends_each : (r : Option Entry) (s new : QueueState) → IfSome r (λ entry. 
 ends_each None s new is = tt
 ends_each (Some entry) s new is = (is_end s new entry is, λ o h amid. ends_amid o h s new entry is amid)
 
-pub ends_in_bound : (r : Option Entry) (s new : QueueState) → IfSome r (λ entry. IsEnded s entry new) → IfSome r (λ entry. ForEachBlock s (λ o h. FaultNeedsClose o h entry))
+pub ends_in_bound : (r : Option Entry) (s new : QueueState) → IfSome r (λ entry. IsEnded s entry new) → IfSome r (λ entry. ForEachBlock s (λ o h. FaultNeedsClose s.search o h entry))
 ends_in_bound None s new is = tt
 ends_in_bound (Some entry) s new is = λ o h amid. ends_in_bound_amid o h s new entry is amid
 
@@ -142,16 +143,16 @@ settled_each (Some entry) s new is = tt
 settled_each None s new is = ((λ o h amid. settled_after o h s is.0 amid), is.1)
 
 -- an entry that is no Answer, and the Finishes and Answers that are due then
-pub with_results : (o : Opening) (h : List Entry) (e : Entry) (new : QueueState) → FaultNeedsClose o h e → FinishesAll o (h ++ e ∷ []) new → StandsWith o h (λ block. IsWithResults e block × AnswersInBound o h block) new
-with_results o h e new none all = record { block = e ∷ all.results; adds = (record { results = all.results; whole = refl; each = all.each }, (none, all.in_bound)); after = rw (append_assoc h (e ∷ []) all.results) at all.after }
+pub with_results : (search : Search) (o : Opening) (h : List Entry) (e : Entry) (new : QueueState) → FaultNeedsClose search o h e → FinishesAll search o (h ++ e ∷ []) new → StandsWith o h (λ block. IsWithResults e block × AnswersInBound search o h block) new
+with_results search o h e new none all = record { block = e ∷ all.results; adds = (record { results = all.results; whole = refl; each = all.each }, (none, all.in_bound)); after = rw (append_assoc h (e ∷ []) all.results) at all.after }
 
-pub close_adds : (o : Opening) (h : List Entry) (new : QueueState) → is_closed o h ≡ false → FinishesAll o (h ++ Close ∷ []) new → StandsWith o h (CloseAdds o h) new
-close_adds o h new open_ all = let with = with_results o h Close new tt all in record { block = with.block; adds = rw open_ with.adds.0; after = with.after }
+pub close_adds : (search : Search) (o : Opening) (h : List Entry) (new : QueueState) → is_closed o h ≡ false → FinishesAll search o (h ++ Close ∷ []) new → StandsWith o h (CloseAdds o h) new
+close_adds search o h new open_ all = let with = with_results search o h Close new tt all in record { block = with.block; adds = rw open_ with.adds.0; after = with.after }
 
 -- an entry more of what was due
-pub one_more_ended : (o : Opening) (h : List Entry) (r : Option Entry) (s new : QueueState) → is_some r ≡ true → IfSome r (λ entry. (is_result entry ≡ true) × ForEachBlock s (λ o h. StandsAmid o (h ++ entry ∷ []) new)) → IfSome r (λ entry. ForEachBlock s (λ o h. FaultNeedsClose o h entry))
-    → (results : List Entry) × AllResults results × AnswersInBound o h results × StandsAmid o (h ++ results) s → (results : List Entry) × AllResults results × AnswersInBound o h results × StandsAmid o (h ++ results) new
-one_more_ended o h None s new some ends bound so_far = absurd (false≢true some)
-one_more_ended o h (Some entry) s new some ends bound so_far =
+pub one_more_ended : (search : Search) (o : Opening) (h : List Entry) (r : Option Entry) (s new : QueueState) → is_some r ≡ true → IfSome r (λ entry. (is_result entry ≡ true) × ForEachBlock s (λ o h. StandsAmid o (h ++ entry ∷ []) new)) → s.search ≡ search → IfSome r (λ entry. ForEachBlock s (λ o h. FaultNeedsClose s.search o h entry))
+    → (results : List Entry) × AllResults results × AnswersInBound search o h results × StandsAmid o (h ++ results) s → (results : List Entry) × AllResults results × AnswersInBound search o h results × StandsAmid o (h ++ results) new
+one_more_ended search o h None s new some ends same bound so_far = absurd (false≢true some)
+one_more_ended search o h (Some entry) s new some ends same bound so_far =
     let amid = so_far.3 in
-    (so_far.0 ++ entry ∷ [], all_push (λ r. is_result r ≡ true) so_far.0 entry so_far.1 ends.0, block_more o h so_far.0 entry so_far.2 (bound o (h ++ so_far.0) amid), rw (← append_assoc h so_far.0 (entry ∷ [])) (ends.1 o (h ++ so_far.0) amid))
+    (so_far.0 ++ entry ∷ [], all_push (λ r. is_result r ≡ true) so_far.0 entry so_far.1 ends.0, block_more search o h so_far.0 entry so_far.2 (rw same at (bound o (h ++ so_far.0) amid)), rw (← append_assoc h so_far.0 (entry ∷ [])) (ends.1 o (h ++ so_far.0) amid))

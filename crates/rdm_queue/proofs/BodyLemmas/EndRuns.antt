@@ -6,7 +6,7 @@ use Rattle.std.proofs.lemmas.Bool.{cases_Bool, false≢true, eq-eqb, ne_eqb, ltb
 use Rattle.std.proofs.lemmas.List.Folds.{list_any-append}
 use Rattle.std.proofs.lemmas.Map.Keys.{any_passes_from_place}
 use Rattle.rdm_join.specs.declared.verdict.Sent.{Sent}
-use Rattle.rdm_agent.specs.Calls.{next_op, HasRun, ended_by_abort}
+use Rattle.rdm_agent.specs.Calls.{next_op, HasRunBy, ended_by_abort}
 use Rattle.rdm_agent.specs.Machine.{AgentState, fault_of}
 use Rattle.rdm_agent.specs.declared.op.Op.{Op}
 use Rattle.rdm_agent.specs.declared.op.Op.TheVariants as ops
@@ -41,7 +41,7 @@ use Rattle.rdm_queue.proofs.BodyLemmas.TakeLemmas.{running}
 -- the agent at the end stands after the run's exchanges
 pub record AtEnd (o : Opening) (h : List Entry) (s : QueueState) (r : RunState) : Type 0 where
   pub aborted : Bool
-  pub has_run : HasRun (run_kind r.number h) (known_at_run o r.number h) o.budget aborted (run_exchanges r.number h) (agent_at_end s)
+  pub has_run : HasRunBy s.search (run_kind r.number h) (known_at_run o r.number h) o.budget aborted (run_exchanges r.number h) (agent_at_end s)
   pub closed : aborted ≡ true → is_closed o h ≡ true
 
 pub and_left : (a b : Bool) → (a && b) ≡ true → a ≡ true
@@ -56,7 +56,7 @@ pub at_end : (o : Opening) (h : List Entry) (s : QueueState) (r : RunState) → 
 at_end o h s r run stands = by_closing (is_closing s) refl
   where
     Ends : AgentState → Type 0
-    Ends a = (aborted : Bool) × HasRun (run_kind r.number h) (known_at_run o r.number h) o.budget aborted (run_exchanges r.number h) a × (aborted ≡ true → is_closed o h ≡ true)
+    Ends a = (aborted : Bool) × HasRunBy s.search (run_kind r.number h) (known_at_run o r.number h) o.budget aborted (run_exchanges r.number h) a × (aborted ≡ true → is_closed o h ≡ true)
 
     stays : Ends s.agent
     stays = (run.aborted, run.has_run, λ is. (run.stopped is).0)
@@ -82,7 +82,7 @@ at_end o h s r run stands = by_closing (is_closing s) refl
         apart e = cc
 
     shown : (a : AgentState) → agent_at_end s ≡ a → Ends a → AtEnd o h s r
-    shown a is ends = record { aborted = ends.0; has_run = subst (λ b. HasRun (run_kind r.number h) (known_at_run o r.number h) o.budget ends.0 (run_exchanges r.number h) b) (sym is) ends.1; closed = ends.2 }
+    shown a is ends = record { aborted = ends.0; has_run = subst (λ b. HasRunBy s.search (run_kind r.number h) (known_at_run o r.number h) o.budget ends.0 (run_exchanges r.number h) b) (sym is) ends.1; closed = ends.2 }
 
     by_closing : (b : Bool) → is_closing s ≡ b → AtEnd o h s r
     by_closing true is = shown (stopped_at (next_op s.agent) s.agent) (rw is refl) (by_op (next_op s.agent) refl (sym stands.closed_is ∙ and_left s.closed (not (is_some s.awaited)) is))

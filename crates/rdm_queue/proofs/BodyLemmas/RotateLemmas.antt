@@ -27,16 +27,16 @@ use Rattle.rdm_queue.proofs.BodyLemmas.BegunLemmas.{asked_fewer}
 use Rattle.rdm_queue.proofs.BodyLemmas.AgreesWork.{none_sent}
 
 -- nothing is left
-record IsAtRest (h : List Entry) : Type 0 where
-  finished : unfinished h ≡ []
-  answered : unanswered h ≡ []
-  collected : uncollected_count h ≡ 0
+pub record IsAtRest (h : List Entry) : Type 0 where
+  pub finished : unfinished h ≡ []
+  pub answered : unanswered h ≡ []
+  pub collected : uncollected_count h ≡ 0
 
 no_items : {X : Type 0} (xs : List X) → length xs ≡ 0 → xs ≡ []
 no_items [] none = refl
 no_items (x ∷ xs) none = absurd (omega arith)
 
-at_rest : (h : List Entry) → is_idle h ≡ true → IsAtRest h
+pub at_rest : (h : List Entry) → is_idle h ≡ true → IsAtRest h
 at_rest h idle = by_parts (length (unfinished h) == 0) (length (unanswered h) == 0) (uncollected_count h == 0) refl refl refl idle
   where
     by_parts : (a b c : Bool) → (length (unfinished h) == 0) ≡ a → (length (unanswered h) == 0) ≡ b → (uncollected_count h == 0) ≡ c → (a && b && c) ≡ true → IsAtRest h
@@ -46,7 +46,7 @@ at_rest h idle = by_parts (length (unfinished h) == 0) (length (unanswered h) ==
     by_parts false b c p q r all = absurd (false≢true all)
 
 -- no run has begun that has an answer left to give
-no_run : (o : Opening) (h : List Entry) (s : QueueState) → IsAtRest h → Agrees o h s → s.run ≡ None
+pub no_run : (o : Opening) (h : List Entry) (s : QueueState) → IsAtRest h → Agrees o h s → s.run ≡ None
 no_run o h s rest stands = by_run s.run refl stands.run_is
   where
     by_run : (run : Option RunState) → s.run ≡ run → RunIs o h s run → s.run ≡ None
@@ -64,7 +64,7 @@ not_awaited o h s rest after waits = by_owner ((legal_facts o h after.legal.each
     by_owner (inl w) = none-some w.accepted (ap (λ l. slice_get l 0) (sym rest.finished) ∙ w.oldest)
     by_owner (inr w) = none-some w.run (sym none_open ∙ (run_facts o h after.legal.each).waits waits (record { owner = owners.Run w.run; frame = w.frame }) w.unanswered w.run (eq-eqb w.run w.run refl))
 
-none_awaited : (o : Opening) (h : List Entry) (s : QueueState) → IsAtRest h → StandsAfter o h s → s.awaited ≡ None
+pub none_awaited : (o : Opening) (h : List Entry) (s : QueueState) → IsAtRest h → StandsAfter o h s → s.awaited ≡ None
 none_awaited o h s rest after = by_awaited s.awaited refl after.stands.awaited_is
   where
     by_awaited : (w : Option Awaited) → s.awaited ≡ w → IsPending o h s w → s.awaited ≡ None
@@ -138,9 +138,9 @@ rotated o h s idle after = record {
     none = no_run o h s rest stands
 
 -- and a session keeps its room
-pub session_rotated : (o : Opening) (h : List Entry) (s : QueueState) (room : ℕ) → 1 ≤ room → is_idle h ≡ true → StandsAfter o h s → SessionInvariant s (record { opening = opening_after o h; entries = []; room = room })
+pub session_rotated : (o : Opening) (h : List Entry) (s : QueueState) (room : ℕ) → 1 ≤ room → is_idle h ≡ true → StandsAfter o h s → SessionInvariant s (record { opening = opening_after o h; entries = []; room = room; search = s.search })
 unfolding accepts asks finishes answers collectors awaited is_closed
-session_rotated o h s room some idle after = record { after = rotated o h s idle after; room = let close = at_most_one (is_closed o h) in omega arith }
+session_rotated o h s room some idle after = record { after = rotated o h s idle after; search_is = refl; room = let close = at_most_one (is_closed o h) in omega arith }
   where
     at_most_one : (closed : Bool) → (if closed then 0 else 1) ≤ 1
     at_most_one true = omega arith

@@ -7,7 +7,7 @@ use Rattle.arrayvec.specs.ArrayVec.{ArrayVec}
 use Rattle.rdm_wire.specs.Honest.Asked.{Unmute, Branch, Mute}
 use Rattle.rdm_agent.specs.Run.{asked_by}
 use Rattle.rdm_agent.specs.Statements.{IsInOrder}
-use Rattle.rdm_agent.specs.Calls.{next_op, HasRun}
+use Rattle.rdm_agent.specs.Calls.{next_op, HasRunBy}
 use Rattle.rdm_agent.specs.OpFrames.{op_frame}
 use Rattle.rdm_agent.specs.declared.op.Op.{Op}
 use Rattle.rdm_agent.specs.declared.op.Op.TheVariants as ops
@@ -136,7 +136,7 @@ may_run o h s owner frame new free not_closed gives after = record {
     run : IsRunning o h s gives.run
     run = running o h s gives.run gives.run_is after.stands
 
-    has_run : HasRun (run_kind gives.run.number h) (known_at_run o gives.run.number h) o.budget false (run_exchanges gives.run.number h) s.agent
+    has_run : HasRunBy s.search (run_kind gives.run.number h) (known_at_run o gives.run.number h) o.budget false (run_exchanges gives.run.number h) s.agent
     has_run = not_stopped _ _ _ run.aborted _ s.agent run.has_run gives.goes_on
 
     frames : run_frames gives.run.number h ≡ length (run_exchanges gives.run.number h)

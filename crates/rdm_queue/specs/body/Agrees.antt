@@ -5,7 +5,8 @@ use Rattle.arrayvec.specs.ArrayVec.{ArrayVec}
 use Rattle.rdm_wire.specs.Frames.{asked_in}
 use Rattle.rdm_join.specs.declared.verdict.Sent.{Sent}
 use Rattle.rdm_join.specs.Verdict.{sent_by}
-use Rattle.rdm_agent.specs.Calls.{next_op, HasRun}
+use Rattle.rdm_agent.specs.Calls.{next_op, HasRunBy}
+use Rattle.rdm_agent.specs.declared.search.Search.{Search}
 use Rattle.rdm_agent.specs.Run.{asked_by}
 use Rattle.rdm_agent.specs.Machine.{AgentState, fault_of}
 use Rattle.rdm_agent.specs.OpFrames.{op_frame}
@@ -65,8 +66,8 @@ IsPending o h s (Some (awaiting.Run tn)) = AwaitsRun o h s tn
 pub record IsRunning (o : Opening) (h : List Entry) (s : QueueState) (r : RunState) : Type 0 where
   pub last : last_run h ≡ Some r.number
   pub aborted : Bool
-  pub has_run : HasRun (run_kind r.number h) (known_at_run o r.number h) o.budget aborted (run_exchanges r.number h)
-      s.agent
+  pub has_run : HasRunBy s.search (run_kind r.number h) (known_at_run o r.number h) o.budget aborted
+      (run_exchanges r.number h) s.agent
   pub stopped : aborted ≡ true → (is_closed o h ≡ true) × (awaited h ≡ false)
   -- what it serves are the first of those that aren't answered
   pub left : asked_before (last_run h) h ≡ length (answers h) + r.left
@@ -137,8 +138,8 @@ abbrev pub ForEachBlock : QueueState → (Opening → List Entry → Type 0) →
 ForEachBlock s P = (o : Opening) (h : List Entry) → StandsAmid o h s → P o h
 
 -- Finishes and Answers, until nothing is due; the Answers are in bound
-pub record FinishesAll (o : Opening) (h : List Entry) (new : QueueState) : Type 0 where
+pub record FinishesAll (search : Search) (o : Opening) (h : List Entry) (new : QueueState) : Type 0 where
   pub results : List Entry
   pub each : AllResults results
-  pub in_bound : AnswersInBound o h results
+  pub in_bound : AnswersInBound search o h results
   pub after : StandsAfter o (h ++ results) new

@@ -43,6 +43,7 @@ state_of c = record {
   source = c.config.source;
   greatest = c.config.places;
   budget = c.config.budget;
+  search = c.search;
   places = places_of c.clients.items;
   paused = c.paused;
   closed = c.closed;

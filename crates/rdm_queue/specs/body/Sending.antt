@@ -10,8 +10,8 @@ use Rattle.rdm_wire.specs.Frames.{asked_in, heard_in}
 use Rattle.rdm_join.specs.Exchange.{bytes_heard}
 use Rattle.rdm_join.specs.declared.event.LineEvent.{LineEvent}
 use Rattle.rdm_join.specs.declared.verdict.Sent.{Sent}
-use Rattle.rdm_agent.specs.Machine.{start, fed}
-use Rattle.rdm_agent.specs.Calls.{next_op, HasRun}
+use Rattle.rdm_agent.specs.Machine.{start_by, fed}
+use Rattle.rdm_agent.specs.Calls.{next_op, HasRunBy}
 use Rattle.rdm_agent.specs.Run.{asked_by}
 use Rattle.rdm_agent.specs.OpFrames.{op_frame}
 use Rattle.rdm_agent.specs.declared.kind.Kind.{Kind}
@@ -57,7 +57,7 @@ abbrev pub begun : QueueState → QueueState
 begun s = record s {
   run = Some (record { number = s.next_run; left = length s.asked });
   next_run = s.next_run + 1;
-  agent = start (kind_of s.asked) (uids_of s.devices) s.budget;
+  agent = start_by s.search (kind_of s.asked) (uids_of s.devices) s.budget;
 }
 
 -- a run goes on also where sending is paused; a request between two parts goes before a run, and a run before others
@@ -122,7 +122,7 @@ pub record GivesFirst (old : QueueState) (owner : Owner) (frame : ArrayVec ℕ) 
   pub no_run : old.run ≡ None
   pub not_paused : old.paused ≡ false
   pub turn : (old.under_way || (length old.asked == 0)) ≡ false
-  pub starts : HasRun (kind_of old.asked) (uids_of old.devices) old.budget false [] (begun old).agent
+  pub starts : HasRunBy old.search (kind_of old.asked) (uids_of old.devices) old.budget false [] (begun old).agent
   pub gives : GivesRun (begun old) owner frame new
 
 pub data WhichGives (old : QueueState) (owner : Owner) (frame : ArrayVec ℕ) (new : QueueState) : Type 0 where

@@ -12,20 +12,22 @@ use Rattle.rdm_queue.specs.body.Agrees.{StandsAmid, StandsAfter}
 abbrev pub HasRoom : LogState → Type 0
 HasRoom k = length k.entries + reserved k.opening k.entries ≤ k.room
 
--- the controller stands after the log, which is legal and has its room
+-- the controller stands after the log, which is legal and has its room, and searches as the log says
 pub record SessionInvariant (s : QueueState) (k : LogState) : Type 0 where
   pub after : StandsAfter k.opening k.entries s
   pub room : HasRoom k
+  pub search_is : s.search ≡ k.search
 
 -- the same amid a block of entries, where Finishes may still be due
 pub record SessionAmid (s : QueueState) (k : LogState) : Type 0 where
   pub amid : StandsAmid k.opening k.entries s
   pub room : HasRoom k
+  pub search_is : s.search ≡ k.search
 
 -- what was due is finished: the log has a Finish or an Answer more for each, and the session is whole again
 pub record FinishesDue (old : LogState) (s : QueueState) (new : LogState) : Type 0 where
   pub results : List Entry
   pub each : AllResults results
-  pub in_bound : AnswersInBound old.opening old.entries results
+  pub in_bound : AnswersInBound old.search old.opening old.entries results
   pub grows : new ≡ grown old results
   pub kept : SessionInvariant s new

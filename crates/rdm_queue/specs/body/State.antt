@@ -12,6 +12,8 @@ use Rattle.rdm_join.specs.declared.status.Status.TheVariants.{FailedToSend, NoMe
 use Rattle.rdm_wire.specs.declared.request.Request.{Request}
 use Rattle.rdm_wire.specs.declared.device.Device.{Device}
 use Rattle.rdm_agent.specs.Machine.{AgentState, start}
+use Rattle.rdm_agent.specs.declared.search.Search.{Search}
+use Rattle.rdm_agent.specs.declared.search.Search.TheVariants.{Steady}
 use Rattle.rdm_agent.specs.declared.kind.Kind.{Kind}
 use Rattle.rdm_agent.specs.declared.kind.Kind.TheVariants.{Full}
 use Rattle.rdm_queue.specs.declared.config.Config.{Config}
@@ -44,6 +46,8 @@ pub record QueueState : Type 0 where
   pub source : ℕ
   pub greatest : ℕ
   pub budget : ℕ
+  -- how its runs search
+  pub search : Search
   pub places : List ℕ
   pub paused : Bool
   pub closed : Bool
@@ -78,6 +82,7 @@ first_state config = record {
   source = config.source;
   greatest = config.places;
   budget = config.budget;
+  search = Steady;
   places = [];
   paused = false;
   closed = false;

@@ -1,16 +1,19 @@
 -- What a log and a session are seen as.
 use Rattle.std.specs.Prelude.{ℕ, Bool, false, List, [], ◌++◌, nat_lt}
+use Rattle.rdm_agent.specs.declared.search.Search.{Search}
+use Rattle.rdm_agent.specs.declared.search.Search.TheVariants.{Steady}
 use Rattle.rdm_queue.specs.declared.config.Config.{Config}
 use Rattle.rdm_queue.specs.declared.entry.Opening.{Opening}
 use Rattle.rdm_queue.specs.declared.entry.Entry.{Entry}
 use Rattle.rdm_queue.specs.log.History.{free_room, is_paused, is_closed, places, next_request, next_ask, next_tn}
 use Rattle.rdm_queue.specs.log.Runs.{next_run, known_devices, devices_run}
 
--- the opening, the entries after it, and the entries that there is room for
+-- the opening, the entries after it, the entries that there is room for, and how the runs of its session search
 pub record LogState : Type 0 where
   pub opening : Opening
   pub entries : List Entry
   pub room : ℕ
+  pub search : Search
 
 -- the log with these entries at its end
 abbrev pub grown : LogState → List Entry → LogState
@@ -39,6 +42,10 @@ blank_opening = record {
   next_run = 0;
   next_tn = 0;
 }
+
+-- a new log with this room
+abbrev pub blank_log : ℕ → LogState
+blank_log room = record { opening = blank_opening; entries = []; room = room; search = Steady }
 
 -- what a session stands after that is set up so; its first run is number 1
 abbrev pub opened : Config → Opening

@@ -6,6 +6,7 @@ use Rattle.arrayvec.specs.ArrayVec.{ArrayVec}
 use Rattle.rdm_wire.specs.declared.request.Request.{Request}
 use Rattle.rdm_join.specs.declared.event.LineEvent.{LineEvent}
 use Rattle.rdm_agent.specs.declared.kind.Kind.{Kind}
+use Rattle.rdm_agent.specs.declared.search.Search.{Search}
 use Rattle.rdm_queue.specs.declared.entry.ClientId.{ClientId}
 use Rattle.rdm_queue.specs.declared.entry.Call.TheVariants as calls
 use Rattle.rdm_queue.specs.declared.entry.Owner.{Owner}
@@ -108,11 +109,11 @@ TakeAdds o h (Some frame) block = (owner : Owner) × MaySend o h owner frame × 
 TakeAdds o h None block = NoSend o h × (block ≡ [])
 
 -- on a calm line, with a budget that suffices, the Answers of the block have a fault only after a close
-abbrev pub DeliverAdds : Opening → List Entry → LineEvent → Result (Unit {0}) (NotAsked × LineEvent) → List Entry
-    → Type 0
-DeliverAdds o h event (Ok x) block =
-    (awaited h ≡ true) × IsWithResults (Came event) block × AnswersInBound o h block
-DeliverAdds o h event (Err e) block = (awaited h ≡ false) × (e.1 ≡ event) × (block ≡ [])
+abbrev pub DeliverAdds : Search → Opening → List Entry → LineEvent → Result (Unit {0}) (NotAsked × LineEvent)
+    → List Entry → Type 0
+DeliverAdds search o h event (Ok x) block =
+    (awaited h ≡ true) × IsWithResults (Came event) block × AnswersInBound search o h block
+DeliverAdds search o h event (Err e) block = (awaited h ≡ false) × (e.1 ≡ event) × (block ≡ [])
 
 abbrev pub CollectAdds : Opening → List Entry → ClientId → Option Outcome → List Entry → Type 0
 CollectAdds o h c (Some outcome) block = IsOldest o h c.0 outcome × (block ≡ Collect c ∷ [])

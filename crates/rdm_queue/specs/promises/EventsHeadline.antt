@@ -197,4 +197,4 @@ pub record EventsPromised (old : LogState) (es : List Event) (rs : List Answer) 
   -- on a calm line, with a budget that suffices, a discovery that these events answered has a fault only after a close
   pub in_bound : (front back : List Entry) (n r : ℕ) (fault : AgentFault) (present : List ℕ)
       → new.entries ≡ old.entries ++ front ++ entries.Answer n r (Some fault) ∷ back
-      → IsCalmRun new.opening new.entries r present → is_closed new.opening (old.entries ++ front) ≡ true
+      → IsCalmRun new.search new.opening new.entries r present → is_closed new.opening (old.entries ++ front) ≡ true

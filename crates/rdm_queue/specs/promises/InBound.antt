@@ -1,6 +1,7 @@
 -- On a calm line a run whose budget suffices is answered without fault, unless the queue is closed.
 use Rattle.std.specs.Prelude.{◌≡◌, ℕ, ◌≤◌, true, List, [], ◌∷◌, ◌++◌, Some}
-use Rattle.rdm_agent.specs.Bound.{IsCalm, enough_for}
+use Rattle.rdm_agent.specs.Bound.{IsCalm, enough_by}
+use Rattle.rdm_agent.specs.declared.search.Search.{Search}
 use Rattle.rdm_queue.specs.declared.entry.Opening.{Opening}
 use Rattle.rdm_queue.specs.declared.entry.Entry.{Entry}
 use Rattle.rdm_queue.specs.declared.entry.Entry.TheVariants.{Answer}
@@ -9,16 +10,18 @@ use Rattle.rdm_queue.specs.log.Runs.{run_exchanges, run_kind, known_at_run}
 
 -- the run's exchanges are those of an honest line with these devices, of which there are at most 1,024, without a
 -- failure; and the budget is at least as large as the bound on frames asks
-pub record IsCalmRun (o : Opening) (h : List Entry) (r : ℕ) (present : List ℕ) : Type 0 where
+pub record IsCalmRun (search : Search) (o : Opening) (h : List Entry) (r : ℕ) (present : List ℕ) : Type 0 where
   pub calm : IsCalm present (run_exchanges r h)
-  pub budgeted : enough_for present (run_kind r h) (known_at_run o r h) ≤ o.budget
+  pub budgeted : enough_by search present (run_kind r h) (known_at_run o r h) ≤ o.budget
 
 -- after h an Answer by such a run has a fault only where the queue is closed
-abbrev pub FaultNeedsClose : Opening → List Entry → Entry → Type 0
-FaultNeedsClose o h (Answer n r (Some fault)) = (present : List ℕ) → IsCalmRun o h r present → is_closed o h ≡ true
-FaultNeedsClose o h _ = Unit {0}
+abbrev pub FaultNeedsClose : Search → Opening → List Entry → Entry → Type 0
+FaultNeedsClose search o h (Answer n r (Some fault)) =
+    (present : List ℕ) → IsCalmRun search o h r present → is_closed o h ≡ true
+FaultNeedsClose search o h _ = Unit {0}
 
 -- so it is with each Answer of a block that is added to h
-abbrev pub AnswersInBound : Opening → List Entry → List Entry → Type 0
-AnswersInBound o h [] = Unit {0}
-AnswersInBound o h (e ∷ block) = FaultNeedsClose o h e × AnswersInBound o (h ++ e ∷ []) block
+abbrev pub AnswersInBound : Search → Opening → List Entry → List Entry → Type 0
+AnswersInBound search o h [] = Unit {0}
+AnswersInBound search o h (e ∷ block) =
+    FaultNeedsClose search o h e × AnswersInBound search o (h ++ e ∷ []) block

@@ -5,6 +5,7 @@ use Rattle.rdm_wire.specs.declared.request.Request.{Request}
 use Rattle.rdm_wire.specs.declared.request.ReqClass.TheVariants as requests
 use Rattle.rdm_join.specs.declared.status.Status.TheVariants.{Timeout}
 use Rattle.rdm_join.specs.declared.event.LineEvent.TheVariants.{Reply}
+use Rattle.rdm_agent.specs.declared.search.Search.TheVariants.{Steady}
 use Rattle.rdm_queue.specs.declared.entry.Opening.{Opening}
 use Rattle.rdm_queue.specs.declared.entry.Owner.TheVariants as owners
 use Rattle.rdm_queue.specs.declared.entry.Entry.{Entry}
@@ -74,7 +75,7 @@ closed_two = accepted_two ++ Close ∷ []
 
 -- a session that kept this log, with room for eleven entries
 abbrev pub logged_with : List Entry → LogState
-logged_with h = record { opening = sample_opening; entries = h; room = 11 }
+logged_with h = record { opening = sample_opening; entries = h; room = 11; search = Steady }
 
 -- the calls of closed_log, and their answers
 abbrev pub sample_events : List Event

@@ -2,6 +2,7 @@
 use Rattle.std.specs.Prelude.{ℕ, List, [], ◌∷◌, ◌++◌, take, Some, None, Ok}
 use Rattle.rdm_wire.specs.CommandFrames.{branch_frame, mute_frame, unmute_frame}
 use Rattle.rdm_join.specs.declared.event.LineEvent.TheVariants.{Reply, Failed}
+use Rattle.rdm_agent.specs.declared.search.Search.TheVariants.{Steady}
 use Rattle.rdm_agent.specs.declared.kind.Kind.{Kind}
 use Rattle.rdm_agent.specs.declared.kind.Kind.TheVariants.{Full, Incremental}
 use Rattle.rdm_agent.specs.declared.fault.AgentFault.TheVariants.{LineFailed, Aborted}
@@ -168,7 +169,7 @@ abbrev pub wasted_opening : Opening
 wasted_opening = record sample_opening { budget = 8 }
 
 abbrev pub wasted_with : List Entry → LogState
-wasted_with h = record { opening = wasted_opening; entries = h; room = 40 }
+wasted_with h = record { opening = wasted_opening; entries = h; room = 40; search = Steady }
 
 -- the calls of aborted_log and then a Collect, and their answers
 abbrev pub collected_failed : List Entry

@@ -1,4 +1,4 @@
-use Rattle.std.proofs.Common.{List, ◌++◌}
+use Rattle.std.proofs.Common.{◌≡◌, List, ◌++◌}
 use Rattle.rdm_queue.specs.declared.entry.Entry.{Entry}
 use Rattle.rdm_queue.specs.promises.Blocks.{AllResults}
 use Rattle.rdm_queue.specs.promises.InBound.{AnswersInBound}
@@ -8,7 +8,10 @@ use Rattle.rdm_queue.proofs.controller.Controller.finish_due.Given as goal
 
 -- the entries so far are Finishes, and Answers in bound
 abbrev pub invariant-loop : goal.invariant-loop
-invariant-loop l = ForEachBlock l.fn.self (λ o h. (results : List Entry) × AllResults results × AnswersInBound o h results × StandsAmid o (h ++ results) l.self)
+invariant-loop l = record {
+  search : l.self.search ≡ l.fn.self.search;
+  ended : ForEachBlock l.fn.self (λ o h. (results : List Entry) × AllResults results × AnswersInBound l.fn.self.search o h results × StandsAmid o (h ++ results) l.self);
+}
 
 abbrev pub decreases-loop : goal.decreases-loop
 decreases-loop l = unended l.self

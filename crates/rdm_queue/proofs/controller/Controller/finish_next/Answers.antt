@@ -1,3 +1,4 @@
+use Rattle.rdm_queue.proofs.BodyLemmas.SearchLemmas.{ended_searches}
 use Rattle.rdm_queue.proofs.BodyLemmas.CallLemmas.{ends_each, ends_fewer, ends_in_bound, settled_each}
 use Rattle.rdm_queue.proofs.controller.Controller.finish_next.Goals as goal
 
@@ -12,3 +13,6 @@ returns-clause-in_bound c = rw (← c.self.view_is) (ends_in_bound c.finish_next
 
 pub returns-clause-settled : goal.returns-clause-settled
 returns-clause-settled c = rw (← c.self.view_is) (settled_each c.finish_next.result c.self.inside.queue c.finish_next.new.self c.finish_next.ensures.none)
+
+pub returns-clause-search : goal.returns-clause-search
+returns-clause-search c = rw (← c.self.view_is) (ended_searches c.finish_next.result c.self.inside.queue c.finish_next.new.self _ c.finish_next.ensures.ended c.finish_next.ensures.none)

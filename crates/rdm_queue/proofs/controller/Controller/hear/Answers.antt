@@ -1,5 +1,5 @@
 use Rattle.rdm_queue.proofs.BodyLemmas.AfterFinish.{came_amid}
 use Rattle.rdm_queue.proofs.controller.Controller.hear.Goals as goal
 
-pub returns : goal.returns
-returns c = rw (← c.self.view_is) (λ o h after waits. came_amid o h c.self.inside.queue c.hear.new.self c.args.event.now waits c.hear.ensures.heard c.hear.ensures.heard_by_run after)
+pub returns-clause-hears : goal.returns-clause-hears
+returns-clause-hears c = rw (← c.self.view_is) (λ o h after waits. came_amid o h c.self.inside.queue c.hear.new.self c.args.event.now waits c.hear.ensures.heard c.hear.ensures.heard_by_run after)

@@ -1,5 +1,5 @@
 use Rattle.rdm_queue.proofs.BodyLemmas.AfterLemmas.{first_after}
 use Rattle.rdm_queue.proofs.controller.Controller.new.Goals as goal
 
-pub returns : goal.returns
-returns c = rw c.new.ensures (first_after c.args.config)
+pub returns-clause-stands : goal.returns-clause-stands
+returns-clause-stands c = rw c.new.ensures (first_after c.args.config)

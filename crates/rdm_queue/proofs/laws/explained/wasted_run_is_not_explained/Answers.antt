@@ -6,6 +6,7 @@ use Rattle.rdm_wire.specs.Honest.Asked.{Unmute, Mute}
 use Rattle.rdm_wire.specs.Honest.Heard.{Silent}
 use Rattle.rdm_agent.specs.Bound.{IsCalm}
 use Rattle.rdm_agent.specs.SampleRun.{sample_uid, exchange, all_branch}
+use Rattle.rdm_agent.specs.declared.search.Search.TheVariants.{Steady}
 use Rattle.rdm_agent.specs.declared.fault.AgentFault.TheVariants.{Exhausted}
 use Rattle.rdm_agent.proofs.SampleHonest.{Goes, none_muted, line, counts, unmutes, silent}
 use Rattle.rdm_queue.specs.declared.entry.Entry.TheVariants.{Answer}
@@ -36,7 +37,7 @@ honest = (record { devices = tt; ascending = tt }, none_muted, unmutes [] 0 3 (e
 calm_line : IsCalm [] wasted
 calm_line = record { honest = honest; few = omega arith; no_failure = ((λ e. cc), ((λ e. cc), ((λ e. cc), ((λ e. cc), ((λ e. cc), ((λ e. cc), ((λ e. cc), ((λ e. cc), tt)))))))) }
 
-calm : IsCalmRun wasted_opening wasted_run 1 []
+calm : IsCalmRun Steady wasted_opening wasted_run 1 []
 unfolding joins accepts asks sends cames finishes answers traded awaited is_paused is_closed has_begun entries_before_run last_run run_exchanges
 calm = record { calm = calm_line; budgeted = omega arith }
 

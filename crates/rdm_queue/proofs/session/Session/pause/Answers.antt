@@ -10,4 +10,4 @@ invariant_of-self c =
     let after = c.self.invariant.after in
     let can = sym (c.can_pause.ensures k.opening k.entries after) ∙ c.if-not-can_pause.false in
     let stands = c.pause.ensures.adds k.opening k.entries after in
-    rw c.append.ensures (session_grown c.self.inside.controller c.pause.new.self k (Pause ∷ []) c.self.invariant (rw (stands.adds, can) at stands.after) (omega arith))
+    rw c.append.ensures (session_grown c.self.inside.controller c.pause.new.self k (Pause ∷ []) c.self.invariant (rw (stands.adds, can) at stands.after) c.pause.ensures.search (omega arith))

@@ -10,4 +10,4 @@ invariant_of-self c =
     let after = c.self.invariant.after in
     let can = sym (c.can_resume.ensures k.opening k.entries after) ∙ c.if-not-can_resume.false in
     let stands = c.resume.ensures.adds k.opening k.entries after in
-    rw c.append.ensures (session_grown c.self.inside.controller c.resume.new.self k (Resume ∷ []) c.self.invariant (rw (stands.adds, can) at stands.after) (omega arith))
+    rw c.append.ensures (session_grown c.self.inside.controller c.resume.new.self k (Resume ∷ []) c.self.invariant (rw (stands.adds, can) at stands.after) c.resume.ensures.search (omega arith))
