@@ -223,8 +223,9 @@ impl Agent {
         }
     }
 
-    /// How many ranges are still open: 1 from the start, [`MOST_RANGES`] at most. 0 at the end of the search, after a
-    /// failure and after an abort; where the budget ended in the midst of the search, those that it left open.
+    /// How many ranges are still open: 1 from the start, [`MOST_RANGES`] at most. A quick run has those of its sweep
+    /// first, and 1 again where its steady search begins. 0 at the end of the search, after a failure and after an
+    /// abort; where the budget ended in the midst of the search, those that it left open.
     pub fn open_ranges(&self) -> usize
         ensures value { result ≡ open_ranges self.now.phase }
         ensures at_most { result ≤ MOST_RANGES }

@@ -19,7 +19,8 @@ pub(crate) const SWEEP_FRAMES: usize = 100;
 const FRAMES_PER_DEVICE: u64 = 370;
 
 /// The exchanges that suffice for [`MOST_DEVICES`] devices and as many known UIDs: 384,008 (profile of this project).
-/// The line may lose up to four replies in succession. A run on an honest line makes no more, and ends without fault.
+/// The line may lose up to four replies in succession. A steady run on an honest line makes no more, and ends without
+/// fault; a quick one may need up to 105 more.
 ///
 /// For `n` devices and `k` known UIDs these are `8 + 370 n + 5 k`:
 ///

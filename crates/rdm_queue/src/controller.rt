@@ -63,8 +63,8 @@ impl Controller {
         })
     }
 
-    /// The same controller, whose runs search so; without this call they search steadily. Nothing waits, is under way,
-    /// is asked or is uncollected, as in a new controller.
+    /// The same controller, whose runs search so from now on; those of a new one search steadily. As in a new one,
+    /// nothing waits, is under way, is asked or is uncollected.
     pub fn with_search(mut self, search: Search) -> Controller
         requires idle { ForEachLog self (λ o h. is_idle h ≡ true) }
         ensures search { result.search ≡ search }
@@ -317,7 +317,8 @@ impl Controller {
 
     /// Takes what the line answered, where a reply is awaited. What is then due is still to be finished.
     pub(crate) fn hear(&mut self, alloc: Global, event: &LineEvent)
-        ensures hears { ForEachLog self.old (λ o h. awaited h ≡ true → StandsAmid o (h ++ Came event.now ∷ []) self.new) }
+        ensures hears { ForEachLog self.old (λ o h. awaited h ≡ true
+            → StandsAmid o (h ++ Came event.now ∷ []) self.new) }
         ensures search { self.new.search ≡ self.old.search }
     {
         self.queue.hear(alloc, event);
@@ -328,7 +329,8 @@ impl Controller {
         ensures finished { IfSome result (λ entry. (is_result entry ≡ true)
             × ForEachBlock self.old (λ o h. StandsAmid o (h ++ entry ∷ []) self.new)) }
         ensures fewer { OnSome result (unended self.new < unended self.old) }
-        ensures in_bound { IfSome result (λ entry. ForEachBlock self.old (λ o h. FaultNeedsClose self.old.search o h entry)) }
+        ensures in_bound { IfSome result (λ entry.
+            ForEachBlock self.old (λ o h. FaultNeedsClose self.old.search o h entry)) }
         ensures settled { IfNone result (ForEachBlock self.old (λ o h. StandsAfter o h self.old)
             × (self.new ≡ self.old)) }
         ensures search { self.new.search ≡ self.old.search }

@@ -20,7 +20,7 @@ pub struct Log {
     opening: Opening,
     entries: Vec<Entry>,
     room: usize,
-    /// How the runs of its session search. No entry says so, and no rule on logs looks at it.
+    /// How the runs of its session search from now on. No entry says so, and no rule on logs looks at it.
     search: Search,
 }
 
@@ -74,7 +74,7 @@ impl Log {
         self.entries.as_slice()
     }
 
-    /// How the runs of its session search; steadily, until a session is told otherwise.
+    /// How the runs of its session search from now on; steadily, until a session is told otherwise.
     pub fn search(&self) -> Search
         ensures { result ≡ self.now.search }
     {
@@ -116,7 +116,9 @@ impl Log {
         ensures { result ≡ blank_log self.room }
     {
         let Log {
-            mut entries, room, ..
+            mut entries,
+            room,
+            ..
         } = self;
         entries.clear();
         Log {

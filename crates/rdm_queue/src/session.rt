@@ -73,8 +73,8 @@ impl Session {
         })
     }
 
-    /// The same session, whose runs search so; without this call they search steadily. It is idle, as a new one is. Its
-    /// log says how ([`Log::search`]).
+    /// The same session, whose runs search so from now on; those of a new one search steadily. It is idle, as a new one
+    /// is. Its log says how ([`Log::search`]).
     pub fn with_search(mut self, search: Search) -> Session
         requires idle { is_idle self.entries ≡ true }
         ensures { result ≡ record self { search = search } }
@@ -244,7 +244,8 @@ impl Session {
     /// only after a failure or a close.
     /// Err: no reply is awaited; nothing has changed, and the event comes back.
     pub fn deliver(&mut self, alloc: Global, event: LineEvent) -> Result<(), (NotAsked, LineEvent)>
-        ensures adds { GrowsBy self.old (DeliverAdds self.old.search self.old.opening self.old.entries event result) self.new }
+        ensures adds { GrowsBy self.old
+            (DeliverAdds self.old.search self.old.opening self.old.entries event result) self.new }
         ensures legal { Legal self.new.opening self.new.entries }
     {
         if !self.controller.awaits() {
@@ -384,7 +385,7 @@ impl Session {
     ///
     /// An entry takes 296 bytes. A request takes 5 entries where one frame is enough for it, and 2 for each frame
     /// more. A discovery takes 3, and its run 2 for each frame, of which a run with `n` devices and `k` known ones on
-    /// an honest line has at most `8 + 370 n + 5 k`.
+    /// an honest line has at most `8 + 370 n + 5 k`, and 105 more where it searches quickly.
     ///
     /// The numbers of requests, discoveries, runs and frames go on, and so do the clients with their places, the
     /// devices and their run, and whether it is paused or closed: they stand in the new log's opening. Its runs search

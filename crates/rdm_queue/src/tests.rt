@@ -13,3 +13,4 @@ mod parts;
 mod places;
 mod rotating;
 mod running;
+mod searching;

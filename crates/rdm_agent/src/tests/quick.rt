@@ -92,7 +92,7 @@ fn known_devices(rt: HostRuntime) {
     assert_eq!(rt; ended(&rt, agent), Ok(both));
 }
 
-// A device that comes while the sweep is under way.
+// A device that comes after the sweep.
 #[test]
 fn a_device_that_comes(rt: HostRuntime) {
     let devices = [always(plain(near())), between(plain(far()), 5, u64::MAX)];
@@ -161,9 +161,9 @@ fn good_found(
     }
 }
 
-// One bad device hides none of the ten good ones, where the steady search finds those below it alone.
+// One bad device hides none of these ten good ones, where the steady search finds those below it alone.
 #[test]
-fn one_bad_device_hides_no_other(rt: HostRuntime) {
+fn one_bad_device_hides_none_of_these(rt: HostRuntime) {
     for apart in [false, true] {
         let devices = eleven(apart);
         for fault in [Fault::NeverMutes, Fault::AnswersShort, Fault::GoesOn] {

@@ -108,7 +108,7 @@ abbrev pub TakeAdds : Opening → List Entry → Option (ArrayVec ℕ) → List 
 TakeAdds o h (Some frame) block = (owner : Owner) × MaySend o h owner frame × (block ≡ Send owner frame ∷ [])
 TakeAdds o h None block = NoSend o h × (block ≡ [])
 
--- on a calm line, with a budget that suffices, the Answers of the block have a fault only after a close
+-- on a calm line, with a budget that suffices for this search, the Answers of the block have a fault only after a close
 abbrev pub DeliverAdds : Search → Opening → List Entry → LineEvent → Result (Unit {0}) (NotAsked × LineEvent)
     → List Entry → Type 0
 DeliverAdds search o h event (Ok x) block =

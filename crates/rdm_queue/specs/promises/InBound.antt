@@ -9,7 +9,7 @@ use Rattle.rdm_queue.specs.log.History.{is_closed}
 use Rattle.rdm_queue.specs.log.Runs.{run_exchanges, run_kind, known_at_run}
 
 -- the run's exchanges are those of an honest line with these devices, of which there are at most 1,024, without a
--- failure; and the budget is at least as large as the bound on frames asks
+-- failure; and the budget is at least as large as this search's bound on frames asks
 pub record IsCalmRun (search : Search) (o : Opening) (h : List Entry) (r : ℕ) (present : List ℕ) : Type 0 where
   pub calm : IsCalm present (run_exchanges r h)
   pub budgeted : enough_by search present (run_kind r h) (known_at_run o r h) ≤ o.budget
