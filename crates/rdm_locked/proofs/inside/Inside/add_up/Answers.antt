@@ -1,0 +1,11 @@
+use Rattle.std.proofs.Common.{arith}
+use Rattle.rdm_locked.proofs.CallLemmas.{calls_few}
+use Rattle.rdm_locked.proofs.inside.Inside.add_up.Goals as goal
+
+pub gather-calls-requires : goal.gather-calls-requires
+gather-calls-requires g c =
+    let me = c.args.self in (
+      me.unused,
+      rw (c.entries-most.ensures, c.log.ensures.log, c.session.ensures.session) (omega (arith, calls_few me.session.entries, me.counted)),
+      omega (arith, me.one_part_each, c.requires.parts),
+    )

@@ -1,0 +1,4 @@
+pub mod Calls
+pub mod Collects
+pub mod Exchanges
+pub mod Turns

@@ -1,0 +1,341 @@
+//! What lies under the lock.
+ghost use Rattle.std.specs.Prelude.{◌≡◌, ◌≢◌, ◌≤◌, ◌+◌, [], Ok, Err, Some, OnOk, OnErr, IfOk, IfErr, IfSome, IfNone};
+ghost use Rattle.std.specs.Prelude.{OnSome, nat_lt, if◌then◌else◌};
+ghost use Rattle.rdm_agent.specs.declared.search.Search.TheVariants.{Steady};
+ghost use Rattle.rdm_queue.specs.log.Config.{IsConfig};
+ghost use Rattle.rdm_queue.specs.log.History.{next_client};
+ghost use Rattle.rdm_queue.specs.log.Legal.{Legal};
+ghost use Rattle.rdm_queue.specs.log.LogState.{opened};
+ghost use Rattle.rdm_queue.specs.log.Runs.{known_devices, devices_run};
+ghost use Rattle.rdm_queue.specs.promises.Blocks.{JoinLogs, SubmitLogs, DiscoverLogs, PauseLogs, ResumeLogs, GrowsBy};
+ghost use Rattle.rdm_queue.specs.promises.Blocks.{CloseAdds, DeliverAdds, CollectAdds};
+ghost use Rattle.rdm_queue.specs.promises.Outcomes.{oldest_kind, request_outcome, discovery_outcome};
+ghost use Rattle.rdm_queue.specs.declared.outcome.OutcomeKind.TheVariants as kinds;
+ghost use Rattle.rdm_locked.specs.Calls.{count_calls, submits_logged, discovers_logged};
+ghost use Rattle.rdm_locked.specs.Turns.{TurnLogs};
+
+mod finish;
+
+use crate::share::CallShare;
+use crate::turn::Turn;
+pub use finish::SessionEnd;
+use rdm_agent::{Kind, Search};
+use rdm_client::DeviceView;
+use rdm_join::LineEvent;
+use rdm_queue::{
+    AskFault, ClientId, Completion, Config, DiscoveryEnd, JoinFault, Log, LogFull, NoMemory,
+    NotAsked, OutcomeKind, Session, SubmitFault,
+};
+use rdm_wire::{DeviceSet, Request};
+use std::alloc::Global;
+use std::sync::ledger::{Blank, Book, Ledger, Share};
+
+/// A session with a book of its clients' calls: what lies under the lock of a [`Port`](crate::Port) (profile of this
+/// project). Each of its calls is made while the lock is held, and is one call of the session.
+///
+/// Whenever the lock is free, the log is legal and the session stands after it, and the book has as many calls as the
+/// log: an Accept, an Ask, a Collect, and a Refuse of a client's call count one each. There are 17 parts of the
+/// book: each client that joined has one, and the rest lies here.
+#[derive(Drop)]
+pub struct Inside<L: Ledger> {
+    session: Session,
+    calls: Book<L>,
+    rest: Share<L>,
+    joined: u8,
+    left: u8,
+    ghost counted: { count_calls session.entries ≡ calls.total },
+    ghost clients: { next_client session.opening session.entries ≡ joined },
+    ghost one_part_each: { rest.parts + joined ≡ 17 },
+    ghost few: { joined ≤ 16 },
+    ghost unused: { rest.amount ≡ 0 },
+    ghost left_once: { left ≤ joined },
+}
+
+impl<L: Ledger> Inside<L> {
+    /// A session that is set up so, without clients, whose runs search steadily. The blank has 17 parts; the other
+    /// conditions are those of [`Session::new`].
+    /// Err: there was no memory; the blank and the log come back as they were.
+    pub fn new(
+        alloc: Global,
+        blank: Blank,
+        config: Config,
+        log: Log,
+    ) -> Result<Inside<L>, (NoMemory, Blank, Log)>
+        requires name { blank.name ≡ L.name }
+        requires parts { (blank.parts ≡ L.parts) × (L.parts ≡ 17) }
+        requires config_is { IsConfig config }
+        requires empty { log.entries ≡ [] }
+        ensures session { IfOk result (λ i. i.session ≡ record log { opening = opened config; search = Steady }) }
+        ensures clients { IfOk result (λ i. (i.joined ≡ 0) × (i.left ≡ 0)) }
+        ensures back { IfErr result (λ e. (e.1 ≡ blank) × (e.2 ≡ log)) }
+    {
+        Inside::new_by(alloc, Search::Steady, blank, config, log)
+    }
+
+    /// The same under the same conditions and with the same error, of a session whose runs search so.
+    // It isn't inlined, as `Port::holding`.
+    #[inline(never)]
+    pub fn new_by(
+        alloc: Global,
+        search: Search,
+        blank: Blank,
+        config: Config,
+        log: Log,
+    ) -> Result<Inside<L>, (NoMemory, Blank, Log)>
+        requires name { blank.name ≡ L.name }
+        requires parts { (blank.parts ≡ L.parts) × (L.parts ≡ 17) }
+        requires config_is { IsConfig config }
+        requires empty { log.entries ≡ [] }
+        ensures session { IfOk result (λ i. i.session ≡ record log { opening = opened config; search = search }) }
+        ensures clients { IfOk result (λ i. (i.joined ≡ 0) × (i.left ≡ 0)) }
+        ensures back { IfErr result (λ e. (e.1 ≡ blank) × (e.2 ≡ log)) }
+    {
+        let session = match Session::new(alloc, config, log) {
+            Ok(session) => session.with_search(search),
+            Err((fault, log)) => return Err((fault, blank, log)),
+        };
+        let (calls, rest) = blank.open::<L>();
+        Ok(Inside {
+            session,
+            calls,
+            rest,
+            joined: 0,
+            left: 0,
+        })
+    }
+
+    /// Lets a client join, as [`Session::join_client`] does, and gives it its share, which has counted no call.
+    /// Err: LogFull, or else the first other fault that stands; nothing changes but the log.
+    pub fn join(&mut self, alloc: Global, places: u8) -> Result<(ClientId, CallShare<L>), JoinFault>
+        ensures joined { IfOk result (λ r. GrowsBy self.old.session (JoinLogs self.old.session places (Ok r.0))
+            self.new.session) }
+        ensures refused { IfErr result (λ e. GrowsBy self.old.session (JoinLogs self.old.session places (Err e))
+            self.new.session) }
+        ensures share { IfOk result (λ r. r.1.count ≡ 0) }
+        ensures one_more { OnOk result (self.new.joined ≡ self.old.joined + 1) }
+        ensures no_more { OnErr result (self.new.joined ≡ self.old.joined) }
+        ensures left { self.new.left ≡ self.old.left }
+    {
+        let Inside {
+            session,
+            rest,
+            joined,
+            ..
+        } = self;
+        let client = session.join_client(alloc, places)?;
+        let share = CallShare::new(rest.split_off(1, 0));
+        *joined += 1;
+        Ok((client, share))
+    }
+
+    /// Accepts a client's request, as [`Session::submit`] does, and counts the call in the client's share, also where
+    /// it is refused; not where the log is full.
+    /// Err: LogFull, or else the first other fault that stands; nothing changes but the log and the counts, and the
+    /// request comes back.
+    pub fn submit(
+        &mut self,
+        client: ClientId,
+        request: Request,
+        mine: &mut CallShare<L>,
+    ) -> Result<u64, (SubmitFault, Request)>
+        ensures adds { GrowsBy self.old.session (SubmitLogs self.old.session client request result) self.new.session }
+        ensures counted { mine.new.count ≡ mine.old.count + submits_logged result }
+        ensures clients { (self.new.joined ≡ self.old.joined) × (self.new.left ≡ self.old.left) }
+    {
+        let Inside { session, calls, .. } = self;
+        let answer = session.submit(client, request);
+        mine.add_calls(
+            calls,
+            submits_logged(&answer),
+            session.log().entries().len(),
+        );
+        answer
+    }
+
+    /// Accepts a client's discovery, as [`Session::discover`] does, and counts the call in the client's share, also
+    /// where it is refused; not where the log is full.
+    /// Err: LogFull, or else the first other fault that stands; nothing changes but the log and the counts.
+    pub fn discover(
+        &mut self,
+        client: ClientId,
+        kind: Kind,
+        mine: &mut CallShare<L>,
+    ) -> Result<u64, AskFault>
+        ensures adds { GrowsBy self.old.session (DiscoverLogs self.old.session client kind result) self.new.session }
+        ensures counted { mine.new.count ≡ mine.old.count + discovers_logged result }
+        ensures clients { (self.new.joined ≡ self.old.joined) × (self.new.left ≡ self.old.left) }
+    {
+        let Inside { session, calls, .. } = self;
+        let answer = session.discover(client, kind);
+        mine.add_calls(
+            calls,
+            discovers_logged(&answer),
+            session.log().entries().len(),
+        );
+        answer
+    }
+
+    /// Of which kind a client's oldest outcome is that it hasn't collected, as [`Session::oldest`] says it. None: there
+    /// is none.
+    pub fn oldest(&self, client: ClientId) -> Option<OutcomeKind>
+        ensures { result ≡ oldest_kind self.now.session.opening self.now.session.entries client.0 }
+    {
+        self.session.oldest(client)
+    }
+
+    /// Collects a client's oldest outcome where that is a request's, as [`Session::next_completion`] does, and counts
+    /// the call in the client's share. It moves no set.
+    /// None: there is no outcome, or it is a discovery's; nothing changes.
+    pub fn collect_request(
+        &mut self,
+        client: ClientId,
+        mine: &mut CallShare<L>,
+    ) -> Option<(u64, Completion)>
+        ensures adds { IfSome result (λ r. GrowsBy self.old.session
+            (CollectAdds self.old.session.opening self.old.session.entries client (Some (request_outcome r)))
+            self.new.session) }
+        ensures counted { OnSome result (mine.new.count ≡ mine.old.count + 1) }
+        ensures none { IfNone result
+            (oldest_kind self.old.session.opening self.old.session.entries client.0 ≢ Some kinds.Request) }
+        ensures unchanged { IfNone result
+            ((self.new.session ≡ self.old.session) × (mine.new.count ≡ mine.old.count)) }
+        ensures clients { (self.new.joined ≡ self.old.joined) × (self.new.left ≡ self.old.left) }
+    {
+        let Inside { session, calls, .. } = self;
+        let outcome = session.next_completion(client)?;
+        mine.add_calls(calls, 1, session.log().entries().len());
+        Some(outcome)
+    }
+
+    /// Collects a client's oldest outcome where that is a discovery's, as [`Session::next_discovery`] does, and counts
+    /// the call in the client's share. The devices that the run found are in `set`, in place of what was there.
+    /// None: there is no outcome, or it is a request's; nothing changes.
+    pub fn collect_discovery(
+        &mut self,
+        client: ClientId,
+        set: &mut DeviceSet,
+        mine: &mut CallShare<L>,
+    ) -> Option<DiscoveryEnd>
+        ensures adds { IfSome result (λ end. GrowsBy self.old.session
+            (CollectAdds self.old.session.opening self.old.session.entries client
+            (Some (discovery_outcome end set.new)))
+            self.new.session) }
+        ensures counted { OnSome result (mine.new.count ≡ mine.old.count + 1) }
+        ensures none { IfNone result
+            (oldest_kind self.old.session.opening self.old.session.entries client.0 ≢ Some kinds.Discovery) }
+        ensures unchanged { IfNone result
+            ((self.new.session ≡ self.old.session) × (set.new ≡ set.old) × (mine.new.count ≡ mine.old.count)) }
+        ensures clients { (self.new.joined ≡ self.old.joined) × (self.new.left ≡ self.old.left) }
+    {
+        let Inside { session, calls, .. } = self;
+        let end = session.next_discovery(client, set)?;
+        mine.add_calls(calls, 1, session.log().entries().len());
+        Some(end)
+    }
+
+    /// Pauses, as [`Session::pause`] does.
+    /// Err: the log is full; nothing has changed.
+    pub fn pause(&mut self) -> Result<(), LogFull>
+        ensures adds { GrowsBy self.old.session (PauseLogs self.old.session result) self.new.session }
+        ensures clients { (self.new.joined ≡ self.old.joined) × (self.new.left ≡ self.old.left) }
+    {
+        self.session.pause()
+    }
+
+    /// Resumes, as [`Session::resume`] does.
+    /// Err: the log is full; nothing has changed.
+    pub fn resume(&mut self) -> Result<(), LogFull>
+        ensures adds { GrowsBy self.old.session (ResumeLogs self.old.session result) self.new.session }
+        ensures clients { (self.new.joined ≡ self.old.joined) × (self.new.left ≡ self.old.left) }
+    {
+        self.session.resume()
+    }
+
+    /// Closes, as [`Session::close`] does.
+    pub fn close(&mut self)
+        ensures adds { GrowsBy self.old.session (CloseAdds self.old.session.opening self.old.session.entries)
+            self.new.session }
+        ensures clients { (self.new.joined ≡ self.old.joined) × (self.new.left ≡ self.old.left) }
+    {
+        self.session.close();
+    }
+
+    /// What a worker's turn is about: the next frame, as [`Session::take`] gives it, or why there is none.
+    pub fn turn(&mut self) -> Turn
+        ensures adds { GrowsBy self.old.session (TurnLogs self.old.session self.old.joined self.old.left result)
+            self.new.session }
+        ensures clients { (self.new.joined ≡ self.old.joined) × (self.new.left ≡ self.old.left) }
+    {
+        match self.session.take() {
+            Ok(Some(frame)) => Turn::Exchange(frame),
+            Ok(None) if self.left == self.joined => Turn::AllLeft,
+            Ok(None) => Turn::Nothing,
+            Err(LogFull) => Turn::LogFull,
+        }
+    }
+
+    /// Takes what the line answered, as [`Session::deliver`] does.
+    /// Err: no reply is awaited; nothing has changed, and the event comes back.
+    pub fn deliver(&mut self, alloc: Global, event: LineEvent) -> Result<(), (NotAsked, LineEvent)>
+        ensures adds { GrowsBy self.old.session (DeliverAdds self.old.session.search
+            self.old.session.opening self.old.session.entries event result) self.new.session }
+        ensures clients { (self.new.joined ≡ self.old.joined) × (self.new.left ≡ self.old.left) }
+    {
+        self.session.deliver(alloc, event)
+    }
+
+    /// The devices that the last run without fault found, and that run; none and 0 before the first.
+    pub fn devices(&self) -> DeviceView
+        ensures run { result.run ≡ devices_run self.now.session.opening self.now.session.entries }
+        ensures set { result.set ≡ known_devices self.now.session.opening self.now.session.entries }
+    {
+        DeviceView {
+            run: self.session.devices_run(),
+            set: self.session.devices().copied(),
+        }
+    }
+
+    /// A client has left. Where as many have left as have joined it has no effect.
+    pub fn leave(&mut self)
+        ensures left { self.new.left
+            ≡ (if nat_lt self.old.left self.old.joined then self.old.left + 1 else self.old.left) }
+        ensures same { (self.new.session ≡ self.old.session) × (self.new.joined ≡ self.old.joined) }
+    {
+        if self.left < self.joined {
+            self.left += 1;
+        }
+    }
+
+    /// The session. Whatever the calls were, its log is legal, its calls are those of the book, and its clients are
+    /// those that joined.
+    pub fn session(&self) -> &Session
+        ensures session { result.now ≡ self.now.session }
+        ensures legal { Legal self.now.session.opening self.now.session.entries }
+        ensures counted { count_calls self.now.session.entries ≡ self.now.calls.total }
+        ensures clients { next_client self.now.session.opening self.now.session.entries ≡ self.now.joined }
+    {
+        // For the proof alone: the log says that it is legal.
+        self.session.log();
+        &self.session
+    }
+}
+
+// How many calls a submit that is answered so has in the log: none where the log is full.
+fn submits_logged(answer: &Result<u64, (SubmitFault, Request)>) -> u64
+    ensures { result ≡ submits_logged answer.now }
+{
+    match answer {
+        Ok(_) => 1,
+        Err((fault, _)) => u64::from(*fault != SubmitFault::LogFull),
+    }
+}
+
+// How many calls a discover that is answered so has in the log.
+fn discovers_logged(answer: &Result<u64, AskFault>) -> u64
+    ensures { result ≡ discovers_logged answer.now }
+{
+    match answer {
+        Ok(_) => 1,
+        Err(fault) => u64::from(*fault != AskFault::LogFull),
+    }
+}

@@ -1,0 +1,125 @@
+//! How a session leaves its lock.
+ghost use Rattle.std.specs.Prelude.{◌≡◌, ◌≢◌, ◌≤◌, ◌<◌, ◌+◌, length, Some, OnOk, IfOk, IfErr, IfNone};
+ghost use Rattle.std.specs.List.{sum_by};
+ghost use Rattle.rdm_queue.specs.log.History.{next_client};
+ghost use Rattle.rdm_queue.specs.log.Legal.{Legal};
+ghost use Rattle.rdm_queue.specs.promises.Promised.{Promised};
+ghost use Rattle.rdm_locked.specs.Calls.{count_calls};
+ghost use Rattle.rdm_locked.specs.Exchanges.{exchanges_in, recorded};
+
+use crate::exchange::{Exchange, has_exchanges};
+use crate::fault::FinishFault;
+use crate::inside::Inside;
+use crate::share::CallShare;
+use rdm_queue::{Session, laws};
+use std::sync::ledger::{Book, Ledger, Share};
+
+/// A session that has left its lock, and how many calls its clients made (profile of this project).
+#[derive(Debug, Drop)]
+pub struct SessionEnd {
+    /// The session.
+    pub session: Session,
+    /// How many calls of clients its log has.
+    pub calls: u64,
+}
+
+impl<L: Ledger> Inside<L> {
+    /// Ends it, where the share of each client that joined is there, and the log's exchanges are those of the record.
+    /// Then the shares are one of each client, their sum is the number of calls in the log, and the log keeps all that
+    /// clients are promised.
+    /// Err: SharesMissing, or else ExchangesDiffer; all comes back as it was.
+    // It isn't inlined, as `Port::holding`.
+    #[inline(never)]
+    pub fn finish(
+        self,
+        shares: Vec<CallShare<L>>,
+        exchanges: &[Exchange],
+    ) -> Result<SessionEnd, (FinishFault, Inside<L>, Vec<CallShare<L>>)>
+        requires { L.parts ≡ 17 }
+        ensures session { IfOk result (λ e. e.session ≡ self.session) }
+        ensures joined { OnOk result (length shares.items ≡ self.joined) }
+        ensures each { IfOk result (λ e. length shares.items ≡ next_client e.session.opening e.session.entries) }
+        ensures calls { IfOk result (λ e. e.calls ≡ sum_by (λ s. s.count) shares.items) }
+        ensures counted { IfOk result (λ e. e.calls ≡ count_calls e.session.entries) }
+        ensures exchanges { IfOk result (λ e. exchanges_in e.session.entries ≡ recorded exchanges.now) }
+        ensures legal { IfOk result (λ e. Legal e.session.opening e.session.entries) }
+        ensures promised { IfOk result (λ e. Promised e.session.opening e.session.entries) }
+        ensures back { IfErr result (λ e. (e.1 ≡ self) × (e.2 ≡ shares)) }
+        ensures missing { IfErr result (λ e. e.0 ≡ FinishFault.SharesMissing → length shares.items < self.joined) }
+        ensures differ { IfErr result (λ e. e.0 ≡ FinishFault.ExchangesDiffer → (self.joined ≤ length shares.items)
+            × (exchanges_in self.session.entries ≢ recorded exchanges.now)) }
+    {
+        if let Some(fault) = self.finish_fault(shares.len(), exchanges) {
+            return Err((fault, self, shares));
+        }
+        Ok(self.add_up(shares))
+    }
+
+    // Why it can't be ended with this many shares and these exchanges.
+    fn finish_fault(&self, shares: usize, exchanges: &[Exchange]) -> Option<FinishFault>
+        ensures missing { result ≡ Some FinishFault.SharesMissing → shares < self.now.joined }
+        ensures differ { result ≡ Some FinishFault.ExchangesDiffer → (self.now.joined ≤ shares)
+            × (exchanges_in self.now.session.entries ≢ recorded exchanges.now) }
+        ensures none { IfNone result ((self.now.joined ≤ shares)
+            × (exchanges_in self.now.session.entries ≡ recorded exchanges.now)) }
+    {
+        if shares < usize::from(self.joined) {
+            return Some(FinishFault::SharesMissing);
+        }
+        if !has_exchanges(self.session.log(), exchanges) {
+            return Some(FinishFault::ExchangesDiffer);
+        }
+        None
+    }
+
+    // Adds up the shares, of which there is one for each client. It isn't inlined, as `Port::holding`.
+    #[inline(never)]
+    fn add_up(self, shares: Vec<CallShare<L>>) -> SessionEnd
+        requires parts { L.parts ≡ 17 }
+        requires each { self.joined ≤ length shares.items }
+        ensures session { result.session ≡ self.session }
+        ensures joined { length shares.items ≡ self.joined }
+        ensures each { length shares.items ≡ next_client result.session.opening result.session.entries }
+        ensures calls { result.calls ≡ sum_by (λ s. s.count) shares.items }
+        ensures counted { result.calls ≡ count_calls result.session.entries }
+        ensures legal { Legal result.session.opening result.session.entries }
+        ensures promised { Promised result.session.opening result.session.entries }
+    {
+        let most = self.session().log().entries().len();
+        laws::legal_keeps_promises();
+        let Inside {
+            session,
+            calls: mut book,
+            mut rest,
+            joined: _,
+            left: _,
+        } = self;
+        let calls = gather(&mut book, &mut rest, shares, most);
+        book.audit(&mut rest);
+        SessionEnd { session, calls }
+    }
+}
+
+// Puts the shares together, and adds up their counts. The book has this many calls at most.
+fn gather<L: Ledger>(
+    book: &mut Book<L>,
+    rest: &mut Share<L>,
+    shares: Vec<CallShare<L>>,
+    most: usize,
+) -> u64
+    requires { (rest.old.amount ≡ 0) × (book.old.total ≤ most) × (rest.old.parts ≤ L.parts) }
+    ensures within { rest.new.parts ≤ L.parts }
+    ensures total { book.new.total ≡ book.old.total }
+    ensures sum { result ≡ sum_by (λ s. s.count) shares.items }
+    ensures amount { rest.new.amount ≡ result }
+    ensures parts { rest.new.parts ≡ rest.old.parts + length shares.items }
+{
+    let mut shares = shares;
+    let mut calls = 0;
+    while let Some(CallShare { share, count }) = shares.pop() {
+        rest.merge(share);
+        book.audit(rest);
+        calls += count;
+    }
+    calls
+}

@@ -1,0 +1,26 @@
+//! A session behind a lock: clients and a worker in threads of their own.
+//!
+//! What lies under the lock is an [`Inside`]: a session, with a book of its clients' calls. Each of its calls has a
+//! contract over the log. A [`Port`] and its clients lock, make one such call, and unlock; what they ensure speaks of
+//! what the caller holds: its callbacks, its count of calls, and the record of exchanges. At the end
+//! [`Port::finish`] shows that all of them fit the log.
+#![tactic(auto)]
+
+mod client;
+mod exchange;
+mod fault;
+mod inside;
+mod port;
+mod share;
+mod turn;
+
+pub use client::{Left, LockedClient};
+pub use exchange::Exchange;
+pub use fault::FinishFault;
+pub use inside::{Inside, SessionEnd};
+pub use port::{Port, WorkerEnd};
+pub use share::CallShare;
+pub use turn::Turn;
+
+#[cfg(test)]
+mod tests;

@@ -1,0 +1,206 @@
+//! A session behind a lock.
+ghost use Rattle.std.specs.Prelude.{◌≡◌, [], length, false, IfOk, IfErr};
+ghost use Rattle.std.specs.List.{sum_by};
+ghost use Rattle.rdm_queue.specs.log.Config.{IsConfig};
+ghost use Rattle.rdm_queue.specs.log.History.{next_client};
+ghost use Rattle.rdm_queue.specs.log.Legal.{Legal};
+ghost use Rattle.rdm_queue.specs.promises.Promised.{Promised};
+ghost use Rattle.rdm_locked.specs.Calls.{count_calls};
+ghost use Rattle.rdm_locked.specs.Exchanges.{exchanges_in, recorded, Records};
+
+use crate::client::LockedClient;
+use crate::exchange::Exchange;
+use crate::fault::FinishFault;
+use crate::inside::{Inside, SessionEnd};
+use crate::share::CallShare;
+use crate::turn::Turn;
+use rdm_agent::Search;
+use rdm_client::{Desk, Tells, TellsAsk};
+use rdm_join::LineEvent;
+use rdm_line::{Line, LineFault};
+use rdm_queue::{Config, JoinFault, Log, LogFull, NoMemory};
+use rdm_wire::Frame;
+use std::alloc::Global;
+use std::sync::ledger::{Blank, Ledger};
+use std::sync::{Mutex, Wait};
+use std::thread;
+
+/// A session behind a lock, for clients and a worker in threads of their own (profile of this project). The lock is
+/// held for one call of the session at a time, and never during an exchange with the line.
+///
+/// `L` names the book of the clients' calls. The program's call that begins the session picks it, as `Brand`.
+#[derive(Drop)]
+pub struct Port<L: Ledger> {
+    pub(crate) inside: Mutex<Inside<L>>,
+}
+
+/// Why a worker has stopped (profile of this project).
+#[derive(Clone, Copy, Debug, PartialEq, Eq)]
+pub enum WorkerEnd {
+    /// Each client that had joined by then has left, and no frame may be sent.
+    AllLeft,
+    /// It made all its turns.
+    Turns,
+    /// The log has fewer than three free entries.
+    LogFull,
+}
+
+impl<L: Ledger> Port<L> {
+    /// A session that is set up so, without clients, behind a lock; its runs search steadily. The blank has 17 parts:
+    /// one for each client, and one for the rest. The other conditions are those of
+    /// [`Session::new`](rdm_queue::Session::new).
+    /// Err: there was no memory; the blank and the log come back as they were.
+    pub fn new(
+        alloc: Global,
+        blank: Blank,
+        config: Config,
+        log: Log,
+    ) -> Result<Port<L>, (NoMemory, Blank, Log)>
+        requires name { blank.name ≡ L.name }
+        requires parts { (blank.parts ≡ L.parts) × (L.parts ≡ 17) }
+        requires config_is { IsConfig config }
+        requires empty { log.entries ≡ [] }
+        ensures back { IfErr result (λ e. (e.1 ≡ blank) × (e.2 ≡ log)) }
+    {
+        Port::new_by(alloc, Search::Steady, blank, config, log)
+    }
+
+    /// The same under the same conditions and with the same error, of a session whose runs search so.
+    pub fn new_by(
+        alloc: Global,
+        search: Search,
+        blank: Blank,
+        config: Config,
+        log: Log,
+    ) -> Result<Port<L>, (NoMemory, Blank, Log)>
+        requires name { blank.name ≡ L.name }
+        requires parts { (blank.parts ≡ L.parts) × (L.parts ≡ 17) }
+        requires config_is { IsConfig config }
+        requires empty { log.entries ≡ [] }
+        ensures back { IfErr result (λ e. (e.1 ≡ blank) × (e.2 ≡ log)) }
+    {
+        let inside = Inside::new_by(alloc, search, blank, config, log)?;
+        Ok(Port::holding(inside))
+    }
+
+    // Puts it behind a lock. It isn't inlined: where the arms of one function move parts of a session to places of
+    // other offsets, LLVM splits each move into thousands of pieces, and takes minutes.
+    #[inline(never)]
+    fn holding(inside: Inside<L>) -> Port<L> {
+        Port {
+            inside: Mutex::new(inside),
+        }
+    }
+
+    /// Lets a client join with this many places, 0 to 255, which its desk has too.
+    /// Err: NoMemory where there is none for the desk, before all other faults and without an entry; else as
+    /// [`Inside::join`] answers.
+    pub fn client<C: Tells, A: TellsAsk, R: Wait>(
+        &self,
+        rt: &R,
+        alloc: Global,
+        places: u8,
+    ) -> Result<LockedClient<'_, L, C, A>, JoinFault>
+        ensures desk { IfOk result (λ c. c.desk ≡ record { requests = []; asks = []; places = places }) }
+        ensures calls { IfOk result (λ c. c.calls.count ≡ 0) }
+        ensures collects { IfOk result (λ c. c.stranded ≡ false) }
+    {
+        let Ok(desk) = Desk::new(alloc, places) else {
+            return Err(JoinFault::NoMemory);
+        };
+        let joined = self.inside.lock(rt).join(alloc, places);
+        match joined {
+            Ok((number, calls)) => Ok(LockedClient::new(self, number, desk, calls)),
+            Err(fault) => {
+                desk.end().close_empty();
+                Err(fault)
+            }
+        }
+    }
+
+    /// Pauses: nothing new is begun. Without effect where it is paused or closed already.
+    /// Err: the log is full; nothing has changed.
+    pub fn pause<R: Wait>(&self, rt: &R) -> Result<(), LogFull> {
+        self.inside.lock(rt).pause()
+    }
+
+    /// Resumes. Without effect where it isn't paused, or is closed.
+    /// Err: the log is full; nothing has changed.
+    pub fn resume<R: Wait>(&self, rt: &R) -> Result<(), LogFull> {
+        self.inside.lock(rt).resume()
+    }
+
+    /// Closes: nothing more is accepted, and what waits is ended. Without effect where it is closed already.
+    pub fn close<R: Wait>(&self, rt: &R) {
+        self.inside.lock(rt).close();
+    }
+
+    /// Serves the line for this many turns, or until each client that has joined has left and no frame may be sent, or
+    /// the log is full. A turn makes room in the record; where memory for it is refused, the turn does no more. Then
+    /// it takes a frame under the lock, makes the exchange without it, delivers under it what came, and appends the
+    /// exchange to the record. It never stops between taking and delivering.
+    pub fn work<X: Line, R: Wait>(
+        &self,
+        rt: &R,
+        alloc: Global,
+        line: &mut X,
+        turns: u64,
+        exchanges: &mut Vec<Exchange>,
+    ) -> WorkerEnd
+        ensures record { Records X X.step line.old exchanges.old.items line.new exchanges.new.items turns }
+        ensures no_turns { turns ≡ 0 → result ≡ WorkerEnd.Turns }
+    {
+        'turns: for _turn in 0..turns {
+            if exchanges.reserve(1).is_err() {
+                continue;
+            }
+            let turn = self.inside.lock(rt).turn();
+            match turn {
+                Turn::Exchange(frame) => {
+                    let event = exchanged(line, &frame);
+                    let _ = self.inside.lock(rt).deliver(alloc, event.copied());
+                    exchanges.push_reserved(Exchange { frame, event });
+                }
+                Turn::Nothing => thread::yield_now(),
+                Turn::AllLeft => return WorkerEnd::AllLeft,
+                Turn::LogFull => return WorkerEnd::LogFull,
+            }
+        }
+        WorkerEnd::Turns
+    }
+
+    /// Ends the port, where the share of each client that joined is there, and the log's exchanges are those of the
+    /// record. Then the shares' sum is the number of calls in the log, and the log keeps all that clients are promised,
+    /// whatever the threads did. A frame whose reply is awaited is no exchange yet.
+    /// Err: SharesMissing, or else ExchangesDiffer, as [`Inside::finish`] answers; all comes back as it was.
+    pub fn finish(
+        self,
+        shares: Vec<CallShare<L>>,
+        exchanges: &[Exchange],
+    ) -> Result<SessionEnd, (FinishFault, Port<L>, Vec<CallShare<L>>)>
+        requires { L.parts ≡ 17 }
+        ensures each { IfOk result (λ e. length shares.items ≡ next_client e.session.opening e.session.entries) }
+        ensures calls { IfOk result (λ e. e.calls ≡ sum_by (λ s. s.count) shares.items) }
+        ensures counted { IfOk result (λ e. e.calls ≡ count_calls e.session.entries) }
+        ensures exchanges { IfOk result (λ e. exchanges_in e.session.entries ≡ recorded exchanges.now) }
+        ensures legal { IfOk result (λ e. Legal e.session.opening e.session.entries) }
+        ensures promised { IfOk result (λ e. Promised e.session.opening e.session.entries) }
+        ensures back { IfErr result (λ e. e.2 ≡ shares) }
+    {
+        let Port { inside } = self;
+        match inside.into_inner().finish(shares, exchanges) {
+            Ok(end) => Ok(end),
+            Err((fault, inside, shares)) => Err((fault, Port::holding(inside), shares)),
+        }
+    }
+}
+
+// Sends a frame, and tells what came.
+fn exchanged<X: Line>(line: &mut X, frame: &Frame) -> LineEvent
+    ensures { X.step line.old (frame.now, result) line.new }
+{
+    match line.exchange(frame) {
+        Ok(reply) => LineEvent::Reply(reply),
+        Err(LineFault) => LineEvent::Failed,
+    }
+}

@@ -1,0 +1,46 @@
+//! A client's share of the calls that a log counts.
+ghost use Rattle.std.specs.Prelude.{◌≡◌, ◌+◌, ◌≤◌};
+
+use std::sync::ledger::{Book, Ledger, Share};
+
+/// How many calls a client made that stand in the log: its submits and discovers, those that were refused among them,
+/// and the outcomes that it collected (profile of this project). A call that a full log or a full desk refused isn't
+/// counted, since it has no entry. The shares of all clients together are the number of calls in the log, which
+/// [`Port::finish`](crate::Port::finish) shows.
+#[derive(Drop)]
+pub struct CallShare<L: Ledger> {
+    pub(crate) share: Share<L>,
+    pub(crate) count: u64,
+    ghost one_part: { share.parts ≡ 1 },
+    ghost counted: { share.amount ≡ count },
+}
+
+impl<L: Ledger> CallShare<L> {
+    // The share of a client that has made no call.
+    pub(crate) fn new(share: Share<L>) -> CallShare<L>
+        requires { (share.parts ≡ 1) × (share.amount ≡ 0) }
+        ensures { result.count ≡ 0 }
+    {
+        CallShare { share, count: 0 }
+    }
+
+    // Counts this many calls more, and writes them into the book, which then has `most` at most.
+    pub(crate) fn add_calls(&mut self, book: &mut Book<L>, calls: u64, most: usize)
+        requires { book.old.total + calls ≤ most }
+        ensures count { self.new.count ≡ self.old.count + calls }
+        ensures total { book.new.total ≡ book.old.total + calls }
+    {
+        let CallShare { share, count } = self;
+        book.add(share, calls);
+        // For the proof alone: the share has no more than the book, so its count fits.
+        book.audit(share);
+        *count += calls;
+    }
+
+    /// How many calls they are.
+    pub fn count(&self) -> u64
+        ensures { result ≡ self.now.count }
+    {
+        self.count
+    }
+}
