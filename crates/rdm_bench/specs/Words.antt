@@ -2,7 +2,7 @@
 use Rattle.std.specs.Prelude.{◌≡◌, ◌≤◌, ◌<◌, ◌^◌, ℕ, List, [], ◌∷◌, codes}
 use Rattle.std.specs.Str.Parse.{IsNumeral, digits_value, without_leading_plus}
 use Rattle.rdm_bench.specs.declared.job.Subject.{Subject}
-use Rattle.rdm_bench.specs.declared.job.Subject.TheVariants.{Agent, Calls, Queue, Log, All}
+use Rattle.rdm_bench.specs.declared.job.Subject.TheVariants.{Agent, Calls, Queue, Log, Frames, Port, All}
 use Rattle.rdm_bench.specs.declared.job.Job.{Job}
 use Rattle.rdm_bench.specs.declared.job.Job.TheVariants.{Sizes, Time}
 
@@ -12,6 +12,8 @@ name_of Agent = codes "agent"
 name_of Calls = codes "calls"
 name_of Queue = codes "queue"
 name_of Log = codes "log"
+name_of Frames = codes "frames"
+name_of Port = codes "port"
 name_of All = codes "all"
 
 -- a subject may have this size
@@ -20,6 +22,8 @@ Takes Agent size = (1 ≤ size) × (size ≤ 1024)
 Takes Calls size = size ≤ 231
 Takes Queue size = (1 ≤ size) × (size ≤ 4080)
 Takes Log size = (1 ≤ size) × (size ≤ 100000)
+Takes Frames size = (1 ≤ size) × (size ≤ 1024)
+Takes Port size = (1 ≤ size) × (size ≤ 255)
 Takes All size = (1 ≤ size) × (size ≤ 231)
 
 -- the text is that number in decimal digits, of which a plus may stand in front

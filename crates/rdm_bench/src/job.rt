@@ -16,6 +16,10 @@ pub(crate) enum Subject {
     Queue,
     /// The log of a session.
     Log,
+    /// The frames of both searches; nothing is timed.
+    Frames,
+    /// Clients on a port.
+    Port,
     /// Each of these, and the sizes of the values.
     All,
 }
@@ -38,6 +42,9 @@ pub(crate) enum Job {
 
 /// How many requests a log is filled by at most.
 const MOST_LOGGED: usize = 100_000;
+
+/// How many requests one client may have waiting at most.
+const MOST_WAITING: usize = 255;
 
 /// How often a sample repeats its work at most.
 const MOST_ROUNDS: usize = 1_000;
@@ -92,6 +99,8 @@ impl Subject {
             "calls" => Some(Subject::Calls),
             "queue" => Some(Subject::Queue),
             "log" => Some(Subject::Log),
+            "frames" => Some(Subject::Frames),
+            "port" => Some(Subject::Port),
             "all" => Some(Subject::All),
             _ => None,
         }
@@ -106,6 +115,8 @@ impl Subject {
             Subject::Calls => size <= MOST_PARAMETER_BYTES,
             Subject::Queue => 1 <= size && size <= usize::from(MOST_PLACES),
             Subject::Log => 1 <= size && size <= MOST_LOGGED,
+            Subject::Frames => 1 <= size && size <= MOST_DEVICES,
+            Subject::Port => 1 <= size && size <= MOST_WAITING,
             Subject::All => 1 <= size && size <= MOST_PARAMETER_BYTES,
         }
     }

@@ -8,10 +8,13 @@ mod calls;
 mod devices;
 mod discoveries;
 mod fault;
+mod frames;
 mod job;
 mod log;
 mod median;
+mod notes;
 mod packets;
+mod port;
 mod queue;
 mod random;
 mod serving;
@@ -21,7 +24,10 @@ mod tape;
 use crate::bench::Bench;
 use crate::fault::Fault;
 use crate::job::{Job, Subject, parse_words};
+use std::env::Env;
 use std::process::ExitCode;
+use std::sync::Wait;
+use std::time::CpuClock;
 use std::{env, io};
 
 const USAGE: &str = "\
@@ -30,6 +36,8 @@ usage: rdm_bench SUBJECT SIZE ROUNDS | rdm_bench sizes
   calls   single calls; SIZE: bytes of parameter data, 0 to 231
   queue   the queue of requests and discoveries; SIZE: requests that wait, 1 to 4080
   log     the log of a session; SIZE: requests in it, 1 to 100000
+  frames  frames of both searches; SIZE: devices on the line, 1 to 1024; ROUNDS: on how many lines of each kind
+  port    clients on a port; SIZE: requests that wait, 1 to 255
   all     each of these, and the sizes; SIZE: 1 to 231
   sizes   how many bytes the values take
 ROUNDS: how often each of the 21 samples repeats its work, 1 to 1000";
@@ -41,7 +49,7 @@ fn main(rt: HostRuntime) -> ExitCode {
     }
 }
 
-fn run(rt: &HostRuntime) -> Result<(), Fault> {
+fn run<R: Env + AllocGlobal + CpuClock + Print + Eprint + Wait>(rt: &R) -> Result<(), Fault> {
     let words = env::args(rt)?.skip(1).collect::<Vec<String>>(rt.alloc())?;
     match parse_words(&words).ok_or(Fault::Words)? {
         Job::Sizes => sizes::print(rt),
@@ -60,17 +68,25 @@ fn run(rt: &HostRuntime) -> Result<(), Fault> {
     }
 }
 
-fn time(bench: &Bench<'_, HostRuntime>, subject: Subject, size: usize) -> Result<(), Fault> {
+fn time<R: CpuClock + Print + Eprint + Wait>(
+    bench: &Bench<'_, R>,
+    subject: Subject,
+    size: usize,
+) -> Result<(), Fault> {
     match subject {
         Subject::Agent => agent::time(bench, size),
         Subject::Calls => calls::time(bench, size),
         Subject::Queue => queue::time(bench, size),
         Subject::Log => log::time(bench, size),
+        Subject::Frames => frames::tell(bench.rt, bench.alloc, size, bench.rounds),
+        Subject::Port => port::time(bench, size),
         Subject::All => {
             agent::time(bench, size)?;
             calls::time(bench, size)?;
             queue::time(bench, size)?;
             log::time(bench, size)?;
+            frames::tell(bench.rt, bench.alloc, size, bench.rounds)?;
+            port::time(bench, size)?;
             sizes::print(bench.rt)
         }
     }

@@ -29,4 +29,9 @@ impl Random {
         self.state ^= self.state >> 27;
         self.state.wrapping_mul(2_685_821_657_736_338_717)
     }
+
+    /// The next number below this one; 0 below 0.
+    pub(crate) fn below(&mut self, most: u64) -> u64 {
+        self.next().checked_rem(most).unwrap_or(0)
+    }
 }

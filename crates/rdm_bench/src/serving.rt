@@ -140,7 +140,8 @@ pub(crate) fn new_log(alloc: Global, free: usize) -> Result<Log, Fault>
     }
 }
 
-fn config() -> Config
+/// A controller `7a70:00000100` with all the places that there may be.
+pub(crate) fn config() -> Config
     ensures { IsConfig result }
 {
     Config {

@@ -6,3 +6,7 @@ pub mod CollisionForms
 pub mod DeviceForms
 pub mod KnownForms
 pub mod FileLemmas
+pub mod NumberedLemmas
+pub mod CommandLemmas
+pub mod SessionForms
+pub mod SettledLemmas

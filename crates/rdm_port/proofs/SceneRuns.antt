@@ -19,15 +19,17 @@ use Rattle.rdm_wire.specs.Reading.{text_read, ack_read}
 use Rattle.rdm_wire.specs.declared.mute_ack.MuteAck.{MuteAck}
 use Rattle.rdm_wire.proofs.HonestOverLemmas.{trace-over}
 use Rattle.rdm_join.specs.Exchange.{seen_event, bytes_heard}
-use Rattle.rdm_agent.specs.Machine.{AgentState, Runs, start, next_of, fault_of, found_uids}
+use Rattle.rdm_agent.specs.Machine.{AgentState, Runs, start_by, next_of, fault_of, found_uids}
 use Rattle.rdm_agent.specs.Calls.{run_result}
-use Rattle.rdm_agent.specs.Bound.{enough_for, IsCalm}
+use Rattle.rdm_agent.specs.Bound.{enough_by, IsCalm}
 use Rattle.rdm_agent.specs.Statements.{IsInEach, IsInOne}
 use Rattle.rdm_agent.specs.declared.kind.Kind.{Kind}
+use Rattle.rdm_agent.specs.declared.search.Search.{Search}
+use Rattle.rdm_agent.specs.declared.search.Search.TheVariants.{Steady, Quick}
 use Rattle.rdm_agent.specs.declared.fault.AgentFault.{AgentFault}
 use Rattle.rdm_agent.proofs.CallLemmas.{next_none, runs-own}
-use Rattle.rdm_agent.proofs.HonestRuns.{finds_all, finds_staying, finds_no_stranger}
-use Rattle.rdm_agent.proofs.BoundRuns.{ends_in_bound}
+use Rattle.rdm_agent.proofs.HonestRuns.{finds_all_by, finds_staying_by, finds_no_stranger_by}
+use Rattle.rdm_agent.proofs.BoundRuns.{ends_in_bound_by}
 use Rattle.rdm_line.specs.Events.{Exchange}
 use Rattle.rdm_line.specs.Scenes.{IsScene, Stays, present_at, uids_of_scene}
 use Rattle.rdm_line.specs.Sim.{SimState, SimStep, FailsOnly, Exchanges, is_among, counted, next_exchange, last_exchange}
@@ -166,7 +168,12 @@ is_ok_of : (o : Option AgentFault) (s : List Device) (P : List Device → Type 0
 is_ok_of None s P is h = h
 is_ok_of (Some fault) s P is h = cc
 
-module _ (scene : Scene) (kind : Kind) (known : List ℕ) (budget : ℕ) (found : Result (List Device) (AgentFault × List Device)) (n : ℕ) (d : IsSceneDiscovery scene kind known budget found n) where
+-- whatever the search, some exchange is needed
+needs_some : (search : Search) (present : List ℕ) (kind : Kind) (known : List ℕ) (budget : ℕ) → enough_by search present kind known ≤ budget → 0 < budget
+needs_some Steady present kind known budget enough = omega arith
+needs_some Quick present kind known budget enough = omega arith
+
+module _ (scene : Scene) (search : Search) (kind : Kind) (known : List ℕ) (budget : ℕ) (found : Result (List Device) (AgentFault × List Device)) (n : ℕ) (d : IsSceneDiscovery scene search kind known budget found n) where
   abbrev last : AgentState
   last = d.discovery.last
 
@@ -186,17 +193,17 @@ module _ (scene : Scene) (kind : Kind) (known : List ℕ) (budget : ℕ) (found 
       sets = present_steps d.steps d.before d.after 0 d.runs d.begins.exchanges (let count : length d.steps ≡ n = many in let most : n < 2 ^ 64 = d.countable in omega arith)
           ∙ ap (present_during d.before.devices 0) many ∙ ap (λ ds. present_during ds 0 n) d.begins.devices
 
-  runs : Runs (start kind known budget) seen last
+  runs : Runs (start_by search kind known budget) seen last
   runs = runs-own kind known budget seen last d.discovery.driven.run
 
   end : next_of last ≡ None
   end = next_none last d.discovery.ended
 
   -- of a run that made no exchange
-  none_made : length d.steps ≡ 0 → last ≡ start kind known budget
+  none_made : length d.steps ≡ 0 → last ≡ start_by search kind known budget
   none_made none = first d.discovery.driven.exchanges d.discovery.driven.drives (sym (ap length d.exchanges) ∙ many_steps d.steps ∙ none)
     where
-      first : (xs : List Exchange) → Drives SimState SimStep scene.source 0 (start kind known budget) d.before xs last d.after → length xs ≡ 0 → last ≡ start kind known budget
+      first : (xs : List Exchange) → Drives SimState SimStep scene.source 0 (start_by search kind known budget) d.before xs last d.after → length xs ≡ 0 → last ≡ start_by search kind known budget
       first [] drives none = drives.0
       first (x ∷ xs) drives none = cc
 
@@ -225,7 +232,7 @@ module _ (scene : Scene) (kind : Kind) (known : List ℕ) (budget : ℕ) (found 
   true_report : LosesFew d.steps → IsTrueReport scene.devices n found
   true_report few = record {
     finds_staying = λ u always. subst (λ r. IfOk r (λ s. has (uids_of s) u ≡ true)) (sym d.discovery.report)
-        (ok_of (fault_of last.phase) last.found (λ s. has (uids_of s) u ≡ true) (λ fault. finds_staying kind known budget seen last set runs (present_during scene.devices 0 n) u end fault (over few) (in_each scene.devices u 0 n (λ k low high. let below : k < 0 + n = high in always k (omega arith)))));
+        (ok_of (fault_of last.phase) last.found (λ s. has (uids_of s) u ≡ true) (λ fault. finds_staying_by search kind known budget seen last set runs (present_during scene.devices 0 n) u end fault (over few) (in_each scene.devices u 0 n (λ k low high. let below : k < 0 + n = high in always k (omega arith)))));
     no_stranger = λ u. subst (λ r. IfOk r (λ s. has (uids_of s) u ≡ true → WasPresent scene.devices n u)) (sym d.discovery.report)
         (ok_of (fault_of last.phase) last.found (λ s. has (uids_of s) u ≡ true → WasPresent scene.devices n u) (λ fault here. was u here));
     no_stranger_in_fault = λ u. subst (λ r. IfErr r (λ e. has (uids_of e.1) u ≡ true → WasPresent scene.devices n u)) (sym d.discovery.report)
@@ -237,22 +244,22 @@ module _ (scene : Scene) (kind : Kind) (known : List ℕ) (budget : ℕ) (found 
 
       was : (u : ℕ) → has (found_uids last) u ≡ true → WasPresent scene.devices n u
       was u here =
-          let one = in_one scene.devices u 0 n (finds_no_stranger kind known budget seen last set runs (present_during scene.devices 0 n) u (over few) here) in
+          let one = in_one scene.devices u 0 n (finds_no_stranger_by search kind known budget seen last set runs (present_during scene.devices 0 n) u (over few) here) in
           let low : one.0 < 0 + n = one.1 in
           (one.0, omega arith, one.2)
 
   finds_them : LosesFew d.steps → FindsAllOf scene.devices found
   finds_them few stay = subst (λ r. IfOk r (λ s. uids_of s ≡ uids_of_scene scene.devices)) (sym d.discovery.report)
       (ok_of (fault_of last.phase) last.found (λ s. uids_of s ≡ uids_of_scene scene.devices)
-      (λ fault. finds_all kind known budget seen last d.discovery.driven.run.devices runs (uids_of_scene scene.devices) end fault (trace few stay (scene_is (made_some fault)))))
+      (λ fault. finds_all_by search kind known budget seen last d.discovery.driven.run.devices runs (uids_of_scene scene.devices) end fault (trace few stay (scene_is (made_some fault)))))
 
-  without_fault : LosesFew d.steps → HasNoFault scene kind known budget found
+  without_fault : LosesFew d.steps → HasNoFault scene search kind known budget found
   without_fault few stay no_fails enough = subst (λ r. IsOkAnd r (λ s. uids_of s ≡ uids_of_scene scene.devices)) (sym d.discovery.report)
       (is_ok_of (fault_of last.phase) last.found (λ s. uids_of s ≡ uids_of_scene scene.devices) no_fault
-      (finds_all kind known budget seen last d.discovery.driven.run.devices runs (uids_of_scene scene.devices) end no_fault honest))
+      (finds_all_by search kind known budget seen last d.discovery.driven.run.devices runs (uids_of_scene scene.devices) end no_fault honest))
     where
       is_scene : IsScene scene.devices
-      is_scene = scene_is (made_one (let most : enough_for (uids_of_scene scene.devices) kind known ≤ budget = enough in omega arith))
+      is_scene = scene_is (made_one (needs_some search (uids_of_scene scene.devices) kind known budget enough))
 
       honest : HonestTrace (uids_of_scene scene.devices) seen
       honest = trace few stay is_scene
@@ -269,16 +276,16 @@ module _ (scene : Scene) (kind : Kind) (known : List ℕ) (budget : ℕ) (found 
       }
 
       no_fault : fault_of last.phase ≡ None
-      no_fault = (ends_in_bound kind known budget seen last d.discovery.driven.run.devices runs (uids_of_scene scene.devices) calm enough).no_fault end
+      no_fault = (ends_in_bound_by search kind known budget seen last d.discovery.driven.run.devices runs (uids_of_scene scene.devices) calm enough).no_fault end
 
-  pub honest_report : LosesFew d.steps → IsHonestReport scene kind known budget found n
+  pub honest_report : LosesFew d.steps → IsHonestReport scene search kind known budget found n
   honest_report few = record { devices = true_report few; all = finds_them few; no_fault = without_fault few }
 
 -- a run on a line of a scene
-pub on_scene : (scene : Scene) (kind : Kind) (known : List ℕ) (budget n : ℕ) (found : Result (List Device) (AgentFault × List Device)) (before after : SimState) → IsStartOf scene before
-    → IsDiscovery SimState SimStep scene.source kind known budget before after found n → n < 2 ^ 64 → IsSceneDiscovery scene kind known budget found n
-on_scene scene kind known budget n found before after begins discovery countable =
-    let steps = traced scene.source 0 (start kind known budget) discovery.last before after discovery.driven.exchanges discovery.driven.drives in record {
+pub on_scene : (scene : Scene) (search : Search) (kind : Kind) (known : List ℕ) (budget n : ℕ) (found : Result (List Device) (AgentFault × List Device)) (before after : SimState) → IsStartOf scene before
+    → IsDiscovery SimState SimStep scene.source search kind known budget before after found n → n < 2 ^ 64 → IsSceneDiscovery scene search kind known budget found n
+on_scene scene search kind known budget n found before after begins discovery countable =
+    let steps = traced scene.source 0 (start_by search kind known budget) discovery.last before after discovery.driven.exchanges discovery.driven.drives in record {
       before = before;
       begins = begins;
       after = after;
@@ -290,5 +297,5 @@ on_scene scene kind known budget n found before after begins discovery countable
     }
 
 -- losses without five successive numbers are few
-pub loses_few : (scene : Scene) (kind : Kind) (known : List ℕ) (budget n : ℕ) (found : Result (List Device) (AgentFault × List Device)) (d : IsSceneDiscovery scene kind known budget found n) → NoFiveSuccessive scene.losses.items → LosesFew d.steps
-loses_few scene kind known budget n found d few = few_losses d.before d.after d.steps d.runs (λ i all. few i (λ j lt. list_any-IsPermutation (λ v. (i + j) == v) scene.losses.items d.before.losses d.begins.losses ∙ all j lt))
+pub loses_few : (scene : Scene) (search : Search) (kind : Kind) (known : List ℕ) (budget n : ℕ) (found : Result (List Device) (AgentFault × List Device)) (d : IsSceneDiscovery scene search kind known budget found n) → NoFiveSuccessive scene.losses.items → LosesFew d.steps
+loses_few scene search kind known budget n found d few = few_losses d.before d.after d.steps d.runs (λ i all. few i (λ j lt. list_any-IsPermutation (λ v. (i + j) == v) scene.losses.items d.before.losses d.begins.losses ∙ all j lt))

@@ -2,11 +2,12 @@
 use Rattle.std.specs.Prelude.{◌≡◌, ◌≢◌, ℕ, ◌+◌, ◌%◌, false, List, [], ◌∷◌, length, map, Result}
 use Rattle.rdm_wire.specs.declared.device.Device.{Device}
 use Rattle.rdm_join.specs.Exchange.{seen_event}
-use Rattle.rdm_agent.specs.Machine.{AgentState, start, fed, fault_of}
-use Rattle.rdm_agent.specs.Calls.{next_op, run_result, HasRun}
+use Rattle.rdm_agent.specs.Machine.{AgentState, start_by, fed, fault_of}
+use Rattle.rdm_agent.specs.Calls.{next_op, run_result, HasRunBy}
 use Rattle.rdm_agent.specs.OpFrames.{op_frame}
 use Rattle.rdm_agent.specs.Run.{asked_by}
 use Rattle.rdm_agent.specs.declared.kind.Kind.{Kind}
+use Rattle.rdm_agent.specs.declared.search.Search.{Search}
 use Rattle.rdm_agent.specs.declared.fault.AgentFault.{AgentFault}
 use Rattle.rdm_agent.specs.declared.op.Op.TheVariants.{End}
 use Rattle.rdm_line.specs.Events.{Exchange}
@@ -32,18 +33,19 @@ Drives L step source n a old (x ∷ xs) b new =
     × Drives L step source (n + 1) after line xs b new
 
 -- an agent that was started so stands so after n exchanges with the line
-pub record HasDriven (L : Type 0) (step : L → Exchange → L → Type 0) (source : ℕ) (kind : Kind) (known : List ℕ)
-    (budget : ℕ) (old : L) (n : ℕ) (a : AgentState) (line : L) : Type 0 where
+pub record HasDriven (L : Type 0) (step : L → Exchange → L → Type 0) (source : ℕ) (search : Search) (kind : Kind)
+    (known : List ℕ) (budget : ℕ) (old : L) (n : ℕ) (a : AgentState) (line : L) : Type 0 where
   pub exchanges : List Exchange
   pub many : length exchanges ≡ n
-  pub drives : Drives L step source 0 (start kind known budget) old exchanges a line
+  pub drives : Drives L step source 0 (start_by search kind known budget) old exchanges a line
   -- its exchanges, as they are seen, are a run's
-  pub run : HasRun kind known budget false (map seen_event exchanges) a
+  pub run : HasRunBy search kind known budget false (map seen_event exchanges) a
 
 -- what a run on the line reports, and after how many exchanges
-pub record IsDiscovery (L : Type 0) (step : L → Exchange → L → Type 0) (source : ℕ) (kind : Kind) (known : List ℕ)
-    (budget : ℕ) (old new : L) (found : Result (List Device) (AgentFault × List Device)) (frames : ℕ) : Type 0 where
+pub record IsDiscovery (L : Type 0) (step : L → Exchange → L → Type 0) (source : ℕ) (search : Search) (kind : Kind)
+    (known : List ℕ) (budget : ℕ) (old new : L) (found : Result (List Device) (AgentFault × List Device)) (frames : ℕ)
+    : Type 0 where
   pub last : AgentState
-  pub driven : HasDriven L step source kind known budget old frames last new
+  pub driven : HasDriven L step source search kind known budget old frames last new
   pub ended : next_op last ≡ End
   pub report : found ≡ run_result (fault_of last.phase) last.found

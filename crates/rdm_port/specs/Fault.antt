@@ -1,16 +1,20 @@
 -- Faults of a command line: where each stands, and what tells it.
-use Rattle.std.specs.Prelude.{◌≡◌, ◌⊎◌, ℕ, List, Option, Some, None, codes, Result, Ok, Err, ⊤, IsErr, IsUtf8}
+use Rattle.std.specs.Prelude.{◌≡◌, ◌⊎◌, ℕ, true, false, List, Option, Some, None, codes, Result, Ok, Err, ⊤, IsErr, IsUtf8}
 use Rattle.hex.specs.Hex.{decode_of}
 use Rattle.serde_json.specs.Data.{Data}
 use Rattle.serde_json.specs.Read.{read}
 use Rattle.rdm_wire.specs.UidText.{UidText}
 use Rattle.rdm_port.specs.Input.{IsContent}
 use Rattle.rdm_port.specs.SceneFiles.{IsSceneFile}
+use Rattle.rdm_port.specs.Commands.{has_discovery_command}
 use Rattle.rdm_port.specs.declared.scene.file.SceneFile.{SceneFile}
 use Rattle.rdm_port.specs.declared.fault.Fault.{Fault}
-use Rattle.rdm_port.specs.declared.fault.Fault.TheVariants.{CommandLine, Hex, Uid, File, Json, Scene, Memory}
+use Rattle.rdm_port.specs.declared.fault.Fault.TheVariants.{CommandLine, Hex, Uid, File, Json, Memory}
+use Rattle.rdm_port.specs.declared.fault.Fault.TheVariants.{DiscoveryCommand, Scene, Log, Turns}
 use Rattle.rdm_port.specs.declared.job.Job.{Job}
-use Rattle.rdm_port.specs.declared.job.Job.TheVariants.{Decode, Encode, Discover}
+use Rattle.rdm_port.specs.declared.job.Job.TheVariants.{Decode, Encode, Discover, Run}
+use Rattle.rdm_port.specs.SessionFiles.{IsSessionFile}
+use Rattle.rdm_port.specs.declared.session.file.SessionFile.{SessionFile}
 use Rattle.rdm_port.specs.declared.job.WordsFault.{WordsFault}
 use Rattle.rdm_port.specs.declared.job.WordsFault.TheVariants.{Words, NoMemory}
 
@@ -21,7 +25,10 @@ fault_line Hex = codes "fault: hex"
 fault_line Uid = codes "fault: uid"
 fault_line File = codes "fault: file"
 fault_line Json = codes "fault: json"
+fault_line DiscoveryCommand = codes "fault: discovery command"
 fault_line Scene = codes "fault: scene"
+fault_line Log = codes "fault: log"
+fault_line Turns = codes "fault: turns"
 fault_line Memory = codes "fault: memory"
 
 -- the program's status with it
@@ -31,7 +38,10 @@ fault_status Hex = 1
 fault_status Uid = 1
 fault_status File = 1
 fault_status Json = 1
+fault_status DiscoveryCommand = 1
 fault_status Scene = 1
+fault_status Log = 1
+fault_status Turns = 1
 fault_status Memory = 1
 
 -- the fault of words that ask for nothing
@@ -80,11 +90,58 @@ abbrev pub IsFileFault : Option (List ℕ) → Fault → Type 0
 IsFileFault known File = ⊤
 IsFileFault known fault = (bytes : List ℕ) × IsContent known bytes × IsTextFault bytes fault
 
+-- the bytes say this session, without a discovery command
+pub record SaysSession (bytes : List ℕ) (file : SessionFile) : Type 0 where
+  pub value : Data
+  pub json : read bytes ≡ Some value
+  pub no_command : has_discovery_command value ≡ false
+  pub session : IsSessionFile value file
+
+-- the reader's file says it
+pub record ReadsSession (known : Option (List ℕ)) (file : SessionFile) : Type 0 where
+  pub bytes : List ℕ
+  pub content : IsContent known bytes
+  pub says : SaysSession bytes file
+
+-- bytes that are JSON, with a discovery command
+pub record IsCommandText (bytes : List ℕ) : Type 0 where
+  pub value : Data
+  pub json : read bytes ≡ Some value
+  pub command : has_discovery_command value ≡ true
+
+-- bytes that are JSON, without a discovery command, but no session's
+pub record IsNoSession (bytes : List ℕ) : Type 0 where
+  pub value : Data
+  pub json : read bytes ≡ Some value
+  pub no_command : has_discovery_command value ≡ false
+  pub none : (file : SessionFile) → IsSessionFile value file → ⊥
+
+-- bytes that say no session: they are no JSON, or else have a discovery command, or else are no session's
+abbrev pub IsSessionTextFault : List ℕ → Fault → Type 0
+IsSessionTextFault bytes Json = IsUtf8 bytes → read bytes ≡ None
+IsSessionTextFault bytes DiscoveryCommand = IsCommandText bytes
+IsSessionTextFault bytes Scene = IsNoSession bytes
+IsSessionTextFault bytes Memory = ⊤
+IsSessionTextFault bytes _ = ⊥
+
+-- a file that says none; each may be unreadable
+abbrev pub IsSessionFileFault : Option (List ℕ) → Fault → Type 0
+IsSessionFileFault known File = ⊤
+IsSessionFileFault known fault = (bytes : List ℕ) × IsContent known bytes × IsSessionTextFault bytes fault
+
+-- what may happen while the session of a file is served
+abbrev pub IsServeFault : Option (List ℕ) → Fault → Type 0
+IsServeFault known Log = (file : SessionFile) × ReadsSession known file
+IsServeFault known Turns = (file : SessionFile) × ReadsSession known file
+IsServeFault known Memory = ⊤
+IsServeFault known _ = ⊥
+
 -- the faults of a job, whose file has these bytes, where they are known
 abbrev pub HasFault : Job → Option (List ℕ) → Fault → Type 0
 HasFault (Decode digits) known fault = IsDecodeFault digits.now fault
 HasFault (Encode uid) known fault = IsEncodeFault uid.now fault
-HasFault (Discover file incremental) known fault = (fault ≡ Memory) ⊎ IsFileFault known fault
+HasFault (Discover file incremental quick) known fault = (fault ≡ Memory) ⊎ IsFileFault known fault
+HasFault (Run file) known fault = IsServeFault known fault ⊎ IsSessionFileFault known fault
 
 -- the faults of a command line
 abbrev pub IsFaultOf : Result Job WordsFault → Option (List ℕ) → Fault → Type 0

@@ -7,3 +7,6 @@ pub mod Forms
 pub mod SceneFiles
 pub mod Report
 pub mod Input
+pub mod SessionFiles
+pub mod SessionReport
+pub mod Commands

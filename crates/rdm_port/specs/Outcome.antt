@@ -8,18 +8,23 @@ use Rattle.rdm_wire.specs.declared.branch.BranchReply.{BranchReply}
 use Rattle.rdm_wire.specs.declared.branch.BranchReply.TheVariants.{One, Silent, Collision}
 use Rattle.rdm_wire.specs.declared.device.Device.{Device}
 use Rattle.rdm_agent.specs.declared.fault.AgentFault.{AgentFault}
+use Rattle.rdm_agent.specs.declared.search.Search.{Search}
+use Rattle.rdm_agent.specs.declared.search.Search.TheVariants.{Steady, Quick}
 use Rattle.rdm_agent.specs.declared.kind.Kind.{Kind}
 use Rattle.rdm_agent.specs.declared.kind.Kind.TheVariants.{Full, Incremental}
 use Rattle.rdm_line.specs.SimRuns.{NoFiveSuccessive}
 use Rattle.rdm_port.specs.declared.job.Job.{Job}
-use Rattle.rdm_port.specs.declared.job.Job.TheVariants.{Decode, Encode, Discover}
+use Rattle.rdm_port.specs.declared.job.Job.TheVariants.{Decode, Encode, Discover, Run}
 use Rattle.rdm_port.specs.declared.job.WordsFault.{WordsFault}
 use Rattle.rdm_port.specs.declared.answer.Answer.{Answer}
 use Rattle.rdm_port.specs.declared.answer.Answer.TheVariants.{Line, Lines}
 use Rattle.rdm_port.specs.declared.scene.file.SceneFile.{SceneFile}
+use Rattle.rdm_port.specs.declared.session.file.SessionFile.{SessionFile}
 use Rattle.rdm_port.specs.declared.fault.Fault.{Fault}
-use Rattle.rdm_port.specs.Fault.{ReadsScene, IsFaultOf, fault_line, fault_status}
+use Rattle.rdm_port.specs.Fault.{ReadsScene, ReadsSession, IsFaultOf, fault_line, fault_status}
 use Rattle.rdm_port.specs.Report.{line_of, report_text, report_status}
+use Rattle.rdm_port.specs.SessionReport.{AllSettled, session_text}
+use Rattle.rdm_port.specs.declared.outcomes.Outcomes.{Outcomes}
 use Rattle.rdm_port.specs.SceneDiscovery.{IsSceneDiscovery, IsHonestReport}
 
 -- the bytes of an answer
@@ -47,24 +52,39 @@ abbrev pub kind_of : Bool → Kind
 kind_of false = Full
 kind_of true = Incremental
 
+abbrev pub search_of : Bool → Search
+search_of false = Steady
+search_of true = Quick
+
 -- the text reports a run on the line of the scene that the file's bytes say
-pub record Discovers (incremental : Bool) (known : Option (List ℕ)) (text : List ℕ) (status : ℕ) : Type 0 where
+pub record Discovers (incremental quick : Bool) (known : Option (List ℕ)) (text : List ℕ) (status : ℕ) : Type 0 where
   pub file : SceneFile
   pub reads : ReadsScene known file
   pub found : Result (List Device) (AgentFault × List Device)
   pub frames : ℕ
-  pub run : IsSceneDiscovery file.scene (kind_of incremental) file.known file.budget found frames
+  pub run : IsSceneDiscovery file.scene (search_of quick) (kind_of incremental) file.known file.budget found frames
   -- as long as no five exchanges are lost in succession, it finds the devices
   pub honest : NoFiveSuccessive file.scene.losses.items
-      → IsHonestReport file.scene (kind_of incremental) file.known file.budget found frames
+      → IsHonestReport file.scene (search_of quick) (kind_of incremental) file.known file.budget found frames
   pub prints : text ≡ report_text found frames
   pub ends : status ≡ report_status found
+
+-- the text tells outcomes of all calls of the session that the file's bytes say; which ones the threads come to isn't
+-- said
+pub record Runs (known : Option (List ℕ)) (text : List ℕ) (status : ℕ) : Type 0 where
+  pub file : SessionFile
+  pub reads : ReadsSession known file
+  pub outcomes : List Outcomes
+  pub settled : AllSettled file.clients.items outcomes
+  pub prints : text ≡ session_text outcomes
+  pub ends : status ≡ 0
 
 -- the text and the status answer the job, whose file has these bytes, where they are known
 abbrev pub Answers : Job → Option (List ℕ) → List ℕ → ℕ → Type 0
 Answers (Decode digits) known text status = Decodes digits.now text × (status ≡ 0)
 Answers (Encode uid) known text status = Encodes uid.now text × (status ≡ 0)
-Answers (Discover file incremental) known text status = Discovers incremental known text status
+Answers (Discover file incremental quick) known text status = Discovers incremental quick known text status
+Answers (Run file) known text status = Runs known text status
 
 -- the text and the status that a command line is answered with
 abbrev pub IsOutcome : Result Job WordsFault → Option (List ℕ) → List ℕ → ℕ → Type 0

@@ -5,8 +5,9 @@ use Rattle.std.specs.List.Sorted.{IsPermutation}
 use Rattle.rdm_wire.specs.Uid.{has}
 use Rattle.rdm_wire.specs.Devices.{uids_of}
 use Rattle.rdm_wire.specs.declared.device.Device.{Device}
-use Rattle.rdm_agent.specs.Bound.{enough_for}
+use Rattle.rdm_agent.specs.Bound.{enough_by}
 use Rattle.rdm_agent.specs.declared.kind.Kind.{Kind}
+use Rattle.rdm_agent.specs.declared.search.Search.{Search}
 use Rattle.rdm_agent.specs.declared.fault.AgentFault.{AgentFault}
 use Rattle.rdm_line.specs.Scenes.{Stays, present_at, uids_of_scene}
 use Rattle.rdm_line.specs.Sim.{SimState, SimStep}
@@ -26,12 +27,12 @@ pub record IsStartOf (scene : Scene) (s : SimState) : Type 0 where
   pub failures : s.failures ≡ 0
 
 -- what a run on a line of this scene reports, and after how many exchanges
-pub record IsSceneDiscovery (scene : Scene) (kind : Kind) (known : List ℕ) (budget : ℕ)
+pub record IsSceneDiscovery (scene : Scene) (search : Search) (kind : Kind) (known : List ℕ) (budget : ℕ)
     (found : Result (List Device) (AgentFault × List Device)) (frames : ℕ) : Type 0 where
   pub before : SimState
   pub begins : IsStartOf scene before
   pub after : SimState
-  pub discovery : IsDiscovery SimState SimStep scene.source kind known budget before after found frames
+  pub discovery : IsDiscovery SimState SimStep scene.source search kind known budget before after found frames
   pub countable : frames < 2 ^ 64
   -- the run's exchanges are the line's steps
   pub steps : List Step
@@ -58,15 +59,15 @@ abbrev pub FindsAllOf : List SceneDevice → Result (List Device) (AgentFault ×
 FindsAllOf devices found = AllByRecursion Stays devices → IfOk found (λ s. uids_of s ≡ uids_of_scene devices)
 
 -- where all devices stay, nothing fails and the budget suffices, there is no fault
-abbrev pub HasNoFault : Scene → Kind → List ℕ → ℕ → Result (List Device) (AgentFault × List Device) → Type 0
-HasNoFault scene kind known budget found =
+abbrev pub HasNoFault : Scene → Search → Kind → List ℕ → ℕ → Result (List Device) (AgentFault × List Device) → Type 0
+HasNoFault scene search kind known budget found =
     AllByRecursion Stays scene.devices → scene.fails.items ≡ []
-    → enough_for (uids_of_scene scene.devices) kind known ≤ budget
+    → enough_by search (uids_of_scene scene.devices) kind known ≤ budget
     → IsOkAnd found (λ s. uids_of s ≡ uids_of_scene scene.devices)
 
 -- what a report on a line that loses few replies is worth
-pub record IsHonestReport (scene : Scene) (kind : Kind) (known : List ℕ) (budget : ℕ)
+pub record IsHonestReport (scene : Scene) (search : Search) (kind : Kind) (known : List ℕ) (budget : ℕ)
     (found : Result (List Device) (AgentFault × List Device)) (n : ℕ) : Type 0 where
   pub devices : IsTrueReport scene.devices n found
   pub all : FindsAllOf scene.devices found
-  pub no_fault : HasNoFault scene kind known budget found
+  pub no_fault : HasNoFault scene search kind known budget found

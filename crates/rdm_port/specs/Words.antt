@@ -7,7 +7,7 @@ use Rattle.clap.specs.Words.{App, Row, Text, new_app, new_rule, with_rule, with_
 use Rattle.clap.specs.Words.{fault_of}
 use Rattle.clap.specs.declared.builder.action.ArgAction.TheVariants.{SetTrue}
 use Rattle.rdm_port.specs.declared.job.Job.{Job}
-use Rattle.rdm_port.specs.declared.job.Job.TheVariants.{Decode, Encode, Discover}
+use Rattle.rdm_port.specs.declared.job.Job.TheVariants.{Decode, Encode, Discover, Run}
 
 -- a command with one argument
 abbrev pub one_argument : Text → Text → App
@@ -27,21 +27,32 @@ bare = record (new_app (codes "rdm_port")) {
   };
 }
 
--- the command with a file and a flag
+-- the command with a file and two flags
 abbrev pub discover_words : App
 discover_words =
     with_rule
+    (with_rule
     (one_argument (codes "discover") (codes "file"))
-    (record (new_rule (codes "incremental")) { long = Some (codes "incremental"); action = Some SetTrue })
+    (record (new_rule (codes "incremental")) { long = Some (codes "incremental"); action = Some SetTrue }))
+    (record (new_rule (codes "quick")) { long = Some (codes "quick"); action = Some SetTrue })
+
+-- the command with a file and a port
+abbrev pub run_words : App
+run_words =
+    with_rule
+    (one_argument (codes "run") (codes "file"))
+    (record (new_rule (codes "port")) { long = Some (codes "port") })
+
+-- the commands on one reply
+abbrev pub reply_commands : App
+reply_commands =
+    with_subcommand
+    (with_subcommand bare (one_argument (codes "decode") (codes "hex")).top)
+    (one_argument (codes "encode") (codes "uid")).top
 
 -- the program's commands
 abbrev pub commands : App
-commands =
-    with_subcommand
-    (with_subcommand
-    (with_subcommand bare (one_argument (codes "decode") (codes "hex")).top)
-    (one_argument (codes "encode") (codes "uid")).top)
-    discover_words.top
+commands = with_subcommand (with_subcommand reply_commands discover_words.top) run_words.top
 
 -- the argument of the command of this name, if that was given
 abbrev pub value_of : Text → Text → Text × List Row → Option Text
@@ -55,19 +66,32 @@ is_set flag given = option_map_or (λ text. bytes_eq text (codes "true")) (first
 abbrev pub flag_of : Text → Text → Text × List Row → Option Bool
 flag_of name flag given = if bytes_eq given.0 name then Some (is_set flag given.1) else None
 
+-- whether the port is the locked one, which it is where none is named
+abbrev pub is_locked : List Row → Bool
+is_locked given = option_map_or (λ text. bytes_eq text (codes "locked")) (first_of (codes "port") given) true
+
+-- whether the command of this name was given with that port
+abbrev pub locked_of : Text → Text × List Row → Option Bool
+locked_of name given = if bytes_eq given.0 name then Some (is_locked given.1) else None
+
 -- the job of a command with its arguments
 abbrev pub IsGiven : Option (Text × List Row) → Job → Type 0
 IsGiven given (Decode digits) = option_and_then (value_of (codes "decode") (codes "hex")) given ≡ Some digits.now
 IsGiven given (Encode uid) = option_and_then (value_of (codes "encode") (codes "uid")) given ≡ Some uid.now
-IsGiven given (Discover file incremental) =
+IsGiven given (Discover file incremental quick) =
     (option_and_then (value_of (codes "discover") (codes "file")) given ≡ Some file.now)
     × (option_and_then (flag_of (codes "discover") (codes "incremental")) given ≡ Some incremental)
+    × (option_and_then (flag_of (codes "discover") (codes "quick")) given ≡ Some quick)
+IsGiven given (Run file) =
+    (option_and_then (value_of (codes "run") (codes "file")) given ≡ Some file.now)
+    × (option_and_then (locked_of (codes "run")) given ≡ Some true)
 
 -- the path of the file that a job reads
 abbrev pub file_of : Job → Option Text
 file_of (Decode digits) = None
 file_of (Encode uid) = None
-file_of (Discover file incremental) = Some file.now
+file_of (Discover file incremental quick) = Some file.now
+file_of (Run file) = Some file.now
 
 abbrev pub texts_of : List (Bor Text) → List Text
 texts_of words = map (λ word. word.now) words

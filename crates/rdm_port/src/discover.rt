@@ -2,7 +2,7 @@
 ghost use Rattle.std.specs.Prelude.{◌≡◌, ◌⊎◌, IfOk, IfErr};
 ghost use Rattle.serde_json.specs.Errors.{IsMemory};
 ghost use Rattle.rdm_port.specs.Fault.{ReadsScene, SaysScene, IsFileFault, IsTextFault};
-ghost use Rattle.rdm_port.specs.Outcome.{Discovers, answer_bytes, kind_of};
+ghost use Rattle.rdm_port.specs.Outcome.{Discovers, answer_bytes, kind_of, search_of};
 ghost use Rattle.rdm_port.specs.Report.{report_text, report_status};
 
 use crate::answer::{Answer, Answered};
@@ -12,7 +12,7 @@ use crate::input::{FileFault, read_file};
 use crate::reason::Reason;
 use crate::report::report;
 use crate::scene::{SceneFault, SceneFile, read_scene};
-use rdm_agent::Kind;
+use rdm_agent::{Kind, Search};
 use serde_json::{Category, Value};
 use std::alloc::Global;
 use std::io::Read;
@@ -20,12 +20,16 @@ use std::io::Read;
 type Refused = (Fault, Option<Reason>);
 
 /// What a run reports of the scene in the reader's file.
+// It isn't inlined: a run's values are large, and no other answer is to have places for them.
+#[inline(never)]
 pub fn answer_discover<R: Read>(
     alloc: Global,
     incremental: bool,
+    quick: bool,
     reader: &mut R,
 ) -> Result<Answered, Refused>
-    ensures ok { IfOk result (λ a. Discovers incremental (R.remaining reader.old) (answer_bytes a.text) a.status) }
+    ensures ok { IfOk result (λ a.
+        Discovers incremental quick (R.remaining reader.old) (answer_bytes a.text) a.status) }
     ensures fault { IfErr result (λ e. (e.0 ≡ Fault.Memory) ⊎ IsFileFault (R.remaining reader.old) e.0) }
 {
     let file = match scene_file(alloc, reader) {
@@ -33,7 +37,8 @@ pub fn answer_discover<R: Read>(
         Err(refused) => return Err(refused),
     };
     let kind = kind_of(incremental);
-    let Ok(run) = discover_in(alloc, file.scene, kind, &file.known, file.budget) else {
+    let search = search_of(quick);
+    let Ok(run) = discover_in(alloc, file.scene, search, kind, &file.known, file.budget) else {
         return Err((Fault::Memory, None));
     };
     answered(alloc, &run)
@@ -47,6 +52,12 @@ fn kind_of(incremental: bool) -> Kind
     } else {
         Kind::Full
     }
+}
+
+fn search_of(quick: bool) -> Search
+    ensures { result ≡ search_of quick }
+{
+    if quick { Search::Quick } else { Search::Steady }
 }
 
 // The scene in the reader's file.
@@ -80,8 +91,8 @@ fn scene_of(alloc: Global, bytes: &[u8]) -> Result<SceneFile, Refused>
     }
 }
 
-// Why bytes weren't read as JSON.
-fn no_json(error: &serde_json::Error) -> Refused
+/// Why bytes weren't read as JSON.
+pub(crate) fn no_json(error: &serde_json::Error) -> Refused
     ensures memory { IsMemory error.now → result.0 ≡ Fault.Memory }
     ensures text { ¬ IsMemory error.now → result.0 ≡ Fault.Json }
 {

@@ -12,7 +12,7 @@ ghost use Rattle.rdm_line.specs.SimRuns.{NoFiveSuccessive};
 ghost use Rattle.rdm_port.specs.Discovery.{GoesOn, IsDiscovery};
 ghost use Rattle.rdm_port.specs.SceneDiscovery.{IsSceneDiscovery, IsHonestReport};
 
-use rdm_agent::{Agent, AgentFault, Kind, Op, OpReply};
+use rdm_agent::{Agent, AgentFault, Kind, Op, OpReply, Search};
 use rdm_join::LineReply;
 use rdm_line::{Line, LineFault, NoMemory, Scene, SimLine};
 use rdm_wire::{DeviceSet, Uid, UidSet};
@@ -27,19 +27,21 @@ pub struct Discovery {
     pub frames: u64,
 }
 
-/// Makes a discovery run on a line, from the controller `source`: the agent's frames, numbered from 0, go over the
-/// line, and the agent hears what came, until it asks nothing more.
+/// Makes a discovery run on a line, from the controller `source`, that searches so: the agent's frames, numbered from
+/// 0, go over the line, and the agent hears what came, until it asks nothing more.
 pub fn discover<L: Line>(
     line: &mut L,
     source: Uid,
+    search: Search,
     kind: Kind,
     known: &UidSet,
     budget: u64,
 ) -> Discovery
-    ensures run { IsDiscovery L L.step source kind known.now budget line.old line.new result.found result.frames }
+    ensures run { IsDiscovery L L.step source search kind known.now budget
+        line.old line.new result.found result.frames }
     ensures countable { result.frames < 2 ^ 64 }
 {
-    let mut agent = Agent::start(kind, known, budget);
+    let mut agent = Agent::start_by(search, kind, known, budget);
     'exchanges: for made in 0..budget {
         if agent.next() == Op::End {
             break;
@@ -85,17 +87,18 @@ fn read(op: Op, source: Uid, tn: u8, answer: &Result<LineReply, LineFault>) -> O
 pub fn discover_in(
     alloc: Global,
     scene: Scene,
+    search: Search,
     kind: Kind,
     known: &UidSet,
     budget: u64,
 ) -> Result<Discovery, NoMemory>
-    ensures run { IfOk result (λ d. IsSceneDiscovery scene kind known.now budget d.found d.frames) }
+    ensures run { IfOk result (λ d. IsSceneDiscovery scene search kind known.now budget d.found d.frames) }
     ensures honest { NoFiveSuccessive scene.losses.items
-        → IfOk result (λ d. IsHonestReport scene kind known.now budget d.found d.frames) }
+        → IfOk result (λ d. IsHonestReport scene search kind known.now budget d.found d.frames) }
 {
     let source = scene.source;
     match SimLine::new(alloc, scene) {
-        Ok(mut line) => Ok(discover(&mut line, source, kind, known, budget)),
+        Ok(mut line) => Ok(discover(&mut line, source, search, kind, known, budget)),
         Err((NoMemory, _)) => Err(NoMemory),
     }
 }

@@ -17,8 +17,14 @@ pub enum Fault {
     File,
     /// The file is no JSON.
     Json,
-    /// The file's JSON is no scene.
+    /// A client's call has the key of a discovery command.
+    DiscoveryCommand,
+    /// The file's JSON is no scene, or no session.
     Scene,
+    /// The log is full.
+    Log,
+    /// A client or the worker has made all its turns.
+    Turns,
     /// Memory was refused.
     Memory,
 }
@@ -34,7 +40,10 @@ impl Fault {
             Fault::Uid => "fault: uid",
             Fault::File => "fault: file",
             Fault::Json => "fault: json",
+            Fault::DiscoveryCommand => "fault: discovery command",
             Fault::Scene => "fault: scene",
+            Fault::Log => "fault: log",
+            Fault::Turns => "fault: turns",
             Fault::Memory => "fault: memory",
         }
     }
@@ -45,7 +54,7 @@ impl Fault {
     {
         match self {
             Fault::CommandLine => 2,
-            Fault::Hex | Fault::Uid | Fault::File | Fault::Json | Fault::Scene | Fault::Memory => 1,
+            _ => 1,
         }
     }
 }

@@ -3,6 +3,7 @@ ghost use Rattle.std.specs.Prelude.{◌≡◌, ◌≢◌, IfOk, IfSome, IfNone, 
 ghost use Rattle.clap.specs.Words.{app_of, with_subcommand, found_of, rows_of, subcommand_rows_of, kind_of};
 ghost use Rattle.clap.specs.declared.builder.command.Command.TheViews.{out-Command as fields_of};
 ghost use Rattle.rdm_port.specs.Words.{Asks, AsksNothing, IsGiven, bare, commands, one_argument, discover_words};
+ghost use Rattle.rdm_port.specs.Words.{reply_commands, run_words, is_locked};
 ghost use Rattle.rdm_port.specs.Words.{is_set, file_of, texts_of};
 
 use clap::error::ErrorKind;
@@ -22,7 +23,11 @@ pub enum Job<'a> {
         file: &'a str,
         /// Whether the run mutes the scene's known devices first.
         incremental: bool,
+        /// Whether the run sweeps first.
+        quick: bool,
     },
+    /// Run the session of the file with this path, behind a lock.
+    Run(&'a str),
 }
 
 impl<'a> Job<'a> {
@@ -33,6 +38,7 @@ impl<'a> Job<'a> {
         match self {
             Job::Decode(_) | Job::Encode(_) => None,
             Job::Discover { file, .. } => Some(*file),
+            Job::Run(file) => Some(*file),
         }
     }
 }
@@ -67,12 +73,20 @@ pub fn parse_words<'a>(alloc: Global, words: &'a [&'a str]) -> Result<Job<'a>, W
 fn command<'a>(alloc: Global) -> Result<Command<'a>, AllocError>
     ensures { IfOk result (λ command. app_of command ≡ commands) }
 {
+    let discover = discover(alloc)?;
+    let run = run(alloc)?;
+    let command = with_command(reply_commands(alloc)?, discover)?;
+    with_command(command, run)
+}
+
+// The commands on one reply to a branch.
+fn reply_commands<'a>(alloc: Global) -> Result<Command<'a>, AllocError>
+    ensures { IfOk result (λ command. app_of command ≡ reply_commands) }
+{
     let decode = subcommand(alloc, "decode", "hex")?;
     let encode = subcommand(alloc, "encode", "uid")?;
-    let discover = discover(alloc)?;
     let command = with_command(bare(alloc), decode)?;
-    let command = with_command(command, encode)?;
-    with_command(command, discover)
+    with_command(command, encode)
 }
 
 // The command line with one more command.
@@ -109,15 +123,29 @@ fn subcommand<'a>(
         .arg(Arg::new(alloc, argument).required(true))
 }
 
-// The command that discovers devices: a file, and the flag of an incremental run.
+// The command that discovers devices: a file, and the flags of an incremental run and of a quick one.
 fn discover<'a>(alloc: Global) -> Result<Command<'a>, AllocError>
     ensures app { IfOk result (λ command. app_of command ≡ discover_words) }
     ensures local { IfOk result (λ command. (fields_of command).has_globals ≡ false) }
 {
-    let flag = Arg::new(alloc, "incremental")
+    let incremental = Arg::new(alloc, "incremental")
         .long("incremental")
         .action(ArgAction::SetTrue);
-    subcommand(alloc, "discover", "file")?.arg(flag)
+    let quick = Arg::new(alloc, "quick")
+        .long("quick")
+        .action(ArgAction::SetTrue);
+    subcommand(alloc, "discover", "file")?
+        .arg(incremental)?
+        .arg(quick)
+}
+
+// The command that runs a session: a file, and which port its clients have.
+fn run<'a>(alloc: Global) -> Result<Command<'a>, AllocError>
+    ensures app { IfOk result (λ command. app_of command ≡ run_words) }
+    ensures local { IfOk result (λ command. (fields_of command).has_globals ≡ false) }
+{
+    let port = Arg::new(alloc, "port").long("port");
+    subcommand(alloc, "run", "file")?.arg(port)
 }
 
 // The job of the command that was given.
@@ -132,7 +160,9 @@ fn given<'a>(matches: &ArgMatches<'a>) -> Option<Job<'a>>
         "discover" => Some(Job::Discover {
             file: given.get_str("file")?,
             incremental: has_flag(given, "incremental"),
+            quick: has_flag(given, "quick"),
         }),
+        "run" if is_locked(given) => Some(Job::Run(given.get_str("file")?)),
         _ => None,
     }
 }
@@ -144,6 +174,16 @@ fn has_flag(given: &ArgMatches<'_>, flag: &str) -> bool
     match given.get_str(flag) {
         Some(text) => text == "true",
         None => false,
+    }
+}
+
+// Whether the locked port was given, or none.
+fn is_locked(given: &ArgMatches<'_>) -> bool
+    ensures { result ≡ is_locked (rows_of (found_of given.now)) }
+{
+    match given.get_str("port") {
+        Some(text) => text == "locked",
+        None => true,
     }
 }
 

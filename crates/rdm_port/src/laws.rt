@@ -4,6 +4,7 @@ ghost use Rattle.std.specs.Borrow.{Bor};
 ghost use Rattle.rdm_wire.specs.declared.device.Device.{Device};
 ghost use Rattle.rdm_agent.specs.declared.fault.AgentFault.{AgentFault};
 ghost use Rattle.rdm_agent.specs.declared.kind.Kind.{Kind};
+ghost use Rattle.rdm_agent.specs.declared.search.Search.{Search};
 ghost use Rattle.rdm_line.specs.SimRuns.{LosesFew};
 ghost use Rattle.rdm_line.specs.declared.scene.Scene.{Scene};
 ghost use Rattle.rdm_port.specs.SceneDiscovery.{IsSceneDiscovery, IsHonestReport};
@@ -29,8 +30,8 @@ pub fn what_words_ask()
 /// A run on the line of a scene reports honestly, as long as no five replies of a kind were lost in succession in its
 /// steps: branches that a device was due to answer, and mutes of a present device.
 pub fn few_losses_are_honest()
-    ensures { (scene : Scene) (kind : Kind) (known : List ℕ) (budget : ℕ)
+    ensures { (scene : Scene) (search : Search) (kind : Kind) (known : List ℕ) (budget : ℕ)
         (found : Result (List Device) (AgentFault × List Device)) (frames : ℕ)
-        (run : IsSceneDiscovery scene kind known budget found frames)
-        → LosesFew run.steps → IsHonestReport scene kind known budget found frames }
+        (run : IsSceneDiscovery scene search kind known budget found frames)
+        → LosesFew run.steps → IsHonestReport scene search kind known budget found frames }
 {}

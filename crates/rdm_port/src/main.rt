@@ -1,4 +1,5 @@
-//! Reads and writes the replies of RDM devices to a branch of the discovery tree, and discovers simulated devices.
+//! Reads and writes the replies of RDM devices to a branch of the discovery tree, discovers simulated devices, and runs
+//! sessions of clients on a simulated line.
 #![tactic(auto)]
 
 ghost use Rattle.std.specs.Prelude.{◌≡◌, IfOk, map, string_bytes};
@@ -6,60 +7,79 @@ ghost use Rattle.rdm_port.specs.Words.{texts_of};
 
 mod answer;
 mod branch;
+mod caller;
 mod discover;
 mod discovery;
 mod fault;
 mod input;
 mod job;
 mod laws;
+mod outcomes;
 mod perform;
 mod reason;
 mod report;
+mod run;
 mod scene;
+mod serve;
+mod session;
 mod tell;
 #[cfg(test)]
 mod tests;
+mod ticket;
 
 use crate::job::{Job, WordsFault, parse_words};
 use crate::perform::carry_out;
-use crate::tell::tell;
+use crate::tell::{Progressing, tell};
 use std::alloc::{AllocError, Global};
 use std::io::Read;
 use std::process::ExitCode;
+use std::rt::Runtime;
+use std::sync::Wait;
+use std::thread::Threads;
 use std::{env, fs, io};
 
 fn main(rt: HostRuntime) -> ExitCode {
     let status = match args(&rt) {
-        Ok(args) => run(&rt, &args),
-        Err(fault) => print(&rt, Err(fault)),
+        Ok(args) => obey(&rt, rt.alloc(), &args),
+        Err(fault) => print(&rt, rt.alloc(), Err(fault)),
     };
     ExitCode::from(status)
 }
 
-fn run(rt: &HostRuntime, args: &[String]) -> u8 {
-    match words(rt.alloc(), args) {
-        Ok(words) => print(rt, parse_words(rt.alloc(), &words)),
-        Err(_) => print(rt, Err(WordsFault::NoMemory)),
+fn obey<T: Runtime + Threads + Wait + Sync>(rt: &T, alloc: Global, args: &[String]) -> u8 {
+    match words(alloc, args) {
+        Ok(words) => print(rt, alloc, parse_words(alloc, &words)),
+        Err(_) => print(rt, alloc, Err(WordsFault::NoMemory)),
     }
 }
 
 // Prints the answer on standard output, and the reason of what isn't done on standard error.
-fn print(rt: &HostRuntime, job: Result<Job<'_>, WordsFault>) -> u8 {
+fn print<T: Runtime + Threads + Wait + Sync>(
+    rt: &T,
+    alloc: Global,
+    job: Result<Job<'_>, WordsFault>,
+) -> u8 {
     let file = match &job {
         Ok(job) => job.file(),
         Err(_) => None,
     };
     let Some(path) = file else {
-        return print_from(rt, job, &mut io::empty());
+        return print_from(rt, alloc, job, &mut io::empty());
     };
     match fs::open(rt, path) {
-        Ok(mut file) => print_from(rt, job, &mut file),
-        Err(error) => print_from(rt, job, &mut Unopened(error.kind())),
+        Ok(mut file) => print_from(rt, alloc, job, &mut file),
+        Err(error) => print_from(rt, alloc, job, &mut Unopened(error.kind())),
     }
 }
 
-fn print_from<R: Read>(rt: &HostRuntime, job: Result<Job<'_>, WordsFault>, reader: &mut R) -> u8 {
-    let (status, reason) = carry_out(rt.alloc(), job, reader, &mut io::writer(rt));
+fn print_from<R: Read, T: Runtime + Threads + Wait + Sync>(
+    rt: &T,
+    alloc: Global,
+    job: Result<Job<'_>, WordsFault>,
+    reader: &mut R,
+) -> u8 {
+    let mut progress = Progressing::new(rt);
+    let (status, reason) = carry_out(rt, alloc, job, reader, &mut io::writer(rt), &mut progress);
     if let Some(reason) = reason {
         // Where standard error fails too, the status tells of it.
         let _ = tell(rt, &reason);

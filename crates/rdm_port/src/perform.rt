@@ -12,15 +12,20 @@ use crate::discover::answer_discover;
 use crate::fault::Fault;
 use crate::job::{Job, WordsFault};
 use crate::reason::Reason;
+use crate::run::answer_run;
+use crate::serve::Progress;
 use std::alloc::Global;
 use std::io::{ErrorKind, Read, Write};
+use std::sync::Wait;
+use std::thread::Threads;
 
 const NOT_WRITTEN: u8 = 1;
 
 /// Prints what answers a command line, and gives its status: 0 where it is done, 1 where there is a fault or the
 /// writer fails, 2 where the words fit no command (profile of this project). The reader is for a command that reads a
 /// file; one whose reads fail stands for a file that can't be opened.
-pub fn perform<R: Read, W: Write>(
+pub fn perform<R: Read, W: Write, T: Threads + Wait + Sync>(
+    rt: &T,
     alloc: Global,
     job: Result<Job<'_>, WordsFault>,
     reader: &mut R,
@@ -29,24 +34,34 @@ pub fn perform<R: Read, W: Write>(
     ensures { (text : List ℕ) × (status : ℕ) × IsOutcome job.entry (R.remaining reader.old) text status
         × IsPrinted (W.contents writer.old) (W.contents writer.new) text status result }
 {
-    let (status, _) = carry_out(alloc, job, reader, writer);
+    let (status, _) = carry_out(rt, alloc, job, reader, writer, &mut Silent);
     status
 }
 
-/// As [`perform`], and gives the reason too where it isn't done.
-pub fn carry_out<R: Read, W: Write>(
+/// As [`perform`], and gives the reason too where it isn't done; a session that runs tells how far it is.
+pub fn carry_out<R: Read, W: Write, P: Progress + Send, T: Threads + Wait + Sync>(
+    rt: &T,
     alloc: Global,
     job: Result<Job<'_>, WordsFault>,
     reader: &mut R,
     writer: &mut W,
+    progress: &mut P,
 ) -> (u8, Option<Reason>)
     ensures { (text : List ℕ) × (status : ℕ) × IsOutcome job.entry (R.remaining reader.old) text status
         × IsPrinted (W.contents writer.old) (W.contents writer.new) text status result.0 }
 {
-    let outcome = outcome_of(alloc, job, reader);
+    let outcome = outcome_of(rt, alloc, job, reader, progress);
     let whole = takes_all(writer, outcome.text.as_slice());
     let status = if whole { outcome.status } else { NOT_WRITTEN };
     (status, outcome.reason)
+}
+
+/// Tells nobody how far a session is.
+#[derive(Clone, Copy, Drop)]
+pub struct Silent;
+
+impl Progress for Silent {
+    fn tell(&mut self, _exchanges: usize) {}
 }
 
 // What is printed, the status, and the reason of what isn't done.
@@ -57,10 +72,16 @@ struct Outcome {
     reason: Option<Reason>,
 }
 
-fn outcome_of<R: Read>(alloc: Global, job: Result<Job<'_>, WordsFault>, reader: &mut R) -> Outcome
+fn outcome_of<R: Read, P: Progress + Send, T: Threads + Wait + Sync>(
+    rt: &T,
+    alloc: Global,
+    job: Result<Job<'_>, WordsFault>,
+    reader: &mut R,
+    progress: &mut P,
+) -> Outcome
     ensures { IsOutcome job.entry (R.remaining reader.old) (answer_bytes result.text) result.status }
 {
-    match answer(alloc, job, reader) {
+    match answer(rt, alloc, job, reader, progress) {
         Ok(
             Answered {
                 text,
@@ -81,10 +102,12 @@ fn outcome_of<R: Read>(alloc: Global, job: Result<Job<'_>, WordsFault>, reader: 
 }
 
 // What answers a command line.
-fn answer<R: Read>(
+fn answer<R: Read, P: Progress + Send, T: Threads + Wait + Sync>(
+    rt: &T,
     alloc: Global,
     job: Result<Job<'_>, WordsFault>,
     reader: &mut R,
+    progress: &mut P,
 ) -> Result<Answered, (Fault, Option<Reason>)>
     ensures ok { IfOk result (λ a. (j : Job) × (job.entry ≡ Ok j)
         × Answers j (R.remaining reader.old) (answer_bytes a.text) a.status) }
@@ -99,7 +122,14 @@ fn answer<R: Read>(
             Ok(text) => Ok(Answered::done(text)),
             Err(fault) => Err((fault, None)),
         },
-        Ok(Job::Discover { incremental, .. }) => answer_discover(alloc, incremental, reader),
+        Ok(
+            Job::Discover {
+                incremental,
+                quick,
+                ..
+            },
+        ) => answer_discover(alloc, incremental, quick, reader),
+        Ok(Job::Run(_)) => answer_run(rt, alloc, reader, progress),
         Err(WordsFault::Words) => Err((Fault::CommandLine, Some(Reason::Usage))),
         Err(WordsFault::NoMemory) => Err((Fault::Memory, None)),
     }

@@ -1,7 +1,7 @@
 //! Why something isn't done, for people.
 use crate::input::FileFault;
 use crate::report::device_lines;
-use crate::scene::Mismatch;
+use crate::scene::{Mismatch, SceneFault};
 use rdm_agent::AgentFault;
 use rdm_wire::DeviceSet;
 use std::alloc::Global;
@@ -23,8 +23,15 @@ pub enum Reason {
         /// The column, from 1.
         column: usize,
     },
-    /// The file's JSON is no scene.
+    /// The file's JSON is no scene, or no session.
     NoScene(Mismatch),
+    /// What the file says under this key is too little for its session.
+    TooLittle {
+        /// The key.
+        key: &'static str,
+        /// What stands there.
+        found: u64,
+    },
     /// A run had this fault; these lines tell the devices that it found until then.
     Fault(AgentFault, Vec<u8>),
 }
@@ -36,6 +43,14 @@ impl Reason {
             FileFault::TooLong => Some(Reason::TooLong),
             FileFault::Unreadable(kind) => Some(Reason::Unreadable(kind)),
             FileFault::NoMemory => None,
+        }
+    }
+
+    /// The reason for which a scene or a session wasn't read; none where memory was refused.
+    pub fn of_scene(fault: SceneFault) -> Option<Reason> {
+        match fault {
+            SceneFault::Mismatch(mismatch) => Some(Reason::NoScene(mismatch)),
+            SceneFault::NoMemory => None,
         }
     }
 

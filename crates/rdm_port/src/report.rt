@@ -77,13 +77,13 @@ fn tell_control(text: &mut Vec<u8>, control: u16) -> Result<(), AllocError>
     text.extend_from_slice(&digits)
 }
 
-fn tell_uid(text: &mut Vec<u8>, uid: Uid) -> Result<(), AllocError>
+pub(crate) fn tell_uid(text: &mut Vec<u8>, uid: Uid) -> Result<(), AllocError>
     ensures { OnOk result (text.new.items ≡ text.old.items ++ uid_text uid) }
 {
     text.extend_from_slice(&uid.to_text())
 }
 
-fn tell_fault(text: &mut Vec<u8>, fault: AgentFault) -> Result<(), AllocError>
+pub(crate) fn tell_fault(text: &mut Vec<u8>, fault: AgentFault) -> Result<(), AllocError>
     ensures { OnOk result (text.new.items ≡ text.old.items ++ line_of (fault_text fault)) }
 {
     match fault {

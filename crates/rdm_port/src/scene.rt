@@ -10,3 +10,5 @@ mod values;
 
 pub use fault::{Found, Mismatch, SceneFault, Step};
 pub use file::{SceneFile, read_scene};
+pub(crate) use form::{Form, ListOf, optional, required};
+pub(crate) use values::{AnyUid, Bytes, FourDigits, Whole};

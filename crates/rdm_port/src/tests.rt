@@ -2,4 +2,6 @@
 mod discovering;
 mod files;
 mod replies;
+mod running;
+mod sessions;
 mod tapes;

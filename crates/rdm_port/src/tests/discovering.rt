@@ -2,17 +2,36 @@
 use crate::job::Job;
 use crate::perform::perform;
 use std::alloc::Global;
+use std::sync::Wait;
 use std::test::Fail;
+use std::thread::Threads;
 
 // What is printed of a file with these bytes, and the status.
-pub(super) fn printed(alloc: Global, text: &[u8], incremental: bool) -> (Vec<u8>, u8) {
+pub(super) fn printed<T: Threads + Wait + Sync>(
+    rt: &T,
+    alloc: Global,
+    text: &[u8],
+    incremental: bool,
+) -> (Vec<u8>, u8) {
+    printed_by(rt, alloc, text, incremental, false)
+}
+
+// The same of a run that sweeps first, or doesn't.
+fn printed_by<T: Threads + Wait + Sync>(
+    rt: &T,
+    alloc: Global,
+    text: &[u8],
+    incremental: bool,
+    quick: bool,
+) -> (Vec<u8>, u8) {
     let mut written = Vec::new(alloc);
     let job = Ok(Job::Discover {
         file: "scene.json",
         incremental,
+        quick,
     });
     let mut reader = text;
-    let status = perform(alloc, job, &mut reader, &mut written);
+    let status = perform(rt, alloc, job, &mut reader, &mut written);
     (written, status)
 }
 
@@ -119,7 +138,7 @@ fn discovers_the_devices_of_scenes(rt: HostRuntime) {
         ),
     ];
     for (name, scene, incremental, lines, due) in rows {
-        let (written, status) = printed(rt.alloc(), scene.as_bytes(), incremental);
+        let (written, status) = printed(&rt, rt.alloc(), scene.as_bytes(), incremental);
         assert_eq!(rt; written.as_slice(), lines.as_bytes(), "{name}");
         assert_eq!(rt; status, due, "{name}");
     }
@@ -153,7 +172,7 @@ fn discovers_many_neighbours(rt: HostRuntime) -> Result<(), Fail> {
     ];
     for (count, first, last) in rows {
         let text = neighbours(rt.alloc(), count)?;
-        let (written, status) = printed(rt.alloc(), &text, false);
+        let (written, status) = printed(&rt, rt.alloc(), &text, false);
         assert_eq!(rt; status, 0, "{count}");
         assert_eq!(rt;
             written.len(),
@@ -163,10 +182,39 @@ fn discovers_many_neighbours(rt: HostRuntime) -> Result<(), Fail> {
         assert!(rt; written.starts_with(first.as_bytes()), "{count}");
         assert!(rt; written.ends_with(last.as_bytes()), "{count}");
     }
-    let (written, status) = printed(rt.alloc(), &neighbours(rt.alloc(), 1025)?, false);
+    let (written, status) = printed(&rt, rt.alloc(), &neighbours(rt.alloc(), 1025)?, false);
     assert_eq!(rt;
         (written.as_slice(), status),
         (b"fault: scene\n".as_slice(), 1)
     );
     Ok(())
+}
+
+#[test]
+fn a_quick_run_finds_many_neighbours(rt: HostRuntime) -> Result<(), Fail> {
+    let rows = [(10, "frames 129\n"), (256, "frames 855\n")];
+    for (count, last) in rows {
+        let text = neighbours(rt.alloc(), count)?;
+        let (written, status) = printed_by(&rt, rt.alloc(), &text, false, true);
+        assert_eq!(rt; status, 0, "{count}");
+        assert_eq!(rt;
+            written.len(),
+            usize::from(count) * "0000:00000000\n".len() + last.len(),
+            "{count}"
+        );
+        assert!(rt; written.ends_with(last.as_bytes()), "{count}");
+    }
+    Ok(())
+}
+
+#[test]
+fn a_quick_run_mutes_the_known_first(rt: HostRuntime) {
+    let scene =
+        "{\"source\":\"7a70:00000100\",\"devices\":[{\"uid\":\"1234:00000001\"},{\"uid\":\"9abc:00000002\"}],\"known\":[\"1234:00000001\"]}";
+    let (written, status) = printed_by(&rt, rt.alloc(), scene.as_bytes(), true, true);
+    assert_eq!(rt;
+        written.as_slice(),
+        "1234:00000001\n9abc:00000002\nframes 11\n".as_bytes()
+    );
+    assert_eq!(rt; status, 0);
 }

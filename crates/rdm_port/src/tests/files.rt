@@ -1,38 +1,41 @@
 //! What is refused of files, and for which reasons.
 use crate::job::Job;
-use crate::perform::carry_out;
+use crate::perform::{Silent, carry_out};
 use crate::reason::Reason;
 use crate::scene::Mismatch;
 use crate::tests::discovering::printed;
 use std::alloc::Global;
 use std::io;
 use std::io::{Read, Write};
+use std::sync::Wait;
 use std::test::Fail;
+use std::thread::Threads;
 
 const FILE: Job<'static> = Job::Discover {
     file: "scene.json",
     incremental: false,
+    quick: false,
 };
 
 // The reason for which a file with these bytes isn't answered.
-fn refused(alloc: Global, text: &[u8]) -> Option<Reason> {
+fn refused<T: Threads + Wait + Sync>(rt: &T, alloc: Global, text: &[u8]) -> Option<Reason> {
     let mut reader = text;
     let mut written = Vec::new(alloc);
-    let (_, reason) = carry_out(alloc, Ok(FILE), &mut reader, &mut written);
+    let (_, reason) = carry_out(rt, alloc, Ok(FILE), &mut reader, &mut written, &mut Silent);
     reason
 }
 
 // What is told of the mismatch in a file with these bytes.
-fn mismatch_of(alloc: Global, text: &[u8]) -> Option<Vec<u8>> {
+fn mismatch_of<T: Threads + Wait + Sync>(rt: &T, alloc: Global, text: &[u8]) -> Option<Vec<u8>> {
     let mut told = Vec::new(alloc);
-    match &refused(alloc, text)? {
+    match &refused(rt, alloc, text)? {
         Reason::NoScene(mismatch) => tell(&mut told, mismatch),
         _ => return None,
     }
     Some(told)
 }
 
-fn tell(told: &mut Vec<u8>, mismatch: &Mismatch) {
+pub(super) fn tell(told: &mut Vec<u8>, mismatch: &Mismatch) {
     let _ = write!(told, "{mismatch}");
 }
 
@@ -119,13 +122,13 @@ fn tells_what_is_no_scene(rt: HostRuntime) -> Result<(), Fail> {
         ),
     ];
     for (text, told) in rows {
-        let (written, status) = printed(rt.alloc(), text.as_bytes(), false);
+        let (written, status) = printed(&rt, rt.alloc(), text.as_bytes(), false);
         assert_eq!(rt;
             (written.as_slice(), status),
             (b"fault: scene\n".as_slice(), 1),
             "{text}"
         );
-        let reason = mismatch_of(rt.alloc(), text.as_bytes()).ok_or("a reason")?;
+        let reason = mismatch_of(&rt, rt.alloc(), text.as_bytes()).ok_or("a reason")?;
         assert_eq!(rt; reason.as_slice(), told.as_bytes());
     }
     Ok(())
@@ -134,12 +137,12 @@ fn tells_what_is_no_scene(rt: HostRuntime) -> Result<(), Fail> {
 #[test]
 fn tells_where_json_ends(rt: HostRuntime) -> Result<(), Fail> {
     let text = b"{\"source\":\n  7a70}";
-    let (written, status) = printed(rt.alloc(), text, false);
+    let (written, status) = printed(&rt, rt.alloc(), text, false);
     assert_eq!(rt;
         (written.as_slice(), status),
         (b"fault: json\n".as_slice(), 1)
     );
-    let Some(Reason::NoJson { line, .. }) = refused(rt.alloc(), text) else {
+    let Some(Reason::NoJson { line, .. }) = refused(&rt, rt.alloc(), text) else {
         return Err(Fail::from("a reason"));
     };
     assert_eq!(rt; line, 2);
@@ -150,7 +153,7 @@ fn tells_where_json_ends(rt: HostRuntime) -> Result<(), Fail> {
 fn ignores_unknown_keys_and_takes_the_last_of_a_repeated_one(rt: HostRuntime) {
     let text =
         b"{\"budget\":1,\"source\":\"7A70:00000100\",\"name\":[{}],\"budget\":8,\"discovery\":0}";
-    let (written, status) = printed(rt.alloc(), text, false);
+    let (written, status) = printed(&rt, rt.alloc(), text, false);
     assert_eq!(rt; (written.as_slice(), status), (b"frames 8\n".as_slice(), 0));
 }
 
@@ -171,7 +174,7 @@ fn reads_no_more_than_a_file_may_have(rt: HostRuntime) -> Result<(), Fail> {
     ];
     for (len, line, due) in rows {
         let text = padded(rt.alloc(), len)?;
-        let (written, status) = printed(rt.alloc(), &text, false);
+        let (written, status) = printed(&rt, rt.alloc(), &text, false);
         assert_eq!(rt; written.as_slice(), line.as_bytes(), "{len}");
         assert_eq!(rt; status, due, "{len}");
     }
@@ -201,7 +204,14 @@ fn tells_a_reader_that_fails(rt: HostRuntime) {
             front: &whole[..len],
         };
         let mut written = Vec::new(rt.alloc());
-        let (status, reason) = carry_out(rt.alloc(), Ok(FILE), &mut reader, &mut written);
+        let (status, reason) = carry_out(
+            &rt,
+            rt.alloc(),
+            Ok(FILE),
+            &mut reader,
+            &mut written,
+            &mut Silent,
+        );
         assert_eq!(rt;
             (written.as_slice(), status),
             (b"fault: file\n".as_slice(), 1)
@@ -219,12 +229,12 @@ fn tells_a_reader_that_fails(rt: HostRuntime) {
 fn tells_what_was_found_before_a_fault(rt: HostRuntime) -> Result<(), Fail> {
     let text =
         b"{\"source\":\"7a70:00000100\",\"devices\":[{\"uid\":\"1234:00000001\"}],\"fails\":[6]}";
-    let (written, status) = printed(rt.alloc(), text, false);
+    let (written, status) = printed(&rt, rt.alloc(), text, false);
     assert_eq!(rt;
         (written.as_slice(), status),
         (b"fault 4\nframes 7\n".as_slice(), 1)
     );
-    let Some(Reason::Fault(_, found)) = refused(rt.alloc(), text) else {
+    let Some(Reason::Fault(_, found)) = refused(&rt, rt.alloc(), text) else {
         return Err(Fail::from("a reason"));
     };
     assert_eq!(rt; found.as_slice(), b"1234:00000001\n".as_slice());

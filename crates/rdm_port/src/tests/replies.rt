@@ -39,7 +39,7 @@ fn prints_one_line(rt: HostRuntime) -> Result<(), Fail> {
     for (words, line, status) in rows {
         let mut written = Vec::new(rt.alloc());
         let job = parse_words(rt.alloc(), words);
-        let given = perform(rt.alloc(), job, &mut io::empty(), &mut written);
+        let given = perform(&rt, rt.alloc(), job, &mut io::empty(), &mut written);
         assert_eq!(rt; given, status, "{line}");
         assert_eq!(rt; written.as_slice(), line.as_bytes(), "{line}");
     }
@@ -48,7 +48,7 @@ fn prints_one_line(rt: HostRuntime) -> Result<(), Fail> {
 
 #[test]
 fn reads_words(rt: HostRuntime) {
-    let rows: [(&[&str], Result<Job<'_>, WordsFault>); 26] = [
+    let rows: [(&[&str], Result<Job<'_>, WordsFault>); 36] = [
         (&["decode", "00"], Ok(Job::Decode("00"))),
         (&["encode", "00"], Ok(Job::Encode("00"))),
         (&["decode", "--", "-0"], Ok(Job::Decode("-0"))),
@@ -66,6 +66,7 @@ fn reads_words(rt: HostRuntime) {
             Ok(Job::Discover {
                 file: "file",
                 incremental: false,
+                quick: false,
             }),
         ),
         (
@@ -73,6 +74,7 @@ fn reads_words(rt: HostRuntime) {
             Ok(Job::Discover {
                 file: "file",
                 incremental: true,
+                quick: false,
             }),
         ),
         (
@@ -80,7 +82,28 @@ fn reads_words(rt: HostRuntime) {
             Ok(Job::Discover {
                 file: "file",
                 incremental: true,
+                quick: false,
             }),
+        ),
+        (
+            &["discover", "file", "--quick"],
+            Ok(Job::Discover {
+                file: "file",
+                incremental: false,
+                quick: true,
+            }),
+        ),
+        (
+            &["discover", "--quick", "file", "--incremental"],
+            Ok(Job::Discover {
+                file: "file",
+                incremental: true,
+                quick: true,
+            }),
+        ),
+        (
+            &["discover", "file", "--quick", "--quick"],
+            Err(WordsFault::Words),
         ),
         (&["discover"], Err(WordsFault::Words)),
         (&["discover", "--incremental"], Err(WordsFault::Words)),
@@ -88,7 +111,17 @@ fn reads_words(rt: HostRuntime) {
             &["discover", "file", "--incremental", "--incremental"],
             Err(WordsFault::Words),
         ),
-        (&["run", "file"], Err(WordsFault::Words)),
+        (&["run", "file"], Ok(Job::Run("file"))),
+        (&["run", "file", "--port", "locked"], Ok(Job::Run("file"))),
+        (&["run", "--port=locked", "file"], Ok(Job::Run("file"))),
+        (&["run", "file", "--port", "rings"], Err(WordsFault::Words)),
+        (&["run", "file", "--port"], Err(WordsFault::Words)),
+        (
+            &["run", "file", "--port", "locked", "--port", "locked"],
+            Err(WordsFault::Words),
+        ),
+        (&["run"], Err(WordsFault::Words)),
+        (&["walk", "file"], Err(WordsFault::Words)),
         (&["help"], Err(WordsFault::Words)),
         (&["help", "decode"], Err(WordsFault::Words)),
         (&["-h"], Err(WordsFault::Words)),
@@ -123,7 +156,10 @@ fn tells_a_writer_that_fails(rt: HostRuntime) {
     ];
     for job in rows {
         let mut short: ArrayVec<u8, 4> = ArrayVec::new();
-        assert_eq!(rt; perform(rt.alloc(), job, &mut io::empty(), &mut short), 1);
+        assert_eq!(rt;
+            perform(&rt, rt.alloc(), job, &mut io::empty(), &mut short),
+            1
+        );
         assert!(rt; short.is_full());
     }
 }
@@ -168,7 +204,7 @@ fn goes_on_where_it_was_interrupted(rt: HostRuntime) {
         };
         let job = Ok(Job::Decode("fe"));
         assert_eq!(rt;
-            perform(rt.alloc(), job, &mut io::empty(), &mut writer),
+            perform(&rt, rt.alloc(), job, &mut io::empty(), &mut writer),
             status
         );
         assert_eq!(rt; writer.taken.as_slice(), taken);
@@ -179,6 +215,9 @@ fn goes_on_where_it_was_interrupted(rt: HostRuntime) {
 fn needs_no_more_room_than_the_line(rt: HostRuntime) {
     let mut whole: ArrayVec<u8, 20> = ArrayVec::new();
     let job = Err(WordsFault::Words);
-    assert_eq!(rt; perform(rt.alloc(), job, &mut io::empty(), &mut whole), 2);
+    assert_eq!(rt;
+        perform(&rt, rt.alloc(), job, &mut io::empty(), &mut whole),
+        2
+    );
     assert_eq!(rt; whole.as_slice(), b"fault: command line\n".as_slice());
 }

@@ -1,7 +1,7 @@
 //! Runs on a tape.
 use crate::discovery::discover;
 use crate::report::report;
-use rdm_agent::{DEFAULT_BUDGET, Kind};
+use rdm_agent::{DEFAULT_BUDGET, Kind, Search};
 use rdm_join::{LineEvent, LineReply};
 use rdm_line::TapeLine;
 use rdm_wire::{Uid, UidSet};
@@ -23,6 +23,7 @@ fn a_line_that_answers_every_branch_is_corrupt(rt: HostRuntime) -> Result<(), Fa
     let run = discover(
         &mut line,
         source,
+        Search::Steady,
         Kind::Full,
         &UidSet::new(),
         DEFAULT_BUDGET,
@@ -42,6 +43,7 @@ fn a_tape_that_ends_fails(rt: HostRuntime) -> Result<(), Fail> {
     let run = discover(
         &mut line,
         source,
+        Search::Steady,
         Kind::Full,
         &UidSet::new(),
         DEFAULT_BUDGET,

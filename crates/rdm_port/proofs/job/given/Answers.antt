@@ -1,5 +1,6 @@
 use Rattle.std.proofs.Common.{◌≡◌, ◌∙◌, Bool, true, false, refl, sym, ap, List, Option, Some, None, codes, bytes_eq}
 use Rattle.std.specs.Prelude.{Box, option_map, option_and_then}
+use Rattle.std.specs.Borrow.{Bor}
 use Rattle.std.specs.Box.{box_value}
 use Rattle.clap.specs.Matches.{first_value, found_of}
 use Rattle.clap.specs.Simple.{subcommand_rows}
@@ -9,9 +10,9 @@ use Rattle.clap.specs.declared.parser.matches.Found.{Found}
 use Rattle.clap.specs.declared.parser.matches.SubCommand.{SubCommand}
 use Rattle.clap.specs.Words.{subcommand_rows_of}
 use Rattle.clap.proofs.WalkLemmas.{first_value-rows}
-use Rattle.rdm_port.specs.Words.{value_of, flag_of, is_set, IsGiven}
+use Rattle.rdm_port.specs.Words.{value_of, flag_of, locked_of, is_set, is_locked, IsGiven}
 use Rattle.rdm_port.specs.declared.job.Job.{Job}
-use Rattle.rdm_port.specs.declared.job.Job.TheVariants.{Decode, Encode, Discover}
+use Rattle.rdm_port.specs.declared.job.Job.TheVariants.{Decode, Encode, Discover, Run}
 use Rattle.rdm_port.proofs.job.given.Goals as goal
 
 -- a command that was given is its name and what was given to it
@@ -33,10 +34,16 @@ value_of-other : (given : Option (Text × List Row)) (name other argument : Text
 value_of-other given name other argument rows is differs = rw (is, differs) refl
 
 none_given : (given : Option (Text × List Row)) → option_and_then (value_of (codes "decode") (codes "hex")) given ≡ None
-    → option_and_then (value_of (codes "encode") (codes "uid")) given ≡ None → option_and_then (value_of (codes "discover") (codes "file")) given ≡ None → (job : Job) → IsGiven given job → ⊥
-none_given given p q r (Decode digits) asked = let both = sym p ∙ asked in cc
-none_given given p q r (Encode uid) asked = let both = sym q ∙ asked in cc
-none_given given p q r (Discover file incremental) asked = let both = sym r ∙ asked.0 in cc
+    → option_and_then (value_of (codes "encode") (codes "uid")) given ≡ None → option_and_then (value_of (codes "discover") (codes "file")) given ≡ None
+    → ((file : Bor Text) → IsGiven given (Run file) → ⊥) → (job : Job) → IsGiven given job → ⊥
+none_given given p q r s (Decode digits) asked = let both = sym p ∙ asked in cc
+none_given given p q r s (Encode uid) asked = let both = sym q ∙ asked in cc
+none_given given p q r s (Discover file incremental quick) asked = let both = sym r ∙ asked.0 in cc
+none_given given p q r s (Run file) asked = s file asked
+
+-- a command without this file doesn't run it
+no_run : (given : Option (Text × List Row)) → option_and_then (value_of (codes "run") (codes "file")) given ≡ None → (file : Bor Text) → IsGiven given (Run file) → ⊥
+no_run given none file asked = let both = sym none ∙ asked.0 in cc
 
 -- and the flag of a command that was given
 flag_of-found : (given : Option (Text × List Row)) (name flag : Text) (found : Found) (set : Bool)
@@ -61,7 +68,8 @@ returns-in_err-get_str-in-decode-clause-none c =
     rw c.from_residual-in_err-get_str-in-decode.ensures (none_given (subcommand_rows_of c.args.matches.now)
     (value_of-found (subcommand_rows_of c.args.matches.now) (codes "decode") (codes "hex") (found_of c.in_ok-name.given.now) _ parts refl c.in_err-get_str-in-decode.ensures)
     (value_of-other (subcommand_rows_of c.args.matches.now) (codes "decode") (codes "encode") (codes "uid") _ parts refl)
-    (value_of-other (subcommand_rows_of c.args.matches.now) (codes "decode") (codes "discover") (codes "file") _ parts refl))
+    (value_of-other (subcommand_rows_of c.args.matches.now) (codes "decode") (codes "discover") (codes "file") _ parts refl)
+    (no_run (subcommand_rows_of c.args.matches.now) (value_of-other (subcommand_rows_of c.args.matches.now) (codes "decode") (codes "run") (codes "file") _ parts refl)))
 
 pub returns-in_err-get_str-in-encode-clause-none :
     goal.returns-in_err-get_str-in-encode-clause-none
@@ -70,13 +78,15 @@ returns-in_err-get_str-in-encode-clause-none c =
     rw c.from_residual-in_err-get_str-in-encode.ensures (none_given (subcommand_rows_of c.args.matches.now)
     (value_of-other (subcommand_rows_of c.args.matches.now) (codes "encode") (codes "decode") (codes "hex") _ parts refl)
     (value_of-found (subcommand_rows_of c.args.matches.now) (codes "encode") (codes "uid") (found_of c.in_ok-name.given.now) _ parts refl c.in_err-get_str-in-encode.ensures)
-    (value_of-other (subcommand_rows_of c.args.matches.now) (codes "encode") (codes "discover") (codes "file") _ parts refl))
+    (value_of-other (subcommand_rows_of c.args.matches.now) (codes "encode") (codes "discover") (codes "file") _ parts refl)
+    (no_run (subcommand_rows_of c.args.matches.now) (value_of-other (subcommand_rows_of c.args.matches.now) (codes "encode") (codes "run") (codes "file") _ parts refl)))
 
 pub returns-in_ok-get_str-in-discover-clause-some : goal.returns-in_ok-get_str-in-discover-clause-some
 returns-in_ok-get_str-in-discover-clause-some c =
     let parts = rw c.in-discover.is at (with_parts (out-ArgMatches c.args.matches.now).subcommand _ _ c.in_ok-name.ensures.name c.in_ok-name.ensures.rows) in (
       value_of-found (subcommand_rows_of c.args.matches.now) (codes "discover") (codes "file") (found_of c.in_ok-name.given.now) _ parts refl c.in_ok-get_str-in-discover.ensures,
       flag_of-found (subcommand_rows_of c.args.matches.now) (codes "discover") (codes "incremental") (found_of c.in_ok-name.given.now) _ parts refl c.has_flag.ensures,
+      flag_of-found (subcommand_rows_of c.args.matches.now) (codes "discover") (codes "quick") (found_of c.in_ok-name.given.now) _ parts refl c.has_flag-in-discover.ensures,
     )
 
 pub returns-in_err-get_str-in-discover-clause-none :
@@ -86,4 +96,27 @@ returns-in_err-get_str-in-discover-clause-none c =
     rw c.from_residual-in_err-get_str-in-discover.ensures (none_given (subcommand_rows_of c.args.matches.now)
     (value_of-other (subcommand_rows_of c.args.matches.now) (codes "discover") (codes "decode") (codes "hex") _ parts refl)
     (value_of-other (subcommand_rows_of c.args.matches.now) (codes "discover") (codes "encode") (codes "uid") _ parts refl)
-    (value_of-found (subcommand_rows_of c.args.matches.now) (codes "discover") (codes "file") (found_of c.in_ok-name.given.now) _ parts refl c.in_err-get_str-in-discover.ensures))
+    (value_of-found (subcommand_rows_of c.args.matches.now) (codes "discover") (codes "file") (found_of c.in_ok-name.given.now) _ parts refl c.in_err-get_str-in-discover.ensures)
+    (no_run (subcommand_rows_of c.args.matches.now) (value_of-other (subcommand_rows_of c.args.matches.now) (codes "discover") (codes "run") (codes "file") _ parts refl)))
+
+-- and the port of a command that was given
+locked_of-found : (given : Option (Text × List Row)) (name : Text) (found : Found) (set : Bool)
+    → given ≡ Some (name, rows_of found) → bytes_eq name name ≡ true → set ≡ is_locked (rows_of found)
+    → option_and_then (locked_of name) given ≡ Some set
+locked_of-found given name found set is same read = rw (is, same) (ap Some (sym read))
+
+pub returns-in_ok-get_str-in-run-clause-some : goal.returns-in_ok-get_str-in-run-clause-some
+returns-in_ok-get_str-in-run-clause-some c =
+    let parts = rw c.in-run.is at (with_parts (out-ArgMatches c.args.matches.now).subcommand _ _ c.in_ok-name.ensures.name c.in_ok-name.ensures.rows) in (
+      value_of-found (subcommand_rows_of c.args.matches.now) (codes "run") (codes "file") (found_of c.in_ok-name.given.now) _ parts refl c.in_ok-get_str-in-run.ensures,
+      locked_of-found (subcommand_rows_of c.args.matches.now) (codes "run") (found_of c.in_ok-name.given.now) true parts refl (sym c.if-is_locked.true ∙ c.is_locked.ensures),
+    )
+
+pub returns-in_err-get_str-in-run-clause-none : goal.returns-in_err-get_str-in-run-clause-none
+returns-in_err-get_str-in-run-clause-none c =
+    let parts = rw c.in-run.is at (with_parts (out-ArgMatches c.args.matches.now).subcommand _ _ c.in_ok-name.ensures.name c.in_ok-name.ensures.rows) in
+    rw c.from_residual-in_err-get_str-in-run.ensures (none_given (subcommand_rows_of c.args.matches.now)
+    (value_of-other (subcommand_rows_of c.args.matches.now) (codes "run") (codes "decode") (codes "hex") _ parts refl)
+    (value_of-other (subcommand_rows_of c.args.matches.now) (codes "run") (codes "encode") (codes "uid") _ parts refl)
+    (value_of-other (subcommand_rows_of c.args.matches.now) (codes "run") (codes "discover") (codes "file") _ parts refl)
+    (no_run (subcommand_rows_of c.args.matches.now) (value_of-found (subcommand_rows_of c.args.matches.now) (codes "run") (codes "file") (found_of c.in_ok-name.given.now) _ parts refl c.in_err-get_str-in-run.ensures)))

@@ -1,0 +1,94 @@
+-- What is printed of a session.
+use Rattle.std.specs.Prelude.{◌≡◌, ℕ, ◌+◌, Bool, true, false, List, [], ◌∷◌, ◌++◌, length, count_by, Option, Some, None}
+use Rattle.std.specs.Prelude.{codes, decimal, flat_map}
+use Rattle.hex.specs.Hex.{encode_lower}
+use Rattle.rdm_wire.specs.UidText.{uid_text}
+use Rattle.rdm_wire.specs.declared.response.AckType.{AckType}
+use Rattle.rdm_wire.specs.declared.response.AckType.TheVariants.{Ack, Timer, Nack, Overflow}
+use Rattle.rdm_join.specs.Statuses.{number_of_status}
+use Rattle.rdm_join.specs.declared.joiner.ReplyHead.{ReplyHead}
+use Rattle.rdm_agent.specs.declared.fault.AgentFault.{AgentFault}
+use Rattle.rdm_queue.specs.declared.outcome.Completion.{Completion}
+use Rattle.rdm_port.specs.Report.{line_of, fault_text}
+use Rattle.rdm_port.specs.declared.outcomes.Outcomes.{Outcomes}
+use Rattle.rdm_port.specs.declared.outcomes.Discovered.{Discovered}
+use Rattle.rdm_port.specs.declared.session.call.ClientCall.{ClientCall}
+use Rattle.rdm_port.specs.declared.session.call.ClientCall.TheVariants.{Submit, Discover}
+use Rattle.rdm_port.specs.declared.session.client.ClientFile.{ClientFile}
+
+-- whose outcome it is: of the client with this number, and of its request or discovery with that number
+abbrev pub whose : ℕ → List ℕ → ℕ → List ℕ
+whose client kind number = codes "client " ++ decimal client ++ kind ++ decimal number ++ codes ": "
+
+-- a response type as two digits
+abbrev pub type_text : AckType → List ℕ
+type_text Ack = codes " 00 "
+type_text Timer = codes " 01 "
+type_text Nack = codes " 02 "
+type_text Overflow = codes " 03 "
+
+-- data in hexadecimal, or a hyphen where there are none
+abbrev pub data_text : List ℕ → List ℕ
+data_text [] = codes "-"
+data_text (byte ∷ bytes) = encode_lower (byte ∷ bytes)
+
+-- where there was a reply, its type and its data
+abbrev pub reply_told : Option ReplyHead → List ℕ → List ℕ
+reply_told None bytes = []
+reply_told (Some head) bytes = type_text head.ack ++ data_text bytes
+
+-- a request's status, and what was replied
+abbrev pub completion_text : Completion → List ℕ
+completion_text done = decimal (number_of_status done.status) ++ reply_told done.reply done.bytes.items
+
+abbrev pub request_line : ℕ → ℕ → Completion → List ℕ
+request_line client number done = line_of (whose client (codes " request ") number ++ completion_text done)
+
+-- a blank and the UID, for each
+abbrev pub uids_text : List ℕ → List ℕ
+uids_text uids = flat_map (λ u. 32 ∷ uid_text u) uids
+
+-- the devices' UIDs, or the fault
+abbrev pub discovered_text : Option AgentFault → List ℕ → List ℕ
+discovered_text None uids = codes "ok" ++ uids_text uids
+discovered_text (Some fault) uids = fault_text fault
+
+abbrev pub discovery_line : ℕ → ℕ → Discovered → List ℕ
+discovery_line client number d =
+    line_of (whose client (codes " discovery ") number ++ discovered_text d.fault d.uids.items)
+
+-- the texts of all elements, which are numbered from this number on
+abbrev pub numbered : {A : Type 0} → (ℕ → A → List ℕ) → ℕ → List A → List ℕ
+numbered text n [] = []
+numbered text n (x ∷ xs) = text n x ++ numbered text (n + 1) xs
+
+-- a client's requests, and its discoveries, each numbered from 0
+abbrev pub request_lines : ℕ → List Completion → List ℕ
+request_lines client requests = numbered (request_line client) 0 requests
+
+abbrev pub discovery_lines : ℕ → List Discovered → List ℕ
+discovery_lines client discoveries = numbered (discovery_line client) 0 discoveries
+
+abbrev pub client_text : ℕ → Outcomes → List ℕ
+client_text client o = request_lines client o.requests.items ++ discovery_lines client o.discoveries.items
+
+-- the clients, numbered from 0
+abbrev pub session_text : List Outcomes → List ℕ
+session_text outcomes = numbered client_text 0 outcomes
+
+abbrev pub is_request : ClientCall → Bool
+is_request (Submit request) = true
+is_request (Discover kind) = false
+
+-- each request among the calls has an outcome, and each discovery
+abbrev pub IsSettled : List ClientCall → Outcomes → Type 0
+IsSettled calls o =
+    (length o.requests.items ≡ count_by is_request calls)
+    × (length o.requests.items + length o.discoveries.items ≡ length calls)
+
+-- there are outcomes of each client, and each is settled
+abbrev pub AllSettled : List ClientFile → List Outcomes → Type 0
+AllSettled [] [] = Unit {0}
+AllSettled [] (o ∷ os) = ⊥
+AllSettled (c ∷ cs) [] = ⊥
+AllSettled (c ∷ cs) (o ∷ os) = IsSettled c.calls.items o × AllSettled cs os

@@ -1,0 +1,117 @@
+//! Answers the command that runs a session of clients on a simulated line.
+ghost use Rattle.std.specs.Prelude.{◌≡◌, ◌⊎◌, ◌≤◌, IfOk, IfErr};
+ghost use Rattle.rdm_wire.specs.Uid.{IsDevice};
+ghost use Rattle.rdm_port.specs.Fault.{SaysSession, ReadsSession, IsSessionTextFault, IsSessionFileFault, IsServeFault};
+ghost use Rattle.rdm_port.specs.Outcome.{Runs, answer_bytes};
+
+use crate::answer::{Answer, Answered};
+use crate::caller::ServeFault;
+use crate::discover::no_json;
+use crate::fault::Fault;
+use crate::input::{FileFault, read_file};
+use crate::outcomes::session_text;
+use crate::reason::Reason;
+use crate::scene::SceneFault;
+use crate::serve::{Progress, serve};
+use crate::session::{SessionFile, discovery_command, read_session};
+use serde_json::Value;
+use std::alloc::Global;
+use std::io::Read;
+use std::marker::Brand;
+use std::sync::Wait;
+use std::sync::ledger::Blank;
+use std::thread::Threads;
+
+type Refused = (Fault, Option<Reason>);
+
+/// What is printed of the session in the reader's file: of each client its requests in order, and then its discoveries
+/// in order. Each client has a thread, and the worker another.
+// It isn't inlined, as `answer_discover`.
+#[inline(never)]
+pub fn answer_run<R: Read, P: Progress + Send, T: Threads + Wait + Sync>(
+    rt: &T,
+    alloc: Global,
+    reader: &mut R,
+    progress: &mut P,
+) -> Result<Answered, Refused>
+    ensures ok { IfOk result (λ a. Runs (R.remaining reader.old) (answer_bytes a.text) a.status) }
+    ensures fault { IfErr result (λ e. IsServeFault (R.remaining reader.old) e.0
+        ⊎ IsSessionFileFault (R.remaining reader.old) e.0) }
+{
+    let file = match session_file(alloc, reader) {
+        Ok(file) => file,
+        Err(refused) => return Err(refused),
+    };
+    let SessionFile {
+        scene,
+        clients,
+        search,
+        log,
+        turns,
+    } = file;
+    let blank = Blank::new(17);
+    let served = serve::<Brand, P, T>(
+        rt, alloc, blank, scene, search, &clients, log, turns, progress,
+    );
+    let outcomes = match served {
+        Ok(outcomes) => outcomes,
+        Err(fault) => return Err(refused(fault, log, turns)),
+    };
+    match session_text(alloc, &outcomes) {
+        Ok(text) => Ok(Answered::done(Answer::Lines(text))),
+        Err(_) => Err((Fault::Memory, None)),
+    }
+}
+
+// Why a session with this log and these turns isn't answered.
+fn refused(fault: ServeFault, log: u64, turns: u64) -> Refused
+    ensures { (result.0 ≡ Fault.Memory) ⊎ (result.0 ≡ Fault.Log) ⊎ (result.0 ≡ Fault.Turns) }
+{
+    match fault {
+        ServeFault::Memory => (Fault::Memory, None),
+        ServeFault::Log => (Fault::Log, Some(too_little("log", log))),
+        ServeFault::Turns => (Fault::Turns, Some(too_little("turns", turns))),
+    }
+}
+
+fn too_little(key: &'static str, found: u64) -> Reason {
+    Reason::TooLittle { key, found }
+}
+
+// The session in the reader's file.
+fn session_file<R: Read>(alloc: Global, reader: &mut R) -> Result<SessionFile, Refused>
+    ensures ok { IfOk result (λ f. ReadsSession (R.remaining reader.old) f) }
+    ensures source { IfOk result (λ f. IsDevice f.scene.scene.source) }
+    ensures budget { IfOk result (λ f. 1 ≤ f.scene.budget) }
+    ensures log { IfOk result (λ f. f.log ≤ 1000000) }
+    ensures fault { IfErr result (λ e. IsServeFault (R.remaining reader.old) e.0
+        ⊎ IsSessionFileFault (R.remaining reader.old) e.0) }
+{
+    let bytes = match read_file(alloc, reader) {
+        Ok(bytes) => bytes,
+        Err(FileFault::NoMemory) => return Err((Fault::Memory, None)),
+        Err(fault) => return Err((Fault::File, Reason::of_file(fault))),
+    };
+    session_of(alloc, &bytes)
+}
+
+// The session that the bytes of a file say.
+fn session_of(alloc: Global, bytes: &[u8]) -> Result<SessionFile, Refused>
+    ensures ok { IfOk result (λ f. SaysSession bytes.now f) }
+    ensures fault { IfErr result (λ e. IsSessionTextFault bytes.now e.0) }
+{
+    let value = match Value::from_slice(alloc, bytes) {
+        Ok(value) => value,
+        Err(error) => return Err(no_json(&error)),
+    };
+    if let Some(command) = discovery_command(&value) {
+        return Err((Fault::DiscoveryCommand, Reason::of_scene(command)));
+    }
+    match read_session(alloc, &value) {
+        Ok(file) => Ok(file),
+        Err(SceneFault::Mismatch(mismatch)) => {
+            Err((Fault::Scene, Some(Reason::NoScene(mismatch))))
+        }
+        Err(SceneFault::NoMemory) => Err((Fault::Memory, None)),
+    }
+}

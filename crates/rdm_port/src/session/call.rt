@@ -1,0 +1,105 @@
+//! The calls of a session file's clients.
+ghost use Rattle.serde_json.specs.View.{view};
+ghost use Rattle.rdm_port.specs.Forms.{Reads};
+ghost use Rattle.rdm_port.specs.SessionFiles.{IsCall, IsRequest, IsAsk};
+
+use crate::scene::{AnyUid, Bytes, Form, FourDigits, SceneFault, Whole, optional, required};
+use arrayvec::ArrayVec;
+use rdm_agent::Kind;
+use rdm_wire::{MOST_PARAMETER_BYTES, ReqClass, Request};
+use serde_json::Value;
+use std::alloc::Global;
+
+/// A call that a client makes.
+#[derive(Debug, Drop)]
+pub enum ClientCall {
+    /// It submits a request.
+    Submit(Request),
+    /// It asks for a discovery.
+    Discover(Kind),
+}
+
+const SUB: Whole = Whole {
+    least: 0,
+    most: 65_535,
+    expected: "a whole number from 0 to 65535",
+};
+
+const PARAM: Bytes<MOST_PARAMETER_BYTES> = Bytes {
+    least: 0,
+    expected: "hexadecimal digits of 0 to 231 bytes",
+};
+
+const EXPECTED: &str = "a call with one of get, set and discover";
+
+/// A call: a request with the key `get` or `set`, or a discovery with the key `discover`, and no two of them.
+#[derive(Clone, Copy, Drop)]
+pub(crate) struct CallForm;
+
+impl Form for CallForm {
+    type Out = ClientCall;
+
+    ghost says = { λ _. IsCall };
+
+    fn read(&self, alloc: Global, value: &Value) -> Result<ClientCall, SceneFault> {
+        let gets = value.get("get").is_some();
+        let sets = value.get("set").is_some();
+        let discovers = value.get("discover").is_some();
+        match (gets, sets, discovers) {
+            (true, false, false) => request(alloc, value, "get", ReqClass::Get),
+            (false, true, false) => request(alloc, value, "set", ReqClass::Set),
+            (false, false, true) => discovery(alloc, value),
+            _ => Err(SceneFault::at(value, EXPECTED)),
+        }
+    }
+}
+
+// A request of this class to the UID under this key.
+fn request(
+    alloc: Global,
+    value: &Value,
+    key: &'static str,
+    class: ReqClass,
+) -> Result<ClientCall, SceneFault>
+    ensures { Reads result (IsRequest key.now class (view value.now)) }
+{
+    let target = required(alloc, value, key, &AnyUid)?;
+    let pid = required(alloc, value, "pid", &FourDigits)?;
+    let sub_device = optional(alloc, value, "sub", &SUB, 0)?;
+    let param = optional(alloc, value, "param", &PARAM, ArrayVec::new())?;
+    Ok(ClientCall::Submit(Request {
+        target,
+        sub_device: sub_device as u16,
+        class,
+        pid,
+        param,
+    }))
+}
+
+// A discovery of the kind under the key `discover`.
+fn discovery(alloc: Global, value: &Value) -> Result<ClientCall, SceneFault>
+    ensures { Reads result (IsAsk (view value.now)) }
+{
+    let kind = required(alloc, value, "discover", &KindForm)?;
+    Ok(ClientCall::Discover(kind))
+}
+
+// A kind of discovery.
+#[derive(Clone, Copy, Drop)]
+struct KindForm;
+
+impl Form for KindForm {
+    type Out = Kind;
+
+    ghost use Rattle.rdm_port.specs.SessionFiles.{IsKind};
+
+    ghost says = { λ _. IsKind };
+
+    fn read(&self, _alloc: Global, value: &Value) -> Result<Kind, SceneFault> {
+        match value.as_str() {
+            Some("full") => Ok(Kind::Full),
+            Some("incremental") => Ok(Kind::Incremental),
+            _ => Err(SceneFault::at(value, "\"full\" or \"incremental\"")),
+        }
+    }
+}

@@ -1,0 +1,106 @@
+//! A session file as a whole.
+ghost use Rattle.serde_json.specs.View.{view};
+ghost use Rattle.rdm_port.specs.Forms.{Reads};
+ghost use Rattle.rdm_port.specs.SceneFiles.{IsSceneFile};
+ghost use Rattle.rdm_port.specs.SessionFiles.{IsSessionFile};
+
+use crate::scene::{Form, ListOf, SceneFault, SceneFile, Whole, optional, read_scene, required};
+use crate::session::client::{ClientFile, ClientForm};
+use rdm_agent::Search;
+use rdm_queue::MOST_CLIENTS;
+use serde_json::Value;
+use std::alloc::Global;
+
+/// What a session file says.
+#[derive(Debug, Drop)]
+pub struct SessionFile {
+    /// The line, and the frames that a discovery may take.
+    pub scene: SceneFile,
+    /// The clients: 1 to 16.
+    pub clients: Vec<ClientFile>,
+    /// How discoveries search.
+    pub search: Search,
+    /// The log's free entries: 0 to 1,000,000.
+    pub log: u64,
+    /// How many turns the worker and each client may make: 1 to 1,000,000,000.
+    pub turns: u64,
+}
+
+const CLIENTS: ListOf<ClientForm> = ListOf {
+    form: ClientForm,
+    least: 1,
+    most: MOST_CLIENTS,
+    expected: "a list of 1 to 16 clients",
+};
+
+const RING: Whole = Whole {
+    least: 1,
+    most: 255,
+    expected: "a whole number from 1 to 255",
+};
+
+const LOG: Whole = Whole {
+    least: 0,
+    most: 1_000_000,
+    expected: "a whole number from 0 to 1000000",
+};
+
+const TURNS: Whole = Whole {
+    least: 1,
+    most: 1_000_000_000,
+    expected: "a whole number from 1 to 1000000000",
+};
+
+/// Reads a session file. A mismatch is the first that is met, in the order of the keys `scene`, `clients`, `ring`,
+/// `search`, `log`, `turns`. The key `ring` is for clients with rings; here it is only checked.
+pub fn read_session(alloc: Global, value: &Value) -> Result<SessionFile, SceneFault>
+    ensures { Reads result (IsSessionFile (view value.now)) }
+{
+    let scene = required(alloc, value, "scene", &SceneForm)?;
+    let clients = required(alloc, value, "clients", &CLIENTS)?;
+    let _ring = optional(alloc, value, "ring", &RING, 8)?;
+    let search = optional(alloc, value, "search", &SearchForm, Search::Steady)?;
+    let log = optional(alloc, value, "log", &LOG, 10_000)?;
+    let turns = optional(alloc, value, "turns", &TURNS, 100_000_000)?;
+    Ok(SessionFile {
+        scene,
+        clients: clients.into_vec(),
+        search,
+        log,
+        turns,
+    })
+}
+
+// A scene.
+#[derive(Clone, Copy, Drop)]
+struct SceneForm;
+
+impl Form for SceneForm {
+    type Out = SceneFile;
+
+    ghost says = { λ _. IsSceneFile };
+
+    fn read(&self, alloc: Global, value: &Value) -> Result<SceneFile, SceneFault> {
+        read_scene(alloc, value)
+    }
+}
+
+// A search.
+#[derive(Clone, Copy, Drop)]
+struct SearchForm;
+
+impl Form for SearchForm {
+    type Out = Search;
+
+    ghost use Rattle.rdm_port.specs.SessionFiles.{IsSearch};
+
+    ghost says = { λ _. IsSearch };
+
+    fn read(&self, _alloc: Global, value: &Value) -> Result<Search, SceneFault> {
+        match value.as_str() {
+            Some("steady") => Ok(Search::Steady),
+            Some("quick") => Ok(Search::Quick),
+            _ => Err(SceneFault::at(value, "\"steady\" or \"quick\"")),
+        }
+    }
+}

@@ -1,0 +1,56 @@
+//! The callbacks of a session file's clients: they tell, and do nothing else.
+ghost use Rattle.std.specs.Prelude.{◌≡◌};
+ghost use Rattle.rdm_client.specs.Callbacks.{told, ask_told};
+
+use rdm_agent::AgentFault;
+use rdm_client::{AskTold, Tells, TellsAsk, Told};
+use rdm_join::Status;
+use rdm_queue::{AskCompletion, Completion};
+use rdm_wire::DeviceSet;
+use std::alloc::Global;
+
+/// The callback of a request: the place of its call among the client's calls, from 0. It isn't [`Drop`].
+#[derive(Debug)]
+pub struct RequestTicket(pub u64);
+
+impl Tells for RequestTicket {
+    ghost tag_of = { λ ticket. ticket.0 };
+
+    ghost calls = { λ ticket done t. t ≡ told ticket.0 done };
+
+    fn spend(self, done: Completion) -> Told {
+        let RequestTicket(tag) = self;
+        Told { tag, done }
+    }
+
+    fn cancel(self, alloc: Global) -> Told {
+        self.spend(Completion {
+            status: Status::FailedToSend,
+            reply: None,
+            bytes: Vec::new(alloc),
+        })
+    }
+}
+
+/// The callback of a discovery: the place of its call among the client's calls, from 0. It isn't [`Drop`].
+#[derive(Debug)]
+pub struct AskTicket(pub u64);
+
+impl TellsAsk for AskTicket {
+    ghost tag_of = { λ ticket. ticket.0 };
+
+    ghost calls = { λ ticket done t. t ≡ ask_told ticket.0 done };
+
+    fn spend(self, done: AskCompletion) -> AskTold {
+        let AskTicket(tag) = self;
+        AskTold { tag, done }
+    }
+
+    fn cancel(self) -> AskTold {
+        self.spend(AskCompletion {
+            run: 0,
+            fault: Some(AgentFault::Aborted),
+            set: DeviceSet::new(),
+        })
+    }
+}
