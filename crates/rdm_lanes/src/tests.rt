@@ -1,0 +1,6 @@
+//! What no clause says: that the calls succeed, the rows by hand, and sessions in threads.
+mod by_hand;
+mod faults;
+mod in_threads;
+mod notes;
+mod players;
