@@ -1,0 +1,14 @@
+pub mod Calls
+pub mod Told
+pub mod Counts
+pub mod Clients
+pub mod Pairs
+pub mod Lines
+pub mod Lanes
+pub mod Serving
+pub mod Workers
+pub mod Ends
+pub mod Opened
+pub mod Rooms
+pub mod Sessions
+pub mod OverThreads
