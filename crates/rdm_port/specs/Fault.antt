@@ -1,5 +1,6 @@
 -- Faults of a command line: where each stands, and what tells it.
-use Rattle.std.specs.Prelude.{◌≡◌, ◌⊎◌, ℕ, true, false, List, Option, Some, None, codes, Result, Ok, Err, ⊤, IsErr, IsUtf8}
+use Rattle.std.specs.Prelude.{◌≡◌, ◌⊎◌, ℕ, true, false, List, Option, Some, None, codes}
+use Rattle.std.specs.Prelude.{Result, Ok, Err, ⊤, IsErr, IsUtf8}
 use Rattle.hex.specs.Hex.{decode_of}
 use Rattle.serde_json.specs.Data.{Data}
 use Rattle.serde_json.specs.Read.{read}
@@ -141,7 +142,7 @@ abbrev pub HasFault : Job → Option (List ℕ) → Fault → Type 0
 HasFault (Decode digits) known fault = IsDecodeFault digits.now fault
 HasFault (Encode uid) known fault = IsEncodeFault uid.now fault
 HasFault (Discover file incremental quick) known fault = (fault ≡ Memory) ⊎ IsFileFault known fault
-HasFault (Run file) known fault = IsServeFault known fault ⊎ IsSessionFileFault known fault
+HasFault (Run file port) known fault = IsServeFault known fault ⊎ IsSessionFileFault known fault
 
 -- the faults of a command line
 abbrev pub IsFaultOf : Result Job WordsFault → Option (List ℕ) → Fault → Type 0
