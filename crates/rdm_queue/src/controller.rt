@@ -18,7 +18,8 @@ use std::marker::Model;
 /// Contracts say after which logs it stands, and what each call adds to such a log.
 #[derive(Debug, Drop)]
 pub struct Controller {
-    queue: Queue,
+    // It is large, and a controller is moved often. So it lies in memory of its own.
+    queue: Box<Queue>,
 }
 
 impl Model for Controller {
@@ -26,7 +27,7 @@ impl Model for Controller {
 
     ghost Value = { QueueState };
 
-    ghost view = { λ c. c.queue };
+    ghost view = { λ c. c.queue.value };
 }
 
 impl Controller {
@@ -58,9 +59,10 @@ impl Controller {
         ensures stands { IfOk result (λ c. StandsAfter (opened config) [] c) }
         ensures search { IfOk result (λ c. c.search ≡ Steady) }
     {
-        Ok(Controller {
-            queue: Queue::new(alloc, config),
-        })
+        match Box::new(alloc, Queue::new(alloc, config)) {
+            Ok(queue) => Ok(Controller { queue }),
+            Err(_) => Err(NoMemory),
+        }
     }
 
     /// The same controller, whose runs search so from now on; those of a new one search steadily. As in a new one,

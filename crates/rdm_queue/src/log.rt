@@ -17,7 +17,8 @@ pub const LEAST_FREE: usize = 3;
 /// reserved when it is made.
 #[derive(Debug, Drop)]
 pub struct Log {
-    opening: Opening,
+    // It holds a device set, and a log is moved often. So it lies in memory of its own.
+    opening: Box<Opening>,
     entries: Vec<Entry>,
     room: usize,
     /// How the runs of its session search from now on. No entry says so, and no rule on logs looks at it.
@@ -32,7 +33,7 @@ impl Model for Log {
 
     ghost use Rattle.rdm_queue.specs.body.LogInvariant.{LogInvariant};
 
-    ghost view = { λ l. record { opening = l.opening; entries = l.entries.items; room = l.room; search = l.search } };
+    ghost view = { λ l. record { opening = l.opening.value; entries = l.entries.items; room = l.room; search = l.search } };
 
     ghost invariant = { λ l. LogInvariant l.room (vec_len l.entries) (vec_capacity l.entries) };
 }
@@ -52,8 +53,11 @@ impl Log {
         let Ok(entries) = Vec::with_capacity(alloc, room) else {
             return Err(NoMemory);
         };
+        let Ok(opening) = Box::new(alloc, Log::blank()) else {
+            return Err(NoMemory);
+        };
         Ok(Log {
-            opening: Log::blank(),
+            opening,
             entries,
             room,
             search: Search::Steady,
@@ -91,17 +95,13 @@ impl Log {
     }
 
     /// The same log after another opening, of a session whose runs search so.
-    pub(crate) fn after(self, opening: Opening, search: Search) -> Log
+    pub(crate) fn after(mut self, opening: Opening, search: Search) -> Log
         ensures log { result ≡ record self { opening = opening; search = search } }
         ensures some { 1 ≤ self.room }
     {
-        let Log { entries, room, .. } = self;
-        Log {
-            opening,
-            entries,
-            room,
-            search,
-        }
+        *self.opening = opening;
+        self.set_search(search);
+        self
     }
 
     /// The same log, of a session whose runs search so.
@@ -112,21 +112,13 @@ impl Log {
     }
 
     /// The log without its entries, with the same room, and with the opening of a new log.
-    pub fn cleared(self) -> Log
+    pub fn cleared(mut self) -> Log
         ensures { result ≡ blank_log self.room }
     {
-        let Log {
-            mut entries,
-            room,
-            ..
-        } = self;
-        entries.clear();
-        Log {
-            opening: Log::blank(),
-            entries,
-            room,
-            search: Search::Steady,
-        }
+        self.entries.clear();
+        *self.opening = Log::blank();
+        self.set_search(Search::Steady);
+        self
     }
 
     /// Puts an entry at the end.

@@ -6,4 +6,4 @@ use Rattle.rdm_queue.proofs.controller.Controller.pause.Goals as goal
 pub returns-then-can_pause-clause-adds : goal.returns-then-can_pause-clause-adds
 returns-then-can_pause-clause-adds c = λ o h after.
     let can = sym (c.can_pause.ensures o h after) ∙ c.if-can_pause.true in
-    record { block = Pause ∷ []; adds = rw can refl; after = rw (c.set_paused.ensures, c.self.view_is) (pause_after o h c.args.self.now can after) }
+    record { block = Pause ∷ []; adds = rw can refl; after = rw (c.set_paused.ensures, c.deref_mut.ensures.value ∙ c.self.view_is) (pause_after o h c.args.self.now can after) }
