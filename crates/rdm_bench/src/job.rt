@@ -20,6 +20,8 @@ pub(crate) enum Subject {
     Frames,
     /// Clients on a port.
     Port,
+    /// Clients over rings.
+    Rings,
     /// Each of these, and the sizes of the values.
     All,
 }
@@ -101,6 +103,7 @@ impl Subject {
             "log" => Some(Subject::Log),
             "frames" => Some(Subject::Frames),
             "port" => Some(Subject::Port),
+            "rings" => Some(Subject::Rings),
             "all" => Some(Subject::All),
             _ => None,
         }
@@ -117,6 +120,7 @@ impl Subject {
             Subject::Log => 1 <= size && size <= MOST_LOGGED,
             Subject::Frames => 1 <= size && size <= MOST_DEVICES,
             Subject::Port => 1 <= size && size <= MOST_WAITING,
+            Subject::Rings => 1 <= size && size <= MOST_WAITING,
             Subject::All => 1 <= size && size <= MOST_PARAMETER_BYTES,
         }
     }

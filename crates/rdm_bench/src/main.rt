@@ -5,6 +5,7 @@
 mod agent;
 mod bench;
 mod calls;
+mod clients;
 mod devices;
 mod discoveries;
 mod fault;
@@ -17,6 +18,7 @@ mod packets;
 mod port;
 mod queue;
 mod random;
+mod rings;
 mod serving;
 mod sizes;
 mod tape;
@@ -38,6 +40,7 @@ usage: rdm_bench SUBJECT SIZE ROUNDS | rdm_bench sizes
   log     the log of a session; SIZE: requests in it, 1 to 100000
   frames  frames of both searches; SIZE: devices on the line, 1 to 1024; ROUNDS: on how many lines of each kind
   port    clients on a port; SIZE: requests that wait, 1 to 255
+  rings   clients over rings; SIZE: requests that wait, 1 to 255
   all     each of these, and the sizes; SIZE: 1 to 231
   sizes   how many bytes the values take
 ROUNDS: how often each of the 21 samples repeats its work, 1 to 1000";
@@ -80,6 +83,7 @@ fn time<R: CpuClock + Print + Eprint + Wait>(
         Subject::Log => log::time(bench, size),
         Subject::Frames => frames::tell(bench.rt, bench.alloc, size, bench.rounds),
         Subject::Port => port::time(bench, size),
+        Subject::Rings => rings::time(bench, size),
         Subject::All => {
             agent::time(bench, size)?;
             calls::time(bench, size)?;
@@ -87,6 +91,7 @@ fn time<R: CpuClock + Print + Eprint + Wait>(
             log::time(bench, size)?;
             frames::tell(bench.rt, bench.alloc, size, bench.rounds)?;
             port::time(bench, size)?;
+            rings::time(bench, size)?;
             sizes::print(bench.rt)
         }
     }

@@ -3,13 +3,13 @@
 ghost use Rattle.std.specs.Prelude.{◌≡◌};
 
 use crate::bench::{Bench, Name, Sample};
+use crate::clients::{SCENES, Scene, after, answering, entries_for, is_answered};
 use crate::fault::Fault;
 use crate::median::SAMPLES;
 use crate::notes::{AskNote, Note, cancel};
-use crate::packets::{Part, Replies, request};
+use crate::packets::request;
 use crate::serving::{config, new_log};
-use rdm_client::{Collected, Told};
-use rdm_join::LineEvent;
+use rdm_client::Collected;
 use rdm_line::TapeLine;
 use rdm_locked::{Exchange, Left, LockedClient, Port, WorkerEnd};
 use std::alloc::Global;
@@ -17,37 +17,6 @@ use std::marker::Brand;
 use std::sync::Wait;
 use std::sync::ledger::{Blank, Ledger};
 use std::time::CpuClock;
-
-// How many clients take turns.
-#[derive(Clone, Copy, Debug)]
-struct Scene {
-    name: &'static str,
-    clients: u8,
-}
-
-const SCENES: [Scene; 3] = [
-    Scene {
-        name: "1 client",
-        clients: 1,
-    },
-    Scene {
-        name: "4 clients",
-        clients: 4,
-    },
-    Scene {
-        name: "16 clients",
-        clients: 16,
-    },
-];
-
-// How many bytes each reply has.
-const LENGTH: u8 = 2;
-
-// The entries of a request: its acceptance, its frame, the reply, its result and its collection.
-const ENTRIES_EACH: usize = 5;
-
-// Those of the joins, and what has to be free for the last turn.
-const ENTRIES_BESIDE: usize = 32;
 
 type Client<'a, L> = LockedClient<'a, L, Note, AskNote>;
 
@@ -101,30 +70,15 @@ fn time_one<L: Ledger, R: CpuClock + Print + Eprint + Wait>(
 }
 
 // A port with room for so many requests in its log.
-#[inline(never)]
 fn new_port<L: Ledger>(alloc: Global, blank: Blank, requests: usize) -> Result<Port<L>, Fault>
     requires name { blank.name ≡ L.name }
     requires parts { (blank.parts ≡ L.parts) × (L.parts ≡ 17) }
 {
-    let free = requests
-        .wrapping_mul(ENTRIES_EACH)
-        .wrapping_add(ENTRIES_BESIDE);
-    match Port::new(alloc, blank, config(), new_log(alloc, free)?) {
+    let log = new_log(alloc, entries_for(requests))?;
+    match Port::new(alloc, blank, config(), log) {
         Ok(port) => Ok(port),
         Err(_) => Err(Fault::NoMemory),
     }
-}
-
-// A line that answers so many frames, each by its transaction number.
-fn answering(alloc: Global, frames: usize) -> Result<TapeLine, Fault> {
-    let replies = Replies::new(alloc, Part::Last, LENGTH)?;
-    let mut tn: u8 = 0;
-    let mut events = Vec::new(alloc);
-    for _ in 0..frames {
-        events.push(LineEvent::Reply(replies.copied(tn)?))?;
-        tn = tn.wrapping_add(1);
-    }
-    Ok(TapeLine::new(events))
 }
 
 // Lets so many clients join, with all the places that one may have.
@@ -184,11 +138,6 @@ fn collect<L: Ledger, R: Wait>(
     }
 }
 
-// Whether the callback was called with as many bytes as a reply has.
-fn is_answered(told: &Told) -> bool {
-    told.done.bytes.len() == usize::from(LENGTH)
-}
-
 // Turns while the same number of requests wait: one is answered and collected, and another submitted.
 struct Turns<'a, L: Ledger, R> {
     rt: &'a R,
@@ -223,7 +172,7 @@ impl<L: Ledger, R: CpuClock + Print + Eprint + Wait> Turns<'_, L, R> {
 impl<L: Ledger, R: Wait> Turns<'_, L, R> {
     fn submit(&mut self) -> Result<(), Fault> {
         submit(self.rt, &mut self.clients, self.submitter)?;
-        self.submitter = self.after(self.submitter);
+        self.submitter = after(self.submitter, self.clients.len());
         Ok(())
     }
 
@@ -239,14 +188,8 @@ impl<L: Ledger, R: Wait> Turns<'_, L, R> {
 
     fn collect(&mut self) -> Result<(), Fault> {
         collect(self.rt, &mut self.clients, self.collector)?;
-        self.collector = self.after(self.collector);
+        self.collector = after(self.collector, self.clients.len());
         Ok(())
-    }
-
-    // The client whose turn is next.
-    fn after(&self, client: usize) -> usize {
-        let next = client.wrapping_add(1);
-        if next < self.clients.len() { next } else { 0 }
     }
 }
 

@@ -10,3 +10,4 @@ pub mod NumberedLemmas
 pub mod CommandLemmas
 pub mod SessionForms
 pub mod SettledLemmas
+pub mod PlaceLemmas

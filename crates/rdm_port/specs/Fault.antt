@@ -141,7 +141,7 @@ abbrev pub HasFault : Job → Option (List ℕ) → Fault → Type 0
 HasFault (Decode digits) known fault = IsDecodeFault digits.now fault
 HasFault (Encode uid) known fault = IsEncodeFault uid.now fault
 HasFault (Discover file incremental quick) known fault = (fault ≡ Memory) ⊎ IsFileFault known fault
-HasFault (Run file) known fault = IsServeFault known fault ⊎ IsSessionFileFault known fault
+HasFault (Run file port) known fault = IsServeFault known fault ⊎ IsSessionFileFault known fault
 
 -- the faults of a command line
 abbrev pub IsFaultOf : Result Job WordsFault → Option (List ℕ) → Fault → Type 0

@@ -84,7 +84,7 @@ abbrev pub Answers : Job → Option (List ℕ) → List ℕ → ℕ → Type 0
 Answers (Decode digits) known text status = Decodes digits.now text × (status ≡ 0)
 Answers (Encode uid) known text status = Encodes uid.now text × (status ≡ 0)
 Answers (Discover file incremental quick) known text status = Discovers incremental quick known text status
-Answers (Run file) known text status = Runs known text status
+Answers (Run file port) known text status = Runs known text status
 
 -- the text and the status that a command line is answered with
 abbrev pub IsOutcome : Result Job WordsFault → Option (List ℕ) → List ℕ → ℕ → Type 0

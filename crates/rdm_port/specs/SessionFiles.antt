@@ -62,12 +62,11 @@ abbrev pub IsSearch : Data → Search → Type 0
 IsSearch d Steady = as_str d ≡ Some (codes "steady")
 IsSearch d Quick = as_str d ≡ Some (codes "quick")
 
--- the whole file; the ring has no meaning here, but it must be one
+-- the whole file
 pub record IsSessionFile (d : Data) (f : SessionFile) : Type 0 where
   pub scene : Has (codes "scene") IsSceneFile d f.scene
   pub clients : Has (codes "clients") (IsListOf ClientFile IsClient 1 16) d f.clients.items
-  pub ring_slots : ℕ
-  pub ring : MayHave (codes "ring") (IsWhole 1 255) 8 d ring_slots
+  pub ring : MayHave (codes "ring") (IsWhole 1 255) 8 d f.ring
   pub search : MayHave (codes "search") IsSearch Steady d f.search
   pub log : MayHave (codes "log") (IsWhole 0 1000000) 10000 d f.log
   pub turns : MayHave (codes "turns") (IsWhole 1 1000000000) 100000000 d f.turns

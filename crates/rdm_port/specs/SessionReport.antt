@@ -1,14 +1,17 @@
 -- What is printed of a session.
-use Rattle.std.specs.Prelude.{◌≡◌, ℕ, ◌+◌, Bool, true, false, List, [], ◌∷◌, ◌++◌, length, count_by, Option, Some, None}
+use Rattle.std.specs.Prelude.{◌≡◌, ℕ, ◌+◌, Bool, true, false, List, [], ◌∷◌, ◌++◌, Option, Some, None, map, if◌then◌else◌}
 use Rattle.std.specs.Prelude.{codes, decimal, flat_map}
 use Rattle.hex.specs.Hex.{encode_lower}
 use Rattle.rdm_wire.specs.UidText.{uid_text}
 use Rattle.rdm_wire.specs.declared.response.AckType.{AckType}
 use Rattle.rdm_wire.specs.declared.response.AckType.TheVariants.{Ack, Timer, Nack, Overflow}
 use Rattle.rdm_join.specs.Statuses.{number_of_status}
+use Rattle.rdm_join.specs.declared.status.Status.{Status}
+use Rattle.rdm_join.specs.declared.status.Status.TheVariants.{Completed}
 use Rattle.rdm_join.specs.declared.joiner.ReplyHead.{ReplyHead}
 use Rattle.rdm_agent.specs.declared.fault.AgentFault.{AgentFault}
 use Rattle.rdm_queue.specs.declared.outcome.Completion.{Completion}
+use Rattle.rdm_client.specs.declared.told.Told.{Told}
 use Rattle.rdm_port.specs.Report.{line_of, fault_text}
 use Rattle.rdm_port.specs.declared.outcomes.Outcomes.{Outcomes}
 use Rattle.rdm_port.specs.declared.outcomes.Discovered.{Discovered}
@@ -20,7 +23,7 @@ use Rattle.rdm_port.specs.declared.session.client.ClientFile.{ClientFile}
 abbrev pub whose : ℕ → List ℕ → ℕ → List ℕ
 whose client kind number = codes "client " ++ decimal client ++ kind ++ decimal number ++ codes ": "
 
--- a response type as two digits
+-- a response type as two digits, between blanks
 abbrev pub type_text : AckType → List ℕ
 type_text Ack = codes " 00 "
 type_text Timer = codes " 01 "
@@ -32,17 +35,17 @@ abbrev pub data_text : List ℕ → List ℕ
 data_text [] = codes "-"
 data_text (byte ∷ bytes) = encode_lower (byte ∷ bytes)
 
--- where there was a reply, its type and its data
-abbrev pub reply_told : Option ReplyHead → List ℕ → List ℕ
-reply_told None bytes = []
-reply_told (Some head) bytes = type_text head.ack ++ data_text bytes
+-- of a request that is completed, its reply's type and data
+abbrev pub reply_told : Status → Option ReplyHead → List ℕ → List ℕ
+reply_told Completed (Some head) bytes = type_text head.ack ++ data_text bytes
+reply_told _ _ bytes = []
 
 -- a request's status, and what was replied
 abbrev pub completion_text : Completion → List ℕ
-completion_text done = decimal (number_of_status done.status) ++ reply_told done.reply done.bytes.items
+completion_text done = decimal (number_of_status done.status) ++ reply_told done.status done.reply done.bytes.items
 
-abbrev pub request_line : ℕ → ℕ → Completion → List ℕ
-request_line client number done = line_of (whose client (codes " request ") number ++ completion_text done)
+abbrev pub request_line : ℕ → ℕ → Told → List ℕ
+request_line client number told = line_of (whose client (codes " request ") number ++ completion_text told.done)
 
 -- a blank and the UID, for each
 abbrev pub uids_text : List ℕ → List ℕ
@@ -63,7 +66,7 @@ numbered text n [] = []
 numbered text n (x ∷ xs) = text n x ++ numbered text (n + 1) xs
 
 -- a client's requests, and its discoveries, each numbered from 0
-abbrev pub request_lines : ℕ → List Completion → List ℕ
+abbrev pub request_lines : ℕ → List Told → List ℕ
 request_lines client requests = numbered (request_line client) 0 requests
 
 abbrev pub discovery_lines : ℕ → List Discovered → List ℕ
@@ -80,11 +83,22 @@ abbrev pub is_request : ClientCall → Bool
 is_request (Submit request) = true
 is_request (Discover kind) = false
 
--- each request among the calls has an outcome, and each discovery
-abbrev pub IsSettled : List ClientCall → Outcomes → Type 0
-IsSettled calls o =
-    (length o.requests.items ≡ count_by is_request calls)
-    × (length o.requests.items + length o.discoveries.items ≡ length calls)
+abbrev pub is_ask : ClientCall → Bool
+is_ask (Submit request) = false
+is_ask (Discover kind) = true
+
+-- the places, from n on, of the calls of one kind
+abbrev pub places_of : (ClientCall → Bool) → ℕ → List ClientCall → List ℕ
+places_of is_of_kind n [] = []
+places_of is_of_kind n (call ∷ calls) =
+    if is_of_kind call then n ∷ places_of is_of_kind (n + 1) calls
+    else places_of is_of_kind (n + 1) calls
+
+-- Each request has one outcome, in the order of the calls, which its own callback told; and so has each discovery. A
+-- callback's tag is the place of its call.
+pub record IsSettled (calls : List ClientCall) (o : Outcomes) : Type 0 where
+  pub requests : map (λ (t : Told). t.tag) o.requests.items ≡ places_of is_request 0 calls
+  pub discoveries : map (λ (d : Discovered). d.tag) o.discoveries.items ≡ places_of is_ask 0 calls
 
 -- there are outcomes of each client, and each is settled
 abbrev pub AllSettled : List ClientFile → List Outcomes → Type 0

@@ -8,6 +8,8 @@ use Rattle.clap.specs.Words.{fault_of}
 use Rattle.clap.specs.declared.builder.action.ArgAction.TheVariants.{SetTrue}
 use Rattle.rdm_port.specs.declared.job.Job.{Job}
 use Rattle.rdm_port.specs.declared.job.Job.TheVariants.{Decode, Encode, Discover, Run}
+use Rattle.rdm_port.specs.declared.job.PortKind.{PortKind}
+use Rattle.rdm_port.specs.declared.job.PortKind.TheVariants.{Locked, Rings}
 
 -- a command with one argument
 abbrev pub one_argument : Text → Text → App
@@ -66,13 +68,19 @@ is_set flag given = option_map_or (λ text. bytes_eq text (codes "true")) (first
 abbrev pub flag_of : Text → Text → Text × List Row → Option Bool
 flag_of name flag given = if bytes_eq given.0 name then Some (is_set flag given.1) else None
 
--- whether the port is the locked one, which it is where none is named
-abbrev pub is_locked : List Row → Bool
-is_locked given = option_map_or (λ text. bytes_eq text (codes "locked")) (first_of (codes "port") given) true
+-- the port of this name
+abbrev pub port_named : Text → Option PortKind
+port_named name =
+    if bytes_eq name (codes "locked") then Some Locked
+    else (if bytes_eq name (codes "rings") then Some Rings else None)
 
--- whether the command of this name was given with that port
-abbrev pub locked_of : Text → Text × List Row → Option Bool
-locked_of name given = if bytes_eq given.0 name then Some (is_locked given.1) else None
+-- the port that is named, which is the locked one where none is
+abbrev pub port_in : List Row → Option PortKind
+port_in given = option_map_or port_named (first_of (codes "port") given) (Some Locked)
+
+-- the port of the command of this name, if that was given
+abbrev pub port_of : Text → Text × List Row → Option PortKind
+port_of name given = if bytes_eq given.0 name then port_in given.1 else None
 
 -- the job of a command with its arguments
 abbrev pub IsGiven : Option (Text × List Row) → Job → Type 0
@@ -82,16 +90,16 @@ IsGiven given (Discover file incremental quick) =
     (option_and_then (value_of (codes "discover") (codes "file")) given ≡ Some file.now)
     × (option_and_then (flag_of (codes "discover") (codes "incremental")) given ≡ Some incremental)
     × (option_and_then (flag_of (codes "discover") (codes "quick")) given ≡ Some quick)
-IsGiven given (Run file) =
+IsGiven given (Run file port) =
     (option_and_then (value_of (codes "run") (codes "file")) given ≡ Some file.now)
-    × (option_and_then (locked_of (codes "run")) given ≡ Some true)
+    × (option_and_then (port_of (codes "run")) given ≡ Some port)
 
 -- the path of the file that a job reads
 abbrev pub file_of : Job → Option Text
 file_of (Decode digits) = None
 file_of (Encode uid) = None
 file_of (Discover file incremental quick) = Some file.now
-file_of (Run file) = Some file.now
+file_of (Run file port) = Some file.now
 
 abbrev pub texts_of : List (Bor Text) → List Text
 texts_of words = map (λ word. word.now) words

@@ -3,7 +3,7 @@ ghost use Rattle.std.specs.Prelude.{◌≡◌, ◌≢◌, IfOk, IfSome, IfNone, 
 ghost use Rattle.clap.specs.Words.{app_of, with_subcommand, found_of, rows_of, subcommand_rows_of, kind_of};
 ghost use Rattle.clap.specs.declared.builder.command.Command.TheViews.{out-Command as fields_of};
 ghost use Rattle.rdm_port.specs.Words.{Asks, AsksNothing, IsGiven, bare, commands, one_argument, discover_words};
-ghost use Rattle.rdm_port.specs.Words.{reply_commands, run_words, is_locked};
+ghost use Rattle.rdm_port.specs.Words.{reply_commands, run_words, port_in, port_named};
 ghost use Rattle.rdm_port.specs.Words.{is_set, file_of, texts_of};
 
 use clap::error::ErrorKind;
@@ -26,8 +26,22 @@ pub enum Job<'a> {
         /// Whether the run sweeps first.
         quick: bool,
     },
-    /// Run the session of the file with this path, behind a lock.
-    Run(&'a str),
+    /// Run the session of a file.
+    Run {
+        /// The file's path.
+        file: &'a str,
+        /// What stands between its clients and its worker.
+        port: PortKind,
+    },
+}
+
+/// What stands between the clients of a session and its worker.
+#[derive(Clone, Copy, Debug, PartialEq, Eq)]
+pub enum PortKind {
+    /// A lock.
+    Locked,
+    /// Two rings for each client.
+    Rings,
 }
 
 impl<'a> Job<'a> {
@@ -38,7 +52,7 @@ impl<'a> Job<'a> {
         match self {
             Job::Decode(_) | Job::Encode(_) => None,
             Job::Discover { file, .. } => Some(*file),
-            Job::Run(file) => Some(*file),
+            Job::Run { file, .. } => Some(*file),
         }
     }
 }
@@ -162,7 +176,10 @@ fn given<'a>(matches: &ArgMatches<'a>) -> Option<Job<'a>>
             incremental: has_flag(given, "incremental"),
             quick: has_flag(given, "quick"),
         }),
-        "run" if is_locked(given) => Some(Job::Run(given.get_str("file")?)),
+        "run" => Some(Job::Run {
+            file: given.get_str("file")?,
+            port: port_of(given)?,
+        }),
         _ => None,
     }
 }
@@ -177,13 +194,23 @@ fn has_flag(given: &ArgMatches<'_>, flag: &str) -> bool
     }
 }
 
-// Whether the locked port was given, or none.
-fn is_locked(given: &ArgMatches<'_>) -> bool
-    ensures { result ≡ is_locked (rows_of (found_of given.now)) }
+// The port that was given, or the locked one where none was. None: there is no such port.
+fn port_of(given: &ArgMatches<'_>) -> Option<PortKind>
+    ensures { result ≡ port_in (rows_of (found_of given.now)) }
 {
     match given.get_str("port") {
-        Some(text) => text == "locked",
-        None => true,
+        Some(name) => port_named(name),
+        None => Some(PortKind::Locked),
+    }
+}
+
+fn port_named(name: &str) -> Option<PortKind>
+    ensures { result ≡ port_named name.now }
+{
+    match name {
+        "locked" => Some(PortKind::Locked),
+        "rings" => Some(PortKind::Rings),
+        _ => None,
     }
 }
 

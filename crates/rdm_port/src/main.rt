@@ -7,7 +7,6 @@ ghost use Rattle.rdm_port.specs.Words.{texts_of};
 
 mod answer;
 mod branch;
-mod caller;
 mod discover;
 mod discovery;
 mod fault;
@@ -25,7 +24,6 @@ mod session;
 mod tell;
 #[cfg(test)]
 mod tests;
-mod ticket;
 
 use crate::job::{Job, WordsFault, parse_words};
 use crate::perform::carry_out;

@@ -1,5 +1,5 @@
 //! What came of clients' calls, and what is printed of it.
-ghost use Rattle.std.specs.Prelude.{◌≡◌, ◌++◌, IfOk, OnOk};
+ghost use Rattle.std.specs.Prelude.{◌≡◌, ◌++◌, [], IfOk, OnOk};
 ghost use Rattle.rdm_wire.specs.Devices.{uids_of};
 ghost use Rattle.rdm_port.specs.SessionReport.{session_text, client_text, request_lines, discovery_lines};
 ghost use Rattle.rdm_port.specs.SessionReport.{request_line, discovery_line, whose, reply_told, type_text, uids_text};
@@ -7,23 +7,25 @@ ghost use Rattle.rdm_port.specs.SessionReport.{request_line, discovery_line, who
 use crate::report::{tell_fault, tell_uid};
 use itoa::Buffer;
 use rdm_agent::AgentFault;
-use rdm_join::ReplyHead;
-use rdm_queue::{AskCompletion, Completion};
+use rdm_client::{AskTold, Told};
+use rdm_join::{ReplyHead, Status};
 use rdm_wire::{AckType, Uid};
 use std::alloc::{AllocError, Global};
 
-/// What came of a client's calls: of its requests and of its discoveries, each in the order of its calls.
+/// What came of a client's calls: of its requests and of its discoveries, each as its callback told it.
 #[derive(Debug, Drop)]
 pub struct Outcomes {
     /// How its requests ended.
-    pub requests: Vec<Completion>,
+    pub requests: Vec<Told>,
     /// How its discoveries ended.
     pub discoveries: Vec<Discovered>,
 }
 
-/// How a discovery ended, and which devices it found. It has no more room than these take.
+/// What a discovery's callback told. It takes room for the UIDs of the devices, and not for a whole set.
 #[derive(Debug, Drop)]
 pub struct Discovered {
+    /// The callback's tag.
+    pub tag: u64,
     /// Why its run ended early; None where it ended without fault.
     pub fault: Option<AgentFault>,
     /// The UIDs of the devices, ascending.
@@ -32,7 +34,10 @@ pub struct Discovered {
 
 impl Outcomes {
     /// Nothing yet.
-    pub fn new(alloc: Global) -> Outcomes {
+    pub fn new(alloc: Global) -> Outcomes
+        ensures requests { result.requests.items ≡ [] }
+        ensures discoveries { result.discoveries.items ≡ [] }
+    {
         Outcomes {
             requests: Vec::new(alloc),
             discoveries: Vec::new(alloc),
@@ -41,23 +46,25 @@ impl Outcomes {
 }
 
 impl Discovered {
-    /// What a discovery's completion says.
-    pub fn new(alloc: Global, done: &AskCompletion) -> Result<Discovered, AllocError>
-        ensures fault { IfOk result (λ d. d.fault ≡ done.now.fault) }
-        ensures uids { IfOk result (λ d. d.uids.items ≡ uids_of done.now.set) }
+    /// What a discovery's callback told. Err: there was no memory.
+    pub fn new(alloc: Global, told: &AskTold) -> Result<Discovered, AllocError>
+        ensures tag { IfOk result (λ d. d.tag ≡ told.now.tag) }
+        ensures fault { IfOk result (λ d. d.fault ≡ told.now.done.fault) }
+        ensures uids { IfOk result (λ d. d.uids.items ≡ uids_of told.now.done.set) }
     {
         let mut uids = Vec::new(alloc);
-        'devices: for device in done.set.as_slice() {
+        'devices: for device in told.done.set.as_slice() {
             uids.push(device.uid)?;
         }
         Ok(Discovered {
-            fault: done.fault,
+            tag: told.tag,
+            fault: told.done.fault,
             uids,
         })
     }
 }
 
-/// The lines of all clients, in their order: of each its requests, and then its discoveries.
+/// The lines of all clients, in their order: of each its requests, and then its discoveries. Err: there was no memory.
 pub fn session_text(alloc: Global, outcomes: &[Outcomes]) -> Result<Vec<u8>, AllocError>
     ensures { IfOk result (λ text. text.items ≡ session_text outcomes.now) }
 {
@@ -84,7 +91,7 @@ fn tell_requests(
     alloc: Global,
     text: &mut Vec<u8>,
     client: usize,
-    requests: &[Completion],
+    requests: &[Told],
 ) -> Result<(), AllocError>
     ensures { OnOk result (text.new.items ≡ text.old.items ++ request_lines client requests.now) }
 {
@@ -112,13 +119,14 @@ fn tell_request(
     text: &mut Vec<u8>,
     client: usize,
     number: usize,
-    done: &Completion,
+    told: &Told,
 ) -> Result<(), AllocError>
-    ensures { OnOk result (text.new.items ≡ text.old.items ++ request_line client number done.now) }
+    ensures { OnOk result (text.new.items ≡ text.old.items ++ request_line client number told.now) }
 {
+    let done = &told.done;
     tell_whose(text, client, b" request ", number)?;
     text.extend_from_slice(Buffer::new().format(done.status.number()).as_bytes())?;
-    tell_reply(alloc, text, &done.reply, &done.bytes)?;
+    tell_reply(alloc, text, done.status, &done.reply, &done.bytes)?;
     text.push(b'\n')?;
     Ok(())
 }
@@ -157,16 +165,17 @@ fn tell_whose(
     text.extend_from_slice(b": ")
 }
 
-// The type of a reply and its data, where there was one.
+// The type and the data of a completed request's reply.
 fn tell_reply(
     alloc: Global,
     text: &mut Vec<u8>,
+    status: Status,
     reply: &Option<ReplyHead>,
     bytes: &[u8],
 ) -> Result<(), AllocError>
-    ensures { OnOk result (text.new.items ≡ text.old.items ++ reply_told reply.now bytes.now) }
+    ensures { OnOk result (text.new.items ≡ text.old.items ++ reply_told status reply.now bytes.now) }
 {
-    let Some(head) = reply else {
+    let (Status::Completed, Some(head)) = (status, reply) else {
         return Ok(());
     };
     text.extend_from_slice(type_text(head.ack))?;

@@ -129,7 +129,7 @@ fn answer<R: Read, P: Progress + Send, T: Threads + Wait + Sync>(
                 ..
             },
         ) => answer_discover(alloc, incremental, quick, reader),
-        Ok(Job::Run(_)) => answer_run(rt, alloc, reader, progress),
+        Ok(Job::Run { port, .. }) => answer_run(rt, alloc, port, reader, progress),
         Err(WordsFault::Words) => Err((Fault::CommandLine, Some(Reason::Usage))),
         Err(WordsFault::NoMemory) => Err((Fault::Memory, None)),
     }

@@ -5,14 +5,14 @@ ghost use Rattle.rdm_port.specs.Fault.{SaysSession, ReadsSession, IsSessionTextF
 ghost use Rattle.rdm_port.specs.Outcome.{Runs, answer_bytes};
 
 use crate::answer::{Answer, Answered};
-use crate::caller::ServeFault;
 use crate::discover::no_json;
 use crate::fault::Fault;
 use crate::input::{FileFault, read_file};
+use crate::job::PortKind;
 use crate::outcomes::session_text;
 use crate::reason::Reason;
 use crate::scene::SceneFault;
-use crate::serve::{Progress, serve};
+use crate::serve::{Progress, ServeFault, serve};
 use crate::session::{SessionFile, discovery_command, read_session};
 use serde_json::Value;
 use std::alloc::Global;
@@ -31,6 +31,7 @@ type Refused = (Fault, Option<Reason>);
 pub fn answer_run<R: Read, P: Progress + Send, T: Threads + Wait + Sync>(
     rt: &T,
     alloc: Global,
+    port: PortKind,
     reader: &mut R,
     progress: &mut P,
 ) -> Result<Answered, Refused>
@@ -42,18 +43,9 @@ pub fn answer_run<R: Read, P: Progress + Send, T: Threads + Wait + Sync>(
         Ok(file) => file,
         Err(refused) => return Err(refused),
     };
-    let SessionFile {
-        scene,
-        clients,
-        search,
-        log,
-        turns,
-    } = file;
+    let (log, turns) = (file.log, file.turns);
     let blank = Blank::new(17);
-    let served = serve::<Brand, P, T>(
-        rt, alloc, blank, scene, search, &clients, log, turns, progress,
-    );
-    let outcomes = match served {
+    let outcomes = match serve::<Brand, P, T>(rt, alloc, blank, port, file, progress) {
         Ok(outcomes) => outcomes,
         Err(fault) => return Err(refused(fault, log, turns)),
     };
@@ -83,6 +75,7 @@ fn session_file<R: Read>(alloc: Global, reader: &mut R) -> Result<SessionFile, R
     ensures ok { IfOk result (λ f. ReadsSession (R.remaining reader.old) f) }
     ensures source { IfOk result (λ f. IsDevice f.scene.scene.source) }
     ensures budget { IfOk result (λ f. 1 ≤ f.scene.budget) }
+    ensures ring { IfOk result (λ f. 1 ≤ f.ring) }
     ensures log { IfOk result (λ f. f.log ≤ 1000000) }
     ensures fault { IfErr result (λ e. IsServeFault (R.remaining reader.old) e.0
         ⊎ IsSessionFileFault (R.remaining reader.old) e.0) }

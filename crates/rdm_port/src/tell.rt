@@ -9,7 +9,7 @@ const USAGE: &str = "\
 usage: rdm_port decode HEX
        rdm_port encode UID
        rdm_port discover FILE [--incremental] [--quick]
-       rdm_port run FILE [--port locked]
+       rdm_port run FILE [--port locked|rings]
   decode     what the bytes of a reply to a branch say
   encode     the reply of the device with this UID
   discover   the devices that a run finds on the line of a scene file

@@ -18,6 +18,8 @@ pub struct SessionFile {
     pub scene: SceneFile,
     /// The clients: 1 to 16.
     pub clients: Vec<ClientFile>,
+    /// How many slots each ring has: 1 to 255.
+    pub ring: u8,
     /// How discoveries search.
     pub search: Search,
     /// The log's free entries: 0 to 1,000,000.
@@ -52,19 +54,20 @@ const TURNS: Whole = Whole {
 };
 
 /// Reads a session file. A mismatch is the first that is met, in the order of the keys `scene`, `clients`, `ring`,
-/// `search`, `log`, `turns`. The key `ring` is for clients with rings; here it is only checked.
+/// `search`, `log`, `turns`.
 pub fn read_session(alloc: Global, value: &Value) -> Result<SessionFile, SceneFault>
     ensures { Reads result (IsSessionFile (view value.now)) }
 {
     let scene = required(alloc, value, "scene", &SceneForm)?;
     let clients = required(alloc, value, "clients", &CLIENTS)?;
-    let _ring = optional(alloc, value, "ring", &RING, 8)?;
+    let ring = optional(alloc, value, "ring", &RING, 8)?;
     let search = optional(alloc, value, "search", &SearchForm, Search::Steady)?;
     let log = optional(alloc, value, "log", &LOG, 10_000)?;
     let turns = optional(alloc, value, "turns", &TURNS, 100_000_000)?;
     Ok(SessionFile {
         scene,
         clients: clients.into_vec(),
+        ring: ring as u8,
         search,
         log,
         turns,

@@ -1,5 +1,5 @@
 //! What command lines print, and their statuses.
-use crate::job::{Job, WordsFault, parse_words};
+use crate::job::{Job, PortKind, WordsFault, parse_words};
 use crate::perform::perform;
 use arrayvec::ArrayVec;
 use std::io;
@@ -48,7 +48,7 @@ fn prints_one_line(rt: HostRuntime) -> Result<(), Fail> {
 
 #[test]
 fn reads_words(rt: HostRuntime) {
-    let rows: [(&[&str], Result<Job<'_>, WordsFault>); 36] = [
+    let rows: [(&[&str], Result<Job<'_>, WordsFault>); 39] = [
         (&["decode", "00"], Ok(Job::Decode("00"))),
         (&["encode", "00"], Ok(Job::Encode("00"))),
         (&["decode", "--", "-0"], Ok(Job::Decode("-0"))),
@@ -111,10 +111,43 @@ fn reads_words(rt: HostRuntime) {
             &["discover", "file", "--incremental", "--incremental"],
             Err(WordsFault::Words),
         ),
-        (&["run", "file"], Ok(Job::Run("file"))),
-        (&["run", "file", "--port", "locked"], Ok(Job::Run("file"))),
-        (&["run", "--port=locked", "file"], Ok(Job::Run("file"))),
-        (&["run", "file", "--port", "rings"], Err(WordsFault::Words)),
+        (
+            &["run", "file"],
+            Ok(Job::Run {
+                file: "file",
+                port: PortKind::Locked,
+            }),
+        ),
+        (
+            &["run", "file", "--port", "locked"],
+            Ok(Job::Run {
+                file: "file",
+                port: PortKind::Locked,
+            }),
+        ),
+        (
+            &["run", "--port=locked", "file"],
+            Ok(Job::Run {
+                file: "file",
+                port: PortKind::Locked,
+            }),
+        ),
+        (
+            &["run", "file", "--port", "rings"],
+            Ok(Job::Run {
+                file: "file",
+                port: PortKind::Rings,
+            }),
+        ),
+        (
+            &["run", "--port=rings", "file"],
+            Ok(Job::Run {
+                file: "file",
+                port: PortKind::Rings,
+            }),
+        ),
+        (&["run", "file", "--port", "Rings"], Err(WordsFault::Words)),
+        (&["run", "file", "--port", ""], Err(WordsFault::Words)),
         (&["run", "file", "--port"], Err(WordsFault::Words)),
         (
             &["run", "file", "--port", "locked", "--port", "locked"],

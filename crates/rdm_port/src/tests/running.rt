@@ -1,19 +1,25 @@
 //! What sessions of clients print. The lines are worked out from the formats; none depends on which thread comes first.
-use crate::job::Job;
+use crate::job::{Job, PortKind};
 use crate::perform::perform;
 use std::alloc::Global;
 use std::sync::Wait;
 use std::thread::Threads;
 
-// What is printed of a session file with these bytes, and the status.
+const PORTS: [PortKind; 2] = [PortKind::Locked, PortKind::Rings];
+
+// What is printed of a session file with these bytes over this port, and the status.
 pub(super) fn printed<T: Threads + Wait + Sync>(
     rt: &T,
     alloc: Global,
+    port: PortKind,
     text: &[u8],
 ) -> (Vec<u8>, u8) {
     let mut written = Vec::new(alloc);
     let mut reader = text;
-    let job = Ok(Job::Run("session.json"));
+    let job = Ok(Job::Run {
+        file: "session.json",
+        port,
+    });
     let status = perform(rt, alloc, job, &mut reader, &mut written);
     (written, status)
 }
@@ -88,14 +94,16 @@ fn gives_each_client_its_own_results(rt: HostRuntime) {
         ),
     ];
     for (name, file, lines) in rows {
-        let (written, status) = printed(&rt, rt.alloc(), file.as_bytes());
-        assert_eq!(rt; written.as_slice(), lines.as_bytes(), "{name}");
-        assert_eq!(rt; status, 0, "{name}");
+        for port in PORTS {
+            let (written, status) = printed(&rt, rt.alloc(), port, file.as_bytes());
+            assert_eq!(rt; written.as_slice(), lines.as_bytes(), "{port:?} {name}");
+            assert_eq!(rt; status, 0, "{port:?} {name}");
+        }
     }
 }
 
-// A full log is told exactly where the log is less than the session's entries and three more; the entries are counted
-// by hand.
+// A full log is told exactly when the log has less room than for the session's entries and three more. The entries are
+// counted by hand.
 #[test]
 fn tells_a_full_log_before_turns(rt: HostRuntime) {
     let rows: [(&str, &str, u8); 11] = [
@@ -156,9 +164,11 @@ fn tells_a_full_log_before_turns(rt: HostRuntime) {
         ),
     ];
     for (file, lines, due) in rows {
-        let (written, status) = printed(&rt, rt.alloc(), file.as_bytes());
-        assert_eq!(rt; written.as_slice(), lines.as_bytes(), "{file}");
-        assert_eq!(rt; status, due, "{file}");
+        for port in PORTS {
+            let (written, status) = printed(&rt, rt.alloc(), port, file.as_bytes());
+            assert_eq!(rt; written.as_slice(), lines.as_bytes(), "{port:?} {file}");
+            assert_eq!(rt; status, due, "{port:?} {file}");
+        }
     }
 }
 
@@ -183,8 +193,10 @@ fn tells_turns_that_run_out(rt: HostRuntime) {
         ),
     ];
     for (file, lines, due) in rows {
-        let (written, status) = printed(&rt, rt.alloc(), file.as_bytes());
-        assert_eq!(rt; written.as_slice(), lines.as_bytes(), "{file}");
-        assert_eq!(rt; status, due, "{file}");
+        for port in PORTS {
+            let (written, status) = printed(&rt, rt.alloc(), port, file.as_bytes());
+            assert_eq!(rt; written.as_slice(), lines.as_bytes(), "{port:?} {file}");
+            assert_eq!(rt; status, due, "{port:?} {file}");
+        }
     }
 }

@@ -1,5 +1,5 @@
 //! What is refused of session files, and for which reasons.
-use crate::job::Job;
+use crate::job::{Job, PortKind};
 use crate::perform::{Silent, carry_out};
 use crate::reason::Reason;
 use crate::tests::files::tell;
@@ -13,7 +13,10 @@ use std::thread::Threads;
 fn refused<T: Threads + Wait + Sync>(rt: &T, alloc: Global, text: &[u8]) -> Option<Reason> {
     let mut reader = text;
     let mut written = Vec::new(alloc);
-    let job = Ok(Job::Run("session.json"));
+    let job = Ok(Job::Run {
+        file: "session.json",
+        port: PortKind::Locked,
+    });
     let (_, reason) = carry_out(rt, alloc, job, &mut reader, &mut written, &mut Silent);
     reason
 }
@@ -178,7 +181,7 @@ fn tells_what_is_no_session(rt: HostRuntime) -> Result<(), Fail> {
         ),
     ];
     for (text, line, told) in rows {
-        let (written, status) = printed(&rt, rt.alloc(), text.as_bytes());
+        let (written, status) = printed(&rt, rt.alloc(), PortKind::Locked, text.as_bytes());
         assert_eq!(rt; written.as_slice(), line.as_bytes(), "{text}");
         assert_eq!(rt; status, 1, "{text}");
         let reason = mismatch_of(&rt, rt.alloc(), text.as_bytes()).ok_or("a mismatch")?;
@@ -206,7 +209,7 @@ fn tells_the_first_fault_of_a_file(rt: HostRuntime) {
         ("{\"discovery\":1}", "fault: scene\n"),
     ];
     for (text, line) in rows {
-        let (written, status) = printed(&rt, rt.alloc(), text.as_bytes());
+        let (written, status) = printed(&rt, rt.alloc(), PortKind::Locked, text.as_bytes());
         assert_eq!(rt; written.as_slice(), line.as_bytes(), "{text}");
         assert_eq!(rt; status, 1, "{text}");
     }

@@ -10,9 +10,10 @@ use Rattle.clap.specs.declared.parser.matches.Found.{Found}
 use Rattle.clap.specs.declared.parser.matches.SubCommand.{SubCommand}
 use Rattle.clap.specs.Words.{subcommand_rows_of}
 use Rattle.clap.proofs.WalkLemmas.{first_value-rows}
-use Rattle.rdm_port.specs.Words.{value_of, flag_of, locked_of, is_set, is_locked, IsGiven}
+use Rattle.rdm_port.specs.Words.{value_of, flag_of, port_of, port_in, is_set, IsGiven}
 use Rattle.rdm_port.specs.declared.job.Job.{Job}
 use Rattle.rdm_port.specs.declared.job.Job.TheVariants.{Decode, Encode, Discover, Run}
+use Rattle.rdm_port.specs.declared.job.PortKind.{PortKind}
 use Rattle.rdm_port.proofs.job.given.Goals as goal
 
 -- a command that was given is its name and what was given to it
@@ -35,15 +36,15 @@ value_of-other given name other argument rows is differs = rw (is, differs) refl
 
 none_given : (given : Option (Text × List Row)) → option_and_then (value_of (codes "decode") (codes "hex")) given ≡ None
     → option_and_then (value_of (codes "encode") (codes "uid")) given ≡ None → option_and_then (value_of (codes "discover") (codes "file")) given ≡ None
-    → ((file : Bor Text) → IsGiven given (Run file) → ⊥) → (job : Job) → IsGiven given job → ⊥
+    → ((file : Bor Text) (port : PortKind) → IsGiven given (Run file port) → ⊥) → (job : Job) → IsGiven given job → ⊥
 none_given given p q r s (Decode digits) asked = let both = sym p ∙ asked in cc
 none_given given p q r s (Encode uid) asked = let both = sym q ∙ asked in cc
 none_given given p q r s (Discover file incremental quick) asked = let both = sym r ∙ asked.0 in cc
-none_given given p q r s (Run file) asked = s file asked
+none_given given p q r s (Run file port) asked = s file port asked
 
 -- a command without this file doesn't run it
-no_run : (given : Option (Text × List Row)) → option_and_then (value_of (codes "run") (codes "file")) given ≡ None → (file : Bor Text) → IsGiven given (Run file) → ⊥
-no_run given none file asked = let both = sym none ∙ asked.0 in cc
+no_run : (given : Option (Text × List Row)) → option_and_then (value_of (codes "run") (codes "file")) given ≡ None → (file : Bor Text) (port : PortKind) → IsGiven given (Run file port) → ⊥
+no_run given none file port asked = let both = sym none ∙ asked.0 in cc
 
 -- and the flag of a command that was given
 flag_of-found : (given : Option (Text × List Row)) (name flag : Text) (found : Found) (set : Bool)
@@ -100,16 +101,16 @@ returns-in_err-get_str-in-discover-clause-none c =
     (no_run (subcommand_rows_of c.args.matches.now) (value_of-other (subcommand_rows_of c.args.matches.now) (codes "discover") (codes "run") (codes "file") _ parts refl)))
 
 -- and the port of a command that was given
-locked_of-found : (given : Option (Text × List Row)) (name : Text) (found : Found) (set : Bool)
-    → given ≡ Some (name, rows_of found) → bytes_eq name name ≡ true → set ≡ is_locked (rows_of found)
-    → option_and_then (locked_of name) given ≡ Some set
-locked_of-found given name found set is same read = rw (is, same) (ap Some (sym read))
+port_of-found : (given : Option (Text × List Row)) (name : Text) (found : Found) (port : Option PortKind)
+    → given ≡ Some (name, rows_of found) → bytes_eq name name ≡ true → port ≡ port_in (rows_of found)
+    → option_and_then (port_of name) given ≡ port
+port_of-found given name found port is same read = rw (is, same) (sym read)
 
-pub returns-in_ok-get_str-in-run-clause-some : goal.returns-in_ok-get_str-in-run-clause-some
-returns-in_ok-get_str-in-run-clause-some c =
+pub returns-in_ok-port_of-in-run-clause-some : goal.returns-in_ok-port_of-in-run-clause-some
+returns-in_ok-port_of-in-run-clause-some c =
     let parts = rw c.in-run.is at (with_parts (out-ArgMatches c.args.matches.now).subcommand _ _ c.in_ok-name.ensures.name c.in_ok-name.ensures.rows) in (
       value_of-found (subcommand_rows_of c.args.matches.now) (codes "run") (codes "file") (found_of c.in_ok-name.given.now) _ parts refl c.in_ok-get_str-in-run.ensures,
-      locked_of-found (subcommand_rows_of c.args.matches.now) (codes "run") (found_of c.in_ok-name.given.now) true parts refl (sym c.if-is_locked.true ∙ c.is_locked.ensures),
+      port_of-found (subcommand_rows_of c.args.matches.now) (codes "run") (found_of c.in_ok-name.given.now) _ parts refl c.in_ok-port_of-in-run.ensures,
     )
 
 pub returns-in_err-get_str-in-run-clause-none : goal.returns-in_err-get_str-in-run-clause-none

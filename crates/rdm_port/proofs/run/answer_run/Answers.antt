@@ -1,8 +1,8 @@
-use Rattle.std.proofs.Common.{◌≡◌, ℕ, List, Option, ap, ◌∙◌, subst, inl, inr}
+use Rattle.std.proofs.Common.{◌≡◌, ℕ, List, Option, ap, ◌∙◌, inl, inr}
 use Rattle.std.specs.Prelude.{◌⊎◌}
 use Rattle.rdm_port.specs.Fault.{ReadsSession, IsServeFault}
 use Rattle.rdm_port.specs.Outcome.{answer_bytes}
-use Rattle.rdm_port.specs.SessionReport.{AllSettled, session_text}
+use Rattle.rdm_port.specs.SessionReport.{session_text}
 use Rattle.rdm_port.specs.declared.fault.Fault.{Fault}
 use Rattle.rdm_port.specs.declared.fault.Fault.TheVariants.{Memory, Log, Turns}
 use Rattle.rdm_port.specs.declared.session.file.SessionFile.{SessionFile}
@@ -14,15 +14,15 @@ fault_is known file reads f (inl is) = rw is tt
 fault_is known file reads f (inr (inl is)) = rw is (file, reads)
 fault_is known file reads f (inr (inr is)) = rw is (file, reads)
 
-pub returns-in-Err-served-clause-fault : goal.returns-in-Err-served-clause-fault
-returns-in-Err-served-clause-fault g c = inl (fault_is (g.R.Read.remaining c.args.reader.now) c.in-Ok.file c.in-Ok.ensures.ok c.refused.result.0 c.refused.ensures)
+pub returns-in-Err-serve-clause-fault : goal.returns-in-Err-serve-clause-fault
+returns-in-Err-serve-clause-fault g c = inl (fault_is (g.R.Read.remaining c.args.reader.now) c.in-Ok.file c.in-Ok.ensures.ok c.refused.result.0 c.refused.ensures)
 
 pub returns-in-Ok-session_text-clause-ok : goal.returns-in-Ok-session_text-clause-ok
 returns-in-Ok-session_text-clause-ok g c = record {
   file = c.in-Ok.file;
   reads = c.in-Ok.ensures.ok;
-  outcomes = c.in-Ok-served.outcomes.items;
-  settled = subst (λ cs. AllSettled cs c.in-Ok-served.outcomes.items) c.deref.ensures.value c.in-Ok-served.ensures;
-  prints = ap answer_bytes c.done.ensures.text ∙ (c.in-Ok-session_text.ensures ∙ ap session_text c.deref-2.ensures.value);
+  outcomes = c.in-Ok-serve.outcomes.items;
+  settled = c.in-Ok-serve.ensures;
+  prints = ap answer_bytes c.done.ensures.text ∙ (c.in-Ok-session_text.ensures ∙ ap session_text c.deref.ensures.value);
   ends = c.done.ensures.status;
 }

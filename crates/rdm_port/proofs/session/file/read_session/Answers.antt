@@ -7,9 +7,9 @@ pub returns-in_err-clients : goal.returns-in_err-clients
 returns-in_err-clients c = passed c.from_residual-in_err-clients.result c.in_err-clients.field-0.0 (IsSessionFile (view c.args.value.now)) c.from_residual-in_err-clients.ensures.1
     (λ other file h. c.in_err-clients.ensures other file.clients.items h.clients)
 
-pub returns-in_err-_ring : goal.returns-in_err-_ring
-returns-in_err-_ring c = passed c.from_residual-in_err-_ring.result c.in_err-_ring.field-0.0 (IsSessionFile (view c.args.value.now)) c.from_residual-in_err-_ring.ensures.1
-    (λ other file h. c.in_err-_ring.ensures other h.ring_slots h.ring)
+pub returns-in_err-ring : goal.returns-in_err-ring
+returns-in_err-ring c = passed c.from_residual-in_err-ring.result c.in_err-ring.field-0.0 (IsSessionFile (view c.args.value.now)) c.from_residual-in_err-ring.ensures.1
+    (λ other file h. c.in_err-ring.ensures other file.ring h.ring)
 
 pub returns-in_err-search : goal.returns-in_err-search
 returns-in_err-search c = passed c.from_residual-in_err-search.result c.in_err-search.field-0.0 (IsSessionFile (view c.args.value.now)) c.from_residual-in_err-search.ensures.1
