@@ -1,0 +1,138 @@
+-- What collects leave as it is.
+use Rattle.std.proofs.Common.{◌≡◌, ℕ, ◌+◌, ◌-◌, Bool, true, false, true≢false, List, [], ◌∷◌, ◌++◌, length, Option, Some, None, refl, sym, ap, ◌∙◌, subst, inl, inr, append-nil, append_assoc, arith}
+use Rattle.std.specs.Prelude.{nat_lt}
+use Rattle.std.specs.List.{AllByRecursion}
+use Rattle.arrayvec.specs.ArrayVec.{ArrayVec}
+use Rattle.rdm_agent.specs.declared.search.Search.{Search}
+use Rattle.rdm_wire.specs.Lists.{EachAfter}
+use Rattle.rdm_queue.specs.declared.entry.ClientId.{ClientId}
+use Rattle.rdm_queue.specs.declared.entry.Opening.{Opening}
+use Rattle.rdm_queue.specs.declared.entry.Owner.{Owner}
+use Rattle.rdm_queue.specs.declared.entry.Owner.TheVariants as owners
+use Rattle.rdm_queue.specs.declared.entry.Entry.{Entry}
+use Rattle.rdm_queue.specs.declared.entry.Entry.TheVariants.{Join, Refuse, Accept, Ask, Send, Came, Finish, Answer, Collect, Pause, Resume, Close}
+use Rattle.rdm_queue.specs.log.Entries.{join_of}
+use Rattle.rdm_queue.specs.log.MaySend.{MaySend, NoSend, MaySendRequest, MayBegin, MaySendRun}
+use Rattle.rdm_queue.specs.log.Legal.{Legal, MayFollow}
+use Rattle.rdm_queue.specs.log.LogState.{LogState, grown, is_full_log, free_entries}
+use Rattle.rdm_queue.proofs.LogLemmas.PushLemmas.{accepts_same, asks_same, sends_same, finishes_same, answered_same, awaited-push, is_closed-push, is_paused-push}
+use Rattle.rdm_queue.proofs.LogLemmas.RunLemmas.{open_run_same, last_run_same, asked_before_same}
+use Rattle.rdm_queue.proofs.LogLemmas.RoomLemmas.{taken, added, added_by, taken_block}
+use Rattle.rdm_lanes.specs.Lines.{NoExchange, SameSwitches, OnlyCollects, is_collect}
+use Rattle.rdm_lanes.proofs.ListLemmas.{all_follow}
+use Rattle.rdm_lanes.proofs.LineLemmas.{is_off_line, is_switch, line_off, switches_stay, grown_join, grown_same}
+
+abbrev pub AllCollects : List Entry → Type 0
+AllCollects block = AllByRecursion (λ e. is_collect e ≡ true) block
+
+all_join : (block more : List Entry) → AllCollects block → AllCollects more → AllCollects (block ++ more)
+all_join [] more all rest = rest
+all_join (e ∷ block) more all rest = (all.0, all_join block more all.1 rest)
+
+pub collects_none : (k : LogState) → OnlyCollects k k
+collects_none k = record { block = []; each = tt; grows = grown_same k }
+
+pub collects_join : (a b d : LogState) → OnlyCollects a b → OnlyCollects b d → OnlyCollects a d
+collects_join a b d p q = record { block = p.block ++ q.block; each = all_join p.block q.block p.each q.each; grows = grown_join a b d p.block q.block p.grows q.grows }
+
+-- they are no frames, joins or switches
+off_line : (e : Entry) → is_collect e ≡ true → is_off_line e ≡ true
+off_line (Send owner frame) is = absurd (true≢false (sym is))
+off_line (Came event) is = absurd (true≢false (sym is))
+off_line _ is = refl
+
+no_join : (e : Entry) → is_collect e ≡ true → join_of e ≡ None
+no_join (Join c n) is = absurd (true≢false (sym is))
+no_join _ is = refl
+
+no_switch : (e : Entry) → is_collect e ≡ true → is_switch e ≡ false
+no_switch Pause is = absurd (true≢false (sym is))
+no_switch Resume is = absurd (true≢false (sym is))
+no_switch Close is = absurd (true≢false (sym is))
+no_switch _ is = refl
+
+pub collects_line : (old new : LogState) → OnlyCollects old new → NoExchange old new
+collects_line old new is = line_off old new is.block is.grows
+    (all_follow (λ e. is_collect e ≡ true) (λ e. is_off_line e ≡ true) off_line is.block is.each)
+    (all_follow (λ e. is_collect e ≡ true) (λ e. join_of e ≡ None) no_join is.block is.each)
+
+pub collects_switches : (old new : LogState) → OnlyCollects old new → SameSwitches old new
+collects_switches old new is = switches_stay old new is.block is.grows
+    (all_follow (λ e. is_collect e ≡ true) (λ e. is_switch e ≡ false) no_switch is.block is.each)
+
+-- as many entries are free
+takes_nothing : (e : Entry) → is_collect e ≡ true → added e ≡ 0
+takes_nothing (Collect c) is = refl
+takes_nothing (Finish n status len) is = refl
+takes_nothing (Answer n run fault) is = refl
+takes_nothing (Came event) is = refl
+takes_nothing Close is = refl
+takes_nothing _ is = absurd (true≢false (sym is))
+
+take_nothing : (block : List Entry) → AllCollects block → added_by block ≡ 0
+take_nothing [] all = refl
+take_nothing (e ∷ block) all = omega (arith, takes_nothing e all.0, take_nothing block all.1)
+
+free_stays : (o : Opening) (h block : List Entry) (room : ℕ) (search : Search) → EachAfter (MayFollow o) (h ++ block) → AllCollects block
+    → free_entries (record { opening = o; entries = h ++ block; room = room; search = search }) ≡ free_entries (record { opening = o; entries = h; room = room; search = search })
+free_stays o h block room search each all = omega (arith, taken_block o h block each, take_nothing block all)
+
+pub full_stays : (old new : LogState) → OnlyCollects old new → Legal new.opening new.entries → is_full_log new ≡ is_full_log old
+full_stays old new is legal =
+    let each : EachAfter (MayFollow old.opening) (old.entries ++ is.block) = subst (λ (k : LogState). EachAfter (MayFollow k.opening) k.entries) is.grows legal.each in
+    ap is_full_log is.grows ∙ ap (λ (n : ℕ). nat_lt n 3) (free_stays old.opening old.entries is.block old.room old.search each is.each)
+
+-- where no frame might be sent, none may be
+module _ (o : Opening) (h : List Entry) (c : ClientId) where
+  next : List Entry
+  next = h ++ Collect c ∷ []
+
+  request_before : (n : ℕ) (frame : ArrayVec ℕ) → MaySendRequest o (h ++ Collect c ∷ []) n frame → MaySendRequest o h n frame
+  request_before n frame may = record {
+    not_awaited = sym (awaited-push h (Collect c)) ∙ may.not_awaited;
+    not_closed = sym (is_closed-push o h (Collect c)) ∙ may.not_closed;
+    not_paused = sym (is_paused-push o h (Collect c)) ∙ may.not_paused;
+    no_run = sym (open_run_same h (h ++ Collect c ∷ []) (sends_same h (Collect c) refl) (answered_same h (Collect c) refl)) ∙ may.no_run;
+    accepted = may.accepted;
+    lowest = rw (finishes_same h (Collect c) refl, accepts_same h (Collect c) refl) at may.lowest;
+    number = may.number;
+    turn = rw (sends_same h (Collect c) refl, asked_before_same h (Collect c) refl, answered_same h (Collect c) refl, asks_same h (Collect c) refl) at may.turn;
+    packet = rw (sends_same h (Collect c) refl) at may.packet;
+  }
+
+  begin_before : (r : ℕ) → MayBegin o (h ++ Collect c ∷ []) r → MayBegin o h r
+  begin_before r may = record {
+    not_paused = sym (is_paused-push o h (Collect c)) ∙ may.not_paused;
+    no_run = sym (open_run_same h (h ++ Collect c ∷ []) (sends_same h (Collect c) refl) (answered_same h (Collect c) refl)) ∙ may.no_run;
+    no_request = rw (sends_same h (Collect c) refl, finishes_same h (Collect c) refl, accepts_same h (Collect c) refl) at may.no_request;
+    asked = rw (asked_before_same h (Collect c) refl, answered_same h (Collect c) refl, asks_same h (Collect c) refl) at may.asked;
+    number = rw (last_run_same h (h ++ Collect c ∷ []) (sends_same h (Collect c) refl)) at may.number;
+    from_one = may.from_one;
+  }
+
+  run_before : (r : ℕ) (frame : ArrayVec ℕ) → MaySendRun o (h ++ Collect c ∷ []) r frame → MaySendRun o h r frame
+  run_before r frame may = record {
+    not_awaited = sym (awaited-push h (Collect c)) ∙ may.not_awaited;
+    not_closed = sym (is_closed-push o h (Collect c)) ∙ may.not_closed;
+    turn = elim may.turn [
+      | inl begins ↦ inl (begin_before r begins)
+      | inr open_ ↦ inr (sym (open_run_same h (h ++ Collect c ∷ []) (sends_same h (Collect c) refl) (answered_same h (Collect c) refl)) ∙ open_)
+    ];
+    in_budget = rw (sends_same h (Collect c) refl) at may.in_budget;
+    packet = rw (sends_same h (Collect c) refl) at may.packet;
+  }
+
+  pub no_send_one : NoSend o h → NoSend o (h ++ Collect c ∷ [])
+  no_send_one none (owners.Request n) frame may = none (owners.Request n) frame (request_before n frame may)
+  no_send_one none (owners.Run r) frame may = none (owners.Run r) frame (run_before r frame may)
+
+no_send_entry : (o : Opening) (h : List Entry) (e : Entry) → is_collect e ≡ true → NoSend o h → NoSend o (h ++ e ∷ [])
+no_send_entry o h (Collect c) is none = no_send_one o h c none
+no_send_entry o h _ is none = absurd (true≢false (sym is))
+
+no_send_block : (o : Opening) (h block : List Entry) → AllCollects block → NoSend o h → NoSend o (h ++ block)
+no_send_block o h [] all none = subst (NoSend o) (sym (append-nil h)) none
+no_send_block o h (e ∷ block) all none = subst (NoSend o) (append_assoc h (e ∷ []) block) (no_send_block o (h ++ e ∷ []) block all.1 (no_send_entry o h e all.0 none))
+
+pub no_send_stays : (old new : LogState) → OnlyCollects old new → NoSend old.opening old.entries → NoSend new.opening new.entries
+no_send_stays old new is none = subst (λ (k : LogState). NoSend k.opening k.entries) (sym is.grows) (no_send_block old.opening old.entries is.block is.each none)

@@ -1,0 +1,204 @@
+-- What a log says of one client, as it grows by a block of entries.
+use Rattle.std.proofs.Common.{◌≡◌, ℕ, ◌+◌, ◌-◌, ◌<◌, ◌≤◌, Bool, true, false, true≢false, List, [], ◌∷◌, ◌++◌, map, length, take, drop, Option, Some, None, refl, sym, ap, ◌∙◌, subst, slice_get, inl, inr, length-append, append-nil, arith}
+use Rattle.std.specs.Prelude.{filter, filter_map, ◌||◌, ◌&&◌, ◌==◌, ◌⊎◌}
+use Rattle.std.specs.List.{AllByRecursion}
+use Rattle.std.proofs.lemmas.Bool.{cases_Bool}
+use Rattle.std.proofs.lemmas.Option.{slice_get_within}
+use Rattle.std.proofs.lemmas.List.{drop-append-le, take-append-le, map-append}
+use Rattle.std.proofs.lemmas.List.Elements.{filter-append, filter_map-append}
+use Rattle.rdm_wire.specs.Lists.{EachAfter}
+use Rattle.rdm_queue.specs.declared.entry.Opening.{Opening}
+use Rattle.rdm_queue.specs.declared.entry.ClientId.{ClientId}
+use Rattle.rdm_queue.specs.declared.entry.Call.{Call}
+use Rattle.rdm_queue.specs.declared.entry.Cause.{Cause}
+use Rattle.rdm_queue.specs.declared.entry.Entry.{Entry}
+use Rattle.rdm_queue.specs.declared.entry.Entry.TheVariants.{Refuse, Accept, Ask, Finish, Answer, Collect}
+use Rattle.rdm_queue.specs.log.Entries.{Accepted, AskedDiscovery, accepted_of, asked_of, finished_of, collector_of, accepts, asks, finishes, collectors, answers}
+use Rattle.rdm_queue.specs.log.Clients.{accepts_by, asks_by, is_client_of, is_answer_to, answers_to, collects_by, collected, uncollected, outstanding_requests, outstanding_discoveries}
+use Rattle.rdm_queue.specs.log.Legal.{MayFollow}
+use Rattle.rdm_queue.specs.promises.Outcomes.{OutcomeValue, outcome_of, told, is_client, is_closed_refusal, closed_number}
+use Rattle.rdm_queue.proofs.LogLemmas.Grows.{front}
+use Rattle.rdm_queue.proofs.LogLemmas.Places.{filter_map_has, filter_agree_on}
+use Rattle.rdm_queue.proofs.LogLemmas.LegalFacts.{LogFacts, legal_facts}
+use Rattle.rdm_queue.proofs.LogLemmas.AskFacts.{AskFacts, ask_facts}
+use Rattle.rdm_queue.proofs.LogLemmas.ClientLemmas.{client_stays, asker_stays, answer_asked}
+use Rattle.rdm_queue.proofs.LogLemmas.ClientFacts.{client_facts}
+use Rattle.rdm_queue.proofs.LogLemmas.PushLemmas.{accepts-append, asks-append}
+use Rattle.rdm_queue.proofs.PromiseLemmas.StableResults.{filter_has}
+use Rattle.rdm_queue.proofs.PromiseLemmas.OwnDiscoveries.{outcome_stays}
+use Rattle.rdm_queue.proofs.PromiseLemmas.StableOutcomes.{outcome_stays as uncollected_stays}
+use Rattle.rdm_lanes.specs.declared.call.ClientCall.{ClientCall}
+use Rattle.rdm_lanes.specs.Calls.{call_by, calls_by}
+use Rattle.rdm_lanes.specs.Told.{told_values, uncollected_values}
+use Rattle.rdm_lanes.proofs.ListLemmas.{filter_none, filter_map_nothing, all_follow, filter_keeps, map_agree}
+
+-- an entry that answers client c, or tells it that a close refused its call
+abbrev pub tells : Opening → ℕ → List Entry → Entry → Bool
+tells o c h e = is_answer_to o c h e || is_closed_refusal c e
+
+-- an entry of a call or of a collect of client c
+abbrev pub touches : ℕ → Entry → Bool
+touches c (Accept d n request) = c == d.0
+touches c (Ask d n kind) = c == d.0
+touches c (Refuse d call cause) = is_client c d
+touches c (Collect d) = c == d.0
+touches c _ = false
+
+abbrev pub Untouched : ℕ → List Entry → Type 0
+Untouched c block = AllByRecursion (λ e. touches c e ≡ false) block
+
+finish_accepted : (o : Opening) (h : List Entry) → LogFacts o h → (i n : ℕ) (status : _) (len : ℕ) → slice_get h i ≡ Some (Finish n status len) → n - o.next_request < length (accepts h)
+unfolding finishes
+finish_accepted o h facts i n status len at = by_place (filter_map_has finished_of h i (Finish n status len) (record { number = n; status = status; len = len }) at refl)
+  where
+    by_place : (j : ℕ) × (slice_get (finishes h) j ≡ Some (record { number = n; status = status; len = len })) → n - o.next_request < length (accepts h)
+    by_place found = omega (arith, facts.finish_numbers found.0 _ found.1, slice_get_within (finishes h) found.0 _ found.1, facts.finished_within)
+
+-- whom an entry answers stays as it is
+pub answer_stays : (o : Opening) (h more : List Entry) → EachAfter (MayFollow o) (h ++ more) → (c i : ℕ) (x : Entry) → slice_get h i ≡ Some x → is_answer_to o c (h ++ more) x ≡ is_answer_to o c h x
+answer_stays o h more each c i (Finish n status len) at =
+    ap (is_client_of c) (client_stays o h more n (finish_accepted o h (legal_facts o h (front o h more each)) i n status len at))
+answer_stays o h more each c i (Answer n r fault) at =
+    ap (is_client_of c) (asker_stays o h more n (answer_asked o h (ask_facts o h (front o h more each)) i n r fault at))
+answer_stays o h more each c i _ at = refl
+
+pub answers_split : (o : Opening) (h more : List Entry) → EachAfter (MayFollow o) (h ++ more) → (c : ℕ) → answers_to o c (h ++ more) ≡ answers_to o c h ++ filter (is_answer_to o c (h ++ more)) more
+unfolding answers_to
+answers_split o h more each c =
+    filter-append (is_answer_to o c (h ++ more)) h more
+    ∙ ap (λ (xs : List Entry). xs ++ filter (is_answer_to o c (h ++ more)) more)
+    (filter_agree_on (is_answer_to o c (h ++ more)) (is_answer_to o c h) h (answer_stays o h more each c))
+
+pub told_split : (o : Opening) (h more : List Entry) → EachAfter (MayFollow o) (h ++ more) → (c : ℕ) → told o c (h ++ more) ≡ told o c h ++ filter (tells o c (h ++ more)) more
+told_split o h more each c =
+    filter-append (tells o c (h ++ more)) h more
+    ∙ ap (λ (xs : List Entry). xs ++ filter (tells o c (h ++ more)) more)
+    (filter_agree_on (tells o c (h ++ more)) (tells o c h) h (λ i x at. ap (λ (b : Bool). b || is_closed_refusal c x) (answer_stays o h more each c i x at)))
+
+-- what was told stays as it is
+or_left : (b : Bool) → (b || false) ≡ true → b ≡ true
+or_left true is = refl
+or_left false is = is
+
+told_stays : (o : Opening) (h more : List Entry) → EachAfter (MayFollow o) (h ++ more) → (c j : ℕ) (x : Entry) → slice_get h j ≡ Some x → tells o c h x ≡ true → outcome_of (h ++ more) x ≡ outcome_of h x
+unfolding answers_to
+told_stays o h more each c j (Finish n status len) at is =
+    let found = filter_keeps (is_answer_to o c h) h j (Finish n status len) at (or_left _ is) in
+    outcome_stays o h more each c found.0 (Finish n status len) found.1
+told_stays o h more each c j (Answer n r fault) at is =
+    let found = filter_keeps (is_answer_to o c h) h j (Answer n r fault) at (or_left _ is) in
+    outcome_stays o h more each c found.0 (Answer n r fault) found.1
+told_stays o h more each c j _ at is = refl
+
+pub told_grows : (o : Opening) (h more : List Entry) → EachAfter (MayFollow o) (h ++ more) → (c : ℕ) → told_values o c (h ++ more) ≡ told_values o c h ++ map (outcome_of (h ++ more)) (filter (tells o c (h ++ more)) more)
+unfolding told_values
+told_grows o h more each c =
+    ap (map (outcome_of (h ++ more))) (told_split o h more each c)
+    ∙ map-append (outcome_of (h ++ more)) (told o c h) (filter (tells o c (h ++ more)) more)
+    ∙ ap (λ (vs : List (Option OutcomeValue)). vs ++ map (outcome_of (h ++ more)) (filter (tells o c (h ++ more)) more))
+    (map_agree (outcome_of (h ++ more)) (outcome_of h) (told o c h) (λ i x at. let found = filter_has (tells o c h) h i x at in told_stays o h more each c found.0 x found.1 found.2))
+
+-- the values of what isn't collected stay as they are
+pub values_stay : (o : Opening) (h more : List Entry) → EachAfter (MayFollow o) (h ++ more) → (c : ℕ) → map (outcome_of (h ++ more)) (uncollected o c h) ≡ uncollected_values o c h
+unfolding uncollected_values
+values_stay o h more each c = map_agree (outcome_of (h ++ more)) (outcome_of h) (uncollected o c h) (λ i x at. uncollected_stays o h more c i x each at)
+
+-- what an untouched client's words say of a block
+call_none : (c : ℕ) (e : Entry) → touches c e ≡ false → call_by c e ≡ None
+call_none c (Accept d n request) is = rw is refl
+call_none c (Ask d n kind) is = rw is refl
+call_none c (Refuse d call cause) is = rw is refl
+call_none c _ is = refl
+
+and_false : (b d : Bool) → d ≡ false → (b && d) ≡ false
+and_false true d is = is
+and_false false d is = refl
+
+refusal_none : (c : ℕ) (e : Entry) → touches c e ≡ false → is_closed_refusal c e ≡ false
+refusal_none c (Refuse d call cause) is = and_false (cause.0 == closed_number call) (is_client c d) is
+refusal_none c _ is = refl
+
+pub calls_untouched : (c : ℕ) (h more : List Entry) → Untouched c more → calls_by c (h ++ more) ≡ calls_by c h
+unfolding calls_by
+calls_untouched c h more all =
+    filter_map-append (call_by c) h more
+    ∙ rw (filter_map_nothing (call_by c) more (all_follow _ _ (call_none c) more all)) (append-nil (filter_map (call_by c) h))
+
+accepts_none : (c : ℕ) (more : List Entry) → Untouched c more → accepts_by c more ≡ []
+unfolding accepts
+accepts_none c [] all = refl
+accepts_none c (Accept d n request ∷ more) all = rw all.0 (accepts_none c more all.1)
+accepts_none c (e ∷ more) all = accepts_none c more all.1
+
+asks_none : (c : ℕ) (more : List Entry) → Untouched c more → asks_by c more ≡ []
+unfolding asks
+asks_none c [] all = refl
+asks_none c (Ask d n kind ∷ more) all = rw all.0 (asks_none c more all.1)
+asks_none c (e ∷ more) all = asks_none c more all.1
+
+collects_none : (c : ℕ) (more : List Entry) → Untouched c more → collects_by c more ≡ []
+unfolding collectors
+collects_none c [] all = refl
+collects_none c (Collect d ∷ more) all = rw all.0 (collects_none c more all.1)
+collects_none c (e ∷ more) all = collects_none c more all.1
+
+pub accepts_by_split : (c : ℕ) (h more : List Entry) → accepts_by c (h ++ more) ≡ accepts_by c h ++ accepts_by c more
+accepts_by_split c h more = ap (filter (λ (a : Accepted). c == a.client)) (accepts-append h more) ∙ filter-append (λ (a : Accepted). c == a.client) (accepts h) (accepts more)
+
+pub asks_by_split : (c : ℕ) (h more : List Entry) → asks_by c (h ++ more) ≡ asks_by c h ++ asks_by c more
+asks_by_split c h more = ap (filter (λ (a : AskedDiscovery). c == a.client)) (asks-append h more) ∙ filter-append (λ (a : AskedDiscovery). c == a.client) (asks h) (asks more)
+
+collectors-append : (h more : List Entry) → collectors (h ++ more) ≡ collectors h ++ collectors more
+unfolding collectors
+collectors-append h more = filter_map-append collector_of h more
+
+pub collects_by_split : (c : ℕ) (h more : List Entry) → collects_by c (h ++ more) ≡ collects_by c h ++ collects_by c more
+collects_by_split c h more = ap (filter (λ (d : ℕ). c == d)) (collectors-append h more) ∙ filter-append (λ (d : ℕ). c == d) (collectors h) (collectors more)
+
+pub collects_untouched : (c : ℕ) (h more : List Entry) → collects_by c more ≡ [] → collects_by c (h ++ more) ≡ collects_by c h
+collects_untouched c h more none = collects_by_split c h more ∙ rw none (append-nil (collects_by c h))
+
+-- without a collect
+pub uncollected_split : (o : Opening) (h more : List Entry) → EachAfter (MayFollow o) (h ++ more) → (c : ℕ) → collects_by c more ≡ []
+    → uncollected o c (h ++ more) ≡ uncollected o c h ++ filter (is_answer_to o c (h ++ more)) more
+uncollected_split o h more each c none =
+    rw (collects_untouched c h more none, answers_split o h more each c)
+    (drop-append-le (length (collects_by c h)) (answers_to o c h) (filter (is_answer_to o c (h ++ more)) more) ((client_facts o h (front o h more each)).collected_within c))
+
+to_values : (o : Opening) (c : ℕ) (k : List Entry) → uncollected_values o c k ≡ map (outcome_of k) (uncollected o c k)
+unfolding uncollected_values
+to_values o c k = refl
+
+pub uncollected_grows : (o : Opening) (h more : List Entry) → EachAfter (MayFollow o) (h ++ more) → (c : ℕ) → collects_by c more ≡ []
+    → uncollected_values o c (h ++ more) ≡ uncollected_values o c h ++ map (outcome_of (h ++ more)) (filter (is_answer_to o c (h ++ more)) more)
+uncollected_grows o h more each c none =
+    to_values o c (h ++ more)
+    ∙ ap (map (outcome_of (h ++ more))) (uncollected_split o h more each c none)
+    ∙ map-append (outcome_of (h ++ more)) (uncollected o c h) (filter (is_answer_to o c (h ++ more)) more)
+    ∙ ap (λ (vs : List (Option OutcomeValue)). vs ++ map (outcome_of (h ++ more)) (filter (is_answer_to o c (h ++ more)) more)) (values_stay o h more each c)
+
+pub collected_same : (o : Opening) (h more : List Entry) → EachAfter (MayFollow o) (h ++ more) → (c : ℕ) → collects_by c more ≡ [] → collected o c (h ++ more) ≡ collected o c h
+collected_same o h more each c none =
+    rw (collects_untouched c h more none, answers_split o h more each c)
+    (take-append-le (length (collects_by c h)) (answers_to o c h) (filter (is_answer_to o c (h ++ more)) more) ((client_facts o h (front o h more each)).collected_within c))
+
+-- of a block that doesn't touch a client
+pub requests_untouched : (o : Opening) (h more : List Entry) → EachAfter (MayFollow o) (h ++ more) → (c : ℕ) → Untouched c more → outstanding_requests o c (h ++ more) ≡ outstanding_requests o c h
+requests_untouched o h more each c all =
+    rw (collected_same o h more each c (collects_none c more all), accepts_by_split c h more, accepts_none c more all, append-nil (accepts_by c h)) refl
+
+pub asks_untouched : (o : Opening) (h more : List Entry) → EachAfter (MayFollow o) (h ++ more) → (c : ℕ) → Untouched c more → outstanding_discoveries o c (h ++ more) ≡ outstanding_discoveries o c h
+asks_untouched o h more each c all =
+    rw (collected_same o h more each c (collects_none c more all), asks_by_split c h more, asks_none c more all, append-nil (asks_by c h)) refl
+
+or_none : (a b : Bool) → b ≡ false → (a || b) ≡ a
+or_none true b is = refl
+or_none false b is = is
+
+-- it tells the client only what answers it
+pub tells_untouched : (o : Opening) (k : List Entry) (c : ℕ) (more : List Entry) → Untouched c more → filter (tells o c k) more ≡ filter (is_answer_to o c k) more
+tells_untouched o k c [] all = refl
+tells_untouched o k c (e ∷ more) all = rw (or_none (is_answer_to o c k e) (is_closed_refusal c e) (refusal_none c e all.0), tells_untouched o k c more all.1) refl
+
+pub no_collects : (c : ℕ) (more : List Entry) → Untouched c more → collects_by c more ≡ []
+no_collects c more all = collects_none c more all

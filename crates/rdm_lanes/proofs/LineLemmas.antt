@@ -1,0 +1,327 @@
+-- How the exchanges in a log, and what is awaited, go on as it grows.
+use Rattle.std.proofs.Common.{◌≡◌, ℕ, Bool, true, false, cond, true≢false, List, [], ◌∷◌, ◌++◌, map, length, Option, Some, None, refl, sym, ap, ◌∙◌, subst, zip, filter_map, append-nil, append_assoc, arith}
+use Rattle.std.specs.List.{AllByRecursion}
+use Rattle.std.proofs.lemmas.List.{map-append}
+use Rattle.std.proofs.lemmas.List.Elements.{filter_map-append}
+use Rattle.arrayvec.specs.ArrayVec.{ArrayVec}
+use Rattle.rdm_agent.specs.declared.search.Search.{Search}
+use Rattle.rdm_wire.specs.Lists.{EachAfter}
+use Rattle.rdm_wire.proofs.EachAfterLemmas.{EachAfter-push}
+use Rattle.rdm_join.specs.declared.event.LineEvent.{LineEvent}
+use Rattle.rdm_line.specs.Events.{Exchange, Makes}
+use Rattle.rdm_queue.specs.declared.entry.Opening.{Opening}
+use Rattle.rdm_queue.specs.declared.entry.Owner.{Owner}
+use Rattle.rdm_queue.specs.declared.entry.Entry.{Entry}
+use Rattle.rdm_queue.specs.declared.entry.Entry.TheVariants.{Join, Refuse, Accept, Ask, Send, Came, Finish, Answer, Collect, Pause, Resume, Close}
+use Rattle.rdm_queue.specs.log.Entries.{Sending, sending_of, came_of, join_of, sends, cames, traded, traded_of, joins}
+use Rattle.rdm_queue.specs.log.History.{awaited, is_closed, is_paused, closed_after as closed_by, paused_after as paused_by}
+use Rattle.rdm_queue.specs.log.LogState.{LogState, grown}
+use Rattle.rdm_queue.specs.log.Legal.{Legal, MayFollow}
+use Rattle.rdm_queue.specs.promises.Blocks.{is_result, AllResults}
+use Rattle.rdm_queue.specs.promises.InBound.{FaultNeedsClose, AnswersInBound}
+use Rattle.rdm_queue.proofs.LogLemmas.PushLemmas.{sends-append, joins-append, awaited-push, is_closed-push, is_paused-push}
+use Rattle.rdm_queue.proofs.LogLemmas.Places.{zip_both_more}
+use Rattle.rdm_queue.proofs.LogLemmas.LegalFacts.{legal_facts, sent_evenly}
+use Rattle.rdm_lanes.specs.Lines.{exchange_of, exchanges, NoExchange, SameSwitches, InBound, IsBetweenTurns, NoCallLost, may_refuse}
+use Rattle.rdm_lanes.proofs.ListLemmas.{filter_map_nothing, all_follow}
+
+-- an entry that neither is of the line, nor ends anything, nor closes
+abbrev pub is_quiet : Entry → Bool
+is_quiet (Join c n) = true
+is_quiet (Refuse c call cause) = true
+is_quiet (Accept c n request) = true
+is_quiet (Ask c n kind) = true
+is_quiet (Collect c) = true
+is_quiet Pause = true
+is_quiet Resume = true
+is_quiet _ = false
+
+-- an entry that isn't of the line
+abbrev pub is_off_line : Entry → Bool
+is_off_line (Send owner frame) = false
+is_off_line (Came event) = false
+is_off_line _ = true
+
+abbrev pub AllOffLine : List Entry → Type 0
+AllOffLine block = AllByRecursion (λ e. is_off_line e ≡ true) block
+
+abbrev pub AllQuiet : List Entry → Type 0
+AllQuiet block = AllByRecursion (λ e. is_quiet e ≡ true) block
+
+quiet_off : (e : Entry) → is_quiet e ≡ true → is_off_line e ≡ true
+quiet_off (Send owner frame) is = is
+quiet_off (Came event) is = is
+quiet_off _ is = refl
+
+result_off : (e : Entry) → is_result e ≡ true → is_off_line e ≡ true
+result_off (Send owner frame) is = is
+result_off (Came event) is = is
+result_off _ is = refl
+
+pub quiet_all_off : (block : List Entry) → AllQuiet block → AllOffLine block
+quiet_all_off block all = all_follow (λ e. is_quiet e ≡ true) (λ e. is_off_line e ≡ true) quiet_off block all
+
+pub results_off : (block : List Entry) → AllResults block → AllOffLine block
+results_off block all = all_follow (λ e. is_result e ≡ true) (λ e. is_off_line e ≡ true) result_off block all
+
+-- what is awaited stays
+awaited_one : (h : List Entry) (e : Entry) → is_off_line e ≡ true → awaited (h ++ e ∷ []) ≡ awaited h
+awaited_one h (Send owner frame) is = absurd (true≢false (sym is))
+awaited_one h (Came event) is = absurd (true≢false (sym is))
+awaited_one h (Join c n) is = awaited-push h (Join c n)
+awaited_one h (Refuse c call cause) is = awaited-push h (Refuse c call cause)
+awaited_one h (Accept c n request) is = awaited-push h (Accept c n request)
+awaited_one h (Ask c n kind) is = awaited-push h (Ask c n kind)
+awaited_one h (Finish n status len) is = awaited-push h (Finish n status len)
+awaited_one h (Answer n r fault) is = awaited-push h (Answer n r fault)
+awaited_one h (Collect c) is = awaited-push h (Collect c)
+awaited_one h Pause is = awaited-push h Pause
+awaited_one h Resume is = awaited-push h Resume
+awaited_one h Close is = awaited-push h Close
+
+pub awaited_off : (h block : List Entry) → AllOffLine block → awaited (h ++ block) ≡ awaited h
+awaited_off h [] all = ap awaited (append-nil h)
+awaited_off h (e ∷ block) all = ap awaited (sym (append_assoc h (e ∷ []) block)) ∙ awaited_off (h ++ e ∷ []) block all.1 ∙ awaited_one h e all.0
+
+-- an entry that pauses, resumes or closes
+abbrev pub is_switch : Entry → Bool
+is_switch Pause = true
+is_switch Resume = true
+is_switch Close = true
+is_switch _ = false
+
+abbrev pub NoSwitch : List Entry → Type 0
+NoSwitch block = AllByRecursion (λ e. is_switch e ≡ false) block
+
+result_no_switch : (e : Entry) → is_result e ≡ true → is_switch e ≡ false
+result_no_switch Pause is = absurd (true≢false (sym is))
+result_no_switch Resume is = absurd (true≢false (sym is))
+result_no_switch Close is = absurd (true≢false (sym is))
+result_no_switch _ is = refl
+
+pub results_no_switch : (block : List Entry) → AllResults block → NoSwitch block
+results_no_switch block all = all_follow (λ e. is_result e ≡ true) (λ e. is_switch e ≡ false) result_no_switch block all
+
+not_closing : (b : Bool) (e : Entry) → is_switch e ≡ false → closed_by b e ≡ b
+not_closing b Close is = absurd (true≢false is)
+not_closing b _ is = refl
+
+not_pausing : (b : Bool) (e : Entry) → is_switch e ≡ false → paused_by b e ≡ b
+not_pausing b Pause is = absurd (true≢false is)
+not_pausing b Resume is = absurd (true≢false is)
+not_pausing b _ is = refl
+
+pub closed_stays : (o : Opening) (h block : List Entry) → NoSwitch block → is_closed o (h ++ block) ≡ is_closed o h
+closed_stays o h [] all = ap (is_closed o) (append-nil h)
+closed_stays o h (e ∷ block) all = ap (is_closed o) (sym (append_assoc h (e ∷ []) block)) ∙ closed_stays o (h ++ e ∷ []) block all.1 ∙ is_closed-push o h e ∙ not_closing (is_closed o h) e all.0
+
+pub paused_stays : (o : Opening) (h block : List Entry) → NoSwitch block → is_paused o (h ++ block) ≡ is_paused o h
+paused_stays o h [] all = ap (is_paused o) (append-nil h)
+paused_stays o h (e ∷ block) all = ap (is_paused o) (sym (append_assoc h (e ∷ []) block)) ∙ paused_stays o (h ++ e ∷ []) block all.1 ∙ is_paused-push o h e ∙ not_pausing (is_paused o h) e all.0
+
+pub switches_stay : (old new : LogState) (block : List Entry) → new ≡ grown old block → NoSwitch block → SameSwitches old new
+switches_stay old new block is all = rw is (record { paused = paused_stays old.opening old.entries block all; closed = closed_stays old.opening old.entries block all })
+
+pub switches_join : (a b d : LogState) → SameSwitches a b → SameSwitches b d → SameSwitches a d
+switches_join a b d p q = record { paused = q.paused ∙ p.paused; closed = q.closed ∙ p.closed }
+
+pub switches_same : (a : LogState) → SameSwitches a a
+switches_same a = record { paused = refl; closed = refl }
+
+-- who has joined stays without a Join
+abbrev pub NobodyJoins : List Entry → Type 0
+NobodyJoins block = AllByRecursion (λ e. join_of e ≡ None) block
+
+result_no_join : (e : Entry) → is_result e ≡ true → join_of e ≡ None
+result_no_join (Join c n) is = absurd (true≢false (sym is))
+result_no_join _ is = refl
+
+pub results_no_join : (block : List Entry) → AllResults block → NobodyJoins block
+results_no_join block all = all_follow (λ e. is_result e ≡ true) (λ e. join_of e ≡ None) result_no_join block all
+
+pub joins_stay : (h block : List Entry) → NobodyJoins block → joins (h ++ block) ≡ joins h
+unfolding joins
+joins_stay h block all = filter_map-append join_of h block ∙ rw (filter_map_nothing join_of block all) (append-nil (filter_map join_of h))
+
+-- the exchanges stay
+not_sent : (e : Entry) → is_off_line e ≡ true → sending_of e ≡ None
+not_sent (Send owner frame) is = absurd (true≢false (sym is))
+not_sent _ is = refl
+
+not_came : (e : Entry) → is_off_line e ≡ true → came_of e ≡ None
+not_came (Came event) is = absurd (true≢false (sym is))
+not_came _ is = refl
+
+pub sends_off : (h block : List Entry) → AllOffLine block → sends (h ++ block) ≡ sends h
+unfolding sends
+sends_off h block all = filter_map-append sending_of h block ∙ rw (filter_map_nothing sending_of block (all_follow _ _ not_sent block all)) (append-nil (filter_map sending_of h))
+
+pub cames_off : (h block : List Entry) → AllOffLine block → cames (h ++ block) ≡ cames h
+unfolding cames
+cames_off h block all = filter_map-append came_of h block ∙ rw (filter_map_nothing came_of block (all_follow _ _ not_came block all)) (append-nil (filter_map came_of h))
+
+pub exchanges_off : (h block : List Entry) → AllOffLine block → exchanges (h ++ block) ≡ exchanges h
+unfolding exchanges traded
+exchanges_off h block all = rw (sends_off h block all, cames_off h block all) refl
+
+-- an exchange more
+sends_one : (h : List Entry) (owner : Owner) (frame : ArrayVec ℕ) → sends (h ++ Send owner frame ∷ []) ≡ sends h ++ record { owner = owner; frame = frame } ∷ []
+unfolding sends
+sends_one h owner frame = filter_map-append sending_of h (Send owner frame ∷ [])
+
+sends_came : (h : List Entry) (event : LineEvent) → sends (h ++ Came event ∷ []) ≡ sends h
+unfolding sends
+sends_came h event = filter_map-append sending_of h (Came event ∷ []) ∙ append-nil (filter_map sending_of h)
+
+cames_one : (h : List Entry) (event : LineEvent) → cames (h ++ Came event ∷ []) ≡ cames h ++ event ∷ []
+unfolding cames
+cames_one h event = filter_map-append came_of h (Came event ∷ [])
+
+cames_sent : (h : List Entry) (owner : Owner) (frame : ArrayVec ℕ) → cames (h ++ Send owner frame ∷ []) ≡ cames h
+unfolding cames
+cames_sent h owner frame = filter_map-append came_of h (Send owner frame ∷ []) ∙ append-nil (filter_map came_of h)
+
+pub traded_one : (h : List Entry) (owner : Owner) (frame : ArrayVec ℕ) (event : LineEvent) → length (sends h) ≡ length (cames h)
+    → exchanges ((h ++ Send owner frame ∷ []) ++ Came event ∷ []) ≡ exchanges h ++ (frame, event) ∷ []
+unfolding exchanges traded
+traded_one h owner frame event even =
+    rw (sends_came (h ++ Send owner frame ∷ []) event, sends_one h owner frame, cames_one (h ++ Send owner frame ∷ []) event, cames_sent h owner frame, zip_both_more (sends h) (cames h) (record { owner = owner; frame = frame }) event even, map-append traded_of (zip (sends h) (cames h)) ((record { owner = owner; frame = frame }, event) ∷ []), map-append exchange_of (map traded_of (zip (sends h) (cames h))) (traded_of (record { owner = owner; frame = frame }, event) ∷ [])) refl
+
+-- faults within the bound
+each_of : (k : LogState) → InBound k → EachAfter (FaultNeedsClose k.search k.opening) k.entries
+each_of k is front back (Answer n r (Some fault)) at = λ present calm. is.closed_first front back n r fault present at calm
+each_of k is front back (Answer n r None) at = tt
+each_of k is front back (Join c n) at = tt
+each_of k is front back (Refuse c call cause) at = tt
+each_of k is front back (Accept c n request) at = tt
+each_of k is front back (Ask c n kind) at = tt
+each_of k is front back (Send owner frame) at = tt
+each_of k is front back (Came event) at = tt
+each_of k is front back (Finish n status len) at = tt
+each_of k is front back (Collect c) at = tt
+each_of k is front back Pause at = tt
+each_of k is front back Resume at = tt
+each_of k is front back Close at = tt
+
+of_each : (k : LogState) → EachAfter (FaultNeedsClose k.search k.opening) k.entries → InBound k
+of_each k each = record { closed_first = λ front back n r fault present at calm. each front back (Answer n r (Some fault)) at present calm }
+
+each_block : (search : Search) (o : Opening) (h block : List Entry) → EachAfter (FaultNeedsClose search o) h → AnswersInBound search o h block → EachAfter (FaultNeedsClose search o) (h ++ block)
+each_block search o h [] each all = subst (EachAfter (FaultNeedsClose search o)) (sym (append-nil h)) each
+each_block search o h (e ∷ block) each all = subst (EachAfter (FaultNeedsClose search o)) (append_assoc h (e ∷ []) block) (each_block search o (h ++ e ∷ []) block (EachAfter-push (FaultNeedsClose search o) h e each all.0) all.1)
+
+pub in_bound_grows : (k : LogState) (block : List Entry) → InBound k → AnswersInBound k.search k.opening k.entries block → InBound (grown k block)
+in_bound_grows k block is all = of_each (grown k block) (each_block k.search k.opening k.entries block (each_of k is) all)
+
+quiet_bound_one : (search : Search) (o : Opening) (h : List Entry) (e : Entry) → is_quiet e ≡ true → FaultNeedsClose search o h e
+quiet_bound_one search o h (Answer n r fault) is = absurd (true≢false (sym is))
+quiet_bound_one search o h (Join c n) is = tt
+quiet_bound_one search o h (Refuse c call cause) is = tt
+quiet_bound_one search o h (Accept c n request) is = tt
+quiet_bound_one search o h (Ask c n kind) is = tt
+quiet_bound_one search o h (Send owner frame) is = tt
+quiet_bound_one search o h (Came event) is = tt
+quiet_bound_one search o h (Finish n status len) is = tt
+quiet_bound_one search o h (Collect c) is = tt
+quiet_bound_one search o h Pause is = tt
+quiet_bound_one search o h Resume is = tt
+quiet_bound_one search o h Close is = tt
+
+pub quiet_bound : (search : Search) (o : Opening) (h block : List Entry) → AllQuiet block → AnswersInBound search o h block
+quiet_bound search o h [] all = tt
+quiet_bound search o h (e ∷ block) all = (quiet_bound_one search o h e all.0, quiet_bound search o (h ++ e ∷ []) block all.1)
+
+-- where it is closed each fault has its cause
+closed_bound_one : (search : Search) (o : Opening) (h : List Entry) (e : Entry) → is_closed o h ≡ true → is_result e ≡ true → FaultNeedsClose search o h e
+closed_bound_one search o h (Finish n status len) closed is = tt
+closed_bound_one search o h (Answer n r None) closed is = tt
+closed_bound_one search o h (Answer n r (Some fault)) closed is = λ present calm. closed
+closed_bound_one search o h _ closed is = absurd (true≢false (sym is))
+
+pub closed_bound : (search : Search) (o : Opening) (h block : List Entry) → is_closed o h ≡ true → AllResults block → AnswersInBound search o h block
+closed_bound search o h [] closed all = tt
+closed_bound search o h (e ∷ block) closed all = (closed_bound_one search o h e closed all.0, closed_bound search o (h ++ e ∷ []) block (closed_stays o h (e ∷ []) (results_no_switch (e ∷ []) (all.0, tt)) ∙ closed) all.1)
+
+-- each refusal has its cause
+abbrev pub RefusedRightly : Opening → List Entry → Entry → Type 0
+RefusedRightly o h (Refuse c call cause) = may_refuse o h ≡ true
+RefusedRightly o h _ = Unit {0}
+
+refusals_of : (k : LogState) → NoCallLost k → EachAfter (RefusedRightly k.opening) k.entries
+refusals_of k is front back e at = by_entry e at
+  where
+    by_entry : (e : Entry) → k.entries ≡ front ++ e ∷ back → RefusedRightly k.opening front e
+    by_entry (Refuse c call cause) at = is.rightly front back c call cause at
+    by_entry _ at = tt
+
+-- so those of a block
+abbrev pub AllRightly : Opening → List Entry → List Entry → Type 0
+AllRightly o h [] = Unit {0}
+AllRightly o h (e ∷ block) = RefusedRightly o h e × AllRightly o (h ++ e ∷ []) block
+
+rightly_block : (o : Opening) (h block : List Entry) → EachAfter (RefusedRightly o) h → AllRightly o h block → EachAfter (RefusedRightly o) (h ++ block)
+rightly_block o h [] each all = subst (EachAfter (RefusedRightly o)) (sym (append-nil h)) each
+rightly_block o h (e ∷ block) each all = subst (EachAfter (RefusedRightly o)) (append_assoc h (e ∷ []) block) (rightly_block o (h ++ e ∷ []) block (EachAfter-push (RefusedRightly o) h e each all.0) all.1)
+
+pub none_lost_grows : (k : LogState) (block : List Entry) → NoCallLost k → AllRightly k.opening k.entries block → NoCallLost (grown k block)
+none_lost_grows k block is all = record { rightly = λ front back c call cause at. rightly_block k.opening k.entries block (refusals_of k is) all front back (Refuse c call cause) at }
+
+abbrev pub is_refusal : Entry → Bool
+is_refusal (Refuse c call cause) = true
+is_refusal _ = false
+
+rightly_other : (o : Opening) (h : List Entry) (e : Entry) → is_refusal e ≡ false → RefusedRightly o h e
+rightly_other o h (Refuse c call cause) is = absurd (true≢false is)
+rightly_other o h _ is = tt
+
+-- a block without refusals
+pub rightly_without : (o : Opening) (h block : List Entry) → AllByRecursion (λ e. is_refusal e ≡ false) block → AllRightly o h block
+rightly_without o h [] all = tt
+rightly_without o h (e ∷ block) all = (rightly_other o h e all.0, rightly_without o (h ++ e ∷ []) block all.1)
+
+result_no_refusal : (e : Entry) → is_result e ≡ true → is_refusal e ≡ false
+result_no_refusal (Refuse c call cause) is = absurd (true≢false (sym is))
+result_no_refusal _ is = refl
+
+pub results_no_refusal : (block : List Entry) → AllResults block → AllByRecursion (λ e. is_refusal e ≡ false) block
+results_no_refusal block all = all_follow (λ e. is_result e ≡ true) (λ e. is_refusal e ≡ false) result_no_refusal block all
+
+-- what a quiet block leaves
+pub served_quiet : (old new : LogState) (block : List Entry) → new ≡ grown old block → AllQuiet block → AllRightly old.opening old.entries block → IsBetweenTurns old → IsBetweenTurns new
+served_quiet old new block is all rightly s = rw is (record {
+  answered = awaited_off old.entries block (quiet_all_off block all) ∙ s.answered;
+  no_call_lost = none_lost_grows old block s.no_call_lost rightly;
+  in_bound = in_bound_grows old block s.in_bound (quiet_bound old.search old.opening old.entries block all);
+})
+
+-- a block without frames and joins
+pub line_off : (old new : LogState) (block : List Entry) → new ≡ grown old block → AllOffLine block → NobodyJoins block → NoExchange old new
+line_off old new block is all nobody = record {
+  block = block;
+  grows = is;
+  nobody_joined = ap (λ (k : LogState). joins k.entries) is ∙ joins_stay old.entries block nobody;
+  same = ap (λ (k : LogState). exchanges k.entries) is ∙ exchanges_off old.entries block all;
+}
+
+pub grown_join : (a b d : LogState) (block more : List Entry) → b ≡ grown a block → d ≡ grown b more → d ≡ grown a (block ++ more)
+grown_join a b d block more p q = q ∙ ap (λ (k : LogState). grown k more) p ∙ ap (λ (h : List Entry). record a { entries = h }) (append_assoc a.entries block more)
+
+pub grown_same : (a : LogState) → a ≡ grown a []
+grown_same a = ap (λ (h : List Entry). record a { entries = h }) (sym (append-nil a.entries))
+
+pub line_join : (a b d : LogState) → NoExchange a b → NoExchange b d → NoExchange a d
+line_join a b d p q = record { block = p.block ++ q.block; grows = grown_join a b d p.block q.block p.grows q.grows; nobody_joined = q.nobody_joined ∙ p.nobody_joined; same = q.same ∙ p.same }
+
+pub line_same : (a : LogState) → NoExchange a a
+line_same a = record { block = []; grows = grown_same a; nobody_joined = refl; same = refl }
+
+-- a close, and an exchange
+pub closed_after : (o : Opening) (h : List Entry) → is_closed o (h ++ Close ∷ []) ≡ true
+closed_after o h = is_closed-push o h Close
+
+pub served_closed : (old new : LogState) (results : List Entry) → new ≡ grown old (Close ∷ results) → AllResults results → IsBetweenTurns old → IsBetweenTurns new
+served_closed old new results is all s = rw is (record {
+  answered = awaited_off old.entries (Close ∷ results) (refl, results_off results all) ∙ s.answered;
+  no_call_lost = none_lost_grows old (Close ∷ results) s.no_call_lost (rightly_without old.opening old.entries (Close ∷ results) (refl, results_no_refusal results all));
+  in_bound = in_bound_grows old (Close ∷ results) s.in_bound (tt, closed_bound old.search old.opening (old.entries ++ Close ∷ []) results (closed_after old.opening old.entries) all);
+})

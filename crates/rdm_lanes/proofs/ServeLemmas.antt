@@ -1,0 +1,90 @@
+-- How a call comes out of a client's ring.
+use Rattle.std.proofs.Common.{◌≡◌, ℕ, zero, suc, Bool, true, false, List, [], ◌∷◌, ◌++◌, Option, Some, None, refl, sym, ap, ◌∙◌, slice_get, MatchOption, append-nil, option_and_then, drop, length, ◌+◌}
+use Rattle.std.specs.Prelude.{⊤, ◌||◌}
+use Rattle.std.specs.List.{list_any}
+use Rattle.rtrb.specs.Ring.{sent as pushed, received as popped}
+use Rattle.rdm_queue.specs.declared.entry.Opening.{Opening}
+use Rattle.rdm_queue.specs.declared.entry.Entry.{Entry}
+use Rattle.rdm_queue.specs.declared.entry.Entry.TheVariants.{Finish, Answer}
+use Rattle.rdm_queue.specs.log.Clients.{is_answer_to, answers_to, uncollected, collects_by}
+use Rattle.rdm_queue.specs.log.LogState.{LogState}
+use Rattle.rdm_queue.specs.promises.Outcomes.{kind_of_answer, oldest_kind}
+use Rattle.rdm_queue.proofs.LogLemmas.Places.{slice_get-drop}
+use Rattle.rdm_queue.proofs.PromiseLemmas.StableResults.{filter_has}
+use Rattle.rdm_lanes.specs.declared.call.ClientCall.{ClientCall}
+use Rattle.rdm_lanes.specs.declared.call.ClientCall.TheVariants.{Submit, Discover, Leave}
+use Rattle.rdm_lanes.specs.declared.lane.Lane.{Lane}
+use Rattle.rdm_lanes.specs.Calls.{is_work, work_in}
+use Rattle.rdm_lanes.specs.Lanes.{FitsBut, Fits, is_leave}
+use Rattle.rdm_lanes.specs.Serving.{LooksForSlot}
+use Rattle.rdm_lanes.proofs.Counting.{work_more, leave_more}
+
+-- the front item, once it is popped
+pub front_of : (P : ClientCall → Type 0) (known rest : List ClientCall) (x : ClientCall) → known ≡ x ∷ rest → MatchOption (slice_get known 0) ⊤ P → P x
+front_of P known rest x is may = rw is at may
+
+-- the client's leave among what was received
+leave_same : (xs : List ClientCall) (x : ClientCall) → is_work x ≡ true → list_any is_leave (xs ++ x ∷ []) ≡ list_any is_leave xs
+leave_same [] (Submit request) is = refl
+leave_same [] (Discover kind) is = refl
+leave_same [] Leave is = cc
+leave_same (y ∷ xs) x is = ap (λ (b : Bool). is_leave y || b) (leave_same xs x is)
+
+leave_there : (xs : List ClientCall) → list_any is_leave (xs ++ Leave ∷ []) ≡ true
+leave_there [] = refl
+leave_there (y ∷ xs) = ap (λ (b : Bool). is_leave y || b) (leave_there xs) ∙ or_true (is_leave y)
+  where
+    or_true : (b : Bool) → (b || true) ≡ true
+    or_true true = refl
+    or_true false = refl
+
+-- what stays where a call is popped
+pub record SameCounts (old new : Lane) : Type 0 where
+  pub told_are : pushed new.replies ≡ pushed old.replies
+  pub requests_are : new.requests ≡ old.requests
+  pub asks_are : new.asks ≡ old.asks
+
+pub fits_popped : (c : ℕ) (k : LogState) (lane next : Lane) (x : ClientCall) → Fits c k lane → popped next.calls ≡ popped lane.calls ++ x ∷ [] → is_work x ≡ true → SameCounts lane next → next.left ≡ lane.left → FitsBut (x ∷ []) c k next
+fits_popped c k lane next x f got work same left = record {
+  calls_are = ap work_in got ∙ work_more (popped lane.calls) x work ∙ ap (λ (xs : List ClientCall). xs ++ x ∷ []) (f.calls_are ∙ append-nil _);
+  told_are = rw same.told_are f.told_are;
+  requests_are = same.requests_are ∙ f.requests_are;
+  asks_are = same.asks_are ∙ f.asks_are;
+  left_is = left ∙ f.left_is ∙ sym (ap (list_any is_leave) got ∙ leave_same (popped lane.calls) x work);
+}
+
+pub fits_left : (c : ℕ) (k : LogState) (lane next : Lane) → Fits c k lane → popped next.calls ≡ popped lane.calls ++ Leave ∷ [] → SameCounts lane next → next.left ≡ true → Fits c k next
+fits_left c k lane next f got same left = record {
+  calls_are = ap work_in got ∙ leave_more (popped lane.calls) ∙ f.calls_are;
+  told_are = rw same.told_are f.told_are;
+  requests_are = same.requests_are ∙ f.requests_are;
+  asks_are = same.asks_are ∙ f.asks_are;
+  left_is = left ∙ sym (ap (list_any is_leave) got ∙ leave_there (popped lane.calls));
+}
+
+-- the lane of a client of which nothing was taken
+pub fits_looked : (c : ℕ) (k : LogState) (lane next : Lane) → Fits c k lane → popped next.calls ≡ popped lane.calls → SameCounts lane next → next.left ≡ lane.left → Fits c k next
+fits_looked c k lane next f got same left = record {
+  calls_are = ap work_in got ∙ f.calls_are;
+  told_are = rw same.told_are f.told_are;
+  requests_are = same.requests_are ∙ f.requests_are;
+  asks_are = same.asks_are ∙ f.asks_are;
+  left_is = left ∙ f.left_is ∙ sym (ap (list_any is_leave) got);
+}
+
+-- where there is no oldest outcome nothing is uncollected
+has_kind : (o : Opening) (c : ℕ) (h : List Entry) (e : Entry) → is_answer_to o c h e ≡ true → kind_of_answer e ≡ None → ⊥
+has_kind o c h (Finish n status len) is none = cc
+has_kind o c h (Answer n r fault) is none = cc
+has_kind o c h _ is none = cc
+
+pub nothing_uncollected : (o : Opening) (c : ℕ) (h : List Entry) → oldest_kind o h c ≡ None → uncollected o c h ≡ []
+unfolding answers_to
+nothing_uncollected o c h nothing = by_first (uncollected o c h) (λ x at. let found = filter_has (is_answer_to o c h) h (length (collects_by c h) + 0) x (sym (slice_get-drop (length (collects_by c h)) (answers_to o c h) 0) ∙ at) in has_kind o c h x found.2) nothing
+  where
+    by_first : (us : List Entry) → ((x : Entry) → slice_get us 0 ≡ Some x → kind_of_answer x ≡ None → ⊥) → option_and_then kind_of_answer (slice_get us 0) ≡ None → us ≡ []
+    by_first [] never is = refl
+    by_first (x ∷ us) never is = absurd (never x refl is)
+
+pub fits_slot : (c : ℕ) (k : LogState) (lane next : Lane) → Fits c k lane → LooksForSlot lane next → Fits c k next
+fits_slot c k lane next f look = fits_looked c k lane next f (ap (λ (l : Lane). popped l.calls) look.rest) (record { told_are = look.looked.1; requests_are = ap (λ (l : Lane). l.requests) look.rest; asks_are = ap (λ (l : Lane). l.asks) look.rest }) (ap (λ (l : Lane). l.left) look.rest)

@@ -1,0 +1,50 @@
+-- What the steps of a worker leave.
+use Rattle.std.proofs.Common.{◌≡◌, ◌≤◌, ◌+◌, ℕ, true, refl, ◌∙◌}
+use Rattle.rdm_line.specs.Events.{Exchange}
+use Rattle.rdm_lanes.specs.declared.worker.Worker.{Worker}
+use Rattle.rdm_lanes.specs.Lines.{NoExchange, SameSwitches, OnlyCollects, Exchanged, exchange_count}
+use Rattle.rdm_lanes.specs.Lanes.{SameLanes}
+use Rattle.rdm_lanes.proofs.LaneLemmas.{same_lanes, same_lanes_join}
+use Rattle.rdm_lanes.proofs.LineLemmas.{line_same, line_join, switches_same, switches_join}
+use Rattle.rdm_lanes.proofs.CollectLemmas.{collects_none, collects_join}
+
+-- the worker served some clients
+pub record Serves (old new : Worker) : Type 0 where
+  pub line : NoExchange old.session new.session
+  pub switches : SameSwitches old.session new.session
+  pub lanes : SameLanes old.lanes.items new.lanes.items
+  pub operator : new.operator_left ≡ old.operator_left
+
+pub serves_none : (w : Worker) → Serves w w
+serves_none w = record { line = line_same w.session; switches = switches_same w.session; lanes = same_lanes w.lanes.items; operator = refl }
+
+pub serves_more : (a b d : Worker) → Serves a b → Serves b d → Serves a d
+serves_more a b d p q = record {
+  line = line_join a.session b.session d.session p.line q.line;
+  switches = switches_join a.session b.session d.session p.switches q.switches;
+  lanes = same_lanes_join a.lanes.items b.lanes.items d.lanes.items p.lanes q.lanes;
+  operator = q.operator ∙ p.operator;
+}
+
+-- the worker moved the outcomes of some clients
+pub record Moves (old new : Worker) : Type 0 where
+  pub collects : OnlyCollects old.session new.session
+  pub lanes : SameLanes old.lanes.items new.lanes.items
+  pub operator : new.operator_left ≡ old.operator_left
+
+pub moves_nothing : (w : Worker) → Moves w w
+moves_nothing w = record { collects = collects_none w.session; lanes = same_lanes w.lanes.items; operator = refl }
+
+pub moves_on : (a b d : Worker) → Moves a b → Moves b d → Moves a d
+moves_on a b d p q = record {
+  collects = collects_join a.session b.session d.session p.collects q.collects;
+  lanes = same_lanes_join a.lanes.items b.lanes.items d.lanes.items p.lanes q.lanes;
+  operator = q.operator ∙ p.operator;
+}
+
+-- the worker made so many turns
+pub record Worked {L : Type 0} (step : L → Exchange → L → Type 0) (turns : ℕ) (before : L) (old : Worker) (after : L) (new : Worker) : Type 0 where
+  pub exchanged : Exchanged step before old.session after new.session
+  pub few : exchange_count new.session ≤ exchange_count old.session + turns
+  pub lanes : SameLanes old.lanes.items new.lanes.items
+  pub operator : old.operator_left ≡ true → (new.operator_left ≡ true) × SameSwitches old.session new.session

@@ -1,0 +1,16 @@
+use Rattle.std.proofs.Common.{◌≡◌, ◌∙◌, ◌+◌, ◌++◌, ◌∷◌, [], List, length, length-append, ap, refl, arith}
+use Rattle.rdm_lanes.specs.declared.call.ClientCall.{ClientCall}
+use Rattle.rdm_lanes.specs.declared.call.ClientCall.TheVariants.{Submit, Discover}
+use Rattle.rdm_lanes.proofs.Counting.{counted_sent}
+use Rattle.rdm_lanes.proofs.client.RingClient.submit.Goals as goal
+
+pub invariant_of-self-2-clause-counted : goal.invariant_of-self-2-clause-counted
+invariant_of-self-2-clause-counted g c =
+    let me = c.args.self.now in
+    counted_sent me.calls c.push_reserved.new.self me.replies me.sent me.collected me.left (Submit c.args.request) me.counted c.if-self.false
+    (c.push_reserved.ensures.sent.0 ∙ ap (λ (xs : List ClientCall). xs ++ (Submit c.args.request) ∷ []) c.slots.ensures.looked.1) refl
+
+pub invariant_of-self-2-clause-held : goal.invariant_of-self-2-clause-held
+invariant_of-self-2-clause-held g c =
+    let me = c.args.self.now in
+    rw c.in_default.ensures.held (omega (arith, me.held, length-append me.desk.requests (c.args.callback ∷ [])))

@@ -1,0 +1,24 @@
+use Rattle.std.proofs.Common.{refl, length, arith}
+use Rattle.std.proofs.lemmas.Option.{slice_get_read}
+use Rattle.rdm_lanes.proofs.LaneLemmas.{all_set, places_stay, same_lanes_set}
+use Rattle.rdm_lanes.proofs.CollectLemmas.{collects_line}
+use Rattle.rdm_lanes.proofs.worker.Worker.move_for.Goals as goal
+
+pub move_outcomes-requires-clause-fits : goal.move_outcomes-requires-clause-fits
+move_outcomes-requires-clause-fits c =
+    let me = c.args.self.now in
+    me.fits.each c.args.at c.index_mut.result.now (slice_get_read me.lanes.items (length me.lanes.items) c.args.at c.index_mut.result.now refl (omega (arith, c.requires, me.lanes.ok.0)) c.index_mut.ensures.value)
+
+pub invariant_of-self-clause-fits : goal.invariant_of-self-clause-fits
+invariant_of-self-clause-fits c =
+    let me = c.args.self.now in
+    let lane = c.index_mut.result.now in
+    let here = slice_get_read me.lanes.items (length me.lanes.items) c.args.at lane refl (omega (arith, c.requires, me.lanes.ok.0)) c.index_mut.ensures.value in
+    all_set c.args.at me.session c.move_outcomes.new.session me.lanes.items lane c.move_outcomes.new.lane me.fits here c.move_outcomes.ensures.lane c.move_outcomes.ensures.fits (places_stay me.session c.move_outcomes.new.session (collects_line me.session c.move_outcomes.new.session c.move_outcomes.ensures.collects)) c.move_outcomes.ensures.others
+
+pub returns-clause-lanes : goal.returns-clause-lanes
+returns-clause-lanes c =
+    let me = c.args.self.now in
+    let lane = c.index_mut.result.now in
+    same_lanes_set me.lanes.items c.args.at lane c.move_outcomes.new.lane
+    (slice_get_read me.lanes.items (length me.lanes.items) c.args.at lane refl (omega (arith, c.requires, me.lanes.ok.0)) c.index_mut.ensures.value) c.move_outcomes.ensures.lane

@@ -1,0 +1,13 @@
+pub mod Calls
+pub mod Told
+pub mod Counts
+pub mod Clients
+pub mod Pairs
+pub mod Lines
+pub mod Lanes
+pub mod Serving
+pub mod Ends
+pub mod Opened
+pub mod Rooms
+pub mod Sessions
+pub mod OverThreads

@@ -1,0 +1,83 @@
+-- The exchanges in a log, and the steps of the line that made them.
+use Rattle.std.specs.Prelude.{◌≡◌, ℕ, Bool, true, false, ◌||◌, List, ◌∷◌, ◌++◌, length, map, Option, Some, nat_le}
+use Rattle.std.specs.List.{AllByRecursion}
+use Rattle.rdm_line.specs.Events.{Exchange, Makes}
+use Rattle.rdm_agent.specs.declared.fault.AgentFault.{AgentFault}
+use Rattle.rdm_queue.specs.declared.entry.Call.{Call}
+use Rattle.rdm_queue.specs.declared.entry.Cause.{Cause}
+use Rattle.rdm_queue.specs.declared.entry.ClientId.{ClientId}
+use Rattle.rdm_queue.specs.declared.entry.Opening.{Opening}
+use Rattle.rdm_queue.specs.declared.entry.Entry.{Entry}
+use Rattle.rdm_queue.specs.declared.entry.Entry.TheVariants.{Answer, Collect, Refuse}
+use Rattle.rdm_queue.specs.log.Entries.{Traded, traded, joins}
+use Rattle.rdm_queue.specs.log.History.{awaited, is_closed, is_paused, next_request, next_ask}
+use Rattle.rdm_queue.specs.log.LogState.{LogState, grown}
+use Rattle.rdm_queue.specs.promises.InBound.{IsCalmRun}
+
+-- a frame and what came for it
+abbrev pub exchange_of : Traded → Exchange
+exchange_of t = (t.frame, t.event)
+
+-- each frame that was sent, with what came for it, in order
+unfoldable pub exchanges : List Entry → List Exchange
+exchanges h = map exchange_of (traded h)
+
+abbrev pub exchange_count : LogState → ℕ
+exchange_count k = length (exchanges k.entries)
+
+-- The log grew. Its exchanges after those of old are the line's steps, from its value before to its value after: it was
+-- asked each frame once, and its own event was delivered. Nobody joined.
+pub record Exchanged {L : Type 0} (step : L → Exchange → L → Type 0) (before : L) (old : LogState) (after : L)
+    (new : LogState) : Type 0 where
+  pub block : List Entry
+  pub grows : new ≡ grown old block
+  pub nobody_joined : joins new.entries ≡ joins old.entries
+  pub made : List Exchange
+  pub added : exchanges new.entries ≡ exchanges old.entries ++ made
+  pub steps : Makes L step before made after
+
+-- the log grew; the line was asked nothing, and nobody joined
+pub record NoExchange (old new : LogState) : Type 0 where
+  pub block : List Entry
+  pub grows : new ≡ grown old block
+  pub nobody_joined : joins new.entries ≡ joins old.entries
+  pub same : exchanges new.entries ≡ exchanges old.entries
+
+-- nobody paused, resumed or closed
+pub record SameSwitches (old new : LogState) : Type 0 where
+  pub paused : is_paused new.opening new.entries ≡ is_paused old.opening old.entries
+  pub closed : is_closed new.opening new.entries ≡ is_closed old.opening old.entries
+
+-- an entry of a collect
+abbrev pub is_collect : Entry → Bool
+is_collect (Collect c) = true
+is_collect _ = false
+
+-- outcomes were collected, and nothing else happened
+pub record OnlyCollects (old new : LogState) : Type 0 where
+  pub block : List Entry
+  pub each : AllByRecursion (λ e. is_collect e ≡ true) block
+  pub grows : new ≡ grown old block
+
+-- an Answer to a discovery has a fault only where the queue is closed, if its run's exchanges are those of an honest line
+-- whose devices stay, without a failure, and its budget suffices
+pub record InBound (k : LogState) : Type 0 where
+  pub closed_first : (front back : List Entry) (n r : ℕ) (fault : AgentFault) (present : List ℕ)
+      → k.entries ≡ front ++ Answer n r (Some fault) ∷ back → IsCalmRun k.search k.opening front r present
+      → is_closed k.opening front ≡ true
+
+-- a call is refused only where the queue is closed, or the numbers of requests or of discoveries have run out
+abbrev pub may_refuse : Opening → List Entry → Bool
+may_refuse o h =
+    is_closed o h || (nat_le 18446744073709551615 (next_request o h) || nat_le 18446744073709551614 (next_ask o h))
+
+-- What a close refuses its client is told; so no call is lost.
+pub record NoCallLost (k : LogState) : Type 0 where
+  pub rightly : (front back : List Entry) (c : Option ClientId) (call : Call) (cause : Cause)
+      → k.entries ≡ front ++ Refuse c call cause ∷ back → may_refuse k.opening front ≡ true
+
+-- no reply is awaited, as it is between the turns of a worker
+pub record IsBetweenTurns (k : LogState) : Type 0 where
+  pub answered : awaited k.entries ≡ false
+  pub no_call_lost : NoCallLost k
+  pub in_bound : InBound k

@@ -1,0 +1,49 @@
+-- What a client of a session over a simulated line is told of discoveries.
+use Rattle.std.specs.Prelude.{◌≡◌, ℕ, true, List, [], Option, Some, None, slice_get}
+use Rattle.std.specs.List.{AllByRecursion}
+use Rattle.rdm_agent.specs.declared.search.Search.{Search}
+use Rattle.rdm_wire.specs.Uid.{has}
+use Rattle.rdm_wire.specs.Devices.{uids_of}
+use Rattle.rdm_line.specs.Scenes.{IsScene, Stays, present_at, uids_of_scene}
+use Rattle.rdm_line.specs.Sim.{SimState, SimStep}
+use Rattle.rdm_line.specs.SimRuns.{NoFiveSuccessive}
+use Rattle.rdm_queue.specs.declared.config.Config.{Config}
+use Rattle.rdm_queue.specs.log.LogState.{LogState}
+use Rattle.rdm_queue.specs.promises.Outcomes.{Discovered}
+use Rattle.rdm_queue.specs.promises.Outcomes.OutcomeValue.{DiscoveryValue}
+use Rattle.rdm_lanes.specs.declared.ends.ClientEnd.{ClientEnd}
+use Rattle.rdm_lanes.specs.Ends.{end_got, Agrees}
+use Rattle.rdm_lanes.specs.Sessions.{SessionOver}
+
+-- a simulated line of which no five successive exchanges are lost
+pub record IsLossyScene (s : SimState) : Type 0 where
+  pub scene : IsScene s.devices
+  pub few_losses : NoFiveSuccessive s.losses
+
+-- one whose devices stay, too
+pub record IsStayingScene (s : SimState) : Type 0 where
+  pub lossy : IsLossyScene s
+  pub stay : AllByRecursion Stays s.devices
+
+module _ {C A : Type 0} where
+  -- the client got this outcome of a discovery
+  abbrev pub HasGot : ClientEnd C A → Option ℕ → Discovered → Type 0
+  HasGot e number done = (i : ℕ) × (slice_get (end_got e) i ≡ Some (DiscoveryValue number done))
+
+  -- a session over the line, and the end of its client c
+  pub record IsEndOver (config : Config) (search : Search) (room : ℕ) (places : List ℕ) (s t : SimState) (k : LogState) (c : ℕ)
+      (e : ClientEnd C A) : Type 0 where
+    pub session : SessionOver SimStep config search room places s t k
+    pub agrees : Agrees c k e
+
+  -- without fault exactly the line's devices
+  abbrev pub TellsTheDevices : SimState → ClientEnd C A → Type 0
+  TellsTheDevices s e = (number : Option ℕ) (done : Discovered) → HasGot e number done → done.fault ≡ None
+      → uids_of done.devices ≡ uids_of_scene s.devices
+
+  -- of devices that come and leave: without fault each that is always there, and none that never is
+  pub record TellsTheChanging (s : SimState) (e : ClientEnd C A) : Type 0 where
+    pub staying : (number : Option ℕ) (done : Discovered) (u : ℕ) → HasGot e number done → done.fault ≡ None
+        → ((i : ℕ) → has (present_at s.devices i) u ≡ true) → has (uids_of done.devices) u ≡ true
+    pub no_stranger : (number : Option ℕ) (done : Discovered) (u : ℕ) → HasGot e number done
+        → has (uids_of done.devices) u ≡ true → (i : ℕ) × (has (present_at s.devices i) u ≡ true)

@@ -1,0 +1,86 @@
+-- The steps by which a worker makes a client's call, and what they leave to the others.
+use Rattle.std.specs.Prelude.{◌≡◌, ℕ, ◌+◌, ◌<◌, List, [], ◌∷◌, ◌++◌, Option, None, Result, Ok, Err, MatchBool}
+use Rattle.rtrb.specs.Ring.{sent as pushed, known_free, SameProducer, ProducerLooked}
+use Rattle.rdm_wire.specs.declared.request.Request.{Request}
+use Rattle.rdm_join.specs.declared.status.Status.TheVariants.{FailedToSend}
+use Rattle.rdm_queue.specs.declared.fault.SubmitFault.{SubmitFault}
+use Rattle.rdm_queue.specs.declared.fault.SubmitFault.TheVariants as submit_faults
+use Rattle.rdm_queue.specs.declared.fault.AskFault.{AskFault}
+use Rattle.rdm_queue.specs.declared.fault.AskFault.TheVariants as ask_faults
+use Rattle.rdm_queue.specs.promises.Outcomes.{OutcomeValue, completion_of, never_begun}
+use Rattle.rdm_queue.specs.promises.Outcomes.OutcomeValue.{RequestValue, DiscoveryValue}
+use Rattle.rdm_queue.specs.log.LogState.{LogState}
+use Rattle.rdm_queue.specs.log.History.{is_closed}
+use Rattle.rdm_queue.specs.log.Clients.{uncollected, outstanding_requests, outstanding_discoveries}
+use Rattle.rdm_lanes.specs.declared.call.ClientCall.{ClientCall}
+use Rattle.rdm_lanes.specs.declared.call.ClientCall.TheVariants.{Submit, Discover, Leave}
+use Rattle.rdm_lanes.specs.declared.ring_outcome.RingOutcome.{RingOutcome}
+use Rattle.rdm_lanes.specs.declared.lane.Lane.{Lane}
+use Rattle.rdm_lanes.specs.Calls.{calls_by}
+use Rattle.rdm_lanes.specs.Told.{value_in, told_values, uncollected_values}
+
+-- client c called nothing and collected nothing from old to new; it may have been told more, which it may collect
+pub record IsOnlyTold (c : ℕ) (old new : LogState) : Type 0 where
+  pub calls_are : calls_by c new.entries ≡ calls_by c old.entries
+  pub more : List (Option OutcomeValue)
+  pub told_more : told_values new.opening c new.entries ≡ told_values old.opening c old.entries ++ more
+  pub uncollected_more : uncollected_values new.opening c new.entries
+      ≡ uncollected_values old.opening c old.entries ++ more
+  pub requests_are : outstanding_requests new.opening c new.entries ≡ outstanding_requests old.opening c old.entries
+  pub asks_are : outstanding_discoveries new.opening c new.entries ≡ outstanding_discoveries old.opening c old.entries
+
+-- all that client c is told is on its ring, which has a free slot
+abbrev pub MayTell : ℕ → LogState → Lane → Type 0
+MayTell c k lane = (uncollected k.opening c k.entries ≡ []) × (0 < known_free lane.replies)
+
+-- The call of client c may be made: a leave always; a submit or a discover where the client has a place for it, or, after
+-- a close, where it may be told of the refusal.
+abbrev pub MayMake : ℕ → LogState → Lane → ClientCall → Type 0
+MayMake c k lane (Submit request) =
+    MatchBool (is_closed k.opening k.entries) (MayTell c k lane) (lane.requests < lane.places)
+MayMake c k lane (Discover kind) = MatchBool (is_closed k.opening k.entries) (MayTell c k lane) (lane.asks < 4)
+MayMake c k lane Leave = Unit {0}
+
+-- the worker looked for a free slot, and nothing else changed
+pub record LooksForSlot (old new : Lane) : Type 0 where
+  pub looked : ProducerLooked old.replies new.replies
+  pub rest : new ≡ record old { replies = new.replies }
+
+-- an outcome was put on the lane's ring, and nothing else changed
+pub record PutsOn (item : RingOutcome) (old new : Lane) : Type 0 where
+  pub ring : SameProducer old.replies new.replies
+  pub put : pushed new.replies ≡ pushed old.replies ++ item ∷ []
+  pub rest : new ≡ record old { replies = new.replies }
+
+-- an outcome was put there that its client sees so
+pub record PutsValue (value : OutcomeValue) (old new : Lane) : Type 0 where
+  pub item : RingOutcome
+  pub is : value_in item ≡ value
+  pub puts : PutsOn item old new
+
+-- what the worker does with the answer to a submit: it counts a request more, or tells a refusal by a close
+abbrev pub AfterSubmitFault : Lane → SubmitFault → Lane → Type 0
+AfterSubmitFault old submit_faults.Closed new = PutsValue (RequestValue None (completion_of FailedToSend None)) old new
+AfterSubmitFault old _ new = new ≡ old
+
+abbrev pub AfterSubmit : Lane → Result ℕ (SubmitFault × Request) → Lane → Type 0
+AfterSubmit old (Ok n) new = new ≡ record old { requests = old.requests + 1 }
+AfterSubmit old (Err e) new = AfterSubmitFault old e.0 new
+
+-- and to a discover
+abbrev pub AfterAskFault : Lane → AskFault → Lane → Type 0
+AfterAskFault old ask_faults.Closed new = PutsValue (DiscoveryValue None never_begun) old new
+AfterAskFault old _ new = new ≡ old
+
+abbrev pub AfterDiscover : Lane → Result ℕ AskFault → Lane → Type 0
+AfterDiscover old (Ok n) new = new ≡ record old { asks = old.asks + 1 }
+AfterDiscover old (Err fault) new = AfterAskFault old fault new
+
+-- there is room for that
+abbrev pub CanTakeSubmit : Lane → Result ℕ (SubmitFault × Request) → Type 0
+CanTakeSubmit lane (Ok n) = lane.requests < lane.places
+CanTakeSubmit lane (Err e) = e.0 ≡ submit_faults.Closed → 0 < known_free lane.replies
+
+abbrev pub CanTakeDiscover : Lane → Result ℕ AskFault → Type 0
+CanTakeDiscover lane (Ok n) = lane.asks < 4
+CanTakeDiscover lane (Err fault) = fault ≡ ask_faults.Closed → 0 < known_free lane.replies

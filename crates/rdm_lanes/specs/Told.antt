@@ -1,0 +1,48 @@
+-- Outcomes on their way to a client, and what a log tells it.
+use Rattle.std.specs.Prelude.{◌≡◌, ℕ, ◌<◌, List, [], ◌++◌, length, map, Option, Some, None, Box}
+use Rattle.rdm_wire.specs.declared.device.Device.{Device}
+use Rattle.rdm_queue.specs.declared.entry.Opening.{Opening}
+use Rattle.rdm_queue.specs.declared.entry.Entry.{Entry}
+use Rattle.rdm_queue.specs.declared.outcome.Outcome.{Outcome}
+use Rattle.rdm_queue.specs.declared.outcome.Outcome.TheVariants as outcomes
+use Rattle.rdm_queue.specs.log.Clients.{uncollected}
+use Rattle.rdm_client.specs.Desks.{Held}
+use Rattle.rdm_queue.specs.promises.Outcomes.{OutcomeValue, outcome_value, outcome_of, told}
+use Rattle.rdm_lanes.specs.declared.ring_outcome.RingOutcome.{RingOutcome}
+use Rattle.rdm_lanes.specs.declared.ring_outcome.RingOutcome.TheVariants.{Request, Discovery}
+
+-- the devices that lie in memory of their own; none where there is none
+abbrev pub devices_in : {Z : Type 0} → Option (Box (List Device) Z) → List Device
+devices_in None = []
+devices_in (Some set) = set.value
+
+-- the outcome that an item of a ring brings
+abbrev pub outcome_in : RingOutcome → Outcome
+outcome_in (Request number done) = outcomes.Request number done
+outcome_in (Discovery number run fault set) =
+    outcomes.Discovery number (record { run = run; fault = fault; set = devices_in set })
+
+-- as its client sees it
+abbrev pub value_in : RingOutcome → OutcomeValue
+value_in item = outcome_value (outcome_in item)
+
+unfoldable pub values_in : List RingOutcome → List OutcomeValue
+values_in items = map value_in items
+
+-- what a log tells client c, in order: an outcome of each Finish, Answer and refusal by a close
+unfoldable pub told_values : Opening → ℕ → List Entry → List (Option OutcomeValue)
+told_values o c h = map (outcome_of h) (told o c h)
+
+-- of that, what client c hasn't collected
+unfoldable pub uncollected_values : Opening → ℕ → List Entry → List (Option OutcomeValue)
+uncollected_values o c h = map (outcome_of h) (uncollected o c h)
+
+-- these outcomes, and then those that aren't collected, are all that client c is told
+abbrev pub TellsAll : Opening → ℕ → List Entry → List OutcomeValue → Type 0
+TellsAll o c h values = map (λ (v : OutcomeValue). Some v) values ++ uncollected_values o c h ≡ told_values o c h
+
+module _ {C A : Type 0} where
+  -- a callback of the outcome's kind is held
+  abbrev pub HoldsFor : Held C A → RingOutcome → Type 0
+  HoldsFor desk (Request number done) = 0 < length desk.requests
+  HoldsFor desk (Discovery number run fault set) = 0 < length desk.asks

@@ -1,0 +1,21 @@
+//! What clients do beside the worker.
+ghost use Rattle.rdm_lanes.specs.Clients.{SameClient};
+
+use crate::client::RingClient;
+
+/// Where the bodies of a session meet (profile of this project).
+pub trait Gate {
+    /// Notes that this point is reached.
+    fn arrive(&self, point: u8);
+
+    /// Whether somebody has arrived at this point.
+    fn passed(&self, point: u8) -> bool;
+}
+
+/// What a client does in a session (profile of this project). At its end it has the same client that it was lent.
+pub trait Body<C, A> {
+    /// Runs once, in a thread of its own where one can be made. A body that waits for another one gives up after a
+    /// stated number of tries, since without threads they run one after the other.
+    fn run<G: Gate>(&mut self, client: &mut RingClient<C, A>, gate: &G)
+        ensures { SameClient client.old client.new };
+}

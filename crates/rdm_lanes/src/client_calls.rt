@@ -1,0 +1,168 @@
+//! What a client calls.
+ghost use Rattle.std.specs.Prelude.{◌≡◌, ◌+◌, [], ◌∷◌, ◌++◌, length, true, false, Ok, Err, OnOk, OnErr, IfOk, IfErr};
+ghost use Rattle.std.specs.Prelude.{IfSome, IfNone, MatchOption, Some, None, slice_get, ⊤, ◌<◌, drop};
+ghost use Rattle.rtrb.specs.Ring.{sent as pushed, received as popped, known_items};
+ghost use Rattle.rdm_client.specs.Desks.{settled, without_oldest, Called};
+ghost use Rattle.rdm_lanes.specs.declared.ring_outcome.RingOutcome.{RingOutcome};
+ghost use Rattle.rdm_lanes.specs.declared.call.ClientCall.TheVariants.{Submit, Discover};
+ghost use Rattle.rdm_lanes.specs.declared.fault.RingFault.TheVariants.{RingFull as NoSlot};
+ghost use Rattle.rdm_lanes.specs.Told.{outcome_in, HoldsFor};
+ghost use Rattle.rdm_lanes.specs.Clients.{SameClient, sent_by, got_by, submit_fault, discover_fault};
+ghost use Rattle.rdm_lanes.specs.Ends.{end_sent, end_got};
+
+use crate::call::ClientCall;
+use crate::client::RingClient;
+use crate::ends::ClientEnd;
+use crate::fault::{RingFault, RingFull};
+use crate::ring_outcome::RingOutcome;
+use crate::settle::settle;
+use rdm_agent::Kind;
+use rdm_client::{Collected, Tells, TellsAsk};
+use rdm_wire::Request;
+
+impl<C: Tells, A: TellsAsk> RingClient<C, A> {
+    /// Sends a request to the worker, and holds its callback until the outcome is collected.
+    /// Err: the first fault that stands, Left, Full or RingFull; nothing has changed, and the request and the callback
+    /// come back. Full: callbacks of as many requests are held as the client has places, or `u64::MAX` calls were sent.
+    #[tactic(auto, using(crate::proofs::Counting::counted_sent, crate::proofs::Counting::work_more))]
+    pub fn submit(&mut self, request: Request, callback: C) -> Result<(), (RingFault, Request, C)>
+        ensures sent { OnOk result (sent_by self.new ≡ sent_by self.old ++ Submit request ∷ []) }
+        ensures holds { OnOk result (self.new.desk
+            ≡ record self.old.desk { requests = self.old.desk.requests ++ callback ∷ [] }) }
+        ensures fault { MatchOption (submit_fault self.old) (IfErr result (λ e. e ≡ (NoSlot, request, callback)))
+            (λ fault. result ≡ Err (fault, request, callback)) }
+        ensures refused { OnErr result ((sent_by self.new ≡ sent_by self.old) × (self.new.desk ≡ self.old.desk)) }
+        ensures got { got_by self.new ≡ got_by self.old }
+        ensures left { self.new.left ≡ self.old.left }
+        ensures client { SameClient self.old self.new }
+    {
+        if self.left {
+            return Err((RingFault::Left, request, callback));
+        }
+        if self.desk.is_full() || self.sent == u64::MAX {
+            return Err((RingFault::Full, request, callback));
+        }
+        if self.calls.slots() == 0 {
+            return Err((RingFault::RingFull, request, callback));
+        }
+        if let Err((_, callback)) = self.desk.hold(callback) {
+            return Err((RingFault::Full, request, callback));
+        }
+        self.calls.push_reserved(ClientCall::Submit(request));
+        self.sent += 1;
+        Ok(())
+    }
+
+    /// Sends a discovery to the worker, and holds its callback until the outcome is collected.
+    /// Err: the first fault that stands, Left, Full or RingFull; nothing has changed, and the callback comes back.
+    /// Full: four discoveries' callbacks are held, or `u64::MAX` calls were sent.
+    #[tactic(auto, using(crate::proofs::Counting::counted_sent, crate::proofs::Counting::work_more))]
+    pub fn discover(&mut self, kind: Kind, callback: A) -> Result<(), (RingFault, A)>
+        ensures sent { OnOk result (sent_by self.new ≡ sent_by self.old ++ Discover kind ∷ []) }
+        ensures holds { OnOk result (self.new.desk
+            ≡ record self.old.desk { asks = self.old.desk.asks ++ callback ∷ [] }) }
+        ensures fault { MatchOption (discover_fault self.old) (IfErr result (λ e. e ≡ (NoSlot, callback)))
+            (λ fault. result ≡ Err (fault, callback)) }
+        ensures refused { OnErr result ((sent_by self.new ≡ sent_by self.old) × (self.new.desk ≡ self.old.desk)) }
+        ensures got { got_by self.new ≡ got_by self.old }
+        ensures left { self.new.left ≡ self.old.left }
+        ensures client { SameClient self.old self.new }
+    {
+        if self.left {
+            return Err((RingFault::Left, callback));
+        }
+        if self.desk.is_full_of_asks() || self.sent == u64::MAX {
+            return Err((RingFault::Full, callback));
+        }
+        if self.calls.slots() == 0 {
+            return Err((RingFault::RingFull, callback));
+        }
+        if let Err((_, callback)) = self.desk.hold_ask(callback) {
+            return Err((RingFault::Full, callback));
+        }
+        self.calls.push_reserved(ClientCall::Discover(kind));
+        self.sent += 1;
+        Ok(())
+    }
+
+    /// The oldest outcome that has come, with which the oldest callback of its kind is spent. None where none has come,
+    /// or where no callback of its kind is held; it then stays in the ring.
+    pub fn collect(&mut self) -> Option<Collected>
+        ensures got { IfSome result (λ told. (item : RingOutcome)
+            × (popped self.new.replies ≡ popped self.old.replies ++ item ∷ [])
+            × Called C.calls A.calls self.old.desk (outcome_in item) told
+            × (settled C.tag_of A.tag_of self.old.desk (outcome_in item) ≡ Some told)
+            × (self.new.desk ≡ without_oldest self.old.desk (outcome_in item))) }
+        ensures none { IfNone result ((got_by self.new ≡ got_by self.old) × (self.new.desk ≡ self.old.desk)) }
+        ensures sent { sent_by self.new ≡ sent_by self.old }
+        ensures left { self.new.left ≡ self.old.left }
+        ensures client { SameClient self.old self.new }
+    {
+        if self.replies.slots() == 0 || !self.holds_for_front() {
+            return None;
+        }
+        let told = settle(&mut self.desk, self.replies.pop_known());
+        self.collected += 1;
+        Some(told)
+    }
+
+    /// Tells the worker that the client leaves: it sends nothing more. What has come, and what is still to come, can
+    /// be collected all the same. Without effect where it has left.
+    /// Err: the ring of calls has no free slot; nothing has changed.
+    #[tactic(auto, using(crate::proofs::Counting::counted_leave, crate::proofs::Counting::leave_more))]
+    pub fn leave(&mut self) -> Result<(), RingFull>
+        ensures left { OnOk result (self.new.left ≡ true) }
+        ensures full { OnErr result ((self.old.left ≡ false) × (self.new.left ≡ false)) }
+        ensures sent { sent_by self.new ≡ sent_by self.old }
+        ensures got { got_by self.new ≡ got_by self.old }
+        ensures desk { self.new.desk ≡ self.old.desk }
+        ensures client { SameClient self.old self.new }
+    {
+        if self.left {
+            return Ok(());
+        }
+        if self.calls.slots() == 0 {
+            return Err(RingFull);
+        }
+        self.calls.push_reserved(ClientCall::Leave);
+        self.left = true;
+        Ok(())
+    }
+
+    // Whether a callback of the kind of the front outcome is held.
+    fn holds_for_front(&self) -> bool
+        requires { 0 < length (known_items self.now.replies) }
+        ensures { result ≡ true → MatchOption (slice_get (known_items self.now.replies) 0) ⊤ (HoldsFor self.now.desk) }
+    {
+        match self.replies.peek_known() {
+            RingOutcome::Request { .. } => self.desk.requests_held() > 0,
+            RingOutcome::Discovery { .. } => self.desk.asks_held() > 0,
+        }
+    }
+
+    /// Ends the client, and hands back the callbacks that it holds.
+    #[tactic(auto, using(crate::proofs::Counting::values_long))]
+    pub fn end(self) -> ClientEnd<C, A>
+        ensures unspent { result.unspent ≡ record { requests = self.desk.requests; asks = self.desk.asks } }
+        ensures sent { (end_sent result ≡ sent_by self) × (result.sent ≡ length (end_sent result)) }
+        ensures got { (end_got result ≡ got_by self) × (result.collected ≡ length (end_got result)) }
+        ensures rings { (result.calls ≡ self.calls) × (result.replies ≡ self.replies) }
+    {
+        let RingClient {
+            desk,
+            calls,
+            replies,
+            sent,
+            collected,
+            left,
+        } = self;
+        ClientEnd {
+            unspent: desk.end(),
+            sent,
+            collected,
+            calls,
+            replies,
+            left,
+        }
+    }
+}

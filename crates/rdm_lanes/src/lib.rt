@@ -1,0 +1,42 @@
+//! Clients that never wait: each has a ring for its calls and a ring for its outcomes, whose other ends a worker has.
+#![tactic(auto)]
+
+mod body;
+mod call;
+mod client;
+mod client_calls;
+mod comparing;
+mod ends;
+mod fault;
+mod lane;
+pub mod laws;
+mod moving;
+mod open;
+mod opening;
+mod operator;
+mod ring_outcome;
+mod rooms;
+mod seat;
+mod serve;
+mod session_run;
+mod settle;
+mod threads;
+mod together;
+mod worker;
+mod working;
+
+pub use body::{Body, Gate};
+pub use call::{ClientCall, OperatorCall};
+pub use client::RingClient;
+pub use ends::ClientEnd;
+pub use fault::{OpenFault, RingFault, RingFull};
+pub use lane::Lane;
+pub use open::{Lanes, open_lanes, open_lanes_by};
+pub use operator::Operator;
+pub use ring_outcome::RingOutcome;
+pub use session_run::{RunFault, run_session, run_session_by};
+pub use together::LanesEnd;
+pub use worker::{Worker, WorkerEnd};
+
+#[cfg(test)]
+mod tests;

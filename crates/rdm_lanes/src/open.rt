@@ -1,0 +1,120 @@
+//! How clients, an operator and a worker are opened.
+ghost use Rattle.std.specs.Prelude.{◌≡◌, ◌≤◌, [], false, IfOk, IfErr, IsErr, MatchOption};
+ghost use Rattle.rtrb.specs.Ring.{sent as pushed, producer_capacity};
+ghost use Rattle.rdm_queue.specs.log.Config.{IsConfig};
+ghost use Rattle.rdm_lanes.specs.Opened.{places_fault, opened_with, AreNew, IsFullFor, IsLaterFault};
+ghost use Rattle.rdm_queue.specs.log.LogState.{blank_log};
+ghost use Rattle.rdm_agent.specs.declared.search.Search.TheVariants.{Steady};
+ghost use Rattle.rdm_lanes.specs.Pairs.{ClientsPair};
+
+use crate::client::RingClient;
+use crate::fault::OpenFault;
+use crate::opening::{discard, joined, open_clients, total};
+use crate::operator::Operator;
+use crate::worker::Worker;
+use rdm_agent::Search;
+use rdm_client::{AskCallback, Callback, Tells, TellsAsk};
+use rdm_queue::{Config, Log, MOST_CLIENTS};
+use rtrb::RingBuffer;
+use std::alloc::Global;
+
+/// The clients of a session, its operator and its worker (profile of this project).
+pub struct Lanes<C = Callback, A = AskCallback> {
+    /// The clients, in the order of their places.
+    pub clients: Vec<RingClient<C, A>>,
+    /// The operator.
+    pub operator: Operator,
+    /// The worker, which has the session.
+    pub worker: Worker,
+}
+
+/// A session with a client for each of these places, an operator and a worker (profile of this project). Its runs
+/// search steadily. Each client
+/// has a ring of this many slots for its calls and one for its outcomes, and the operator one for its calls. All their
+/// memory is taken here. The controller's UID isn't broadcast, there are at most [`MOST_PLACES`](rdm_queue::MOST_PLACES)
+/// places, the budget is at least 1, the log has no entries, and a ring has at least one slot.
+/// Err: the first fault that stands; the log comes back without entries, as a new one with the same room.
+pub fn open_lanes<C: Tells, A: TellsAsk>(
+    alloc: Global,
+    config: Config,
+    log: Log,
+    ring: u8,
+    places: &[u8],
+) -> Result<Lanes<C, A>, (OpenFault, Log)>
+    requires config_is { IsConfig config }
+    requires empty { log.entries ≡ [] }
+    requires slots { 1 ≤ ring }
+    ensures session { IfOk result (λ lanes. lanes.worker.session ≡ opened_with config Steady log.room places.now) }
+    ensures clients { IfOk result (λ lanes. AreNew ring places.now lanes.clients.items) }
+    ensures operator { IfOk result (λ lanes. (pushed lanes.operator.calls ≡ []) × (lanes.operator.left ≡ false)
+        × (lanes.worker.operator_left ≡ false) × (producer_capacity lanes.operator.calls ≡ ring)) }
+    ensures pairs { IfOk result (λ lanes. ClientsPair lanes.worker.lanes.items lanes.clients.items) }
+    ensures fault { MatchOption (places_fault config.places places.now)
+        ((IsFullFor log.room places.now → IsErr result) × IfErr result (λ e. IsLaterFault log.room places.now e.0))
+        (λ fault. IsErr result × IfErr result (λ e. e.0 ≡ fault)) }
+    ensures back { IfErr result (λ e. e.1 ≡ blank_log log.room) }
+{
+    open_lanes_by(alloc, Search::Steady, config, log, ring, places)
+}
+
+/// The same under the same conditions and with the same errors, of a session whose runs search so.
+pub fn open_lanes_by<C: Tells, A: TellsAsk>(
+    alloc: Global,
+    search: Search,
+    config: Config,
+    log: Log,
+    ring: u8,
+    places: &[u8],
+) -> Result<Lanes<C, A>, (OpenFault, Log)>
+    requires config_is { IsConfig config }
+    requires empty { log.entries ≡ [] }
+    requires slots { 1 ≤ ring }
+    ensures session { IfOk result (λ lanes. lanes.worker.session ≡ opened_with config search log.room places.now) }
+    ensures clients { IfOk result (λ lanes. AreNew ring places.now lanes.clients.items) }
+    ensures operator { IfOk result (λ lanes. (pushed lanes.operator.calls ≡ []) × (lanes.operator.left ≡ false)
+        × (lanes.worker.operator_left ≡ false) × (producer_capacity lanes.operator.calls ≡ ring)) }
+    ensures pairs { IfOk result (λ lanes. ClientsPair lanes.worker.lanes.items lanes.clients.items) }
+    ensures fault { MatchOption (places_fault config.places places.now)
+        ((IsFullFor log.room places.now → IsErr result) × IfErr result (λ e. IsLaterFault log.room places.now e.0))
+        (λ fault. IsErr result × IfErr result (λ e. e.0 ≡ fault)) }
+    ensures back { IfErr result (λ e. e.1 ≡ blank_log log.room) }
+{
+    if let Some(fault) = fault_of_places(&config, places) {
+        return Err((fault, log.cleared()));
+    }
+    let Ok((calls, heard)) = RingBuffer::new(alloc, usize::from(ring)) else {
+        return Err((OpenFault::NoMemory, log.cleared()));
+    };
+    let Some((clients, lanes)) = open_clients(alloc, ring, places) else {
+        return Err((OpenFault::NoMemory, log.cleared()));
+    };
+    match joined(alloc, search, config, log, places) {
+        Ok(session) => Ok(Lanes {
+            clients,
+            operator: Operator { calls, left: false },
+            worker: Worker {
+                session,
+                lanes,
+                operator: heard,
+                operator_left: false,
+            },
+        }),
+        Err(refused) => {
+            discard(clients);
+            Err(refused)
+        }
+    }
+}
+
+/// The first fault that the places show: there are too many clients, or their places together are more than there are.
+pub fn fault_of_places(config: &Config, places: &[u8]) -> Option<OpenFault>
+    ensures { result ≡ places_fault config.now.places places.now }
+{
+    if places.len() > MOST_CLIENTS {
+        return Some(OpenFault::TooManyClients);
+    }
+    if total(places) > config.places {
+        return Some(OpenFault::NoPlaces);
+    }
+    None
+}

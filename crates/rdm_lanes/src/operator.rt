@@ -1,0 +1,85 @@
+//! The operator of a session.
+ghost use Rattle.std.specs.Prelude.{◌≡◌, ◌++◌, true, OnOk, OnErr};
+ghost use Rattle.rtrb.specs.Ring.{sent as pushed, SameProducer};
+ghost use Rattle.rdm_lanes.specs.Calls.{unless};
+ghost use Rattle.rdm_lanes.specs.declared.call.OperatorCall.TheVariants.{Pause, Resume, Close, Leave};
+
+use crate::call::OperatorCall;
+use crate::fault::RingFull;
+use rtrb::Producer;
+use std::alloc::Global;
+
+/// Who pauses, resumes and closes a session (profile of this project). It has a ring for its calls; none of them waits
+/// for anybody, and none takes memory. The worker makes them in order, one in each of its turns. After its leave they are
+/// without effect.
+#[derive(Drop)]
+pub struct Operator {
+    pub(crate) calls: Producer<OperatorCall, Global>,
+    pub(crate) left: bool,
+}
+
+impl Operator {
+    /// Sends a pause, as [`Session::pause`](rdm_queue::Session::pause) makes it.
+    /// Err: the ring has no free slot; nothing has changed.
+    pub fn pause(&mut self) -> Result<(), RingFull>
+        ensures sent { OnOk result (pushed self.new.calls ≡ pushed self.old.calls ++ unless self.old.left Pause) }
+        ensures full { OnErr result (pushed self.new.calls ≡ pushed self.old.calls) }
+        ensures ring { SameProducer self.old.calls self.new.calls }
+        ensures left { self.new.left ≡ self.old.left }
+    {
+        self.send(OperatorCall::Pause)
+    }
+
+    /// Sends a resume, as [`Session::resume`](rdm_queue::Session::resume) makes it.
+    /// Err: the ring has no free slot; nothing has changed.
+    pub fn resume(&mut self) -> Result<(), RingFull>
+        ensures sent { OnOk result (pushed self.new.calls ≡ pushed self.old.calls ++ unless self.old.left Resume) }
+        ensures full { OnErr result (pushed self.new.calls ≡ pushed self.old.calls) }
+        ensures ring { SameProducer self.old.calls self.new.calls }
+        ensures left { self.new.left ≡ self.old.left }
+    {
+        self.send(OperatorCall::Resume)
+    }
+
+    /// Sends a close, as [`Session::close`](rdm_queue::Session::close) makes it.
+    /// Err: the ring has no free slot; nothing has changed.
+    pub fn close(&mut self) -> Result<(), RingFull>
+        ensures sent { OnOk result (pushed self.new.calls ≡ pushed self.old.calls ++ unless self.old.left Close) }
+        ensures full { OnErr result (pushed self.new.calls ≡ pushed self.old.calls) }
+        ensures ring { SameProducer self.old.calls self.new.calls }
+        ensures left { self.new.left ≡ self.old.left }
+    {
+        self.send(OperatorCall::Close)
+    }
+
+    /// Tells the worker that the operator leaves. Its calls after this are without effect.
+    /// Err: the ring has no free slot; nothing has changed.
+    pub fn leave(&mut self) -> Result<(), RingFull>
+        ensures sent { OnOk result (pushed self.new.calls ≡ pushed self.old.calls ++ unless self.old.left Leave) }
+        ensures full { OnErr result (pushed self.new.calls ≡ pushed self.old.calls) }
+        ensures ring { SameProducer self.old.calls self.new.calls }
+        ensures left { OnOk result (self.new.left ≡ true) }
+        ensures stays { OnErr result (self.new.left ≡ self.old.left) }
+    {
+        self.send(OperatorCall::Leave)?;
+        self.left = true;
+        Ok(())
+    }
+
+    // Sends a call, unless the operator has left.
+    fn send(&mut self, call: OperatorCall) -> Result<(), RingFull>
+        ensures sent { OnOk result (pushed self.new.calls ≡ pushed self.old.calls ++ unless self.old.left call) }
+        ensures full { OnErr result (pushed self.new.calls ≡ pushed self.old.calls) }
+        ensures ring { SameProducer self.old.calls self.new.calls }
+        ensures left { self.new.left ≡ self.old.left }
+    {
+        if self.left {
+            return Ok(());
+        }
+        if self.calls.slots() == 0 {
+            return Err(RingFull);
+        }
+        self.calls.push_reserved(call);
+        Ok(())
+    }
+}

@@ -1,0 +1,145 @@
+//! A whole session: clients, each with what it does, and a worker over a line, in threads.
+ghost use Rattle.std.specs.Prelude.{◌≡◌, ◌≤◌, [], length, true, IfOk, IfErr, IsErr, MatchOption};
+ghost use Rattle.rdm_queue.specs.log.Config.{IsConfig};
+ghost use Rattle.rdm_queue.specs.log.LogState.{is_full_log};
+ghost use Rattle.rdm_queue.specs.log.MaySend.{NoSend};
+ghost use Rattle.rdm_queue.specs.promises.Promised.{Promised};
+ghost use Rattle.rdm_lanes.specs.declared.worker.WorkerEnd.TheVariants.{AllLeft, Turns, LogFull as FullLog};
+ghost use Rattle.rdm_lanes.specs.Opened.{places_fault, IsFullFor, IsLaterFault};
+ghost use Rattle.rdm_queue.specs.log.LogState.{blank_log};
+ghost use Rattle.rdm_agent.specs.declared.search.Search.TheVariants.{Steady};
+ghost use Rattle.rdm_lanes.specs.Lines.{exchange_count};
+ghost use Rattle.rdm_lanes.specs.Ends.{AllAgree, AllRead};
+ghost use Rattle.rdm_lanes.specs.Sessions.{SessionOver};
+
+use crate::body::{Body, Gate};
+use crate::fault::OpenFault;
+use crate::open::{fault_of_places, open_lanes_by};
+use crate::rooms::rooms_for;
+use crate::together::{LanesEnd, run_lanes};
+use rdm_agent::Search;
+use rdm_client::{Tells, TellsAsk};
+use rdm_line::Line;
+use rdm_queue::{Config, Log};
+use std::alloc::Global;
+use std::thread::Threads;
+
+/// Why a session can't be run (profile of this project): as lanes can't be opened.
+pub type RunFault = OpenFault;
+
+/// Runs a session (profile of this project): opens a client for each of these places, and runs its body in a thread of
+/// its own, beside the worker with this many turns. There is no operator, so nobody pauses or closes. Where a thread
+/// can't be made its work is done in one that there is, after the other work there.
+///
+/// The conditions are those of [`open_lanes`](crate::open_lanes), and there are as many bodies as places.
+/// Err: the first of the faults of `open_lanes` that stands, before any body ran; the log comes back as a new one with
+/// the same room, and the bodies and the line as they were.
+pub fn run_session<
+    B: Body<C, A> + Send,
+    C: Tells + Send,
+    A: TellsAsk + Send,
+    G: Gate + Sync,
+    X: Line + Send,
+    R: Threads + Sync,
+>(
+    rt: &R,
+    alloc: Global,
+    config: Config,
+    log: Log,
+    ring: u8,
+    places: &[u8],
+    bodies: Vec<B>,
+    gate: &G,
+    line: X,
+    turns: u64,
+) -> Result<LanesEnd<B, X, C, A>, (RunFault, Log, Vec<B>, X)>
+    requires config_is { IsConfig config }
+    requires empty { log.entries ≡ [] }
+    requires slots { 1 ≤ ring }
+    requires one_each { length bodies.items ≡ length places.now }
+    ensures session { IfOk result (λ end. SessionOver X.step config Steady log.room places.now line end.line
+        end.session) }
+    ensures promised { IfOk result (λ end. Promised end.session.opening end.session.entries) }
+    ensures agree { IfOk result (λ end. AllAgree end.session end.ends.items) }
+    ensures all_left { IfOk result (λ end. end.worker ≡ AllLeft → AllRead end.ends.items
+        × NoSend end.session.opening end.session.entries) }
+    ensures full { IfOk result (λ end. end.worker ≡ FullLog → is_full_log end.session ≡ true) }
+    ensures turns { IfOk result (λ end. (exchange_count end.session ≤ turns) × (turns ≡ 0 → end.worker ≡ Turns)) }
+    ensures one_each { IfOk result (λ end. (length end.ends.items ≡ length places.now)
+        × (length end.bodies.items ≡ length places.now)) }
+    ensures matched { IfOk result (λ end. end.matched ≡ true) }
+    ensures fault { MatchOption (places_fault config.places places.now)
+        ((IsFullFor log.room places.now → IsErr result) × IfErr result (λ e. IsLaterFault log.room places.now e.0))
+        (λ fault. IsErr result × IfErr result (λ e. e.0 ≡ fault)) }
+    ensures back { IfErr result (λ e. (e.1 ≡ blank_log log.room) × (e.2 ≡ bodies) × (e.3 ≡ line)) }
+{
+    run_session_by(
+        rt,
+        alloc,
+        Search::Steady,
+        config,
+        log,
+        ring,
+        places,
+        bodies,
+        gate,
+        line,
+        turns,
+    )
+}
+
+/// The same under the same conditions and with the same errors, of a session whose runs search so.
+pub fn run_session_by<
+    B: Body<C, A> + Send,
+    C: Tells + Send,
+    A: TellsAsk + Send,
+    G: Gate + Sync,
+    X: Line + Send,
+    R: Threads + Sync,
+>(
+    rt: &R,
+    alloc: Global,
+    search: Search,
+    config: Config,
+    log: Log,
+    ring: u8,
+    places: &[u8],
+    bodies: Vec<B>,
+    gate: &G,
+    line: X,
+    turns: u64,
+) -> Result<LanesEnd<B, X, C, A>, (RunFault, Log, Vec<B>, X)>
+    requires config_is { IsConfig config }
+    requires empty { log.entries ≡ [] }
+    requires slots { 1 ≤ ring }
+    requires one_each { length bodies.items ≡ length places.now }
+    ensures session { IfOk result (λ end. SessionOver X.step config search log.room places.now line end.line
+        end.session) }
+    ensures promised { IfOk result (λ end. Promised end.session.opening end.session.entries) }
+    ensures agree { IfOk result (λ end. AllAgree end.session end.ends.items) }
+    ensures all_left { IfOk result (λ end. end.worker ≡ AllLeft → AllRead end.ends.items
+        × NoSend end.session.opening end.session.entries) }
+    ensures full { IfOk result (λ end. end.worker ≡ FullLog → is_full_log end.session ≡ true) }
+    ensures turns { IfOk result (λ end. (exchange_count end.session ≤ turns) × (turns ≡ 0 → end.worker ≡ Turns)) }
+    ensures one_each { IfOk result (λ end. (length end.ends.items ≡ length places.now)
+        × (length end.bodies.items ≡ length places.now)) }
+    ensures matched { IfOk result (λ end. end.matched ≡ true) }
+    ensures fault { MatchOption (places_fault config.places places.now)
+        ((IsFullFor log.room places.now → IsErr result) × IfErr result (λ e. IsLaterFault log.room places.now e.0))
+        (λ fault. IsErr result × IfErr result (λ e. e.0 ≡ fault)) }
+    ensures back { IfErr result (λ e. (e.1 ≡ blank_log log.room) × (e.2 ≡ bodies) × (e.3 ≡ line)) }
+{
+    if let Some(fault) = fault_of_places(&config, places) {
+        return Err((fault, log.cleared(), bodies, line));
+    }
+    let Some(rooms) = rooms_for(alloc, bodies.len()) else {
+        return Err((OpenFault::NoMemory, log.cleared(), bodies, line));
+    };
+    match open_lanes_by(alloc, search, config, log, ring, places) {
+        Ok(lanes) => Ok(run_lanes(rt, alloc, lanes, rooms, bodies, gate, line, turns)),
+        Err((fault, log)) => {
+            rooms.give_up();
+            Err((fault, log, bodies, line))
+        }
+    }
+}

@@ -1,0 +1,182 @@
+//! Discoveries over rings and a tape.
+use super::driven::{Driven, opened};
+use super::heard::{Found, Heard, Step};
+use super::said::{Said, tells_at, tells_run};
+use crate::WorkerEnd;
+use arrayvec::ArrayVec;
+use rdm_agent::Kind;
+use rdm_join::{LineEvent, LineReply};
+use rdm_wire::{Device, Uid, encode_response, mute_response, write_branch_reply};
+use std::alloc::Global;
+use std::process::Abort;
+
+// What the line answers to a frame.
+#[derive(Clone, Copy)]
+enum Came {
+    // Silence.
+    Nothing,
+    // The branch reply of this device.
+    Spelt(Device),
+    // The acknowledgement of this device's mute.
+    Muted(Device),
+}
+
+// A device that acknowledges with nothing but its UID.
+fn plain(manufacturer: u16, device: u32) -> Device {
+    Device {
+        uid: Uid::new(manufacturer, device),
+        control: 0,
+        binding: None,
+    }
+}
+
+// The device that is there in both runs.
+fn first() -> Device {
+    plain(0x1234, 1)
+}
+
+// The device that goes.
+fn gone() -> Device {
+    plain(0x5678, 9)
+}
+
+// The device that comes.
+fn new() -> Device {
+    plain(0x9abc, 2)
+}
+
+// What the line answers to the frame with this transaction number.
+#[inline(never)]
+fn event(rt: &impl Abort, tn: u8, came: Came) -> LineEvent {
+    let mut bytes: LineReply = ArrayVec::new();
+    match came {
+        Came::Nothing => {}
+        Came::Spelt(device) => {
+            let text = write_branch_reply(device.uid, 7);
+            assert!(rt; bytes.try_extend_from_slice(&text).is_ok());
+        }
+        Came::Muted(device) => {
+            let ack = encode_response(&mute_response(&device, Uid::new(0x7a70, 0x100), tn));
+            assert!(rt; bytes.try_extend_from_slice(&ack).is_ok());
+        }
+    }
+    LineEvent::Reply(bytes)
+}
+
+// A full run finds `1234:00000001` and `5678:00000009`: three unmutes, a reply and an acknowledgement of each, and five
+// silences.
+fn full_run() -> [Came; 12] {
+    [
+        Came::Nothing,
+        Came::Nothing,
+        Came::Nothing,
+        Came::Spelt(first()),
+        Came::Muted(first()),
+        Came::Spelt(gone()),
+        Came::Muted(gone()),
+        Came::Nothing,
+        Came::Nothing,
+        Came::Nothing,
+        Came::Nothing,
+        Came::Nothing,
+    ]
+}
+
+// Then the second one has gone, and `9abc:00000002` has come. An incremental run makes three unmutes; two mutes of the
+// first device, the reply to the first of them being lost; five mutes of the second; a branch and a mute of the new one;
+// and five branches.
+fn incremental_run() -> [Came; 17] {
+    [
+        Came::Nothing,
+        Came::Nothing,
+        Came::Nothing,
+        Came::Nothing,
+        Came::Muted(first()),
+        Came::Nothing,
+        Came::Nothing,
+        Came::Nothing,
+        Came::Nothing,
+        Came::Nothing,
+        Came::Spelt(new()),
+        Came::Muted(new()),
+        Came::Nothing,
+        Came::Nothing,
+        Came::Nothing,
+        Came::Nothing,
+        Came::Nothing,
+    ]
+}
+
+// A tape of both runs, for frames with transaction numbers from 0.
+fn tape(rt: &impl Abort, alloc: Global) -> Vec<LineEvent> {
+    let mut events = Vec::new(alloc);
+    let mut tn = 0u8;
+    for came in full_run() {
+        assert!(rt; events.push(event(rt, tn, came)).is_ok());
+        tn = tn.wrapping_add(1);
+    }
+    for came in incremental_run() {
+        assert!(rt; events.push(event(rt, tn, came)).is_ok());
+        tn = tn.wrapping_add(1);
+    }
+    events
+}
+
+// What a run tells that found the first device and this one.
+fn found(tag: u64, run: u64, second: Device) -> Found {
+    Found {
+        tag,
+        run,
+        fault: None,
+        count: 2,
+        first: Some(first()),
+        second: Some(second),
+    }
+}
+
+// Makes both runs, each with its last frame in the last turn.
+fn makes_both(rt: &impl Abort, alloc: Global, lanes: &mut Driven) {
+    let known = [first().uid, gone().uid];
+    let present = [first().uid, new().uid];
+    let full = Step::Discover(Kind::Full, 5);
+    assert_eq!(rt; lanes.client(0, full), Heard::Sent);
+    assert_eq!(rt; lanes.work(alloc, 11), WorkerEnd::Turns);
+    assert_eq!(rt; lanes.finds(0, known), None);
+    assert_eq!(rt; lanes.work(alloc, 1), WorkerEnd::Turns);
+    assert_eq!(rt; lanes.finds(0, known), Some(found(5, 1, gone())));
+    let incremental = Step::Discover(Kind::Incremental, 6);
+    assert_eq!(rt; lanes.client(0, incremental), Heard::Sent);
+    assert_eq!(rt; lanes.work(alloc, 17), WorkerEnd::Turns);
+    assert_eq!(rt; lanes.finds(0, present), Some(found(6, 2, new())));
+}
+
+#[test]
+fn an_incremental_run_over_rings_has_the_frames_12_to_28(rt: HostRuntime) {
+    let events = tape(&rt, rt.alloc());
+    let places = [1u8];
+    let mut lanes = opened(&rt, rt.alloc(), 100, 4, places.as_slice(), events);
+    makes_both(&rt, rt.alloc(), &mut lanes);
+    let (session, counts) = lanes.end(&rt, rt.alloc());
+    assert_eq!(rt; counts.as_slice(), [(2, 2, 0)].as_slice());
+    assert_eq!(rt; session.log().entries().len(), 65);
+    tells_at(
+        &rt,
+        &session,
+        0,
+        &[Said::Join(0, 1), Said::Ask(0, 0, Kind::Full)],
+    );
+    tells_run(&rt, &session, 2, 1, 0, 11);
+    let between = [
+        Said::Answer(0, 1, None),
+        Said::Collect(0),
+        Said::Ask(0, 1, Kind::Incremental),
+    ];
+    tells_at(&rt, &session, 26, between.as_slice());
+    tells_run(&rt, &session, 29, 2, 12, 28);
+    tells_at(
+        &rt,
+        &session,
+        63,
+        &[Said::Answer(1, 2, None), Said::Collect(0)],
+    );
+}
