@@ -3,7 +3,10 @@ ghost use Rattle.rdm_lanes.specs.Clients.{SameClient};
 
 use crate::client::RingClient;
 
-/// Where the bodies of a session meet (profile of this project).
+/// The point at which the worker of a session arrives once it has stopped: nothing comes after what is on the rings.
+pub const WORKER_STOPPED: u8 = 255;
+
+/// Where the bodies of a session meet (profile of this project). Points 0 to 254 are theirs.
 pub trait Gate {
     /// Notes that this point is reached.
     fn arrive(&self, point: u8);

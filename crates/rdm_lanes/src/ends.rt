@@ -23,3 +23,20 @@ pub struct ClientEnd<C = Callback, A = AskCallback> {
     ghost counted: { IsCounted calls replies sent collected left },
     ghost held: { collected + (length unspent.requests + length unspent.asks) ≡ sent },
 }
+
+impl<C, A> ClientEnd<C, A> {
+    /// The callbacks that were not spent; the rest goes.
+    pub fn into_unspent(self) -> Unspent<C, A>
+        ensures { result ≡ self.unspent }
+    {
+        let ClientEnd {
+            unspent,
+            sent: _,
+            collected: _,
+            calls: _,
+            replies: _,
+            left: _,
+        } = self;
+        unspent
+    }
+}

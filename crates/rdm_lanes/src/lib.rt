@@ -25,7 +25,7 @@ mod together;
 mod worker;
 mod working;
 
-pub use body::{Body, Gate};
+pub use body::{Body, Gate, WORKER_STOPPED};
 pub use call::{ClientCall, OperatorCall};
 pub use client::RingClient;
 pub use ends::ClientEnd;

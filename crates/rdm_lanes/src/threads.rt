@@ -7,7 +7,7 @@ ghost use Rattle.rdm_lanes.specs.Lines.{Exchanged, SameSwitches, exchange_count}
 ghost use Rattle.rdm_lanes.specs.Lanes.{SameLanes, AllHaveLeft};
 ghost use Rattle.rdm_lanes.specs.Pairs.{SameSeats};
 
-use crate::body::{Body, Gate};
+use crate::body::{Body, Gate, WORKER_STOPPED};
 use crate::seat::Seat;
 use crate::worker::{Worker, WorkerEnd};
 use rdm_line::Line;
@@ -32,7 +32,7 @@ pub fn run_bodies<B: Body<C, A> + Send, C: Send, A: Send, G: Gate + Sync, R: Thr
     );
 }
 
-/// Runs the worker beside the bodies, and waits for all of them.
+/// Runs the worker beside the bodies, and waits for all of them. The worker arrives at its point once it has stopped.
 #[tactic(auto, using(crate::proofs::SeatLemmas::same_seats_in))]
 pub fn run_together<
     B: Body<C, A> + Send,
@@ -66,7 +66,11 @@ pub fn run_together<
     let all = seats.as_mut_slice();
     let (end, _) = thread::join_mut(
         rt,
-        &mut || worker.work(alloc, &mut line, turns),
+        &mut || {
+            let end = worker.work(alloc, &mut line, turns);
+            gate.arrive(WORKER_STOPPED);
+            end
+        },
         &mut || run_bodies(rt, all, gate),
     );
     (worker, seats, line, end)

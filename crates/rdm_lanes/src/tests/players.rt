@@ -31,10 +31,10 @@ impl Points {
 
 impl Gate for Points {
     fn arrive(&self, point: u8) {
-        if point == 0 {
-            self.first.store(1, Ordering::SeqCst);
-        } else {
-            self.second.store(1, Ordering::SeqCst);
+        match point {
+            0 => self.first.store(1, Ordering::SeqCst),
+            1 => self.second.store(1, Ordering::SeqCst),
+            _ => {}
         }
     }
 
