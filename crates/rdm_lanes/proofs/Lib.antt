@@ -11,6 +11,7 @@ pub mod GrowthLemmas
 pub mod LaneLemmas
 pub mod LineLemmas
 pub mod FoundLemmas
+pub mod ShowingLemmas
 pub mod CollectLemmas
 pub mod StepLemmas
 pub mod FitLemmas

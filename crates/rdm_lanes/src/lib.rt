@@ -25,6 +25,7 @@ mod session_run;
 mod settle;
 mod threads;
 mod together;
+mod view_worker;
 mod worker;
 mod working;
 
@@ -42,6 +43,7 @@ pub use reading::ViewReader;
 pub use ring_outcome::RingOutcome;
 pub use session_run::{RunFault, run_session, run_session_by};
 pub use together::LanesEnd;
+pub use view_worker::ViewWorker;
 pub use worker::{Worker, WorkerEnd};
 
 #[cfg(test)]
