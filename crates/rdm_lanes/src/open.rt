@@ -29,10 +29,10 @@ pub struct Lanes<C = Callback, A = AskCallback> {
 }
 
 /// A session with a client for each of these places, an operator and a worker (profile of this project). Its runs
-/// search steadily. Each client
-/// has a ring of this many slots for its calls and one for its outcomes, and the operator one for its calls. All their
-/// memory is taken here. The controller's UID isn't broadcast, there are at most [`MOST_PLACES`](rdm_queue::MOST_PLACES)
-/// places, the budget is at least 1, the log has no entries, and a ring has at least one slot.
+/// search steadily. Each client has a ring of this many slots for its calls and one for its outcomes, and the operator
+/// one for its calls. All their memory is taken here. The controller's UID isn't broadcast, there are at most
+/// [`MOST_PLACES`](rdm_queue::MOST_PLACES) places, the budget is at least 1, the log has no entries, and a ring has at
+/// least one slot.
 /// Err: the first fault that stands; the log comes back without entries, as a new one with the same room.
 pub fn open_lanes<C: Tells, A: TellsAsk>(
     alloc: Global,

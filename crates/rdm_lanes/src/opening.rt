@@ -110,8 +110,8 @@ pub fn discard<C: Tells, A: TellsAsk>(clients: Vec<RingClient<C, A>>)
     clients.destroy_empty();
 }
 
-/// A session whose runs search so, in which a client has joined with each of these places. Err: there was no memory, or the log is full; it
-/// comes back as a new one with the same room.
+/// A session whose runs search so, in which a client has joined with each of these places.
+/// Err: there was no memory, or the log is full; it comes back as a new one with the same room.
 pub fn joined(
     alloc: Global,
     search: Search,
