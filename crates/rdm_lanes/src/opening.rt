@@ -2,7 +2,6 @@
 ghost use Rattle.std.specs.Prelude.{◌≡◌, [], length, OnOk, IfOk, IfErr, IfSome, ◌≤◌, sum, false};
 ghost use Rattle.rdm_queue.specs.log.Config.{IsConfig};
 ghost use Rattle.rdm_queue.specs.log.Legal.{Legal};
-ghost use Rattle.rdm_queue.specs.log.LogState.{opened};
 ghost use Rattle.rdm_queue.specs.log.LogState.{blank_log};
 ghost use Rattle.rdm_lanes.specs.Opened.{opened_with, join_entries, IsNewWith, AreNewWith, HoldNothing};
 ghost use Rattle.rdm_lanes.specs.Opened.{IsFullFor, IsLaterFault};
