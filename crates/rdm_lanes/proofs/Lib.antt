@@ -9,6 +9,8 @@ pub mod LineLemmas
 pub mod CollectLemmas
 pub mod StepLemmas
 pub mod FitLemmas
+pub mod CollectedLemmas
+pub mod RefusalLemmas
 pub mod ServeLemmas
 pub mod MovingLemmas
 pub mod ExchangeLemmas
@@ -18,3 +20,4 @@ pub mod OpenLemmas
 pub mod SessionLemmas
 pub mod PartLemmas
 pub mod SceneLemmas
+pub mod CalmLemmas
