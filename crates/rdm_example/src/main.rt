@@ -2,16 +2,17 @@
 //! discovers the fixtures. A call that is refused ends the program with status 1.
 #![tactic(auto)]
 
+mod rig;
+
+use crate::rig::{DEVICE_LABEL, rig};
 use arrayvec::ArrayVec;
 use rdm_agent::{DEFAULT_BUDGET, Kind};
 use rdm_join::LineEvent;
-use rdm_line::{Line, Parameter, Parameters, Scene, SceneDevice, SceneDevices, SimLine};
+use rdm_line::{Line, SimLine};
 use rdm_queue::{Config, Log, Outcome, Session};
-use rdm_wire::{Device, ReqClass, Request, Uid};
+use rdm_wire::{ReqClass, Request, Uid};
 use std::alloc::Global;
 use std::process::ExitCode;
-
-const DEVICE_LABEL: u16 = 0x0082;
 
 fn main(rt: HostRuntime) -> ExitCode {
     run(&rt).map_or(ExitCode::FAILURE, |()| ExitCode::SUCCESS)
@@ -70,42 +71,4 @@ fn tell(rt: &HostRuntime, client: &str, outcome: Outcome) -> Option<()> {
             println!(rt; "{client}: {} fixtures in run {}", done.set.len(), done.run).ok()
         }
     }
-}
-
-// A line with two fixtures, of which the first has a label.
-fn rig(alloc: Global, source: Uid) -> Option<Scene> {
-    let (mut parts, mut labels) = (Vec::new(alloc), Vec::new(alloc));
-    parts
-        .push(ArrayVec::try_from(b"Spot 1".as_slice()).ok()?)
-        .ok()?;
-    labels.push(Parameter::new(DEVICE_LABEL, parts)).ok()?;
-    let mut devices = SceneDevices::new(alloc);
-    add(&mut devices, 0x1234, labels)?;
-    add(&mut devices, 0x9abc, Vec::new(alloc))?;
-    let (collisions, losses, fails) = (Vec::new(alloc), Vec::new(alloc), Vec::new(alloc));
-    Some(Scene {
-        source,
-        devices,
-        collisions,
-        losses,
-        fails,
-    })
-}
-
-fn add(devices: &mut SceneDevices, manufacturer: u16, parameters: Vec<Parameter>) -> Option<()> {
-    let device = Device {
-        uid: Uid::new(manufacturer, 1),
-        control: 0,
-        binding: None,
-    };
-    let (params, from, until) = (Parameters::new(parameters), 0, None);
-    devices
-        .add(SceneDevice {
-            device,
-            preamble: 7,
-            params,
-            from,
-            until,
-        })
-        .ok()
 }
