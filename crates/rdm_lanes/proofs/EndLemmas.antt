@@ -1,24 +1,23 @@
 -- How both ends of each client's rings are compared, one client after the other.
-use Rattle.std.proofs.Common.{◌≡◌, ◌≢◌, ℕ, zero, suc, ◌+◌, ◌-◌, ◌<◌, ◌≤◌, Bool, true, false, true≢false, List, [], ◌∷◌, ◌++◌, map, length, take, drop, get_or, Option, Some, None, refl, sym, ap, ◌∙◌, subst, slice_get, inl, inr, ⊎_elim, append-nil, append_assoc, length-append, arith}
-use Rattle.std.specs.Prelude.{filter, ◌⊎◌, ◌||◌, slice_set}
+use Rattle.std.proofs.Common.{◌≡◌, ◌≢◌, ℕ, zero, suc, ◌+◌, ◌-◌, ◌<◌, ◌≤◌, Bool, true, false, true≢false, List, [], ◌∷◌, ◌++◌, map, length, drop, Some, None, refl, sym, ap, ◌∙◌, slice_get, inl, inr, ⊎_elim, append-nil, length-append, arith}
+use Rattle.std.specs.Prelude.{◌||◌, slice_set}
 use Rattle.std.specs.List.{list_any, AllByRecursion}
-use Rattle.std.proofs.lemmas.Bool.{cases_lt, cases_Bool}
+use Rattle.std.proofs.lemmas.Bool.{cases_lt}
 use Rattle.std.proofs.lemmas.Option.{slice_get_within, get_or_from_slice_get}
 use Rattle.std.proofs.lemmas.List.{length-set, length-map, map-append}
 use Rattle.std.proofs.lemmas.List.Elements.{filter-append}
-use Rattle.rtrb.specs.Ring.{sent as pushed, received as popped, known_items, known_free, producer_capacity}
-use Rattle.rdm_queue.specs.promises.Outcomes.{OutcomeValue}
+use Rattle.rtrb.specs.Ring.{sent as pushed, received as popped, known_items}
 use Rattle.rdm_queue.specs.log.LogState.{LogState}
 use Rattle.rdm_lanes.specs.declared.call.ClientCall.{ClientCall}
 use Rattle.rdm_lanes.specs.declared.call.ClientCall.TheVariants.{Submit, Discover, Leave}
 use Rattle.rdm_lanes.specs.declared.ring_outcome.RingOutcome.{RingOutcome}
 use Rattle.rdm_lanes.specs.declared.lane.Lane.{Lane}
 use Rattle.rdm_lanes.specs.declared.ends.ClientEnd.{ClientEnd}
-use Rattle.rdm_lanes.specs.Calls.{is_work, work_in, leave_if, calls_by}
-use Rattle.rdm_lanes.specs.Told.{value_in, values_in, TellsAll}
-use Rattle.rdm_lanes.specs.Pairs.{Rings, ArePair, RingsPair}
+use Rattle.rdm_lanes.specs.Calls.{is_work, work_in, leave_if}
+use Rattle.rdm_lanes.specs.Told.{value_in, values_in}
+use Rattle.rdm_lanes.specs.Pairs.{ArePair}
 use Rattle.rdm_lanes.specs.Lanes.{Fits, AllFit, AllHaveLeft, is_leave}
-use Rattle.rdm_lanes.specs.Ends.{end_rings, end_sent, end_got, left_in, PairUp, Agrees, AllAgree, AllRead, SameTold, AllTold}
+use Rattle.rdm_lanes.specs.Ends.{end_rings, left_in, PairUp, Agrees, AllAgree, AllRead, SameTold, AllTold}
 use Rattle.rdm_lanes.proofs.LaneLemmas.{get-set}
 
 work_parts : (xs ys : List ClientCall) → work_in (xs ++ ys) ≡ work_in xs ++ work_in ys

@@ -1,6 +1,5 @@
 -- An exchange with the line: a frame is taken, and what came is delivered.
-use Rattle.std.proofs.Common.{◌≡◌, ℕ, ◌+◌, Bool, true, false, true≢false, List, [], ◌∷◌, ◌++◌, length, Option, Some, None, Result, Ok, Err, refl, sym, ap, ◌∙◌, subst, length-append, append-nil, append_assoc}
-use Rattle.std.specs.Prelude.{IfOk}
+use Rattle.std.proofs.Common.{◌≡◌, ℕ, ◌+◌, true, false, true≢false, List, [], ◌∷◌, ◌++◌, length, Option, Some, None, Result, Ok, Err, refl, sym, ap, ◌∙◌, subst, length-append, append-nil, append_assoc}
 use Rattle.arrayvec.specs.ArrayVec.{ArrayVec}
 use Rattle.rdm_wire.specs.Lists.{EachAfter}
 use Rattle.rdm_join.specs.declared.event.LineEvent.{LineEvent}
@@ -11,14 +10,14 @@ use Rattle.rdm_queue.specs.declared.entry.Entry.TheVariants.{Send, Came}
 use Rattle.rdm_queue.specs.declared.fault.LogFull.{LogFull}
 use Rattle.rdm_queue.specs.declared.fault.NotAsked.{NotAsked}
 use Rattle.rdm_queue.specs.log.Entries.{sends, cames, joins}
-use Rattle.rdm_queue.specs.log.History.{awaited, is_closed}
+use Rattle.rdm_queue.specs.log.History.{awaited}
 use Rattle.rdm_queue.specs.log.LogState.{LogState, grown, is_full_log}
 use Rattle.rdm_queue.specs.log.MaySend.{NoSend}
 use Rattle.rdm_queue.specs.log.Legal.{Legal, MayFollow}
-use Rattle.rdm_queue.specs.promises.Blocks.{GrowsBy, TakeLogs, DeliverAdds, IsWithResults, AllResults}
+use Rattle.rdm_queue.specs.promises.Blocks.{GrowsBy, TakeLogs, DeliverAdds, AllResults}
 use Rattle.rdm_queue.specs.promises.InBound.{AnswersInBound}
 use Rattle.rdm_queue.proofs.LogLemmas.Grows.{front}
-use Rattle.rdm_queue.proofs.LogLemmas.PushLemmas.{awaited-push, is_closed-push}
+use Rattle.rdm_queue.proofs.LogLemmas.PushLemmas.{awaited-push}
 use Rattle.rdm_queue.proofs.LogLemmas.LegalFacts.{legal_facts, sent_evenly}
 use Rattle.rdm_lanes.specs.Lines.{exchanges, exchange_count, Exchanged, NoExchange, SameSwitches, InBound, NoCallLost, IsBetweenTurns}
 use Rattle.rdm_lanes.specs.Serving.{IsOnlyTold}

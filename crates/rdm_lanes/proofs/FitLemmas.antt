@@ -1,11 +1,9 @@
--- How the lane of the client that is served agrees with the log.
-use Rattle.std.proofs.Common.{◌≡◌, ◌≢◌, ℕ, zero, suc, add-one, ◌+◌, ◌-◌, ◌<◌, ◌≤◌, Bool, true, false, true≢false, cond, List, [], ◌∷◌, ◌++◌, map, length, take, drop, Option, Some, None, refl, sym, ap, ◌∙◌, subst, slice_get, inl, inr, length-append, append-nil, append_assoc, arith, filter_map, option_map, Result, Ok, Err}
-use Rattle.std.specs.Prelude.{filter, ◌==◌, ◌⊎◌, ◌||◌, ◌&&◌, nat_le, slice_index, if◌then◌else◌, MatchBool}
+-- How the lane of the client that is served agrees with the log, once its call was made.
+use Rattle.std.proofs.Common.{◌≡◌, ℕ, zero, suc, add-one, ◌+◌, ◌-◌, ◌<◌, ◌≤◌, Bool, true, false, true≢false, cond, List, [], ◌∷◌, ◌++◌, map, length, take, drop, Option, Some, None, refl, sym, ap, ◌∙◌, subst, slice_get, length-append, append-nil, arith, filter_map, Result, Ok, Err}
+use Rattle.std.specs.Prelude.{filter, ◌==◌, ◌||◌, nat_le, slice_index, if◌then◌else◌, MatchBool}
 use Rattle.std.specs.List.{list_any}
 use Rattle.std.proofs.lemmas.Bool.{eq-eqb}
-use Rattle.std.proofs.lemmas.Bool.Decides.{nat_tests}
-use Rattle.std.proofs.lemmas.Option.{slice_get_within, get_or_from_slice_get}
-use Rattle.std.proofs.lemmas.List.{map-append, take_more, drop-drop, take-append-drop}
+use Rattle.std.proofs.lemmas.List.{map-append, take-append-drop}
 use Rattle.std.proofs.lemmas.List.Elements.{filter_map-append}
 use Rattle.rtrb.specs.Ring.{sent as pushed, received as popped}
 use Rattle.rdm_agent.specs.declared.search.Search.{Search}
@@ -18,12 +16,7 @@ use Rattle.rdm_queue.specs.declared.entry.Call.TheVariants as calls
 use Rattle.rdm_queue.specs.declared.entry.Cause.{Cause}
 use Rattle.rdm_queue.specs.declared.entry.Opening.{Opening}
 use Rattle.rdm_queue.specs.declared.entry.Entry.{Entry}
-use Rattle.rdm_queue.specs.declared.entry.Entry.TheVariants.{Join, Refuse, Accept, Ask, Send, Came, Finish, Answer, Collect, Pause, Resume, Close}
-use Rattle.rdm_queue.specs.declared.outcome.Completion.{Completion}
-use Rattle.rdm_queue.specs.declared.outcome.AskCompletion.{AskCompletion}
-use Rattle.rdm_queue.specs.declared.outcome.Outcome.{Outcome}
-use Rattle.rdm_queue.specs.declared.outcome.Outcome.TheVariants as outcomes
-use Rattle.rdm_join.specs.Result.{Joined}
+use Rattle.rdm_queue.specs.declared.entry.Entry.TheVariants.{Refuse, Accept, Ask, Finish, Answer}
 use Rattle.rdm_queue.specs.log.Entries.{accepted_of, asked_of, accepts, asks, finishes, answers, collectors, collector_of}
 use Rattle.rdm_queue.specs.log.Clients.{accepts_by, asks_by, is_answer_to, answers_to, collects_by, collected, uncollected, outstanding_requests, outstanding_discoveries}
 use Rattle.rdm_queue.specs.declared.fault.SubmitFault.{SubmitFault}
@@ -34,25 +27,23 @@ use Rattle.rdm_queue.specs.log.History.{is_closed, places, next_request, next_as
 use Rattle.rdm_queue.specs.log.Refusals.{submit_fault_at, ask_fault_at}
 use Rattle.rdm_queue.specs.log.LogState.{LogState, grown, is_full_log}
 use Rattle.rdm_queue.specs.log.Legal.{Legal, MayFollow}
-use Rattle.rdm_queue.specs.promises.Blocks.{IsOldest, GrowsBy, UnlessFull, SubmitLogs, SubmitAdds, DiscoverLogs, DiscoverAdds, CollectAdds, submit_refused, ask_refused}
-use Rattle.rdm_queue.specs.promises.Outcomes.{OutcomeValue, Discovered, completion_value, discovered, outcome_of, outcome_value, is_client, is_closed_refusal, refused_outcome, closed_number}
-use Rattle.rdm_queue.specs.promises.Outcomes.OutcomeValue.{RequestValue, DiscoveryValue}
+use Rattle.rdm_queue.specs.promises.Blocks.{GrowsBy, UnlessFull, SubmitLogs, SubmitAdds, DiscoverLogs, DiscoverAdds, submit_refused, ask_refused}
+use Rattle.rdm_queue.specs.promises.Outcomes.{OutcomeValue, outcome_of, is_closed_refusal, refused_outcome, closed_number}
 use Rattle.rdm_queue.proofs.LogLemmas.Grows.{front}
-use Rattle.rdm_queue.proofs.LogLemmas.PushLemmas.{finishes-append, answered-append, accepts_more, asks_more}
-use Rattle.rdm_queue.proofs.LogLemmas.Places.{slice_get_first, slice_get-drop}
+use Rattle.rdm_queue.proofs.LogLemmas.PushLemmas.{finishes-append, answered-append}
 use Rattle.rdm_queue.proofs.LogLemmas.ClientFacts.{client_facts}
 use Rattle.rdm_lanes.specs.declared.call.ClientCall.{ClientCall}
 use Rattle.rdm_lanes.specs.declared.call.ClientCall.TheVariants.{Submit, Discover}
 use Rattle.rdm_lanes.specs.declared.ring_outcome.RingOutcome.{RingOutcome}
 use Rattle.rdm_lanes.specs.declared.lane.Lane.{Lane}
-use Rattle.rdm_lanes.specs.Calls.{call_by, calls_by, refused_call, work_in, is_work}
-use Rattle.rdm_lanes.specs.Told.{told_values, uncollected_values, values_in, value_in, TellsAll}
+use Rattle.rdm_lanes.specs.Calls.{call_by, calls_by, refused_call, work_in}
+use Rattle.rdm_lanes.specs.Told.{told_values, uncollected_values, values_in, value_in}
 use Rattle.rdm_lanes.specs.Lanes.{FitsBut, Fits, is_leave}
 use Rattle.rdm_lanes.specs.Serving.{MayTell, MayMake, CanTakeSubmit, CanTakeDiscover, AfterSubmit, AfterSubmitFault, AfterDiscover, AfterAskFault}
-use Rattle.rdm_lanes.proofs.LineLemmas.{is_quiet, AllRightly}
-use Rattle.rdm_lanes.proofs.GrowthLemmas.{tells, told_grows, uncollected_grows, uncollected_split, values_stay, answers_split, collected_same, accepts_by_split, asks_by_split, collects_by_split}
+use Rattle.rdm_lanes.proofs.LineLemmas.{is_quiet}
+use Rattle.rdm_lanes.proofs.GrowthLemmas.{tells, told_grows, uncollected_grows, collected_same, accepts_by_split, asks_by_split}
 
-values_more : (items : List RingOutcome) (item : RingOutcome) → values_in (items ++ item ∷ []) ≡ values_in items ++ value_in item ∷ []
+pub values_more : (items : List RingOutcome) (item : RingOutcome) → values_in (items ++ item ∷ []) ≡ values_in items ++ value_in item ∷ []
 unfolding values_in
 values_more items item = map-append value_in items (item ∷ [])
 
@@ -60,15 +51,15 @@ no_values : (o : Opening) (c : ℕ) (h : List Entry) → uncollected o c h ≡ [
 unfolding uncollected_values
 no_values o c h none = rw none refl
 
-to_values : (o : Opening) (c : ℕ) (h : List Entry) → uncollected_values o c h ≡ map (outcome_of h) (uncollected o c h)
+pub to_values : (o : Opening) (c : ℕ) (h : List Entry) → uncollected_values o c h ≡ map (outcome_of h) (uncollected o c h)
 unfolding uncollected_values
 to_values o c h = refl
 
-map_drop : {X Y : Type 0} (f : X → Y) (xs : List X) → map f (drop 1 xs) ≡ drop 1 (map f xs)
+pub map_drop : {X Y : Type 0} (f : X → Y) (xs : List X) → map f (drop 1 xs) ≡ drop 1 (map f xs)
 map_drop f [] = refl
 map_drop f (x ∷ xs) = refl
 
-first_of : (o : Opening) (c : ℕ) (h : List Entry) (x : Entry) → slice_get (uncollected o c h) 0 ≡ Some x → uncollected_values o c h ≡ outcome_of h x ∷ drop 1 (uncollected_values o c h)
+pub first_of : (o : Opening) (c : ℕ) (h : List Entry) (x : Entry) → slice_get (uncollected o c h) 0 ≡ Some x → uncollected_values o c h ≡ outcome_of h x ∷ drop 1 (uncollected_values o c h)
 unfolding uncollected_values
 first_of o c h x at = by_first (uncollected o c h) at
   where
@@ -81,7 +72,7 @@ drop_next zero xs = refl
 drop_next (suc m) [] = refl
 drop_next (suc m) (x ∷ xs) = drop_next m xs
 
-drop_more : {X : Type 0} (m : ℕ) (xs : List X) → drop (m + 1) xs ≡ drop 1 (drop m xs)
+pub drop_more : {X : Type 0} (m : ℕ) (xs : List X) → drop (m + 1) xs ≡ drop 1 (drop m xs)
 drop_more m xs = ap (λ (n : ℕ). drop n xs) (add-one m) ∙ drop_next m xs
 
 -- a quiet entry answers nobody
@@ -94,11 +85,11 @@ one_passes : {X : Type 0} (p : X → Bool) (x : X) (b : Bool) → p x ≡ b → 
 one_passes p x b is = rw is refl
 
 module _ (o : Opening) (h : List Entry) (e : Entry) (each : EachAfter (MayFollow o) (h ++ e ∷ [])) (quiet : is_quiet e ≡ true) (c : ℕ) where
-  no_answer : filter (is_answer_to o c (h ++ e ∷ [])) (e ∷ []) ≡ []
+  pub no_answer : filter (is_answer_to o c (h ++ e ∷ [])) (e ∷ []) ≡ []
   no_answer = one_passes (is_answer_to o c (h ++ e ∷ [])) e false (quiet_no_answer o c (h ++ e ∷ []) e quiet)
 
   -- an entry that tells the client nothing
-  told_same : is_closed_refusal c e ≡ false → told_values o c (h ++ e ∷ []) ≡ told_values o c h
+  pub told_same : is_closed_refusal c e ≡ false → told_values o c (h ++ e ∷ []) ≡ told_values o c h
   told_same other =
       told_grows o h (e ∷ []) each c
       ∙ ap (λ (xs : List Entry). told_values o c h ++ map (outcome_of (h ++ e ∷ [])) xs) (one_passes (tells o c (h ++ e ∷ [])) e false (rw (quiet_no_answer o c (h ++ e ∷ []) e quiet, other) refl))
@@ -127,10 +118,10 @@ answers_within m xs =
     let whole = ap length (ap answers (sym (take-append-drop m xs)) ∙ answered-append (take m xs) (drop m xs)) ∙ length-append (answers (take m xs)) (answers (drop m xs)) in
     omega (arith, whole)
 
-requests_within : (o : Opening) (h : List Entry) → EachAfter (MayFollow o) h → (c : ℕ) → length (finishes (collected o c h)) ≤ length (accepts_by c h)
+pub requests_within : (o : Opening) (h : List Entry) → EachAfter (MayFollow o) h → (c : ℕ) → length (finishes (collected o c h)) ≤ length (accepts_by c h)
 requests_within o h each c = omega (arith, finishes_within (length (collects_by c h)) (answers_to o c h), (client_facts o h each).finished c)
 
-asks_within : (o : Opening) (h : List Entry) → EachAfter (MayFollow o) h → (c : ℕ) → length (answers (collected o c h)) ≤ length (asks_by c h)
+pub asks_within : (o : Opening) (h : List Entry) → EachAfter (MayFollow o) h → (c : ℕ) → length (answers (collected o c h)) ≤ length (asks_by c h)
 asks_within o h each c = omega (arith, answers_within (length (collects_by c h)) (answers_to o c h), (client_facts o h each).answered c)
 
 -- a request more, and a discovery more
@@ -168,11 +159,11 @@ asks_more_left o h d n kind each =
     omega (arith, asks_within o h before d.0, same, long)
 
 -- an entry that neither accepts nor collects leaves both counts
-accepts_none_of : (c : ℕ) (e : Entry) → accepted_of e ≡ None → accepts_by c (e ∷ []) ≡ []
+pub accepts_none_of : (c : ℕ) (e : Entry) → accepted_of e ≡ None → accepts_by c (e ∷ []) ≡ []
 unfolding accepts
 accepts_none_of c e none = rw none refl
 
-asks_none_of : (c : ℕ) (e : Entry) → asked_of e ≡ None → asks_by c (e ∷ []) ≡ []
+pub asks_none_of : (c : ℕ) (e : Entry) → asked_of e ≡ None → asks_by c (e ∷ []) ≡ []
 unfolding asks
 asks_none_of c e none = rw none refl
 
@@ -188,7 +179,7 @@ calls_more : (c : ℕ) (h : List Entry) (e : Entry) (x : ClientCall) → call_by
 unfolding calls_by
 calls_more c h e x is = filter_map-append (call_by c) h (e ∷ []) ∙ rw is refl
 
-calls_stay : (c : ℕ) (h : List Entry) (e : Entry) → call_by c e ≡ None → calls_by c (h ++ e ∷ []) ≡ calls_by c h
+pub calls_stay : (c : ℕ) (h : List Entry) (e : Entry) → call_by c e ≡ None → calls_by c (h ++ e ∷ []) ≡ calls_by c h
 unfolding calls_by
 calls_stay c h e is = filter_map-append (call_by c) h (e ∷ []) ∙ rw is (append-nil (filter_map (call_by c) h))
 
@@ -303,10 +294,10 @@ unless : (b : Bool) (P Q : Type 0) → b ≡ false → UnlessFull b P Q → Q
 unless true P Q e u = absurd (true≢false e)
 unless false P Q e u = u
 
-submit_adds : (k : LogState) (d : ClientId) (request : Request) (r : Result ℕ (SubmitFault × Request)) (block : List Entry) → is_full_log k ≡ false → SubmitLogs k d request r block → SubmitAdds k.opening k.entries d request r block
+pub submit_adds : (k : LogState) (d : ClientId) (request : Request) (r : Result ℕ (SubmitFault × Request)) (block : List Entry) → is_full_log k ≡ false → SubmitLogs k d request r block → SubmitAdds k.opening k.entries d request r block
 submit_adds k d request r block free adds = unless (is_full_log k) ((r ≡ Err (submit_faults.LogFull, request)) × (block ≡ [])) (SubmitAdds k.opening k.entries d request r block) free adds
 
-ask_adds : (k : LogState) (d : ClientId) (kind : Kind) (r : Result ℕ AskFault) (block : List Entry) → is_full_log k ≡ false → DiscoverLogs k d kind r block → DiscoverAdds k.opening k.entries d kind r block
+pub ask_adds : (k : LogState) (d : ClientId) (kind : Kind) (r : Result ℕ AskFault) (block : List Entry) → is_full_log k ≡ false → DiscoverLogs k d kind r block → DiscoverAdds k.opening k.entries d kind r block
 ask_adds k d kind r block free adds = unless (is_full_log k) ((r ≡ Err ask_faults.LogFull) × (block ≡ [])) (DiscoverAdds k.opening k.entries d kind r block) free adds
 
 at_false : (b : Bool) (P Q : Type 0) → b ≡ false → MatchBool b P Q → Q
@@ -383,258 +374,3 @@ fits_ask_answer old new d kind lane next (Err fault) block adds is legal may f a
 pub fits_discover : (old new : LogState) (d : ClientId) (kind : Kind) (lane next : Lane) (r : Result ℕ AskFault) → GrowsBy old (DiscoverLogs old d kind r) new → is_full_log old ≡ false
     → Legal new.opening new.entries → MayMake d.0 old lane (Discover kind) → FitsBut (Discover kind ∷ []) d.0 old lane → AfterDiscover lane r next → Fits d.0 new next
 fits_discover old new d kind lane next r g free legal may f after = fits_ask_answer old new d kind lane next r g.block (ask_adds old d kind r g.block free g.adds) g.grows legal may f after
-
--- the client's oldest outcome was collected: which it was, and that it is a request's or a discovery's
-pub record IsFinishEntry (e : Entry) : Type 0 where
-  pub one : length (finishes (e ∷ [])) ≡ 1
-  pub other : length (answers (e ∷ [])) ≡ 0
-
-pub record IsAnswerEntry (e : Entry) : Type 0 where
-  pub other : length (finishes (e ∷ [])) ≡ 0
-  pub one : length (answers (e ∷ [])) ≡ 1
-
-no_number : (call : Call) (n : ℕ) (j : Joined) → refused_outcome call ≡ Some (RequestValue (Some n) j) → ⊥
-no_number (calls.Submit request) n j e = cc
-no_number (calls.Discover kind) n j e = cc
-no_number (calls.Join p) n j e = cc
-
-no_ask_number : (call : Call) (n : ℕ) (d : Discovered) → refused_outcome call ≡ Some (DiscoveryValue (Some n) d) → ⊥
-no_ask_number (calls.Submit request) n d e = cc
-no_ask_number (calls.Discover kind) n d e = cc
-no_ask_number (calls.Join p) n d e = cc
-
-finish_of : (h : List Entry) (e : Entry) (n : ℕ) (j : Joined) → outcome_of h e ≡ Some (RequestValue (Some n) j) → IsFinishEntry e
-unfolding finishes answers
-finish_of h (Finish m status len) n j is = record { one = refl; other = refl }
-finish_of h (Answer m r fault) n j is = cc
-finish_of h (Refuse c call cause) n j is = absurd (no_number call n j is)
-finish_of h (Join c m) n j is = cc
-finish_of h (Accept c m request) n j is = cc
-finish_of h (Ask c m kind) n j is = cc
-finish_of h (Send owner frame) n j is = cc
-finish_of h (Came event) n j is = cc
-finish_of h (Collect c) n j is = cc
-finish_of h Pause n j is = cc
-finish_of h Resume n j is = cc
-finish_of h Close n j is = cc
-
-answer_of : (h : List Entry) (e : Entry) (n : ℕ) (d : Discovered) → outcome_of h e ≡ Some (DiscoveryValue (Some n) d) → IsAnswerEntry e
-unfolding finishes answers
-answer_of h (Finish m status len) n d is = cc
-answer_of h (Answer m r fault) n d is = record { other = refl; one = refl }
-answer_of h (Refuse c call cause) n d is = absurd (no_ask_number call n d is)
-answer_of h (Join c m) n d is = cc
-answer_of h (Accept c m request) n d is = cc
-answer_of h (Ask c m kind) n d is = cc
-answer_of h (Send owner frame) n d is = cc
-answer_of h (Came event) n d is = cc
-answer_of h (Collect c) n d is = cc
-answer_of h Pause n d is = cc
-answer_of h Resume n d is = cc
-answer_of h Close n d is = cc
-
-own_collect : (d : ClientId) → collects_by d.0 (Collect d ∷ []) ≡ d.0 ∷ []
-unfolding collectors
-own_collect d = rw (eq-eqb d.0 d.0 refl) refl
-
-collect_count : (d : ClientId) (h : List Entry) → length (collects_by d.0 (h ++ Collect d ∷ [])) ≡ length (collects_by d.0 h) + 1
-collect_count d h = ap length (collects_by_split d.0 h (Collect d ∷ [])) ∙ length-append (collects_by d.0 h) (collects_by d.0 (Collect d ∷ [])) ∙ ap (λ (xs : List ℕ). length (collects_by d.0 h) + length xs) (own_collect d)
-
-answers_same : (o : Opening) (h : List Entry) (e : Entry) (each : EachAfter (MayFollow o) (h ++ e ∷ [])) (c : ℕ) → is_quiet e ≡ true → answers_to o c (h ++ e ∷ []) ≡ answers_to o c h
-answers_same o h e each c quiet = answers_split o h (e ∷ []) each c ∙ ap (λ (xs : List Entry). answers_to o c h ++ xs) (no_answer o h e each quiet c) ∙ append-nil (answers_to o c h)
-
-take_at : (xs : List Entry) (m : ℕ) (x : Entry) → slice_get xs m ≡ Some x → take (m + 1) xs ≡ take m xs ++ x ∷ []
-take_at xs m x at = take_more xs m x (slice_get_within xs m x at) ∙ ap (λ (y : Entry). take m xs ++ y ∷ []) (get_or_from_slice_get xs m x x at)
-
-module _ (o : Opening) (h : List Entry) (d : ClientId) (each : EachAfter (MayFollow o) (h ++ Collect d ∷ [])) (x : Entry) (oldest : slice_get (uncollected o d.0 h) 0 ≡ Some x) where
-  at_count : slice_get (answers_to o d.0 h) (length (collects_by d.0 h)) ≡ Some x
-  at_count = ap (slice_get (answers_to o d.0 h)) (omega arith) ∙ sym (slice_get-drop (length (collects_by d.0 h)) (answers_to o d.0 h) 0) ∙ oldest
-
-  collected_more : collected o d.0 (h ++ Collect d ∷ []) ≡ collected o d.0 h ++ x ∷ []
-  collected_more = rw (collect_count d h, answers_same o h (Collect d) each d.0 refl) (take_at (answers_to o d.0 h) (length (collects_by d.0 h)) x at_count)
-
-  uncollected_after : uncollected o d.0 (h ++ Collect d ∷ []) ≡ drop 1 (uncollected o d.0 h)
-  uncollected_after = rw (collect_count d h, answers_same o h (Collect d) each d.0 refl) (drop_more (length (collects_by d.0 h)) (answers_to o d.0 h))
-
-  values_first : uncollected_values o d.0 h ≡ outcome_of h x ∷ uncollected_values o d.0 (h ++ Collect d ∷ [])
-  values_first =
-      first_of o d.0 h x oldest
-      ∙ ap (λ (vs : List (Option OutcomeValue)). outcome_of h x ∷ vs) (sym (to_values o d.0 (h ++ Collect d ∷ []) ∙ ap (map (outcome_of (h ++ Collect d ∷ []))) uncollected_after ∙ map_drop (outcome_of (h ++ Collect d ∷ [])) (uncollected o d.0 h) ∙ ap (drop 1) (values_stay o h (Collect d ∷ []) each d.0)))
-
-  accepts_kept : accepts_by d.0 (h ++ Collect d ∷ []) ≡ accepts_by d.0 h
-  accepts_kept = accepts_by_split d.0 h (Collect d ∷ []) ∙ rw (accepts_none_of d.0 (Collect d) refl) (append-nil (accepts_by d.0 h))
-
-  asks_kept : asks_by d.0 (h ++ Collect d ∷ []) ≡ asks_by d.0 h
-  asks_kept = asks_by_split d.0 h (Collect d ∷ []) ∙ rw (asks_none_of d.0 (Collect d) refl) (append-nil (asks_by d.0 h))
-
-  finishes_more : length (finishes (collected o d.0 (h ++ Collect d ∷ []))) ≡ length (finishes (collected o d.0 h)) + length (finishes (x ∷ []))
-  finishes_more = ap length (ap finishes collected_more ∙ finishes-append (collected o d.0 h) (x ∷ [])) ∙ length-append (finishes (collected o d.0 h)) (finishes (x ∷ []))
-
-  answers_more : length (answers (collected o d.0 (h ++ Collect d ∷ []))) ≡ length (answers (collected o d.0 h)) + length (answers (x ∷ []))
-  answers_more = ap length (ap answers collected_more ∙ answered-append (collected o d.0 h) (x ∷ [])) ∙ length-append (answers (collected o d.0 h)) (answers (x ∷ []))
-
-  -- one fewer of its kind is outstanding
-  fewer_requests : IsFinishEntry x → outstanding_requests o d.0 h ≡ outstanding_requests o d.0 (h ++ Collect d ∷ []) + 1
-  fewer_requests is =
-      let within = requests_within o (h ++ Collect d ∷ []) each d.0 in
-      let same = ap length accepts_kept in
-      omega (arith, within, same, finishes_more, is.one)
-
-  same_asks : IsFinishEntry x → outstanding_discoveries o d.0 (h ++ Collect d ∷ []) ≡ outstanding_discoveries o d.0 h
-  same_asks is =
-      let same = ap length asks_kept in
-      omega (arith, same, answers_more, is.other)
-
-  fewer_asks : IsAnswerEntry x → outstanding_discoveries o d.0 h ≡ outstanding_discoveries o d.0 (h ++ Collect d ∷ []) + 1
-  fewer_asks is =
-      let within = asks_within o (h ++ Collect d ∷ []) each d.0 in
-      let same = ap length asks_kept in
-      omega (arith, within, same, answers_more, is.one)
-
-  same_requests : IsAnswerEntry x → outstanding_requests o d.0 (h ++ Collect d ∷ []) ≡ outstanding_requests o d.0 h
-  same_requests is =
-      let same = ap length accepts_kept in
-      omega (arith, same, finishes_more, is.other)
-
--- the outcome that was collected is on the client's ring
-collected_fits : (o : Opening) (h : List Entry) (room : ℕ) (search : Search) (d : ClientId) (x : Entry) (item : RingOutcome) (lane next : Lane) (requests asks : ℕ)
-    → EachAfter (MayFollow o) (h ++ Collect d ∷ []) → slice_get (uncollected o d.0 h) 0 ≡ Some x → outcome_of h x ≡ Some (value_in item)
-    → outstanding_requests o d.0 (h ++ Collect d ∷ []) ≡ requests → outstanding_discoveries o d.0 (h ++ Collect d ∷ []) ≡ asks
-    → Fits d.0 (record { opening = o; entries = h; room = room; search = search }) lane → IsNext lane next requests asks → pushed next.replies ≡ pushed lane.replies ++ item ∷ []
-    → Fits d.0 (record { opening = o; entries = h ++ Collect d ∷ []; room = room; search = search }) next
-collected_fits o h room search d x item lane next requests asks each oldest told counted asked f isnext replies = record {
-  calls_are = ap work_in isnext.calls_are ∙ f.calls_are ∙ ap (λ (xs : List ClientCall). xs ++ []) (sym (calls_stay d.0 h (Collect d) refl));
-  told_are =
-      rw (replies, values_more (pushed lane.replies) item)
-      (ap (λ (vs : List (Option OutcomeValue)). vs ++ uncollected_values o d.0 (h ++ Collect d ∷ [])) (map-append (λ (v : OutcomeValue). Some v) (values_in (pushed lane.replies)) (value_in item ∷ []))
-      ∙ append_assoc (map (λ (v : OutcomeValue). Some v) (values_in (pushed lane.replies))) (Some (value_in item) ∷ []) (uncollected_values o d.0 (h ++ Collect d ∷ []))
-      ∙ ap (λ (v : Option OutcomeValue). map (λ (v : OutcomeValue). Some v) (values_in (pushed lane.replies)) ++ v ∷ uncollected_values o d.0 (h ++ Collect d ∷ [])) (sym told)
-      ∙ ap (λ (vs : List (Option OutcomeValue)). map (λ (v : OutcomeValue). Some v) (values_in (pushed lane.replies)) ++ vs) (sym (values_first o h d each x oldest))
-      ∙ f.told_are
-      ∙ sym (told_same o h (Collect d) each refl d.0 refl));
-  requests_are = isnext.requests_are ∙ sym counted;
-  asks_are = isnext.asks_are ∙ sym asked;
-  left_is = isnext.left_is ∙ f.left_is ∙ ap (list_any is_leave) (sym isnext.calls_are);
-}
-
-each_after : (old new : LogState) (e : Entry) → new ≡ grown old (e ∷ []) → Legal new.opening new.entries → EachAfter (MayFollow old.opening) (old.entries ++ e ∷ [])
-each_after old new e is legal = subst (λ (k : LogState). EachAfter (MayFollow k.opening) k.entries) is legal.each
-
-pub has_request : (old new : LogState) (d : ClientId) (n : ℕ) (done : Completion) (lane : Lane) → GrowsBy old (CollectAdds old.opening old.entries d (Some (outcomes.Request (Some n) done))) new → Legal new.opening new.entries
-    → Fits d.0 old lane → 1 ≤ lane.requests
-has_request old new d n done lane g legal f =
-    let adds = g.adds in
-    let each = each_after old new (Collect d) (rw adds.1 at g.grows) legal in
-    let fewer = fewer_requests old.opening old.entries d each adds.0.entry adds.0.oldest (finish_of old.entries adds.0.entry n (completion_value done) adds.0.told) in
-    omega (arith, fewer, f.requests_are)
-
-pub has_ask : (old new : LogState) (d : ClientId) (n : ℕ) (done : AskCompletion) (lane : Lane) → GrowsBy old (CollectAdds old.opening old.entries d (Some (outcomes.Discovery (Some n) done))) new → Legal new.opening new.entries
-    → Fits d.0 old lane → 1 ≤ lane.asks
-has_ask old new d n done lane g legal f =
-    let adds = g.adds in
-    let each = each_after old new (Collect d) (rw adds.1 at g.grows) legal in
-    let fewer = fewer_asks old.opening old.entries d each adds.0.entry adds.0.oldest (answer_of old.entries adds.0.entry n (discovered done) adds.0.told) in
-    omega (arith, fewer, f.asks_are)
-
-less_one : (a b c : ℕ) → a ≡ b → b ≡ c + 1 → c ≡ a - 1
-less_one a b c p q = omega (arith, p, q)
-
-pub fits_completion : (old new : LogState) (d : ClientId) (n : ℕ) (done : Completion) (item : RingOutcome) (lane next : Lane)
-    → GrowsBy old (CollectAdds old.opening old.entries d (Some (outcomes.Request (Some n) done))) new → Legal new.opening new.entries
-    → value_in item ≡ outcome_value (outcomes.Request (Some n) done) → Fits d.0 old lane → IsNext lane next (lane.requests - 1) lane.asks → pushed next.replies ≡ pushed lane.replies ++ item ∷ [] → Fits d.0 new next
-fits_completion old new d n done item lane next g legal is f isnext replies =
-    let adds = g.adds in
-    let grows : new ≡ grown old (Collect d ∷ []) = rw adds.1 at g.grows in
-    let each = each_after old new (Collect d) grows legal in
-    let x = adds.0.entry in
-    let kind = finish_of old.entries x n (completion_value done) adds.0.told in
-    let fewer = fewer_requests old.opening old.entries d each x adds.0.oldest kind in
-    let same = same_asks old.opening old.entries d each x adds.0.oldest kind in
-    rw grows (collected_fits old.opening old.entries old.room old.search d x item lane next (lane.requests - 1) lane.asks each adds.0.oldest (adds.0.told ∙ ap (λ v. Some v) (sym is))
-    (less_one lane.requests _ _ f.requests_are fewer) (same ∙ sym f.asks_are) f isnext replies)
-
-pub fits_discovery : (old new : LogState) (d : ClientId) (n : ℕ) (done : AskCompletion) (item : RingOutcome) (lane next : Lane)
-    → GrowsBy old (CollectAdds old.opening old.entries d (Some (outcomes.Discovery (Some n) done))) new → Legal new.opening new.entries
-    → value_in item ≡ outcome_value (outcomes.Discovery (Some n) done) → Fits d.0 old lane → IsNext lane next lane.requests (lane.asks - 1) → pushed next.replies ≡ pushed lane.replies ++ item ∷ [] → Fits d.0 new next
-fits_discovery old new d n done item lane next g legal is f isnext replies =
-    let adds = g.adds in
-    let grows : new ≡ grown old (Collect d ∷ []) = rw adds.1 at g.grows in
-    let each = each_after old new (Collect d) grows legal in
-    let x = adds.0.entry in
-    let kind = answer_of old.entries x n (discovered done) adds.0.told in
-    let fewer = fewer_asks old.opening old.entries d each x adds.0.oldest kind in
-    let same = same_requests old.opening old.entries d each x adds.0.oldest kind in
-    rw grows (collected_fits old.opening old.entries old.room old.search d x item lane next lane.requests (lane.asks - 1) each adds.0.oldest (adds.0.told ∙ ap (λ v. Some v) (sym is))
-    (same ∙ sym f.requests_are) (less_one lane.asks _ _ f.asks_are fewer) f isnext replies)
-
--- a call that may be made is refused only by a close, or where the numbers have run out
-not_at_most : (m n : ℕ) → n < m → nat_le m n ≡ true → ⊥
-not_at_most m n less is = absurd (omega (arith, less, at_most m n is))
-  where
-    at_most : (m n : ℕ) → nat_le m n ≡ true → m ≤ n
-    at_most m n is = grind (arith, nat_tests)
-
-submit_cause : (b : Bool) (ps : List ℕ) (outstanding next c mine : ℕ) (fault : SubmitFault) (told : Type 0) → slice_get ps c ≡ Some mine → MatchBool b told (outstanding < mine)
-    → submit_fault_at b ps outstanding next c ≡ Some fault → (b || nat_le 18446744073709551615 next) ≡ true
-submit_cause true ps outstanding next c mine fault told known may is = refl
-submit_cause false ps outstanding next c mine fault told known may is = by_tests (nat_le (length ps) c) (nat_le (slice_index ps c) outstanding) (nat_le 18446744073709551615 next) refl refl refl is
-  where
-    here : slice_index ps c ≡ mine
-    here = get_or_from_slice_get ps c mine 0 known
-
-    by_tests : (x y z : Bool) → nat_le (length ps) c ≡ x → nat_le (slice_index ps c) outstanding ≡ y → nat_le 18446744073709551615 next ≡ z → (if x then Some submit_faults.UnknownClient else (if (y || z) then Some submit_faults.Full else None)) ≡ Some fault → nat_le 18446744073709551615 next ≡ true
-    by_tests true y z p q r e = absurd (not_at_most (length ps) c (slice_get_within ps c mine known) p)
-    by_tests false true z p q r e = absurd (not_at_most (slice_index ps c) outstanding (omega (arith, here, may)) q)
-    by_tests false false true p q r e = r
-    by_tests false false false p q r e = cc
-
-ask_cause : (b : Bool) (ps : List ℕ) (outstanding next c mine : ℕ) (fault : AskFault) (told : Type 0) → slice_get ps c ≡ Some mine → MatchBool b told (outstanding < 4)
-    → ask_fault_at b ps outstanding next c ≡ Some fault → (b || nat_le 18446744073709551614 next) ≡ true
-ask_cause true ps outstanding next c mine fault told known may is = refl
-ask_cause false ps outstanding next c mine fault told known may is = by_tests (nat_le (length ps) c) (nat_le 4 outstanding) (nat_le 18446744073709551614 next) refl refl refl is
-  where
-    by_tests : (x y z : Bool) → nat_le (length ps) c ≡ x → nat_le 4 outstanding ≡ y → nat_le 18446744073709551614 next ≡ z → (if x then Some ask_faults.UnknownClient else (if (y || z) then Some ask_faults.Full else None)) ≡ Some fault → nat_le 18446744073709551614 next ≡ true
-    by_tests true y z p q r e = absurd (not_at_most (length ps) c (slice_get_within ps c mine known) p)
-    by_tests false true z p q r e = absurd (not_at_most 4 outstanding may q)
-    by_tests false false true p q r e = r
-    by_tests false false false p q r e = cc
-
-or_sooner : (b x y : Bool) → (b || x) ≡ true → (b || (x || y)) ≡ true
-or_sooner true x y e = refl
-or_sooner false true y e = refl
-or_sooner false false y e = absurd (true≢false (sym e))
-
-or_later : (b x y : Bool) → (b || y) ≡ true → (b || (x || y)) ≡ true
-or_later true x y e = refl
-or_later false true y e = refl
-or_later false false y e = e
-
-submit_rightly : (k : LogState) (d : ClientId) (request : Request) (lane : Lane) (r : Result ℕ (SubmitFault × Request)) (block : List Entry) → slice_get (places k.opening k.entries) d.0 ≡ Some lane.places
-    → lane.requests ≡ outstanding_requests k.opening d.0 k.entries → MayMake d.0 k lane (Submit request) → SubmitAdds k.opening k.entries d request r block → AllRightly k.opening k.entries block
-submit_rightly k d request lane (Ok n) block known counted may adds = rw adds.2 (tt, tt)
-submit_rightly k d request lane (Err e) block known counted may adds = rw adds.2 (or_sooner (is_closed o h) (nat_le 18446744073709551615 (next_request o h)) (nat_le 18446744073709551614 (next_ask o h)) (submit_cause (is_closed o h) (places o h) (outstanding_requests o d.0 h) (next_request o h) d.0 lane.places e.0 (MayTell d.0 k lane) known (rw counted at may) adds.0), tt)
-  where
-    o : Opening
-    o = k.opening
-
-    h : List Entry
-    h = k.entries
-
-ask_rightly : (k : LogState) (d : ClientId) (kind : Kind) (lane : Lane) (r : Result ℕ AskFault) (block : List Entry) → slice_get (places k.opening k.entries) d.0 ≡ Some lane.places
-    → lane.asks ≡ outstanding_discoveries k.opening d.0 k.entries → MayMake d.0 k lane (Discover kind) → DiscoverAdds k.opening k.entries d kind r block → AllRightly k.opening k.entries block
-ask_rightly k d kind lane (Ok n) block known counted may adds = rw adds.2 (tt, tt)
-ask_rightly k d kind lane (Err fault) block known counted may adds = rw adds.1 (or_later (is_closed o h) (nat_le 18446744073709551615 (next_request o h)) (nat_le 18446744073709551614 (next_ask o h)) (ask_cause (is_closed o h) (places o h) (outstanding_discoveries o d.0 h) (next_ask o h) d.0 lane.places fault (MayTell d.0 k lane) known (rw counted at may) adds.0), tt)
-  where
-    o : Opening
-    o = k.opening
-
-    h : List Entry
-    h = k.entries
-
-pub submits_rightly : (old new : LogState) (d : ClientId) (request : Request) (lane : Lane) (r : Result ℕ (SubmitFault × Request)) (g : GrowsBy old (SubmitLogs old d request r) new) → is_full_log old ≡ false
-    → slice_get (places old.opening old.entries) d.0 ≡ Some lane.places → MayMake d.0 old lane (Submit request) → FitsBut (Submit request ∷ []) d.0 old lane → AllRightly old.opening old.entries g.block
-submits_rightly old new d request lane r g free known may f = submit_rightly old d request lane r g.block known f.requests_are may (submit_adds old d request r g.block free g.adds)
-
-pub discovers_rightly : (old new : LogState) (d : ClientId) (kind : Kind) (lane : Lane) (r : Result ℕ AskFault) (g : GrowsBy old (DiscoverLogs old d kind r) new) → is_full_log old ≡ false
-    → slice_get (places old.opening old.entries) d.0 ≡ Some lane.places → MayMake d.0 old lane (Discover kind) → FitsBut (Discover kind ∷ []) d.0 old lane → AllRightly old.opening old.entries g.block
-discovers_rightly old new d kind lane r g free known may f = ask_rightly old d kind lane r g.block known f.asks_are may (ask_adds old d kind r g.block free g.adds)

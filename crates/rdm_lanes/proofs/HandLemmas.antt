@@ -1,5 +1,5 @@
 -- How clients that were driven by hand are ended, one after the other.
-use Rattle.std.proofs.Common.{◌≡◌, ℕ, ◌+◌, ◌≤◌, List, [], ◌∷◌, ◌++◌, length, map, Vec, vec_capacity, refl, sym, ap, ◌∙◌, append-nil, append_assoc, length-append, arith}
+use Rattle.std.proofs.Common.{◌≡◌, ◌+◌, ◌≤◌, List, [], ◌∷◌, ◌++◌, length, map, Vec, vec_capacity, refl, sym, ap, ◌∙◌, append-nil, append_assoc, length-append, arith}
 use Rattle.std.specs.declared.alloc.Global.{Global}
 use Rattle.std.proofs.lemmas.List.{map-append}
 use Rattle.rdm_lanes.specs.declared.client.RingClient.{RingClient}

@@ -1,6 +1,6 @@
 -- How the lanes of a worker agree with the log, as it grows.
-use Rattle.std.proofs.Common.{◌≡◌, ◌≢◌, ℕ, ◌+◌, ◌-◌, ◌<◌, ◌≤◌, Bool, true, false, zero, suc, get_or, List, [], ◌∷◌, ◌++◌, map, length, take, drop, Option, Some, None, refl, sym, ap, ◌∙◌, subst, slice_get, inl, inr, length-append, append-nil, append_assoc, arith}
-use Rattle.std.specs.Prelude.{filter, ◌==◌, ◌⊎◌, slice_set}
+use Rattle.std.proofs.Common.{◌≡◌, ◌≢◌, ℕ, ◌≤◌, zero, suc, get_or, List, [], ◌∷◌, ◌++◌, map, length, Option, Some, None, refl, sym, ap, ◌∙◌, subst, slice_get, inl, inr, append-nil, append_assoc, arith}
+use Rattle.std.specs.Prelude.{filter, ◌⊎◌, slice_set}
 use Rattle.rtrb.specs.Ring.{sent as pushed}
 use Rattle.std.proofs.lemmas.List.{length-set}
 use Rattle.std.proofs.lemmas.Option.{slice_get_within, get_or_from_slice_get, slice_get-get_or}
@@ -15,11 +15,11 @@ use Rattle.rdm_queue.specs.log.Clients.{is_answer_to}
 use Rattle.rdm_queue.specs.promises.Outcomes.{OutcomeValue, outcome_of}
 use Rattle.rdm_lanes.specs.declared.call.ClientCall.{ClientCall}
 use Rattle.rdm_lanes.specs.declared.lane.Lane.{Lane}
-use Rattle.rdm_lanes.specs.Told.{told_values, uncollected_values, values_in, TellsAll}
+use Rattle.rdm_lanes.specs.Told.{told_values, uncollected_values, values_in}
 use Rattle.rdm_lanes.specs.Lanes.{FitsBut, Fits, AllFit, SameLane, SameLanes, lane_places}
 use Rattle.rdm_lanes.specs.Lines.{NoExchange}
 use Rattle.rdm_lanes.specs.Serving.{IsOnlyTold}
-use Rattle.rdm_lanes.proofs.GrowthLemmas.{touches, Untouched, calls_untouched, told_grows, uncollected_grows, requests_untouched, asks_untouched, tells_untouched, no_collects}
+use Rattle.rdm_lanes.proofs.GrowthLemmas.{Untouched, calls_untouched, told_grows, uncollected_grows, requests_untouched, asks_untouched, tells_untouched, no_collects}
 
 -- a block that doesn't touch a client
 pub waits : (c : ℕ) (old new : LogState) (block : List Entry) → new ≡ grown old block → Legal new.opening new.entries → Untouched c block → IsOnlyTold c old new

@@ -15,6 +15,8 @@ pub mod ShowingLemmas
 pub mod CollectLemmas
 pub mod StepLemmas
 pub mod FitLemmas
+pub mod CollectedLemmas
+pub mod RefusalLemmas
 pub mod ServeLemmas
 pub mod MovingLemmas
 pub mod ExchangeLemmas
@@ -24,3 +26,4 @@ pub mod OpenLemmas
 pub mod SessionLemmas
 pub mod PartLemmas
 pub mod SceneLemmas
+pub mod CalmLemmas

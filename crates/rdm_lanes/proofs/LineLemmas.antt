@@ -1,5 +1,5 @@
 -- How the exchanges in a log, and what is awaited, go on as it grows.
-use Rattle.std.proofs.Common.{◌≡◌, ℕ, Bool, true, false, cond, true≢false, List, [], ◌∷◌, ◌++◌, map, length, Option, Some, None, refl, sym, ap, ◌∙◌, subst, zip, filter_map, append-nil, append_assoc, arith}
+use Rattle.std.proofs.Common.{◌≡◌, ℕ, Bool, true, false, true≢false, List, [], ◌∷◌, ◌++◌, map, length, Some, None, refl, sym, ap, ◌∙◌, subst, zip, filter_map, append-nil, append_assoc}
 use Rattle.std.specs.List.{AllByRecursion}
 use Rattle.std.proofs.lemmas.List.{map-append}
 use Rattle.std.proofs.lemmas.List.Elements.{filter_map-append}
@@ -8,20 +8,17 @@ use Rattle.rdm_agent.specs.declared.search.Search.{Search}
 use Rattle.rdm_wire.specs.Lists.{EachAfter}
 use Rattle.rdm_wire.proofs.EachAfterLemmas.{EachAfter-push}
 use Rattle.rdm_join.specs.declared.event.LineEvent.{LineEvent}
-use Rattle.rdm_line.specs.Events.{Exchange, Makes}
 use Rattle.rdm_queue.specs.declared.entry.Opening.{Opening}
 use Rattle.rdm_queue.specs.declared.entry.Owner.{Owner}
 use Rattle.rdm_queue.specs.declared.entry.Entry.{Entry}
 use Rattle.rdm_queue.specs.declared.entry.Entry.TheVariants.{Join, Refuse, Accept, Ask, Send, Came, Finish, Answer, Collect, Pause, Resume, Close}
-use Rattle.rdm_queue.specs.log.Entries.{Sending, sending_of, came_of, join_of, sends, cames, traded, traded_of, joins}
+use Rattle.rdm_queue.specs.log.Entries.{sending_of, came_of, join_of, sends, cames, traded, traded_of, joins}
 use Rattle.rdm_queue.specs.log.History.{awaited, is_closed, is_paused, closed_after as closed_by, paused_after as paused_by}
 use Rattle.rdm_queue.specs.log.LogState.{LogState, grown}
-use Rattle.rdm_queue.specs.log.Legal.{Legal, MayFollow}
 use Rattle.rdm_queue.specs.promises.Blocks.{is_result, AllResults}
 use Rattle.rdm_queue.specs.promises.InBound.{FaultNeedsClose, AnswersInBound}
-use Rattle.rdm_queue.proofs.LogLemmas.PushLemmas.{sends-append, joins-append, awaited-push, is_closed-push, is_paused-push}
+use Rattle.rdm_queue.proofs.LogLemmas.PushLemmas.{awaited-push, is_closed-push, is_paused-push}
 use Rattle.rdm_queue.proofs.LogLemmas.Places.{zip_both_more}
-use Rattle.rdm_queue.proofs.LogLemmas.LegalFacts.{legal_facts, sent_evenly}
 use Rattle.rdm_lanes.specs.Lines.{exchange_of, exchanges, NoExchange, SameSwitches, InBound, IsBetweenTurns, NoCallLost, may_refuse}
 use Rattle.rdm_lanes.specs.Views.{views_found}
 use Rattle.rdm_lanes.proofs.ListLemmas.{filter_map_nothing, all_follow}

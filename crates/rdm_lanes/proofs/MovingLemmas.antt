@@ -1,11 +1,11 @@
 -- What a client's outcomes leave, while they are moved.
-use Rattle.std.proofs.Common.{◌≡◌, ◌≢◌, ℕ, refl, ◌∙◌}
+use Rattle.std.proofs.Common.{◌≢◌, ℕ}
 use Rattle.rdm_queue.specs.log.LogState.{LogState}
 use Rattle.rdm_lanes.specs.declared.lane.Lane.{Lane}
 use Rattle.rdm_lanes.specs.Lines.{OnlyCollects, IsBetweenTurns}
 use Rattle.rdm_lanes.specs.Lanes.{Fits, SameLane}
 use Rattle.rdm_lanes.specs.Serving.{IsOnlyTold}
-use Rattle.rdm_lanes.proofs.LaneLemmas.{waits_join, waits_same, same_lane_join, same_lane}
+use Rattle.rdm_lanes.proofs.LaneLemmas.{waits_join, waits_same, same_lane_join}
 use Rattle.rdm_lanes.proofs.CollectLemmas.{collects_none, collects_join}
 
 -- what was moved so far: the lane agrees with the log, and the other clients waited

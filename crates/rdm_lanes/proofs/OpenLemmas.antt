@@ -1,9 +1,9 @@
 -- Clients and lanes that are opened one after the other, and the log of their joins.
-use Rattle.std.proofs.Common.{◌≡◌, ◌≢◌, ℕ, zero, suc, ◌+◌, ◌-◌, ◌<◌, ◌≤◌, Bool, true, false, true≢false, List, [], ◌∷◌, ◌++◌, map, length, take, drop, get_or, sum, Option, Some, None, Result, Ok, Err, option_to_list, refl, sym, ap, ◌∙◌, subst, slice_get, inl, inr, append-nil, append_assoc, length-append, arith}
+use Rattle.std.proofs.Common.{◌≡◌, ℕ, zero, suc, ◌+◌, ◌-◌, ◌<◌, ◌≤◌, Bool, true, false, List, [], ◌∷◌, ◌++◌, map, length, take, get_or, sum, Some, None, Result, Ok, Err, refl, sym, ap, ◌∙◌, subst, slice_get, inl, inr, length-append, arith}
 use Rattle.std.specs.Prelude.{◌⊎◌, nat_lt, nat_le, unwrap_or, if◌then◌else◌}
 use Rattle.std.proofs.lemmas.Bool.Decides.{nat_tests}
 use Rattle.std.specs.List.{AllByRecursion}
-use Rattle.std.proofs.lemmas.Option.{slice_get_within, get_or_from_slice_get}
+use Rattle.std.proofs.lemmas.Option.{slice_get_within}
 use Rattle.std.proofs.lemmas.List.{length-map, length-take-le, take_more}
 use Rattle.std.specs.declared.alloc.Global.{Global}
 use Rattle.rtrb.specs.declared.producer.Producer.{Producer}
@@ -17,30 +17,29 @@ use Rattle.rdm_queue.specs.declared.entry.Entry.{Entry}
 use Rattle.rdm_queue.specs.declared.entry.Entry.TheVariants.{Join, Answer, Refuse}
 use Rattle.rdm_queue.specs.declared.fault.JoinFault.{JoinFault}
 use Rattle.rdm_queue.specs.declared.fault.JoinFault.TheVariants as join_faults
-use Rattle.rdm_queue.specs.log.Entries.{joins, join_of, accepts, asks, finishes, answers, sends, cames, traded, collectors}
-use Rattle.rdm_queue.specs.log.Clients.{answers_to, uncollected, outstanding_requests, outstanding_discoveries}
-use Rattle.rdm_queue.specs.log.History.{awaited, is_closed, is_paused, next_client, places, reserved}
+use Rattle.rdm_queue.specs.log.Entries.{joins, accepts, asks, finishes, answers, sends, cames, traded, collectors}
+use Rattle.rdm_queue.specs.log.Clients.{answers_to}
+use Rattle.rdm_queue.specs.log.History.{awaited, is_closed, is_paused, places, reserved}
 use Rattle.rdm_queue.specs.log.Refusals.{join_fault_at}
 use Rattle.rdm_queue.specs.log.LogState.{LogState, grown, opened, is_full_log, free_entries}
 use Rattle.rdm_queue.specs.log.Legal.{Legal}
 use Rattle.rdm_queue.specs.promises.Blocks.{GrowsBy, JoinLogs, JoinAdds, UnlessFull}
-use Rattle.rdm_queue.proofs.LogLemmas.Places.{slice_get-push, IsPushed}
+use Rattle.rdm_queue.proofs.LogLemmas.Places.{slice_get-push}
 use Rattle.rdm_lanes.specs.declared.call.ClientCall.{ClientCall}
 use Rattle.rdm_lanes.specs.declared.ring_outcome.RingOutcome.{RingOutcome}
 use Rattle.rdm_lanes.specs.declared.client.RingClient.{RingClient}
 use Rattle.rdm_lanes.specs.declared.lane.Lane.{Lane}
-use Rattle.rdm_lanes.specs.Calls.{work_in, leave_if, calls_by}
+use Rattle.rdm_lanes.specs.Calls.{work_in, calls_by}
 use Rattle.rdm_lanes.specs.Counts.{IsCounted}
 use Rattle.rdm_lanes.specs.Told.{told_values, uncollected_values, values_in}
-use Rattle.rdm_lanes.specs.Lines.{exchanges, InBound, IsBetweenTurns}
+use Rattle.rdm_lanes.specs.Lines.{exchanges, IsBetweenTurns}
 use Rattle.rdm_lanes.specs.Lanes.{Fits, AllFit, lane_places}
-use Rattle.rdm_lanes.specs.Serving.{IsOnlyTold}
-use Rattle.rdm_lanes.specs.Pairs.{Rings, ArePair, RingsPair, client_rings, ClientsPair}
+use Rattle.rdm_lanes.specs.Pairs.{Rings, ArePair, client_rings, ClientsPair}
 use Rattle.rdm_lanes.specs.declared.fault.OpenFault.TheVariants.{TooManyClients, NoPlaces}
-use Rattle.rdm_lanes.specs.Opened.{places_fault, IsFullFor, join_entries, opened_with, IsNew, IsNewWith, AreNew, AreNewWith, HoldNothing}
+use Rattle.rdm_lanes.specs.Opened.{places_fault, IsFullFor, join_entries, opened_with, IsNewWith, AreNew, AreNewWith, HoldNothing}
 use Rattle.rdm_lanes.proofs.LaneLemmas.{waits, fits_waits}
-use Rattle.rdm_lanes.proofs.LineLemmas.{is_quiet, AllQuiet, NoSwitch, quiet_all_off, served_quiet, exchanges_off, awaited_off, closed_stays, paused_stays, is_refusal, rightly_without}
-use Rattle.rdm_lanes.proofs.GrowthLemmas.{touches, Untouched, calls_untouched}
+use Rattle.rdm_lanes.proofs.LineLemmas.{AllQuiet, NoSwitch, quiet_all_off, served_quiet, exchanges_off, awaited_off, closed_stays, paused_stays, is_refusal, rightly_without}
+use Rattle.rdm_lanes.proofs.GrowthLemmas.{Untouched, calls_untouched}
 use Rattle.rdm_lanes.proofs.EndLemmas.{within_get, map_get}
 
 -- a client's counts at first

@@ -1,9 +1,9 @@
 -- For whoever drives clients by hand: their rings stay the worker's, so that `Worker::end` may compare them. A client's
 -- calls say that it is the same client, the worker's work that its lanes are the same, and `RingClient::end` that its
 -- rings are. `pairs_kept_on` joins these, for clients and for what is left of them.
-use Rattle.std.proofs.Common.{◌≡◌, ◌≢◌, ℕ, zero, suc, ◌+◌, ◌<◌, List, [], ◌∷◌, ◌++◌, length, map, get_or, Option, Some, None, refl, sym, ap, ◌∙◌, subst, slice_get, inl, inr, append_assoc, length-append, arith}
+use Rattle.std.proofs.Common.{◌≡◌, ℕ, zero, suc, List, [], ◌∷◌, map, get_or, Some, None, refl, sym, ap, ◌∙◌, slice_get, inl, inr, arith}
 use Rattle.std.specs.Prelude.{slice_set}
-use Rattle.std.proofs.lemmas.List.{length-map, length-set, map-append}
+use Rattle.std.proofs.lemmas.List.{length-map, length-set}
 use Rattle.std.proofs.lemmas.Option.{slice_get_within, slice_get-get_or, get_or_from_slice_get}
 use Rattle.rtrb.specs.Ring.{SameProducer, SameConsumer}
 use Rattle.rdm_lanes.specs.declared.lane.Lane.{Lane}

@@ -1,5 +1,5 @@
 -- The exchanges of a run stand one after the other in a legal log.
-use Rattle.std.proofs.Common.{◌≡◌, ◌≢◌, ℕ, zero, suc, ◌+◌, ◌<◌, ◌≤◌, Bool, true, false, true≢false, List, [], ◌∷◌, ◌++◌, map, length, take, drop, zip, Option, Some, None, refl, sym, ap, ◌∙◌, subst, slice_get, inl, inr, append-nil, append_assoc, length-append, arith}
+use Rattle.std.proofs.Common.{◌≡◌, ℕ, Bool, true, false, true≢false, List, [], ◌∷◌, ◌++◌, map, length, take, drop, zip, Some, None, refl, sym, ap, ◌∙◌, subst, inl, inr, append-nil, append_assoc, arith}
 use Rattle.std.specs.Prelude.{filter, ◌⊎◌, ◌==◌, ◌||◌}
 use Rattle.std.specs.List.{AllByRecursion, list_any}
 use Rattle.std.proofs.lemmas.Bool.{cases_Bool, eq-eqb, eqb-true}
@@ -17,13 +17,13 @@ use Rattle.rdm_queue.specs.declared.entry.Opening.{Opening}
 use Rattle.rdm_queue.specs.declared.entry.Entry.{Entry}
 use Rattle.rdm_queue.specs.declared.entry.Entry.TheVariants.{Join, Refuse, Accept, Ask, Send, Came, Finish, Answer, Collect, Pause, Resume, Close}
 use Rattle.rdm_queue.specs.log.Entries.{Sending, Traded, traded_of, Answered, sending_of, answered_of, sends, cames, traded, answers, is_run}
-use Rattle.rdm_queue.specs.log.Runs.{has_begun, sends_run, last_run, open_run, next_run, is_answered, run_exchanges, seen_of}
-use Rattle.rdm_queue.specs.log.MaySend.{MaySendRun, MayBegin}
+use Rattle.rdm_queue.specs.log.Runs.{has_begun, open_run, next_run, run_exchanges, seen_of}
+use Rattle.rdm_queue.specs.log.MaySend.{MaySendRun}
 use Rattle.rdm_queue.specs.log.Legal.{MayFollow}
 use Rattle.rdm_queue.proofs.LogLemmas.LegalFacts.{along, legal_facts, sent_evenly}
 use Rattle.rdm_queue.proofs.LogLemmas.PushLemmas.{sends_same, sends_more, answered_same, answered_more}
 use Rattle.rdm_queue.proofs.LogLemmas.RunLemmas.{sent_begins, open_run_same, last_run_same, same_runs_sent}
-use Rattle.rdm_queue.proofs.LogLemmas.RunFacts.{IsOpen, open_is, is_open, run_facts, opened_by}
+use Rattle.rdm_queue.proofs.LogLemmas.RunFacts.{open_is, is_open, run_facts, opened_by}
 use Rattle.rdm_lanes.specs.Lines.{exchange_of, exchanges}
 
 abbrev pub NoneOf : ℕ → List Sending → Type 0

@@ -1,25 +1,25 @@
 -- What a client of a session over a simulated line is told, by the runs in the session's log.
-use Rattle.std.proofs.Common.{◌≡◌, ◌≢◌, ℕ, zero, suc, ◌+◌, ◌*◌, ◌<◌, ◌≤◌, Bool, true, false, true≢false, List, [], ◌∷◌, ◌++◌, map, length, take, drop, replicate, Option, Some, None, refl, sym, ap, ◌∙◌, subst, slice_get, inl, inr, append-nil, append_assoc, length-append, arith}
-use Rattle.std.specs.Prelude.{filter, ◌⊎◌, ◌||◌}
+use Rattle.std.proofs.Common.{◌≡◌, ◌≢◌, ℕ, zero, suc, true, List, [], ◌∷◌, ◌++◌, map, length, replicate, Option, Some, None, refl, sym, ap, ◌∙◌, subst, slice_get, inl, inr}
+use Rattle.std.specs.Prelude.{◌⊎◌}
 use Rattle.std.specs.List.{AllByRecursion}
-use Rattle.std.proofs.lemmas.List.{map-append, length-map}
+use Rattle.std.proofs.lemmas.List.{length-map}
 use Rattle.rdm_agent.specs.declared.search.Search.{Search}
 use Rattle.rdm_wire.specs.Lists.{EachAfter}
 use Rattle.rdm_wire.specs.Uid.{has}
 use Rattle.rdm_wire.specs.Devices.{uids_of}
 use Rattle.rdm_wire.specs.declared.device.Device.{Device}
 use Rattle.rdm_wire.specs.Honest.{Seen, HonestTrace}
+use Rattle.rdm_wire.specs.Honest.Heard.{Failed}
 use Rattle.rdm_wire.specs.HonestOver.{HonestOver}
 use Rattle.rdm_wire.proofs.HonestOverLemmas.{trace-over}
 use Rattle.rdm_join.specs.Exchange.{seen_event}
 use Rattle.rdm_agent.specs.declared.fault.AgentFault.{AgentFault}
 use Rattle.rdm_agent.specs.Statements.{IsInEach, IsInOne}
 use Rattle.rdm_line.specs.Events.{Exchange, Makes}
-use Rattle.rdm_line.specs.Scenes.{IsScene, Stays, present_at, uids_of_scene}
+use Rattle.rdm_line.specs.Scenes.{Stays, present_at, uids_of_scene}
 use Rattle.rdm_line.specs.Sim.{SimState, SimStep}
-use Rattle.rdm_line.specs.SimRuns.{Step, IsRun, LosesFew, NoFiveSuccessive, KeepsScene, present_in, seen_in}
-use Rattle.rdm_line.specs.declared.scene.SceneDevice.{SceneDevice}
-use Rattle.rdm_line.proofs.KeepsLemmas.{run_keeps, each_keeps, made_run}
+use Rattle.rdm_line.specs.SimRuns.{Step, NoFiveSuccessive, KeepsScene, present_in, seen_in}
+use Rattle.rdm_line.proofs.KeepsLemmas.{run_keeps, each_keeps, made_run, run_sound}
 use Rattle.rdm_line.proofs.HonestRuns.{honest_run}
 use Rattle.rdm_line.proofs.LossLemmas.{few_losses}
 use Rattle.rdm_line.proofs.PresenceLemmas.{all_present}
@@ -33,10 +33,10 @@ use Rattle.rdm_queue.specs.declared.entry.Entry.{Entry}
 use Rattle.rdm_queue.specs.declared.entry.Entry.TheVariants.{Join, Refuse, Accept, Ask, Send, Came, Finish, Answer, Collect, Pause, Resume, Close}
 use Rattle.rdm_queue.specs.log.Runs.{run_exchanges, answer_devices}
 use Rattle.rdm_queue.specs.log.LogState.{LogState}
-use Rattle.rdm_queue.specs.log.Legal.{Legal, MayFollow}
-use Rattle.rdm_queue.specs.promises.Discoveries.{TellsTheLine, DiscoveriesPromised}
+use Rattle.rdm_queue.specs.log.Legal.{MayFollow}
+use Rattle.rdm_queue.specs.promises.Discoveries.{TellsTheLine}
 use Rattle.rdm_queue.specs.promises.Outcomes.{OutcomeValue, Discovered, discovered_by, never_begun, refused_outcome, outcome_of, told}
-use Rattle.rdm_queue.specs.promises.Outcomes.OutcomeValue.{RequestValue, DiscoveryValue}
+use Rattle.rdm_queue.specs.promises.Outcomes.OutcomeValue.{DiscoveryValue}
 use Rattle.rdm_queue.proofs.LogLemmas.Places.{slice_get-append_left}
 use Rattle.rdm_queue.proofs.PromiseLemmas.StableResults.{filter_has}
 use Rattle.rdm_queue.proofs.PromiseLemmas.OwnDiscoveries.{discoveries_promised}
@@ -48,7 +48,7 @@ use Rattle.rdm_lanes.specs.Ends.{end_got, Agrees}
 use Rattle.rdm_lanes.specs.OverThreads.{IsLossyScene, IsStayingScene, HasGot, IsEndOver, TellsTheDevices, TellsTheChanging}
 use Rattle.rdm_lanes.proofs.GrowthLemmas.{tells}
 use Rattle.rdm_lanes.proofs.EndLemmas.{get_map, map_get}
-use Rattle.rdm_lanes.proofs.PartLemmas.{RunPart, run_part}
+use Rattle.rdm_lanes.proofs.PartLemmas.{run_part}
 
 -- the steps of a line in parts
 makes_split : {L : Type 0} (step : L → Exchange → L → Type 0) (xs ys : List Exchange) (a d : L) → Makes L step a (xs ++ ys) d → (b : L) × Makes L step a xs b × Makes L step b ys d
@@ -61,6 +61,7 @@ pub record HonestRunOf (s : SimState) (x : List Seen) : Type 0 where
   pub keeps : AllByRecursion (λ (y : Step). (i : ℕ) → present_at y.before.devices i ≡ present_at s.devices i) steps
   pub seen : map seen_in steps ≡ x
   pub honest : HonestOver (map present_in steps) x
+  pub sound : s.fails ≡ [] → AllByRecursion (λ (y : Step). (seen_in y).heard ≢ Failed) steps
 
 each_present : (s first : SimState) (ys : List Step) → KeepsScene s first → AllByRecursion (λ (y : Step). KeepsScene first y.before) ys → AllByRecursion (λ (y : Step). (i : ℕ) → present_at y.before.devices i ≡ present_at s.devices i) ys
 each_present s first [] k all = tt
@@ -82,6 +83,7 @@ honest_part s t before during after few made =
       steps = run.0;
       keeps = each_present s first.0 run.0 kept (each_keeps first.0 second.0 run.0 run.1);
       seen = seen;
+      sound = λ none. run_sound first.0 second.0 run.0 run.1 (kept.fails ∙ none);
       honest = subst (HonestOver (map present_in run.0)) seen (honest_run first.0 second.0 run.0 run.1 (few_losses first.0 second.0 run.0 run.1 (subst NoFiveSuccessive (sym kept.losses) few)));
     }
 
@@ -111,8 +113,9 @@ pub record IsToldBy (o : Opening) (h : List Entry) (c : ℕ) (v : OutcomeValue) 
   pub back : List Entry
   pub whole : h ≡ front ++ entry ∷ back
   pub is : outcome_of h entry ≡ Some v
+  pub own : tells o c h entry ≡ true
 
-split_at : {X : Type 0} (xs : List X) (i : ℕ) (x : X) → slice_get xs i ≡ Some x → (front : List X) × (back : List X) × (xs ≡ front ++ x ∷ back)
+pub split_at : {X : Type 0} (xs : List X) (i : ℕ) (x : X) → slice_get xs i ≡ Some x → (front : List X) × (back : List X) × (xs ≡ front ++ x ∷ back)
 split_at [] i x e = absurd (no_item e)
   where
     no_item : None ≡ Some x → ⊥
@@ -132,7 +135,7 @@ told_by k c e v i agrees at =
     let found = map_get (outcome_of h) (told o c h) i (Some v) (values_are o c h i (Some v) in_told) in
     let place = filter_has (tells o c h) h i found.0 found.1 in
     let parts = split_at h place.0 found.0 place.1 in
-    record { entry = found.0; front = parts.0; back = parts.1; whole = parts.2; is = found.2 }
+    record { entry = found.0; front = parts.0; back = parts.1; whole = parts.2; is = found.2; own = place.2 }
   where
     values_are : (o : Opening) (c : ℕ) (h : List Entry) (i : ℕ) (v : Option OutcomeValue) → slice_get (told_values o c h) i ≡ Some v → slice_get (map (outcome_of h) (told o c h)) i ≡ Some v
     values_are o c h i v at = at

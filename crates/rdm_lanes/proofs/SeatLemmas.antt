@@ -1,5 +1,5 @@
 -- Bodies and clients in their seats, and what is left of them.
-use Rattle.std.proofs.Common.{◌≡◌, ℕ, zero, suc, ◌+◌, ◌<◌, ◌≤◌, List, [], ◌∷◌, ◌++◌, length, map, take, drop, get_or, remove, Vec, vec_capacity, Option, Some, None, refl, sym, ap, ◌∙◌, subst, slice_get, append-nil, append_assoc, length-append, arith}
+use Rattle.std.proofs.Common.{◌≡◌, ℕ, ◌+◌, ◌<◌, ◌≤◌, List, [], ◌∷◌, ◌++◌, length, map, take, drop, get_or, remove, Vec, vec_capacity, refl, sym, ap, ◌∙◌, subst, append_assoc, length-append, arith}
 use Rattle.std.specs.Prelude.{slice_index_or}
 use Rattle.std.specs.declared.alloc.Global.{Global}
 use Rattle.std.proofs.lemmas.List.{map-append, length-map}
@@ -11,7 +11,7 @@ use Rattle.rdm_lanes.specs.declared.ends.ClientEnd.{ClientEnd}
 use Rattle.rdm_lanes.specs.Clients.{SameClient}
 use Rattle.rdm_lanes.specs.Lanes.{SameLane, SameLanes}
 use Rattle.rdm_lanes.specs.Ends.{end_rings}
-use Rattle.rdm_lanes.specs.Pairs.{Rings, ArePair, RingsPair, client_rings, seat_rings, SeatsPair, SameSeats}
+use Rattle.rdm_lanes.specs.Pairs.{Rings, ArePair, client_rings, seat_rings, SeatsPair, SameSeats}
 use Rattle.rdm_lanes.proofs.EndLemmas.{get_map, map_get}
 
 -- a first element that was removed

@@ -1,5 +1,5 @@
 -- How a call comes out of a client's ring.
-use Rattle.std.proofs.Common.{◌≡◌, ℕ, zero, suc, Bool, true, false, List, [], ◌∷◌, ◌++◌, Option, Some, None, refl, sym, ap, ◌∙◌, slice_get, MatchOption, append-nil, option_and_then, drop, length, ◌+◌}
+use Rattle.std.proofs.Common.{◌≡◌, ℕ, Bool, true, false, List, [], ◌∷◌, ◌++◌, Some, None, refl, sym, ap, ◌∙◌, slice_get, MatchOption, append-nil, option_and_then, length, ◌+◌}
 use Rattle.std.specs.Prelude.{⊤, ◌||◌}
 use Rattle.std.specs.List.{list_any}
 use Rattle.rtrb.specs.Ring.{sent as pushed, received as popped}

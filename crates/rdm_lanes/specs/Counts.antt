@@ -10,8 +10,8 @@ use Rattle.rdm_lanes.specs.Calls.{work_in, leave_if}
 
 module _ {P Q : Type 0} where
   -- the counts are those of the rings' items, and nothing was sent after a leave
-  pub record IsCounted (calls : Producer ClientCall Global P) (replies : Consumer RingOutcome Global Q) (sent collected : ℕ)
-      (left : Bool) : Type 0 where
+  pub record IsCounted (calls : Producer ClientCall Global P) (replies : Consumer RingOutcome Global Q)
+      (sent collected : ℕ) (left : Bool) : Type 0 where
     pub sent_is : sent ≡ length (work_in (pushed calls))
     pub collected_is : collected ≡ length (popped replies)
     pub leave_is_last : pushed calls ≡ work_in (pushed calls) ++ leave_if left

@@ -13,8 +13,8 @@ use Rattle.rdm_lanes.specs.Calls.{work_in, calls_by}
 use Rattle.rdm_lanes.specs.Told.{values_in, TellsAll}
 use Rattle.rdm_lanes.specs.Pairs.{Rings, RingsPair}
 
--- The calls that are left in a ring, as its client's end shows them: the last ones that it sent, as many as the ring has
--- slots that aren't free.
+-- The calls that are left in a ring, as its client's end shows them: the last ones that it sent, as many as the ring
+-- has slots that aren't free.
 abbrev pub left_in : Producer ClientCall Global AnyItems → List ClientCall
 left_in calls = drop (length (pushed calls) - (producer_capacity calls - known_free calls)) (pushed calls)
 
@@ -34,9 +34,9 @@ module _ {C A : Type 0} where
   abbrev pub PairUp : List Lane → List (ClientEnd C A) → Type 0
   PairUp lanes ends = RingsPair lanes (map end_rings ends)
 
-  -- What client c sent is its calls in the log, in order, each once, and then the submits and discovers that are left in
-  -- its ring. What it got, then what is left in its ring of outcomes, and then what it hasn't collected, is all that the
-  -- log tells it.
+  -- What client c sent is its calls in the log, in order, each once, and then the submits and discovers that are left
+  -- in its ring. What it got, then what is left in its ring of outcomes, and then what it hasn't collected, is all that
+  -- the log tells it.
   pub record Agrees (c : ℕ) (k : LogState) (e : ClientEnd C A) : Type 0 where
     pub sent_are : end_sent e ≡ calls_by c k.entries ++ work_in (left_in e.calls)
     pub got_are : TellsAll k.opening c k.entries (end_got e ++ values_in (known_items e.replies))

@@ -9,6 +9,7 @@ pub mod Pairs
 pub mod Lines
 pub mod Lanes
 pub mod Serving
+pub mod Workers
 pub mod Ends
 pub mod Opened
 pub mod Rooms

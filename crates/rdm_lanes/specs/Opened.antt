@@ -1,6 +1,6 @@
 -- What stands when clients, an operator and a worker are opened.
-use Rattle.std.specs.Prelude.{◌≡◌, ◌≢◌, ◌⊎◌, ℕ, ◌+◌, ◌<◌, false, List, [], ◌∷◌, length, sum, Option, Some, None, nat_lt, slice_get}
-use Rattle.std.specs.Prelude.{if◌then◌else◌}
+use Rattle.std.specs.Prelude.{◌≡◌, ◌≢◌, ◌⊎◌, ℕ, ◌+◌, ◌<◌, false, List, [], ◌∷◌, length, sum, Option, Some, None}
+use Rattle.std.specs.Prelude.{nat_lt, slice_get, if◌then◌else◌}
 use Rattle.rtrb.specs.Ring.{sent as pushed, received as popped, producer_capacity, consumer_capacity}
 use Rattle.rdm_agent.specs.declared.search.Search.{Search}
 use Rattle.rdm_queue.specs.declared.config.Config.{Config}
@@ -32,7 +32,8 @@ abbrev pub join_entries : ℕ → List ℕ → List Entry
 join_entries n [] = []
 join_entries n (p ∷ ps) = Join (record { 0 = n }) p ∷ join_entries (n + 1) ps
 
--- a session that is set up so, and searches so, in which clients with these places have joined, and nothing else has happened
+-- a session that is set up so, and searches so, in which clients with these places have joined, and nothing else has
+-- happened
 abbrev pub opened_with : Config → Search → ℕ → List ℕ → LogState
 opened_with config search room places =
     record { opening = opened config; entries = join_entries 0 places; room = room; search = search }
@@ -65,7 +66,8 @@ module _ {C A : Type 0} where
         → IsNew ring p client
 
   -- with their lanes
-  pub record AreNewWith (ring : ℕ) (places : List ℕ) (clients : List (RingClient C A)) (lanes : List Lane) : Type 0 where
+  pub record AreNewWith (ring : ℕ) (places : List ℕ) (clients : List (RingClient C A)) (lanes : List Lane)
+      : Type 0 where
     pub clients_long : length clients ≡ length places
     pub lanes_long : length lanes ≡ length places
     pub each : (i p : ℕ) (client : RingClient C A) (lane : Lane) → slice_get places i ≡ Some p

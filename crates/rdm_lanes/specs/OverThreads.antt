@@ -1,7 +1,11 @@
 -- What a client of a session over a simulated line is told of discoveries.
-use Rattle.std.specs.Prelude.{◌≡◌, ℕ, true, List, [], Option, Some, None, slice_get}
+use Rattle.std.specs.Prelude.{◌≡◌, ◌≤◌, ℕ, true, List, [], Option, Some, None, slice_get}
 use Rattle.std.specs.List.{AllByRecursion}
+use Rattle.rdm_agent.specs.Bound.{enough_by}
 use Rattle.rdm_agent.specs.declared.search.Search.{Search}
+use Rattle.rdm_agent.specs.declared.search.Search.TheVariants.{Steady}
+use Rattle.rdm_agent.specs.declared.kind.Kind.TheVariants.{Incremental}
+use Rattle.rdm_agent.specs.declared.limits.TheConstants.{DEFAULT_BUDGET}
 use Rattle.rdm_wire.specs.Uid.{has}
 use Rattle.rdm_wire.specs.Devices.{uids_of}
 use Rattle.rdm_line.specs.Scenes.{IsScene, Stays, present_at, uids_of_scene}
@@ -25,14 +29,28 @@ pub record IsStayingScene (s : SimState) : Type 0 where
   pub lossy : IsLossyScene s
   pub stay : AllByRecursion Stays s.devices
 
+-- one on which no exchange fails, either
+pub record IsCalmScene (s : SimState) : Type 0 where
+  pub staying : IsStayingScene s
+  pub no_fails : s.fails ≡ []
+
+-- the budget is at least as large as this search's bound on frames asks, where all the scene's devices are known
+abbrev pub IsEnough : Config → Search → SimState → Type 0
+IsEnough config search s =
+    enough_by search (uids_of_scene s.devices) Incremental (uids_of_scene s.devices) ≤ config.budget
+
+-- it is the budget by default, and the search is steady
+abbrev pub IsByDefault : Config → Search → Type 0
+IsByDefault config search = (config.budget ≡ DEFAULT_BUDGET) × (search ≡ Steady)
+
 module _ {C A : Type 0} where
   -- the client got this outcome of a discovery
   abbrev pub HasGot : ClientEnd C A → Option ℕ → Discovered → Type 0
   HasGot e number done = (i : ℕ) × (slice_get (end_got e) i ≡ Some (DiscoveryValue number done))
 
   -- a session over the line, and the end of its client c
-  pub record IsEndOver (config : Config) (search : Search) (room : ℕ) (places : List ℕ) (s t : SimState) (k : LogState) (c : ℕ)
-      (e : ClientEnd C A) : Type 0 where
+  pub record IsEndOver (config : Config) (search : Search) (room : ℕ) (places : List ℕ) (s t : SimState)
+      (k : LogState) (c : ℕ) (e : ClientEnd C A) : Type 0 where
     pub session : SessionOver SimStep config search room places s t k
     pub agrees : Agrees c k e
 
@@ -40,6 +58,10 @@ module _ {C A : Type 0} where
   abbrev pub TellsTheDevices : SimState → ClientEnd C A → Type 0
   TellsTheDevices s e = (number : Option ℕ) (done : Discovered) → HasGot e number done → done.fault ≡ None
       → uids_of done.devices ≡ uids_of_scene s.devices
+
+  -- without fault
+  abbrev pub TellsNoFault : ClientEnd C A → Type 0
+  TellsNoFault e = (number : Option ℕ) (done : Discovered) → HasGot e number done → done.fault ≡ None
 
   -- of devices that come and leave: without fault each that is always there, and none that never is
   pub record TellsTheChanging (s : SimState) (e : ClientEnd C A) : Type 0 where

@@ -33,8 +33,8 @@ pub record IsOnlyTold (c : ℕ) (old new : LogState) : Type 0 where
 abbrev pub MayTell : ℕ → LogState → Lane → Type 0
 MayTell c k lane = (uncollected k.opening c k.entries ≡ []) × (0 < known_free lane.replies)
 
--- The call of client c may be made: a leave always; a submit or a discover where the client has a place for it, or, after
--- a close, where it may be told of the refusal.
+-- The call of client c may be made: a leave always; a submit or a discover where the client has a place for it, or,
+-- after a close, where it may be told of the refusal.
 abbrev pub MayMake : ℕ → LogState → Lane → ClientCall → Type 0
 MayMake c k lane (Submit request) =
     MatchBool (is_closed k.opening k.entries) (MayTell c k lane) (lane.requests < lane.places)

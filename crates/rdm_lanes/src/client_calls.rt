@@ -1,7 +1,7 @@
 //! What a client calls.
-ghost use Rattle.std.specs.Prelude.{◌≡◌, ◌+◌, [], ◌∷◌, ◌++◌, length, true, false, Ok, Err, OnOk, OnErr, IfOk, IfErr};
-ghost use Rattle.std.specs.Prelude.{IfSome, IfNone, MatchOption, Some, None, slice_get, ⊤, ◌<◌, drop};
-ghost use Rattle.rtrb.specs.Ring.{sent as pushed, received as popped, known_items};
+ghost use Rattle.std.specs.Prelude.{◌≡◌, ◌+◌, [], ◌∷◌, ◌++◌, length, true, false, Ok, Err, OnOk, OnErr, IfErr};
+ghost use Rattle.std.specs.Prelude.{IfSome, IfNone, MatchOption, Some, None, slice_get, ⊤, ◌<◌};
+ghost use Rattle.rtrb.specs.Ring.{received as popped, known_items};
 ghost use Rattle.rdm_client.specs.Desks.{settled, without_oldest, Called};
 ghost use Rattle.rdm_lanes.specs.declared.ring_outcome.RingOutcome.{RingOutcome};
 ghost use Rattle.rdm_lanes.specs.declared.call.ClientCall.TheVariants.{Submit, Discover};

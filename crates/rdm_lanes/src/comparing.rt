@@ -5,6 +5,7 @@ ghost use Rattle.rdm_queue.specs.log.Legal.{Legal};
 ghost use Rattle.rdm_queue.specs.promises.Promised.{Promised};
 ghost use Rattle.rdm_lanes.specs.Lines.{IsBetweenTurns};
 ghost use Rattle.rdm_lanes.specs.Lanes.{AllFit, AllHaveLeft};
+ghost use Rattle.rdm_lanes.specs.Workers.{session_of, lanes_of};
 ghost use Rattle.rdm_lanes.specs.Pairs.{ArePair};
 ghost use Rattle.rdm_lanes.specs.Ends.{end_rings, left_in, PairUp, AllAgree, AllRead, AllTold, SameTold};
 
@@ -28,14 +29,14 @@ impl Worker {
         self,
         ends: Vec<ClientEnd<C, A>>,
     ) -> (Session, Vec<ClientEnd<C, A>>, bool)
-        requires pairs { PairUp self.lanes.items ends.items }
-        ensures log { result.0 ≡ self.session }
-        ensures fits { AllFit self.session self.lanes.items }
-        ensures served { IsBetweenTurns self.session }
-        ensures legal { Legal self.session.opening self.session.entries }
-        ensures promised { Promised self.session.opening self.session.entries }
-        ensures agree { AllAgree self.session result.1.items }
-        ensures read { AllHaveLeft self.lanes.items → AllRead result.1.items }
+        requires pairs { PairUp (lanes_of self) ends.items }
+        ensures log { result.0 ≡ session_of self }
+        ensures fits { AllFit (session_of self) (lanes_of self) }
+        ensures served { IsBetweenTurns (session_of self) }
+        ensures legal { Legal (session_of self).opening (session_of self).entries }
+        ensures promised { Promised (session_of self).opening (session_of self).entries }
+        ensures agree { AllAgree (session_of self) result.1.items }
+        ensures read { AllHaveLeft (lanes_of self) → AllRead result.1.items }
         ensures told { AllTold ends.items result.1.items }
         ensures matched { result.2 ≡ true }
     {

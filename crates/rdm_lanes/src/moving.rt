@@ -1,5 +1,5 @@
 //! How the worker moves outcomes to a client's ring.
-ghost use Rattle.std.specs.Prelude.{◌≡◌, ◌≢◌, ◌<◌, ℕ};
+ghost use Rattle.std.specs.Prelude.{◌≢◌, ◌<◌, ℕ};
 ghost use Rattle.rtrb.specs.Ring.{known_free};
 ghost use Rattle.rdm_lanes.specs.Lines.{OnlyCollects, IsBetweenTurns};
 ghost use Rattle.rdm_lanes.specs.Lanes.{Fits, SameLane};

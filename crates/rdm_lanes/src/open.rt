@@ -1,11 +1,12 @@
 //! How clients, an operator and a worker are opened.
 ghost use Rattle.std.specs.Prelude.{◌≡◌, ◌≤◌, [], false, IfOk, IfErr, IsErr, MatchOption};
-ghost use Rattle.rtrb.specs.Ring.{sent as pushed, producer_capacity};
+ghost use Rattle.rtrb.specs.Ring.{producer_capacity};
 ghost use Rattle.rdm_queue.specs.log.Config.{IsConfig};
 ghost use Rattle.rdm_lanes.specs.Opened.{places_fault, opened_with, AreNew, IsFullFor, IsLaterFault};
 ghost use Rattle.rdm_queue.specs.log.LogState.{blank_log};
 ghost use Rattle.rdm_agent.specs.declared.search.Search.TheVariants.{Steady};
 ghost use Rattle.rdm_lanes.specs.Pairs.{ClientsPair};
+ghost use Rattle.rdm_lanes.specs.Workers.{session_of, lanes_of, operator_has_left, called_by, has_left};
 
 use crate::client::RingClient;
 use crate::fault::OpenFault;
@@ -29,10 +30,10 @@ pub struct Lanes<C = Callback, A = AskCallback> {
 }
 
 /// A session with a client for each of these places, an operator and a worker (profile of this project). Its runs
-/// search steadily. Each client
-/// has a ring of this many slots for its calls and one for its outcomes, and the operator one for its calls. All their
-/// memory is taken here. The controller's UID isn't broadcast, there are at most [`MOST_PLACES`](rdm_queue::MOST_PLACES)
-/// places, the budget is at least 1, the log has no entries, and a ring has at least one slot.
+/// search steadily. Each client has a ring of this many slots for its calls and one for its outcomes, and the operator
+/// one for its calls. All their memory is taken here. The controller's UID isn't broadcast, there are at most
+/// [`MOST_PLACES`](rdm_queue::MOST_PLACES) places, the budget is at least 1, the log has no entries, and a ring has at
+/// least one slot.
 /// Err: the first fault that stands; the log comes back without entries, as a new one with the same room.
 pub fn open_lanes<C: Tells, A: TellsAsk>(
     alloc: Global,
@@ -44,11 +45,11 @@ pub fn open_lanes<C: Tells, A: TellsAsk>(
     requires config_is { IsConfig config }
     requires empty { log.entries ≡ [] }
     requires slots { 1 ≤ ring }
-    ensures session { IfOk result (λ lanes. lanes.worker.session ≡ opened_with config Steady log.room places.now) }
+    ensures session { IfOk result (λ lanes. session_of lanes.worker ≡ opened_with config Steady log.room places.now) }
     ensures clients { IfOk result (λ lanes. AreNew ring places.now lanes.clients.items) }
-    ensures operator { IfOk result (λ lanes. (pushed lanes.operator.calls ≡ []) × (lanes.operator.left ≡ false)
-        × (lanes.worker.operator_left ≡ false) × (producer_capacity lanes.operator.calls ≡ ring)) }
-    ensures pairs { IfOk result (λ lanes. ClientsPair lanes.worker.lanes.items lanes.clients.items) }
+    ensures operator { IfOk result (λ lanes. (called_by lanes.operator ≡ []) × (has_left lanes.operator ≡ false)
+        × (operator_has_left lanes.worker ≡ false) × (producer_capacity lanes.operator.calls ≡ ring)) }
+    ensures pairs { IfOk result (λ lanes. ClientsPair (lanes_of lanes.worker) lanes.clients.items) }
     ensures fault { MatchOption (places_fault config.places places.now)
         ((IsFullFor log.room places.now → IsErr result) × IfErr result (λ e. IsLaterFault log.room places.now e.0))
         (λ fault. IsErr result × IfErr result (λ e. e.0 ≡ fault)) }
@@ -69,11 +70,11 @@ pub fn open_lanes_by<C: Tells, A: TellsAsk>(
     requires config_is { IsConfig config }
     requires empty { log.entries ≡ [] }
     requires slots { 1 ≤ ring }
-    ensures session { IfOk result (λ lanes. lanes.worker.session ≡ opened_with config search log.room places.now) }
+    ensures session { IfOk result (λ lanes. session_of lanes.worker ≡ opened_with config search log.room places.now) }
     ensures clients { IfOk result (λ lanes. AreNew ring places.now lanes.clients.items) }
-    ensures operator { IfOk result (λ lanes. (pushed lanes.operator.calls ≡ []) × (lanes.operator.left ≡ false)
-        × (lanes.worker.operator_left ≡ false) × (producer_capacity lanes.operator.calls ≡ ring)) }
-    ensures pairs { IfOk result (λ lanes. ClientsPair lanes.worker.lanes.items lanes.clients.items) }
+    ensures operator { IfOk result (λ lanes. (called_by lanes.operator ≡ []) × (has_left lanes.operator ≡ false)
+        × (operator_has_left lanes.worker ≡ false) × (producer_capacity lanes.operator.calls ≡ ring)) }
+    ensures pairs { IfOk result (λ lanes. ClientsPair (lanes_of lanes.worker) lanes.clients.items) }
     ensures fault { MatchOption (places_fault config.places places.now)
         ((IsFullFor log.room places.now → IsErr result) × IfErr result (λ e. IsLaterFault log.room places.now e.0))
         (λ fault. IsErr result × IfErr result (λ e. e.0 ≡ fault)) }

@@ -2,7 +2,6 @@
 ghost use Rattle.std.specs.Prelude.{◌≡◌, [], length, OnOk, IfOk, IfErr, IfSome, ◌≤◌, sum, false};
 ghost use Rattle.rdm_queue.specs.log.Config.{IsConfig};
 ghost use Rattle.rdm_queue.specs.log.Legal.{Legal};
-ghost use Rattle.rdm_queue.specs.log.LogState.{opened};
 ghost use Rattle.rdm_queue.specs.log.LogState.{blank_log};
 ghost use Rattle.rdm_lanes.specs.Opened.{opened_with, join_entries, IsNewWith, AreNewWith, HoldNothing};
 ghost use Rattle.rdm_lanes.specs.Opened.{IsFullFor, IsLaterFault};
@@ -110,8 +109,8 @@ pub fn discard<C: Tells, A: TellsAsk>(clients: Vec<RingClient<C, A>>)
     clients.destroy_empty();
 }
 
-/// A session whose runs search so, in which a client has joined with each of these places. Err: there was no memory, or the log is full; it
-/// comes back as a new one with the same room.
+/// A session whose runs search so, in which a client has joined with each of these places.
+/// Err: there was no memory, or the log is full; it comes back as a new one with the same room.
 pub fn joined(
     alloc: Global,
     search: Search,

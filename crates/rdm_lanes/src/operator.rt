@@ -2,6 +2,7 @@
 ghost use Rattle.std.specs.Prelude.{◌≡◌, ◌++◌, true, OnOk, OnErr};
 ghost use Rattle.rtrb.specs.Ring.{sent as pushed, SameProducer};
 ghost use Rattle.rdm_lanes.specs.Calls.{unless};
+ghost use Rattle.rdm_lanes.specs.Workers.{called_by, has_left};
 ghost use Rattle.rdm_lanes.specs.declared.call.OperatorCall.TheVariants.{Pause, Resume, Close, Leave};
 
 use crate::call::OperatorCall;
@@ -10,8 +11,8 @@ use rtrb::Producer;
 use std::alloc::Global;
 
 /// Who pauses, resumes and closes a session (profile of this project). It has a ring for its calls; none of them waits
-/// for anybody, and none takes memory. The worker makes them in order, one in each of its turns. After its leave they are
-/// without effect.
+/// for anybody, and none takes memory. The worker makes them in order, one in each of its turns. After its leave they
+/// are without effect.
 #[derive(Drop)]
 pub struct Operator {
     pub(crate) calls: Producer<OperatorCall, Global>,
@@ -22,10 +23,10 @@ impl Operator {
     /// Sends a pause, as [`Session::pause`](rdm_queue::Session::pause) makes it.
     /// Err: the ring has no free slot; nothing has changed.
     pub fn pause(&mut self) -> Result<(), RingFull>
-        ensures sent { OnOk result (pushed self.new.calls ≡ pushed self.old.calls ++ unless self.old.left Pause) }
-        ensures full { OnErr result (pushed self.new.calls ≡ pushed self.old.calls) }
+        ensures sent { OnOk result (called_by self.new ≡ called_by self.old ++ unless (has_left self.old) Pause) }
+        ensures full { OnErr result (called_by self.new ≡ called_by self.old) }
         ensures ring { SameProducer self.old.calls self.new.calls }
-        ensures left { self.new.left ≡ self.old.left }
+        ensures left { has_left self.new ≡ has_left self.old }
     {
         self.send(OperatorCall::Pause)
     }
@@ -33,10 +34,10 @@ impl Operator {
     /// Sends a resume, as [`Session::resume`](rdm_queue::Session::resume) makes it.
     /// Err: the ring has no free slot; nothing has changed.
     pub fn resume(&mut self) -> Result<(), RingFull>
-        ensures sent { OnOk result (pushed self.new.calls ≡ pushed self.old.calls ++ unless self.old.left Resume) }
-        ensures full { OnErr result (pushed self.new.calls ≡ pushed self.old.calls) }
+        ensures sent { OnOk result (called_by self.new ≡ called_by self.old ++ unless (has_left self.old) Resume) }
+        ensures full { OnErr result (called_by self.new ≡ called_by self.old) }
         ensures ring { SameProducer self.old.calls self.new.calls }
-        ensures left { self.new.left ≡ self.old.left }
+        ensures left { has_left self.new ≡ has_left self.old }
     {
         self.send(OperatorCall::Resume)
     }
@@ -44,10 +45,10 @@ impl Operator {
     /// Sends a close, as [`Session::close`](rdm_queue::Session::close) makes it.
     /// Err: the ring has no free slot; nothing has changed.
     pub fn close(&mut self) -> Result<(), RingFull>
-        ensures sent { OnOk result (pushed self.new.calls ≡ pushed self.old.calls ++ unless self.old.left Close) }
-        ensures full { OnErr result (pushed self.new.calls ≡ pushed self.old.calls) }
+        ensures sent { OnOk result (called_by self.new ≡ called_by self.old ++ unless (has_left self.old) Close) }
+        ensures full { OnErr result (called_by self.new ≡ called_by self.old) }
         ensures ring { SameProducer self.old.calls self.new.calls }
-        ensures left { self.new.left ≡ self.old.left }
+        ensures left { has_left self.new ≡ has_left self.old }
     {
         self.send(OperatorCall::Close)
     }
@@ -55,11 +56,11 @@ impl Operator {
     /// Tells the worker that the operator leaves. Its calls after this are without effect.
     /// Err: the ring has no free slot; nothing has changed.
     pub fn leave(&mut self) -> Result<(), RingFull>
-        ensures sent { OnOk result (pushed self.new.calls ≡ pushed self.old.calls ++ unless self.old.left Leave) }
-        ensures full { OnErr result (pushed self.new.calls ≡ pushed self.old.calls) }
+        ensures sent { OnOk result (called_by self.new ≡ called_by self.old ++ unless (has_left self.old) Leave) }
+        ensures full { OnErr result (called_by self.new ≡ called_by self.old) }
         ensures ring { SameProducer self.old.calls self.new.calls }
-        ensures left { OnOk result (self.new.left ≡ true) }
-        ensures stays { OnErr result (self.new.left ≡ self.old.left) }
+        ensures left { OnOk result (has_left self.new ≡ true) }
+        ensures stays { OnErr result (has_left self.new ≡ has_left self.old) }
     {
         self.send(OperatorCall::Leave)?;
         self.left = true;

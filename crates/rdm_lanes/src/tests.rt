@@ -9,3 +9,4 @@ mod players;
 mod said;
 mod scenes;
 mod tape_runs;
+mod waiting;

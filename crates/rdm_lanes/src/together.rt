@@ -1,4 +1,4 @@
-//! A session over lanes that are open: the bodies in their seats, the worker beside them, and the comparison at the end.
+//! A session over open lanes: the bodies in their seats, the worker beside them, and the comparison at the end.
 ghost use Rattle.std.specs.Prelude.{◌≡◌, ◌≤◌, ◌+◌, List, length, true};
 ghost use Rattle.rdm_queue.specs.log.Legal.{Legal};
 ghost use Rattle.rdm_queue.specs.log.LogState.{is_full_log};

@@ -6,6 +6,7 @@ ghost use Rattle.rdm_line.specs.Events.{event_of};
 ghost use Rattle.rdm_lanes.specs.Lines.{Exchanged, NoExchange, SameSwitches, OnlyCollects, exchange_count};
 ghost use Rattle.rdm_lanes.specs.Lanes.{SameLanes, AllHaveLeft};
 ghost use Rattle.rdm_lanes.specs.Views.{views_found, AreOnce};
+ghost use Rattle.rdm_lanes.specs.Workers.{session_of, lanes_of, operator_has_left};
 ghost use Rattle.rdm_lanes.specs.declared.worker.WorkerEnd.TheVariants.{AllLeft, Turns, LogFull as FullLog};
 ghost use Rattle.rdm_lanes.specs.declared.working.Attempt.TheVariants.{NothingToSend, LogFull as NoRoom};
 
@@ -42,15 +43,15 @@ impl Worker {
     ///
     /// Memory is taken for joined data, and for the set of each discovery's outcome, which waits where it is refused.
     pub fn work<X: Line>(&mut self, alloc: Global, line: &mut X, turns: u64) -> WorkerEnd
-        ensures exchanged { Exchanged X.step line.old self.old.session line.new self.new.session }
-        ensures lanes { SameLanes self.old.lanes.items self.new.lanes.items }
-        ensures turns { (exchange_count self.new.session ≤ exchange_count self.old.session + turns)
+        ensures exchanged { Exchanged X.step line.old (session_of self.old) line.new (session_of self.new) }
+        ensures lanes { SameLanes (lanes_of self.old) (lanes_of self.new) }
+        ensures turns { (exchange_count (session_of self.new) ≤ exchange_count (session_of self.old) + turns)
             × (turns ≡ 0 → result ≡ Turns) }
-        ensures all_left { result ≡ AllLeft → AllHaveLeft self.new.lanes.items × (self.new.operator_left ≡ true)
-            × NoSend self.new.session.opening self.new.session.entries }
-        ensures full { result ≡ FullLog → is_full_log self.new.session ≡ true }
-        ensures operator { self.old.operator_left ≡ true → (self.new.operator_left ≡ true)
-            × SameSwitches self.old.session self.new.session }
+        ensures all_left { result ≡ AllLeft → AllHaveLeft (lanes_of self.new) × (operator_has_left self.new ≡ true)
+            × NoSend (session_of self.new).opening (session_of self.new).entries }
+        ensures full { result ≡ FullLog → is_full_log (session_of self.new) ≡ true }
+        ensures operator { operator_has_left self.old ≡ true → (operator_has_left self.new ≡ true)
+            × SameSwitches (session_of self.old) (session_of self.new) }
     {
         for _turn in 0..turns {
             if let Some(end) = self.turn(alloc, line) {

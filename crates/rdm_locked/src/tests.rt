@@ -6,3 +6,4 @@ mod port;
 mod rig;
 mod sessions;
 mod threads;
+mod unlocked;

@@ -1,5 +1,6 @@
 -- Faults of a command line: where each stands, and what tells it.
-use Rattle.std.specs.Prelude.{◌≡◌, ◌⊎◌, ℕ, true, false, List, Option, Some, None, codes, Result, Ok, Err, ⊤, IsErr, IsUtf8}
+use Rattle.std.specs.Prelude.{◌≡◌, ◌⊎◌, ℕ, true, false, List, Option, Some, None, codes}
+use Rattle.std.specs.Prelude.{Result, Ok, Err, ⊤, IsErr, IsUtf8}
 use Rattle.hex.specs.Hex.{decode_of}
 use Rattle.serde_json.specs.Data.{Data}
 use Rattle.serde_json.specs.Read.{read}

@@ -3,5 +3,6 @@ mod discovering;
 mod files;
 mod replies;
 mod running;
+mod runs;
 mod sessions;
 mod tapes;

@@ -33,7 +33,12 @@ impl Model for Log {
 
     ghost use Rattle.rdm_queue.specs.body.LogInvariant.{LogInvariant};
 
-    ghost view = { λ l. record { opening = l.opening.value; entries = l.entries.items; room = l.room; search = l.search } };
+    ghost view = { λ l. record {
+      opening = l.opening.value;
+      entries = l.entries.items;
+      room = l.room;
+      search = l.search;
+    } };
 
     ghost invariant = { λ l. LogInvariant l.room (vec_len l.entries) (vec_capacity l.entries) };
 }

@@ -31,6 +31,7 @@ fn a_budget_that_suffices_for_neighbours(rt: HostRuntime) {
     }
     let mut short = full(299);
     TestLine::new(&devices).run(&rt, &mut short);
+    assert_eq!(rt; short.frames(), 299);
     let found = set_of(&rt, &[neighbour(0), neighbour(1)]);
     assert_eq!(rt; ended(&rt, short), Err((AgentFault::Exhausted, found)));
 }

@@ -58,6 +58,32 @@ fn frames_of_operations(rt: HostRuntime) {
     );
 }
 
+// Whether a reply may answer an unmute, a mute, a branch, and nothing.
+fn fits_each(reply: OpReply) -> [bool; 4] {
+    [
+        reply.fits(&Op::UnmuteAll),
+        reply.fits(&Op::Mute(device())),
+        reply.fits(&Op::Branch(UidRange::whole())),
+        reply.fits(&Op::End),
+    ]
+}
+
+#[test]
+fn a_reply_fits_its_own_operation(rt: HostRuntime) {
+    let rows = [
+        (OpReply::Done, [true, false, false, false]),
+        (OpReply::Mute(None), [false, true, false, false]),
+        (
+            OpReply::Branch(BranchReply::Silent),
+            [false, false, true, false],
+        ),
+        (OpReply::Failed, [true, true, true, false]),
+    ];
+    for (reply, fits) in rows {
+        assert_eq!(rt; fits_each(reply), fits);
+    }
+}
+
 #[test]
 fn replies_to_a_mute(rt: HostRuntime) {
     let ack = MuteAck {

@@ -1,5 +1,6 @@
 //! A line in memory, and a run over it.
 use crate::{Agent, AgentFault, Op, OpReply};
+use arrayvec::ArrayVec;
 use rdm_wire::{BranchReply, Device, DeviceSet, MuteAck, Uid, UidRange, UidSet};
 use std::process::Abort;
 
@@ -65,6 +66,8 @@ pub(crate) struct TestLine<'a> {
     pub(crate) bad: Option<(Uid, Fault)>,
     muted: UidSet,
     exchanges: u64,
+    /// What the first 32 exchanges asked: U unmute, M mute, B branch.
+    asked: ArrayVec<u8, 32>,
 }
 
 impl<'a> TestLine<'a> {
@@ -77,12 +80,19 @@ impl<'a> TestLine<'a> {
             bad: None,
             muted: UidSet::new(),
             exchanges: 0,
+            asked: ArrayVec::new(),
         }
+    }
+
+    /// Whether these letters are what was asked, in order; at most 32.
+    pub(crate) fn has_asked(&self, letters: &str) -> bool {
+        self.asked.as_slice() == letters.as_bytes()
     }
 
     /// What comes after an operation.
     fn answer(&mut self, op: Op) -> OpReply {
         let lost = self.lost == Some(self.exchanges);
+        let _ = self.asked.try_push(letter_of(op));
         let reply = match op {
             Op::UnmuteAll => {
                 self.muted = UidSet::new();
@@ -155,6 +165,16 @@ impl<'a> TestLine<'a> {
             assert!(rt; reply.fits(&op));
             agent.hear(reply);
         }
+    }
+}
+
+// The letter of an operation.
+fn letter_of(op: Op) -> u8 {
+    match op {
+        Op::UnmuteAll => b'U',
+        Op::Mute(_) => b'M',
+        Op::Branch(_) => b'B',
+        Op::End => b'E',
     }
 }
 

@@ -11,7 +11,9 @@ pub(crate) fn full(budget: u64) -> Agent {
 #[test]
 fn an_empty_line(rt: HostRuntime) {
     let mut agent = full(DEFAULT_BUDGET);
-    TestLine::new(&[]).run(&rt, &mut agent);
+    let mut line = TestLine::new(&[]);
+    line.run(&rt, &mut agent);
+    assert!(rt; line.has_asked("UUUBBBBB"));
     assert_eq!(rt; agent.frames(), 8);
     assert_eq!(rt; agent.open_ranges(), 0);
     assert_eq!(rt; ended(&rt, agent), Ok(DeviceSet::new()));
@@ -53,6 +55,7 @@ fn a_phantom(rt: HostRuntime) {
     line.spelt = Some(Uid::new(0x5555, 3));
     let mut agent = full(DEFAULT_BUDGET);
     line.run(&rt, &mut agent);
+    assert!(rt; line.has_asked("UUUBMMMMMBMBBBBBBMBBBBB"));
     assert_eq!(rt; agent.frames(), 23);
     assert_eq!(rt;
         ended(&rt, agent),
@@ -67,6 +70,7 @@ fn a_broadcast_uid_is_not_muted(rt: HostRuntime) {
     line.spelt = Some(Uid::new(0x7a70, 0xffff_ffff));
     let mut agent = full(DEFAULT_BUDGET);
     line.run(&rt, &mut agent);
+    assert!(rt; line.has_asked("UUUBBMBBBBBBMBBBBB"));
     assert_eq!(rt; agent.frames(), 18);
     assert_eq!(rt;
         ended(&rt, agent),
@@ -103,6 +107,7 @@ fn known_devices(rt: HostRuntime) {
     line.lost = Some(3);
     let mut agent = Agent::start(Kind::Incremental, &known, DEFAULT_BUDGET);
     line.run(&rt, &mut agent);
+    assert!(rt; line.has_asked("UUUMMMMMMMBMBBBBB"));
     assert_eq!(rt; agent.frames(), 17);
     assert_eq!(rt;
         ended(&rt, agent),

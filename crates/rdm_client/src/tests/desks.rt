@@ -69,6 +69,7 @@ fn keeps_requests_and_discoveries_apart(rt: HostRuntime) -> Result<(), Fail> {
     let none = desk.settle_request(ended(rt.alloc(), Status::TooShort));
     let last = desk.settle(ask_outcome(1, 2));
     let misdelivered = desk.settle(ask_outcome(2, 3));
+    let is_handed_back = hands_back_discovery(&mut desk);
     let left = cancels(rt.alloc(), desk.end());
     assert!(rt; held);
     assert!(rt; is_request(&first, 10, Status::Timeout));
@@ -77,6 +78,7 @@ fn keeps_requests_and_discoveries_apart(rt: HostRuntime) -> Result<(), Fail> {
     assert!(rt; none.is_err_and(|(_, done)| done.status == Status::TooShort));
     assert!(rt; is_ask(&last, 21, 2));
     assert!(rt; is_misdelivered(&misdelivered, 2, 3));
+    assert!(rt; is_handed_back);
     assert_eq!(rt; left, 0);
     Ok(())
 }
@@ -96,6 +98,13 @@ fn holds_as_many_requests_as_it_has_places(rt: HostRuntime) -> Result<(), Fail> 
         assert_eq!(rt; left, u64::from(places));
     }
     Ok(())
+}
+
+// Whether a discovery's completion comes back, since no callback is held for it.
+#[inline(never)]
+fn hands_back_discovery(desk: &mut Desk<Note, AskNote>) -> bool {
+    let settled = desk.settle_ask(found(4, Uid::new(0x1234, 1)));
+    matches!(&settled, Err((Misdelivered, done)) if done.run == 4)
 }
 
 // What a client is given for a discovery whose run found one device.

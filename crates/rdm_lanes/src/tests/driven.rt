@@ -61,8 +61,8 @@ impl Driven {
         makes(&mut self.clients[at], step)
     }
 
-    /// Lets this client collect, and says what came of it where it was a discovery's outcome, and which of these devices
-    /// it found.
+    /// Lets this client collect, and says what came of it where it was a discovery's outcome, and which of these
+    /// devices it found.
     pub fn finds(&mut self, at: usize, wanted: [Uid; 2]) -> Option<Found> {
         if at >= self.clients.len() {
             return None;

@@ -87,7 +87,8 @@ pub fn log(rt: &impl Abort, alloc: Global, free: usize) -> Log
     made.expect(rt, "the memory of a log")
 }
 
-/// Why lanes for these places can't be opened, in a log with this many free entries; the log comes back without entries.
+/// Why lanes for these places can't be opened, in a log with this many free entries. The log comes back without
+/// entries.
 pub fn refused(
     rt: &impl Abort,
     alloc: Global,

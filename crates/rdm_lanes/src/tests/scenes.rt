@@ -155,8 +155,8 @@ fn a_discovery_over_rings_finds_the_device(rt: HostRuntime) -> Result<(), Fail> 
     Ok(())
 }
 
-// Three unmutes; a branch, whose collision spells a device that isn't there; five mutes of it; and in each half a branch,
-// a mute and five silences. In the lower half the first branch's reply and the first acknowledgement are lost.
+// Three unmutes; a branch, whose collision spells a device that isn't there; five mutes of it; and in each half a
+// branch, a mute and five silences. In the lower half the first branch's reply and the first acknowledgement are lost.
 #[test]
 fn a_line_that_loses_and_lies_tells_of_its_devices(rt: HostRuntime) -> Result<(), Fail> {
     for _session in 0..100 {

@@ -83,8 +83,8 @@ fn full_run() -> [Came; 12] {
 }
 
 // Then the second one has gone, and `9abc:00000002` has come. An incremental run makes three unmutes; two mutes of the
-// first device, the reply to the first of them being lost; five mutes of the second; a branch and a mute of the new one;
-// and five branches.
+// first device, the reply to the first of them being lost; five mutes of the second; a branch and a mute of the new
+// one; and five branches.
 fn incremental_run() -> [Came; 17] {
     [
         Came::Nothing,

@@ -12,19 +12,19 @@ use std::alloc::Global;
 use std::process::Abort;
 use std::test::Fail;
 
-fn controller() -> Uid {
+pub fn controller() -> Uid {
     Uid::new(0x7a70, 0x100)
 }
 
-fn first() -> Uid {
+pub fn first() -> Uid {
     Uid::new(0x1234, 1)
 }
 
-fn second() -> Uid {
+pub fn second() -> Uid {
     Uid::new(0x9abc, 2)
 }
 
-fn plain(uid: Uid) -> Device {
+pub fn plain(uid: Uid) -> Device {
     Device {
         uid,
         control: 0,
@@ -32,7 +32,7 @@ fn plain(uid: Uid) -> Device {
     }
 }
 
-fn device(alloc: Global, device: Device) -> SceneDevice {
+pub fn device(alloc: Global, device: Device) -> SceneDevice {
     SceneDevice {
         device,
         preamble: 0,
@@ -42,7 +42,7 @@ fn device(alloc: Global, device: Device) -> SceneDevice {
     }
 }
 
-fn scene(alloc: Global) -> Scene {
+pub fn scene(alloc: Global) -> Scene {
     Scene {
         source: controller(),
         devices: SceneDevices::new(alloc),
@@ -52,20 +52,20 @@ fn scene(alloc: Global) -> Scene {
     }
 }
 
-fn line_of(rt: &HostRuntime, scene: Scene) -> Result<SimLine, Fail> {
+pub fn line_of(rt: &HostRuntime, scene: Scene) -> Result<SimLine, Fail> {
     Ok(SimLine::new(rt.alloc(), scene).map_err(|_| "memory")?)
 }
 
-// Puts in a device that is no broadcast UID's, has few preamble bytes and comes early.
-fn add(rt: &impl Abort, scene: &mut Scene, device: SceneDevice) -> Result<(), AddFault> {
+/// Puts in a device that is no broadcast UID's, has few preamble bytes and comes early.
+pub fn add(rt: &impl Abort, scene: &mut Scene, device: SceneDevice) -> Result<(), AddFault> {
     assert!(rt; !device.uid().is_broadcast());
     assert!(rt; device.preamble <= 7);
     assert!(rt; device.from <= 1_000_000_000);
     scene.devices.add(device)
 }
 
-// What comes after a frame, which is these bytes in hexadecimal.
-fn answers(
+/// What comes after a frame, which is these bytes in hexadecimal.
+pub fn answers(
     rt: &impl Abort,
     alloc: Global,
     line: &mut SimLine,
@@ -78,11 +78,11 @@ fn answers(
     Ok(())
 }
 
-fn whole_branch(tn: u8) -> Frame {
+pub fn whole_branch(tn: u8) -> Frame {
     encode_branch(UidRange::whole(), controller(), tn)
 }
 
-fn mute(rt: &impl Abort, uid: Uid, tn: u8) -> Frame {
+pub fn mute(rt: &impl Abort, uid: Uid, tn: u8) -> Frame {
     assert!(rt; !uid.is_broadcast());
     encode_mute(uid, controller(), tn)
 }
@@ -193,7 +193,7 @@ fn request(class: ReqClass, pid: u16) -> Request {
     }
 }
 
-fn part(rt: &impl Abort, bytes: &[u8]) -> ParameterPart {
+pub fn part(rt: &impl Abort, bytes: &[u8]) -> ParameterPart {
     let mut part = ParameterPart::new();
     assert!(rt; part.try_extend_from_slice(bytes).is_ok());
     part

@@ -185,10 +185,16 @@ fn discovers_first<L: Ledger, R: Wait + Abort>(
         (WorkerEnd::Turns, 0)
     );
     assert_eq!(rt; (served, record.len()), (WorkerEnd::Turns, 11));
+    assert!(rt;
+        (0..)
+            .zip(&record)
+            .all(|(number, made)| made.frame.get(15) == Some(&number))
+    );
     assert!(rt; has_checksum(record.get(10), [0x02, 0xa2].as_slice()));
     assert!(rt; is_discovery(&first, 2));
     assert!(rt; is_discovery(&second, 3));
     assert!(rt; is_request(&third, 1, Status::Completed));
+    assert!(rt; has_data(&third, [1, 2].as_slice()));
     assert!(rt; fourth.is_none());
     assert_eq!(rt; (after.run, after.set.len()), (1, 1));
     assert!(rt; after.set.contains(first_device()));
@@ -252,6 +258,50 @@ fn a_quick_run_sweeps_first(rt: HostRuntime) -> Result<(), Fail> {
     sweeps_first::<Brand, _>(&rt, rt.alloc(), Blank::new(17))
 }
 
+// Why a client may not join; a client that joins leaves at once.
+fn joins<L: Ledger, R: Wait>(
+    rt: &R,
+    alloc: Global,
+    port: &Port<L>,
+    places: u8,
+) -> Option<JoinFault> {
+    match port.client::<Note, AskNote, R>(rt, alloc, places) {
+        Ok(client) => {
+            let Left { unspent, calls: _ } = client.leave(rt);
+            cancels(alloc, unspent);
+            None
+        }
+        Err(fault) => Some(fault),
+    }
+}
+
+// Sixteen clients may join, and after a close none; what stands against both is told first.
+fn joins_sixteen<L: Ledger, R: Wait + Abort>(
+    rt: &R,
+    alloc: Global,
+    blank: Blank,
+) -> Result<(), Fail>
+    requires name { blank.name ≡ L.name }
+    requires parts { (blank.parts ≡ L.parts) × (L.parts ≡ 17) }
+{
+    let port = port_of::<L, R>(rt, alloc, blank, 1);
+    for _ in 0..16 {
+        assert_eq!(rt; joins(rt, alloc, &port, 0), None);
+    }
+    for places in [0, 2] {
+        let refused = joins(rt, alloc, &port, places);
+        assert_eq!(rt; refused, Some(JoinFault::TooManyClients));
+    }
+    port.close(rt);
+    assert_eq!(rt; joins(rt, alloc, &port, 2), Some(JoinFault::Closed));
+    Ok(())
+}
+
+#[test]
+fn a_seventeenth_client_is_refused(rt: HostRuntime) -> Result<(), Fail> {
+    joins_sixteen::<Brand, _>(&rt, rt.alloc(), Blank::new(17))
+}
+
 // The desk's Full comes before all other faults and isn't counted; after a close a call is refused and counted.
 fn counts_refusals<L: Ledger, R: Wait + Abort>(
     rt: &R,
@@ -265,15 +315,7 @@ fn counts_refusals<L: Ledger, R: Wait + Abort>(
     let mut client = port
         .client::<Note, AskNote, R>(rt, alloc, 1)
         .expect(rt, "a client");
-    let other = port.client::<Note, AskNote, R>(rt, alloc, 1);
-    let no_places = match other {
-        Ok(other) => {
-            let Left { unspent, calls: _ } = other.leave(rt);
-            cancels(alloc, unspent);
-            None
-        }
-        Err(fault) => Some(fault),
-    };
+    let no_places = joins(rt, alloc, &port, 1);
     let accepted = client.submit(rt, get(), Note(1)).is_ok();
     let asked = (0..4).all(|tag| client.discover(rt, Kind::Full, AskNote(tag)).is_ok());
     port.close(rt);
@@ -339,10 +381,59 @@ fn a_full_log_ends_the_worker(rt: HostRuntime) -> Result<(), Fail> {
     fills_the_log::<Brand, _>(&rt, rt.alloc(), Blank::new(17))
 }
 
-// Whether a request's callback with this tag was called with this status.
-fn is_request(collected: &Option<Collected>, tag: u64, status: Status) -> bool {
+/// Whether a request's callback with this tag was called with this status.
+pub fn is_request(collected: &Option<Collected>, tag: u64, status: Status) -> bool {
     match collected {
         Some(Collected::Request(told)) => told.tag == tag && told.done.status == status,
+        _ => false,
+    }
+}
+
+// Four discoveries fill the log and the client's desk: the desk is told first, and of the rest the log.
+fn fills_the_desk_and_the_log<L: Ledger, R: Wait + Abort>(
+    rt: &R,
+    alloc: Global,
+    blank: Blank,
+) -> Result<(), Fail>
+    requires name { blank.name ≡ L.name }
+    requires parts { (blank.parts ≡ L.parts) × (L.parts ≡ 17) }
+{
+    let log = Log::new(alloc, 15).expect(rt, "memory");
+    let port = match Port::<L>::new(alloc, blank, config(1), log) {
+        Ok(port) => port,
+        Err(_) => panic!(rt; "memory"),
+    };
+    let mut client = port
+        .client::<Note, AskNote, R>(rt, alloc, 0)
+        .expect(rt, "a client");
+    let asked = (0..4).all(|tag| client.discover(rt, Kind::Full, AskNote(tag)).is_ok());
+    let submitted = client.submit(rt, get(), Note(4)).err();
+    let asked_again = client.discover(rt, Kind::Full, AskNote(5)).err();
+    let joined = joins(rt, alloc, &port, 1);
+    let paused = (port.pause(rt), port.resume(rt));
+    let Left { unspent, calls } = client.leave(rt);
+    let left = cancels(alloc, unspent);
+    assert!(rt; asked);
+    assert!(rt; matches!(&submitted, Some((SubmitFault::Full, _, Note(4)))));
+    assert!(rt; matches!(&asked_again, Some((AskFault::Full, AskNote(5)))));
+    assert_eq!(rt; joined, Some(JoinFault::LogFull));
+    assert_eq!(rt; paused, (Err(LogFull), Err(LogFull)));
+    assert_eq!(rt; (left, calls.count()), (4, 4));
+    let mut shares = Vec::new(alloc);
+    shares.push(calls).map_err(|_| "memory")?;
+    finishes(rt, port, shares, &[], 4);
+    Ok(())
+}
+
+#[test]
+fn a_full_desk_comes_before_a_full_log(rt: HostRuntime) -> Result<(), Fail> {
+    fills_the_desk_and_the_log::<Brand, _>(&rt, rt.alloc(), Blank::new(17))
+}
+
+// Whether a request's callback was called with this data.
+fn has_data(collected: &Option<Collected>, data: &[u8]) -> bool {
+    match collected {
+        Some(Collected::Request(told)) => told.done.bytes.as_slice() == data,
         _ => false,
     }
 }

@@ -28,10 +28,17 @@ pub fn first_device() -> Uid {
 pub fn config(places: u8) -> Config
     ensures { IsConfig result }
 {
+    config_with(places, DEFAULT_BUDGET)
+}
+
+/// A controller `7a70:00000100` with this many places, and this budget, or 1.
+pub fn config_with(places: u8, budget: u64) -> Config
+    ensures { IsConfig result }
+{
     Config {
         source: Uid::new(0x7a70, 0x100),
         places: u16::from(places),
-        budget: DEFAULT_BUDGET,
+        budget: budget.max(1),
     }
 }
 
@@ -83,8 +90,13 @@ pub fn line_of_one(rt: &impl Abort, alloc: Global, fails: &[u64]) -> Result<SimL
 
 /// A line with the first device and `9abc:00000002`, whose collisions spell nobody.
 pub fn line_of_two(rt: &impl Abort, alloc: Global) -> Result<SimLine, Fail> {
+    line_of_both(rt, alloc, [first_device(), Uid::new(0x9abc, 2)])
+}
+
+/// A line with these devices, whose collisions spell nobody.
+pub fn line_of_both(rt: &impl Abort, alloc: Global, uids: [Uid; 2]) -> Result<SimLine, Fail> {
     let mut devices = SceneDevices::new(alloc);
-    for uid in [first_device(), Uid::new(0x9abc, 2)] {
+    for uid in uids {
         assert!(rt; !uid.is_broadcast());
         let device = SceneDevice {
             device: Device {

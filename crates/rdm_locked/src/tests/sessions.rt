@@ -1,7 +1,7 @@
 //! Sessions over lines.
-use super::rig::{config, first_device, get, line_of_one};
+use super::rig::{config_with, first_device, get, line_of_both, line_of_one};
 use arrayvec::ArrayVec;
-use rdm_agent::{AgentFault, Kind};
+use rdm_agent::{AgentFault, DEFAULT_BUDGET, Kind};
 use rdm_join::{LineEvent, LineReply, Status};
 use rdm_line::{Line, LineFault, TapeLine};
 use rdm_queue::{ClientId, Completion, Log, Outcome, Session};
@@ -12,11 +12,16 @@ use std::test::Fail;
 
 const CLIENT: ClientId = ClientId(0);
 
-// A session with one client, and a log with this many free entries.
-#[inline(never)]
+// A session with one client and the budget by default, and a log with this many free entries.
 fn session_of_one(rt: &impl Abort, alloc: Global, free: usize) -> Session {
+    session_with(rt, alloc, free, DEFAULT_BUDGET)
+}
+
+// Such a session with this budget.
+#[inline(never)]
+fn session_with(rt: &impl Abort, alloc: Global, free: usize, budget: u64) -> Session {
     let log = Log::new(alloc, free.min(1_000_000)).expect(rt, "memory");
-    match Session::new(alloc, config(1), log) {
+    match Session::new(alloc, config_with(1, budget), log) {
         Ok(mut session) => {
             assert_eq!(rt; session.join_client(alloc, 1), Ok(CLIENT));
             session
@@ -149,9 +154,12 @@ fn fails_at(rt: &impl Abort, alloc: Global, place: u8) -> Result<(), Fail> {
     let fails_in_run = place < 10;
     let number = last_number(rt, alloc, &mut session, &mut line);
     assert_eq!(rt; number, Some(last_of(place)));
+    // The mute's acknowledgement is that of the fifth exchange.
+    let found = if place < 5 { 0 } else { 1 };
     for discovery in 0..2 {
         let outcome = session.next_outcome(CLIENT);
         assert!(rt; is_discovery(&outcome, discovery, failure(fails_in_run)));
+        assert_eq!(rt; devices_found(&outcome), Some((found, found == 1)));
     }
     assert_eq!(rt; session.devices().is_empty(), fails_in_run);
     let done = completion(rt, &mut session);
@@ -185,4 +193,55 @@ fn is_discovery(outcome: &Option<Outcome>, number: u64, fault: Option<AgentFault
         }
         _ => false,
     }
+}
+
+// How many devices a discovery found, and whether the first device is one of them.
+fn devices_found(outcome: &Option<Outcome>) -> Option<(usize, bool)> {
+    match outcome {
+        Some(Outcome::Discovery { done, .. }) => {
+            Some((done.set.len(), done.set.contains(first_device())))
+        }
+        _ => None,
+    }
+}
+
+// The fault of the client's oldest outcome, where it is a discovery's, and how many devices it found.
+#[inline(never)]
+fn discovered(session: &mut Session) -> Option<(Option<AgentFault>, usize)> {
+    let outcome = session.next_outcome(CLIENT);
+    match &outcome {
+        Some(Outcome::Discovery { done, .. }) => Some((done.fault, done.set.len())),
+        _ => None,
+    }
+}
+
+// A run over the devices with the two lowest UIDs, under this budget: its fault, how many devices it found, and in how
+// many frames.
+#[inline(never)]
+fn seeks_neighbours(
+    rt: &impl Abort,
+    alloc: Global,
+    budget: u64,
+) -> Result<(Option<(Option<AgentFault>, usize)>, u64), Fail> {
+    let mut line = line_of_both(rt, alloc, [Uid::new(0, 0), Uid::new(0, 1)])?;
+    let mut session = session_with(rt, alloc, 1000, budget);
+    assert_eq!(rt; session.discover(CLIENT, Kind::Full), Ok(0));
+    let mut frames = 0_u64;
+    for _ in 0..400 {
+        if exchanges(rt, alloc, &mut session, &mut line).is_none() {
+            break;
+        }
+        frames = frames.wrapping_add(1);
+    }
+    Ok((discovered(&mut session), frames))
+}
+
+#[test]
+fn a_budget_that_suffices_for_neighbours(rt: HostRuntime) -> Result<(), Fail> {
+    let exhausted = Some(AgentFault::Exhausted);
+    for (budget, fault, frames) in [(299, exhausted, 299), (300, None, 300), (748, None, 300)] {
+        let sought = seeks_neighbours(&rt, rt.alloc(), budget)?;
+        assert_eq!(rt; sought, (Some((fault, 2)), frames));
+    }
+    Ok(())
 }

@@ -157,9 +157,9 @@ fn ignores_unknown_keys_and_takes_the_last_of_a_repeated_one(rt: HostRuntime) {
     assert_eq!(rt; (written.as_slice(), status), (b"frames 8\n".as_slice(), 0));
 }
 
-// A scene in a file of this length.
-fn padded(alloc: Global, len: usize) -> Result<Vec<u8>, Fail> {
-    let mut text = Vec::from_slice(alloc, b"{\"source\":\"7a70:00000100\"}")?;
+// The same JSON in a file of this length.
+pub(super) fn padded(alloc: Global, json: &[u8], len: usize) -> Result<Vec<u8>, Fail> {
+    let mut text = Vec::from_slice(alloc, json)?;
     for _ in text.len()..len {
         text.push(b' ')?;
     }
@@ -173,7 +173,7 @@ fn reads_no_more_than_a_file_may_have(rt: HostRuntime) -> Result<(), Fail> {
         (1_048_577, "fault: file\n", 1),
     ];
     for (len, line, due) in rows {
-        let text = padded(rt.alloc(), len)?;
+        let text = padded(rt.alloc(), b"{\"source\":\"7a70:00000100\"}", len)?;
         let (written, status) = printed(&rt, rt.alloc(), &text, false);
         assert_eq!(rt; written.as_slice(), line.as_bytes(), "{len}");
         assert_eq!(rt; status, due, "{len}");
@@ -181,10 +181,10 @@ fn reads_no_more_than_a_file_may_have(rt: HostRuntime) -> Result<(), Fail> {
     Ok(())
 }
 
-// Gives a front of a scene, and then fails.
+// Gives a front of a file, and then fails.
 #[derive(Drop)]
-struct Broken<'a> {
-    front: &'a [u8],
+pub(super) struct Broken<'a> {
+    pub(super) front: &'a [u8],
 }
 
 impl Read for Broken<'_> {

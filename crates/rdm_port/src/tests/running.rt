@@ -5,7 +5,7 @@ use std::alloc::Global;
 use std::sync::Wait;
 use std::thread::Threads;
 
-const PORTS: [PortKind; 2] = [PortKind::Locked, PortKind::Rings];
+pub(super) const PORTS: [PortKind; 2] = [PortKind::Locked, PortKind::Rings];
 
 // What is printed of a session file with these bytes over this port, and the status.
 pub(super) fn printed<T: Threads + Wait + Sync>(
@@ -106,7 +106,7 @@ fn gives_each_client_its_own_results(rt: HostRuntime) {
 // counted by hand.
 #[test]
 fn tells_a_full_log_before_turns(rt: HostRuntime) {
-    let rows: [(&str, &str, u8); 11] = [
+    let rows: [(&str, &str, u8); 12] = [
         (
             "{\"scene\":{\"source\":\"7a70:00000100\"},\"clients\":[{\"places\":1,\"calls\":[]}],\"log\":3}",
             "fault: log\n",
@@ -149,6 +149,11 @@ fn tells_a_full_log_before_turns(rt: HostRuntime) {
         ),
         (
             "{\"scene\":{\"source\":\"7a70:00000100\"},\"clients\":[{\"places\":1,\"calls\":[]},{\"places\":1,\"calls\":[]},{\"places\":1,\"calls\":[]},{\"places\":1,\"calls\":[]},{\"places\":1,\"calls\":[]},{\"places\":1,\"calls\":[]},{\"places\":1,\"calls\":[]},{\"places\":1,\"calls\":[]},{\"places\":1,\"calls\":[]},{\"places\":1,\"calls\":[]},{\"places\":1,\"calls\":[]},{\"places\":1,\"calls\":[]},{\"places\":1,\"calls\":[]},{\"places\":1,\"calls\":[]},{\"places\":1,\"calls\":[]},{\"places\":1,\"calls\":[]}],\"log\":5}",
+            "fault: log\n",
+            1,
+        ),
+        (
+            "{\"scene\":{\"source\":\"7a70:00000100\"},\"clients\":[{\"places\":1,\"calls\":[{\"get\":\"1234:00000001\",\"pid\":\"0060\"}]},{\"places\":1,\"calls\":[{\"get\":\"1234:00000001\",\"pid\":\"0060\"}]}],\"log\":7}",
             "fault: log\n",
             1,
         ),

@@ -3,7 +3,7 @@ use super::packets::{
     ACK, ACK_OVERFLOW, CLIENT, accepts, collected, delivers, get, is_none_taken, reply,
     session_of_one, silence, taken,
 };
-use crate::SubmitFault;
+use crate::{NotAsked, SubmitFault};
 use rdm_join::{LineEvent, Status};
 use std::alloc::Global;
 use std::process::Abort;
@@ -25,8 +25,11 @@ fn closes(rt: &impl Abort, alloc: Global, event: LineEvent, first: Status) -> Re
     assert_eq!(rt; collected(rt, &mut session, 2).status, Status::FailedToSend);
     assert!(rt; is_none_taken(&mut session));
     let closed = session.submit(CLIENT, get());
-    assert!(rt; closed.is_err_and(|(fault, _)| fault == SubmitFault::Closed));
-    assert!(rt; session.deliver(alloc, silence()).is_err());
+    assert!(rt;
+        closed.is_err_and(|(fault, request)| fault == SubmitFault::Closed && request == get())
+    );
+    let again = session.deliver(alloc, reply(rt, 1, ACK, 2));
+    assert!(rt; matches!(&again, Err((NotAsked, LineEvent::Reply(back))) if back.len() == 28));
     Ok(())
 }
 

@@ -6,7 +6,7 @@ use super::lines::{
 use super::packets::{
     ACK, CLIENT, accepts, collected, delivers, get, is_none_taken, reply, silence, taken,
 };
-use crate::{AskFault, ClientId, Outcome};
+use crate::{AskFault, ClientId, Outcome, Session};
 use arrayvec::ArrayVec;
 use rdm_agent::{AgentFault, Kind};
 use rdm_join::{LineEvent, LineReply, Status};
@@ -92,58 +92,76 @@ fn a_later_discovery_waits_for_the_next_run(rt: HostRuntime) -> Result<(), Fail>
     Ok(())
 }
 
+// Takes a frame with this number, which asks this PID of this target, and delivers what came.
+fn asks_of(
+    rt: &impl Abort,
+    alloc: Global,
+    session: &mut Session,
+    tn: u8,
+    asked: (u16, [u8; 6]),
+    came: Came,
+) {
+    let (pid, target) = asked;
+    let frame = taken(rt, session);
+    assert!(rt; asks(&frame, pid) && number_of(&frame) == Some(tn));
+    assert!(rt; frame.len() >= 9);
+    assert_eq!(rt; &frame[3..9], target.as_slice());
+    delivers(rt, alloc, session, event(rt, tn, came));
+}
+
+// The device that the second of two runs doesn't find any more.
+fn gone_device() -> Uid {
+    Uid::new(0x5678, 9)
+}
+
+// A first run, which finds the first device and that one.
+fn finds_two(rt: &impl Abort, alloc: Global, session: &mut Session) {
+    assert_eq!(rt; session.discover(CLIENT, Kind::Incremental), Ok(0));
+    let run = [
+        Came::Nothing,
+        Came::Nothing,
+        Came::Nothing,
+        Came::Spelt(first_device()),
+        Came::Muted(first_device()),
+        Came::Spelt(gone_device()),
+        Came::Muted(gone_device()),
+    ];
+    serves(rt, alloc, session, 0, run.as_slice());
+    let silences = [Came::Nothing; 5];
+    serves(rt, alloc, session, 7, silences.as_slice());
+    let both = [first_device(), gone_device()];
+    discovers(rt, session, 0, 1, None, both.as_slice());
+}
+
 #[test]
 fn an_incremental_run_mutes_the_known_first(rt: HostRuntime) -> Result<(), Fail> {
-    let (kept, gone) = (first_device(), Uid::new(0x5678, 9));
-    let came = Uid::new(0x9abc, 2);
+    let (kept, came) = (first_device(), Uid::new(0x9abc, 2));
     let mut session = session_for_runs(&rt, rt.alloc())?;
-    assert_eq!(rt; session.discover(CLIENT, Kind::Incremental), Ok(0));
-    let first = [
-        Came::Nothing,
-        Came::Nothing,
-        Came::Nothing,
-        Came::Spelt(kept),
-        Came::Muted(kept),
-        Came::Spelt(gone),
-        Came::Muted(gone),
-    ];
-    serves(&rt, rt.alloc(), &mut session, 0, first.as_slice());
-    serves(
-        &rt,
-        rt.alloc(),
-        &mut session,
-        7,
-        [Came::Nothing; 5].as_slice(),
-    );
-    discovers(&rt, &mut session, 0, 1, None, [kept, gone].as_slice());
+    finds_two(&rt, rt.alloc(), &mut session);
     assert_eq!(rt; session.discover(CLIENT, Kind::Incremental), Ok(1));
-    serves(
-        &rt,
-        rt.alloc(),
-        &mut session,
-        12,
-        [Came::Nothing; 4].as_slice(),
-    );
-    exchanges(&rt, rt.alloc(), &mut session, 16, Came::Muted(kept));
-    for tn in 17..22 {
-        let mute = taken(&rt, &mut session);
-        assert!(rt; asks(&mute, MUTE) && number_of(&mute) == Some(tn));
-        assert!(rt; mute.len() >= 9);
-        assert_eq!(rt; &mute[3..9], [0x56, 0x78, 0, 0, 0, 9].as_slice());
-        delivers(&rt, rt.alloc(), &mut session, silence());
+    let (all, known) = ([0xff; 6], [0x12, 0x34, 0, 0, 0, 1]);
+    let (absent, new) = ([0x56, 0x78, 0, 0, 0, 9], [0x9a, 0xbc, 0, 0, 0, 2]);
+    // How often it asks what of whom, and what comes; the reply to the first mute is lost.
+    let run = [
+        (3, (UNMUTE, all), Came::Nothing),
+        (1, (MUTE, known), Came::Nothing),
+        (1, (MUTE, known), Came::Muted(kept)),
+        (5, (MUTE, absent), Came::Nothing),
+        (1, (BRANCH, all), Came::Spelt(came)),
+        (1, (MUTE, new), Came::Muted(came)),
+        (5, (BRANCH, all), Came::Nothing),
+    ];
+    let mut tn = 12_u8;
+    for (times, asked, reply) in run {
+        for _ in 0..times {
+            asks_of(&rt, rt.alloc(), &mut session, tn, asked, reply);
+            tn = tn.wrapping_add(1);
+        }
     }
-    exchanges(&rt, rt.alloc(), &mut session, 22, Came::Spelt(came));
-    exchanges(&rt, rt.alloc(), &mut session, 23, Came::Muted(came));
-    serves(
-        &rt,
-        rt.alloc(),
-        &mut session,
-        24,
-        [Came::Nothing; 5].as_slice(),
-    );
+    assert_eq!(rt; tn, 29);
     discovers(&rt, &mut session, 1, 2, None, [kept, came].as_slice());
     assert_eq!(rt; session.devices_run(), 2);
-    assert!(rt; session.devices().contains(came) && !session.devices().contains(gone));
+    assert!(rt; session.devices().contains(came) && !session.devices().contains(gone_device()));
     assert!(rt; session.is_idle() && is_none_taken(&mut session));
     Ok(())
 }

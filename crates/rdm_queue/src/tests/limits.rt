@@ -61,8 +61,10 @@ fn session_of_all(rt: &impl Abort, alloc: Global) -> Result<Session, Fail> {
 #[test]
 fn serves_4080_places(rt: HostRuntime) -> Result<(), Fail> {
     let mut session = session_of_all(&rt, rt.alloc())?;
-    let none = session.join_client(rt.alloc(), 0);
-    assert_eq!(rt; none, Err(JoinFault::TooManyClients));
+    for places in [0, 1] {
+        let refused = session.join_client(rt.alloc(), places);
+        assert_eq!(rt; refused, Err(JoinFault::TooManyClients));
+    }
     for number in 0..4080_u64 {
         let submitted = session.submit(ClientId((number % 16) as u8), get());
         assert_eq!(rt; submitted.ok(), Some(number));

@@ -94,6 +94,11 @@ pub fn silence() -> LineEvent {
 
 /// The reply to that GET with this transaction number and response type, and this many bytes of data.
 pub fn reply(rt: &impl Abort, tn: u8, response_type: u8, length: u8) -> LineEvent {
+    reply_of(rt, tn, response_type, length, 0x5a)
+}
+
+/// That reply, each of whose bytes of data is this one.
+pub fn reply_of(rt: &impl Abort, tn: u8, response_type: u8, length: u8, value: u8) -> LineEvent {
     let mut bytes: LineReply = ArrayVec::new();
     let front = [
         0xcc,
@@ -118,7 +123,7 @@ pub fn reply(rt: &impl Abort, tn: u8, response_type: u8, length: u8) -> LineEven
         put(rt, &mut bytes, &mut sum, *byte);
     }
     for _ in 0..length {
-        put(rt, &mut bytes, &mut sum, 0x5a);
+        put(rt, &mut bytes, &mut sum, value);
     }
     let [high, low] = sum.to_be_bytes();
     put(rt, &mut bytes, &mut sum, high);

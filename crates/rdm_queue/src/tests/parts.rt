@@ -1,10 +1,11 @@
 //! Requests whose answers come in parts.
 use super::packets::{
-    ACK, ACK_OVERFLOW, accepts, collected, delivers, is_none_taken, reply, session_of_one, silence,
-    taken,
+    ACK, ACK_OVERFLOW, accepts, collected, delivers, is_none_taken, reply, reply_of,
+    session_of_one, silence, taken,
 };
 use crate::Session;
-use rdm_join::{LineEvent, Status};
+use rdm_join::{LineEvent, ReplyHead, Status};
+use rdm_wire::{AckType, RespClass};
 use std::alloc::Global;
 use std::process::Abort;
 use std::test::Fail;
@@ -28,6 +29,14 @@ const FRAMES: [[u8; 26]; 3] = [
     ],
 ];
 
+/// What the last reply to that GET says of itself.
+const HEAD: ReplyHead = ReplyHead {
+    ack: AckType::Ack,
+    class: RespClass::Get,
+    pid: 0x0060,
+    sub_device: 0,
+};
+
 // A session with one request, of which this many parts of this length have come.
 fn with_parts(rt: &impl Abort, alloc: Global, count: usize, length: u8) -> Result<Session, Fail> {
     let mut session = session_of_one(rt, alloc, 1)?;
@@ -44,25 +53,25 @@ fn with_parts(rt: &impl Abort, alloc: Global, count: usize, length: u8) -> Resul
 fn sends_the_request_again_for_each_part(rt: HostRuntime) -> Result<(), Fail> {
     let mut session = session_of_one(&rt, rt.alloc(), 1)?;
     accepts(&rt, &mut session, 0);
-    assert_eq!(rt; taken(&rt, &mut session).as_slice(), FRAMES[0].as_slice());
-    delivers(
-        &rt,
-        rt.alloc(),
-        &mut session,
-        reply(&rt, 0, ACK_OVERFLOW, MOST),
-    );
-    assert_eq!(rt; taken(&rt, &mut session).as_slice(), FRAMES[1].as_slice());
-    delivers(
-        &rt,
-        rt.alloc(),
-        &mut session,
-        reply(&rt, 1, ACK_OVERFLOW, MOST),
-    );
-    assert_eq!(rt; taken(&rt, &mut session).as_slice(), FRAMES[2].as_slice());
-    delivers(&rt, rt.alloc(), &mut session, reply(&rt, 2, ACK, 3));
+    let replies = [
+        (ACK_OVERFLOW, MOST, 0x11),
+        (ACK_OVERFLOW, MOST, 0x22),
+        (ACK, 3, 0x33),
+    ];
+    let mut tn = 0_u8;
+    for (frame, (kind, length, value)) in FRAMES.iter().zip(replies) {
+        assert_eq!(rt; taken(&rt, &mut session).as_slice(), frame.as_slice());
+        let came = reply_of(&rt, tn, kind, length, value);
+        delivers(&rt, rt.alloc(), &mut session, came);
+        tn = tn.wrapping_add(1);
+    }
     let done = collected(&rt, &mut session, 0);
     assert_eq!(rt; done.status, Status::Completed);
+    assert_eq!(rt; done.reply, Some(HEAD));
     assert_eq!(rt; done.bytes.len(), 465);
+    for (part, value) in done.bytes.chunks(231).zip([0x11, 0x22, 0x33]) {
+        assert!(rt; part.iter().all(|byte| *byte == value));
+    }
     assert!(rt; session.is_idle());
     Ok(())
 }

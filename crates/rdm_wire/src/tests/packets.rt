@@ -190,32 +190,38 @@ fn encodes_discovery_commands(rt: HostRuntime) -> Result<(), Fail> {
     Ok(())
 }
 
-#[test]
-fn decodes(rt: HostRuntime) -> Result<(), Fail> {
-    let part = Response {
+// A response of the device to the controller.
+fn response(
+    rt: &impl Abort,
+    tn: u8,
+    ack: AckType,
+    class: RespClass,
+    pid: u16,
+    param: &[u8],
+) -> Response {
+    Response {
         source: device(),
         dest: controller(),
-        tn: 0,
-        ack: AckType::Overflow,
+        tn,
+        ack,
         count: 0,
         sub_device: 0,
-        class: RespClass::Get,
-        pid: 0x0060,
-        param: data(&rt, &[1, 2]),
-    };
-    let refusal = Response {
-        source: device(),
-        dest: controller(),
-        tn: 7,
-        ack: AckType::Nack,
-        count: 9,
-        sub_device: 0x1234,
-        class: RespClass::Set,
-        pid: 0xabcd,
-        param: data(&rt, &[0, 6]),
-    };
+        class,
+        pid,
+        param: data(rt, param),
+    }
+}
+
+#[test]
+fn decodes(rt: HostRuntime) -> Result<(), Fail> {
+    let part = response(&rt, 0, AckType::Overflow, RespClass::Get, 0x0060, &[1, 2]);
+    let ack = response(&rt, 4, AckType::Ack, RespClass::Discovery, 0x0002, &[0, 0]);
+    let mut refusal = response(&rt, 7, AckType::Nack, RespClass::Set, 0xabcd, &[0, 6]);
+    refusal.count = 9;
+    refusal.sub_device = 0x1234;
     let rows = [
         (OVERFLOW, part),
+        (MUTE_ACK, ack),
         (
             "cc011a7a7000000100123400000001070209123431abcd0200060422",
             refusal,

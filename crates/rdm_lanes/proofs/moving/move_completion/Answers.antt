@@ -1,8 +1,8 @@
-use Rattle.std.proofs.Common.{◌∷◌, [], ◌++◌, refl, ap, ◌∙◌}
+use Rattle.std.proofs.Common.{refl}
 use Rattle.rdm_queue.specs.declared.outcome.Outcome.TheVariants as outcomes
 use Rattle.std.proofs.Common.{Some}
 use Rattle.rdm_lanes.specs.declared.ring_outcome.RingOutcome.TheVariants.{Request}
-use Rattle.rdm_lanes.proofs.FitLemmas.{has_request, fits_completion}
+use Rattle.rdm_lanes.proofs.CollectedLemmas.{has_request, fits_completion}
 use Rattle.rdm_lanes.proofs.StepLemmas.{collects, collect_served, others_wait_collect}
 use Rattle.rdm_lanes.proofs.moving.move_completion.Goals as goal
 

@@ -1,5 +1,5 @@
 use Rattle.std.proofs.Common.{◌≡◌, ◌∙◌, sym, subst, arith}
-use Rattle.rdm_queue.specs.log.LogState.{LogState, opened}
+use Rattle.rdm_queue.specs.log.LogState.{LogState}
 use Rattle.rdm_queue.specs.log.Legal.{Legal}
 use Rattle.rdm_lanes.specs.Lines.{IsBetweenTurns}
 use Rattle.rdm_lanes.specs.Lanes.{AllFit}

@@ -1,5 +1,4 @@
 use Rattle.std.proofs.Common.{◌∙◌, refl}
-use Rattle.rdm_lanes.specs.Opened.{HoldNothing}
 use Rattle.rdm_lanes.proofs.OpenLemmas.{hold_front, hold_last}
 use Rattle.rdm_lanes.proofs.opening.discard.Goals as goal
 

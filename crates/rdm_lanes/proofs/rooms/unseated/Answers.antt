@@ -1,4 +1,4 @@
-use Rattle.std.proofs.Common.{arith, refl, length}
+use Rattle.std.proofs.Common.{arith}
 use Rattle.rdm_lanes.proofs.SeatLemmas.{unseat_none, unseat_more, remove_first}
 use Rattle.rdm_lanes.proofs.rooms.unseated.Goals as goal
 

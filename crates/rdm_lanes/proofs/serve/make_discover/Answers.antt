@@ -1,4 +1,5 @@
-use Rattle.rdm_lanes.proofs.FitLemmas.{can_take_discover, fits_discover, discovers_rightly}
+use Rattle.rdm_lanes.proofs.FitLemmas.{can_take_discover, fits_discover}
+use Rattle.rdm_lanes.proofs.RefusalLemmas.{discovers_rightly}
 use Rattle.rdm_lanes.proofs.StepLemmas.{discovers, others_wait_discover}
 use Rattle.rdm_lanes.proofs.serve.make_discover.Goals as goal
 

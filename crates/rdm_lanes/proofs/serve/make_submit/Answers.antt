@@ -1,4 +1,5 @@
-use Rattle.rdm_lanes.proofs.FitLemmas.{can_take_submit, fits_submit, submits_rightly}
+use Rattle.rdm_lanes.proofs.FitLemmas.{can_take_submit, fits_submit}
+use Rattle.rdm_lanes.proofs.RefusalLemmas.{submits_rightly}
 use Rattle.rdm_lanes.proofs.StepLemmas.{submits, others_wait_submit}
 use Rattle.rdm_lanes.proofs.serve.make_submit.Goals as goal
 

@@ -1,4 +1,4 @@
-use Rattle.std.proofs.Common.{◌∙◌, ◌≡◌, length, map, ap, sym, arith}
+use Rattle.std.proofs.Common.{◌∙◌, ◌≡◌, length, sym, arith}
 use Rattle.std.proofs.lemmas.List.{length-map}
 use Rattle.rdm_lanes.specs.Pairs.{client_rings}
 use Rattle.rdm_lanes.proofs.SessionLemmas.{session_over, nothing_exchanged}

@@ -1,4 +1,4 @@
-use Rattle.std.proofs.Common.{◌≡◌, ◌∙◌, List, length, sym, ap, subst}
+use Rattle.std.proofs.Common.{◌∙◌, List, length, sym, ap, subst}
 use Rattle.std.proofs.lemmas.List.{length-map}
 use Rattle.rdm_lanes.specs.Pairs.{Rings, RingsPair, seat_rings}
 use Rattle.rdm_lanes.specs.Ends.{end_rings}

@@ -1,6 +1,6 @@
-use Rattle.std.proofs.Common.{◌≡◌, ◌∙◌, ◌+◌, ◌++◌, ◌∷◌, [], List, length, length-append, ap, refl, arith}
+use Rattle.std.proofs.Common.{◌∙◌, ◌++◌, ◌∷◌, [], List, length-append, ap, refl, arith}
 use Rattle.rdm_lanes.specs.declared.call.ClientCall.{ClientCall}
-use Rattle.rdm_lanes.specs.declared.call.ClientCall.TheVariants.{Submit, Discover}
+use Rattle.rdm_lanes.specs.declared.call.ClientCall.TheVariants.{Discover}
 use Rattle.rdm_lanes.proofs.Counting.{counted_sent}
 use Rattle.rdm_lanes.proofs.client.RingClient.discover.Goals as goal
 

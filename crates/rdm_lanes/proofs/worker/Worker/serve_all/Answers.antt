@@ -1,4 +1,4 @@
-use Rattle.std.proofs.Common.{◌∙◌, ap, arith}
+use Rattle.std.proofs.Common.{◌∙◌, arith}
 use Rattle.rdm_lanes.proofs.LaneLemmas.{same_lanes_join}
 use Rattle.rdm_lanes.proofs.LineLemmas.{line_join, switches_join}
 use Rattle.rdm_lanes.proofs.CollectLemmas.{collects_line, collects_switches, no_send_stays, full_stays}

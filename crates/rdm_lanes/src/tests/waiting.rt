@@ -1,0 +1,126 @@
+//! Who waits for whom over rings, and who doesn't: clients and a worker that are driven by hand, over lines that fail.
+use super::driven::{Driven, opened};
+use super::heard::{Heard, Step};
+use super::said::{Said, tells};
+use crate::{RingFault, WorkerEnd};
+use rdm_agent::Kind;
+use rdm_join::Status;
+use std::alloc::Global;
+use std::process::Abort;
+
+const FAILED: Status = Status::FailedToSend;
+
+// What is opened for one client.
+fn one(rt: &impl Abort, alloc: Global, free: usize, ring: u8, places: u8) -> Driven {
+    let of_one = [places];
+    opened(rt, alloc, free, ring, of_one.as_slice(), Vec::new(alloc))
+}
+
+#[test]
+fn a_client_that_has_left_still_collects(rt: HostRuntime) {
+    let mut lanes = one(&rt, rt.alloc(), 100, 2, 1);
+    assert_eq!(rt; lanes.client(0, Step::Submit(1)), Heard::Sent);
+    assert_eq!(rt; lanes.client(0, Step::Leave), Heard::Sent);
+    let left = Heard::Refused(RingFault::Left, 2);
+    assert_eq!(rt; lanes.client(0, Step::Submit(2)), left);
+    assert_eq!(rt; lanes.work(rt.alloc(), 2), WorkerEnd::Turns);
+    assert_eq!(rt; lanes.client(0, Step::Collect), Heard::Request(1, FAILED));
+    let (_, counts) = lanes.end(&rt, rt.alloc());
+    assert_eq!(rt; counts.as_slice(), [(1, 1, 0)].as_slice());
+}
+
+// Of 12 free entries the join takes 1, and each request 5 up to its collect.
+#[test]
+fn a_full_log_still_lets_outcomes_move(rt: HostRuntime) {
+    let mut lanes = one(&rt, rt.alloc(), 12, 1, 2);
+    for tag in 1..3 {
+        assert_eq!(rt; lanes.client(0, Step::Submit(tag)), Heard::Sent);
+        assert_eq!(rt; lanes.work(rt.alloc(), 1), WorkerEnd::Turns);
+    }
+    assert_eq!(rt; lanes.client(0, Step::Collect), Heard::Request(1, FAILED));
+    assert_eq!(rt; lanes.work(rt.alloc(), 5), WorkerEnd::LogFull);
+    assert_eq!(rt; lanes.client(0, Step::Collect), Heard::Request(2, FAILED));
+    let (_, counts) = lanes.end(&rt, rt.alloc());
+    assert_eq!(rt; counts.as_slice(), [(2, 2, 0)].as_slice());
+}
+
+#[test]
+fn a_full_ring_holds_up_no_other_client(rt: HostRuntime) {
+    let places = [2u8, 1];
+    let events = Vec::new(rt.alloc());
+    let mut lanes = opened(&rt, rt.alloc(), 100, 1, places.as_slice(), events);
+    for tag in 1..3 {
+        assert_eq!(rt; lanes.client(0, Step::Submit(tag)), Heard::Sent);
+        assert_eq!(rt; lanes.work(rt.alloc(), 1), WorkerEnd::Turns);
+    }
+    assert_eq!(rt; lanes.client(1, Step::Submit(3)), Heard::Sent);
+    assert_eq!(rt; lanes.work(rt.alloc(), 1), WorkerEnd::Turns);
+    assert_eq!(rt; lanes.client(1, Step::Collect), Heard::Request(3, FAILED));
+    let (_, counts) = lanes.end(&rt, rt.alloc());
+    assert_eq!(rt; counts.as_slice(), [(2, 0, 2), (1, 1, 0)].as_slice());
+}
+
+#[test]
+fn the_worker_makes_one_call_of_the_operator_in_a_turn(rt: HostRuntime) {
+    let mut lanes = one(&rt, rt.alloc(), 100, 4, 1);
+    assert!(rt; lanes.operator.pause().is_ok() && lanes.operator.resume().is_ok());
+    assert_eq!(rt; lanes.work(rt.alloc(), 1), WorkerEnd::Turns);
+    assert!(rt; lanes.session().is_paused());
+    assert_eq!(rt; lanes.work(rt.alloc(), 1), WorkerEnd::Turns);
+    assert!(rt; !lanes.session().is_paused());
+    let _ = lanes.end(&rt, rt.alloc());
+}
+
+#[test]
+fn rings_without_a_slot_refuse_each_call(rt: HostRuntime) {
+    let mut lanes = one(&rt, rt.alloc(), 100, 1, 1);
+    assert_eq!(rt; lanes.client(0, Step::Submit(1)), Heard::Sent);
+    let ask = Step::Discover(Kind::Full, 9);
+    assert_eq!(rt;
+        lanes.client(0, ask),
+        Heard::Refused(RingFault::RingFull, 9)
+    );
+    assert!(rt; lanes.operator.pause().is_ok());
+    assert!(rt; lanes.operator.pause().is_err() && lanes.operator.resume().is_err());
+    assert!(rt; lanes.operator.close().is_err() && lanes.operator.leave().is_err());
+    assert_eq!(rt; lanes.work(rt.alloc(), 1), WorkerEnd::Turns);
+    assert!(rt; lanes.session().is_paused() && !lanes.session().is_closed());
+    assert!(rt; lanes.operator.leave().is_ok());
+    let _ = lanes.end(&rt, rt.alloc());
+}
+
+#[test]
+fn a_call_after_the_close_waits_for_a_slot(rt: HostRuntime) {
+    let mut lanes = one(&rt, rt.alloc(), 100, 1, 2);
+    assert_eq!(rt; lanes.client(0, Step::Submit(1)), Heard::Sent);
+    assert!(rt; lanes.operator.close().is_ok());
+    assert_eq!(rt; lanes.work(rt.alloc(), 1), WorkerEnd::Turns);
+    assert_eq!(rt; lanes.client(0, Step::Submit(2)), Heard::Sent);
+    assert_eq!(rt; lanes.work(rt.alloc(), 3), WorkerEnd::Turns);
+    let waits = [
+        Said::Join(0, 2),
+        Said::Accept(0, 0),
+        Said::Close,
+        Said::Finish(0, FAILED),
+        Said::Collect(0),
+    ];
+    tells(&rt, lanes.session(), waits.as_slice());
+    assert_eq!(rt; lanes.client(0, Step::Collect), Heard::Request(1, FAILED));
+    assert_eq!(rt; lanes.work(rt.alloc(), 1), WorkerEnd::Turns);
+    assert_eq!(rt; lanes.client(0, Step::Collect), Heard::Request(2, FAILED));
+    let (_, counts) = lanes.end(&rt, rt.alloc());
+    assert_eq!(rt; counts.as_slice(), [(2, 2, 0)].as_slice());
+}
+
+#[test]
+fn a_client_that_leaves_without_collecting_holds_nobody_up(rt: HostRuntime) {
+    let mut lanes = one(&rt, rt.alloc(), 100, 1, 2);
+    assert_eq!(rt; lanes.client(0, Step::Submit(1)), Heard::Sent);
+    assert!(rt; lanes.operator.close().is_ok());
+    assert_eq!(rt; lanes.work(rt.alloc(), 1), WorkerEnd::Turns);
+    assert_eq!(rt; lanes.client(0, Step::Leave), Heard::Sent);
+    assert!(rt; lanes.operator.leave().is_ok());
+    assert_eq!(rt; lanes.work(rt.alloc(), 2), WorkerEnd::AllLeft);
+    let (_, counts) = lanes.end(&rt, rt.alloc());
+    assert_eq!(rt; counts.as_slice(), [(1, 0, 1)].as_slice());
+}
