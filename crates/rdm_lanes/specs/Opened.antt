@@ -39,7 +39,7 @@ opened_with config search room places =
     record { opening = opened config; entries = join_entries 0 places; room = room; search = search }
 
 module _ {C A : Type 0} where
-  -- a client with this many places, and with rings of so many slots, that has neither sent nor got
+  -- a client with this many places, and with rings of this many slots, that has neither sent nor got
   -- anything, nor left
   pub record IsNew (ring places : ℕ) (client : RingClient C A) : Type 0 where
     pub nothing_sent : pushed client.calls ≡ []

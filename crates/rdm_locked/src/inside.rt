@@ -73,8 +73,6 @@ impl<L: Ledger> Inside<L> {
     }
 
     /// The same under the same conditions and with the same error, of a session whose runs search so.
-    // It isn't inlined, as `Port::holding`.
-    #[inline(never)]
     pub fn new_by(
         alloc: Global,
         search: Search,

@@ -83,9 +83,7 @@ impl<L: Ledger> Port<L> {
         Ok(Port::holding(inside))
     }
 
-    // Puts it behind a lock. It isn't inlined: where the arms of one function move parts of a session to places of
-    // other offsets, LLVM splits each move into thousands of pieces, and takes minutes.
-    #[inline(never)]
+    // Puts it behind a lock.
     fn holding(inside: Inside<L>) -> Port<L> {
         Port {
             inside: Mutex::new(inside),

@@ -100,3 +100,71 @@ fn a_refused_session_hands_all_back(rt: HostRuntime) -> Result<(), Fail> {
     assert!(rt; bodies.iter().all(|body| body.runs == 0));
     Ok(())
 }
+
+// Begins a session of players with these places, where all may have so many: how the worker ended and how many entries
+// the log has, or the fault. For no players alone it runs.
+#[inline(never)]
+fn begins<R: Threads + Abort + Sync>(
+    rt: &R,
+    alloc: Global,
+    greatest: u8,
+    places: &[u8],
+) -> Result<Result<(WorkerEnd, usize), OpenFault>, Fail> {
+    let gate = Points::new();
+    let line = silent(alloc, 0)?;
+    let mut bodies = Vec::new(alloc);
+    for _ in 0..places.len() {
+        assert!(rt; bodies.push(Player::new(0)).is_ok());
+    }
+    assert!(rt; bodies.len() == places.len());
+    let log = log(rt, alloc, 100);
+    let ended = run_session::<Player, Note, AskNote, Points, TapeLine, R>(
+        rt,
+        alloc,
+        config(greatest),
+        log,
+        1,
+        places,
+        bodies,
+        &gate,
+        line,
+        TURNS,
+    );
+    match ended {
+        Err((fault, log, bodies, _)) => {
+            assert!(rt; log.entries().is_empty());
+            assert!(rt; bodies.iter().all(|body| body.runs == 0));
+            Ok(Err(fault))
+        }
+        Ok(end) => {
+            let LanesEnd {
+                session,
+                line: _,
+                bodies: _,
+                worker,
+                ends,
+                matched: _,
+            } = end;
+            assert!(rt; all_counted(alloc, ends, (0, 0, 0)));
+            Ok(Ok((worker, session.log().entries().len())))
+        }
+    }
+}
+
+#[test]
+fn a_session_without_clients_ends_at_once(rt: HostRuntime) -> Result<(), Fail> {
+    let none: [u8; 0] = [];
+    let ended = begins(&rt, rt.alloc(), 4, none.as_slice())?;
+    assert_eq!(rt; ended, Ok((WorkerEnd::AllLeft, 0)));
+    Ok(())
+}
+
+#[test]
+fn places_are_looked_at_before_any_body_runs(rt: HostRuntime) -> Result<(), Fail> {
+    let ones = [1u8; 17];
+    let many = begins(&rt, rt.alloc(), 255, ones.as_slice())?;
+    let few = begins(&rt, rt.alloc(), 1, &ones[..2])?;
+    assert_eq!(rt; many, Err(OpenFault::TooManyClients));
+    assert_eq!(rt; few, Err(OpenFault::NoPlaces));
+    Ok(())
+}

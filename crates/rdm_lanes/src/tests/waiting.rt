@@ -2,7 +2,7 @@
 use super::driven::{Driven, opened};
 use super::heard::{Heard, Step};
 use super::said::{Said, tells};
-use crate::{RingFault, WorkerEnd};
+use crate::{Operator, RingFault, WorkerEnd};
 use rdm_agent::Kind;
 use rdm_join::Status;
 use std::alloc::Global;
@@ -71,18 +71,24 @@ fn the_worker_makes_one_call_of_the_operator_in_a_turn(rt: HostRuntime) {
     let _ = lanes.end(&rt, rt.alloc());
 }
 
+// Which calls of the operator its ring refuses: a pause, a resume, a close and a leave.
+fn refusals(operator: &mut Operator) -> [bool; 4] {
+    let paused = operator.pause().is_err();
+    let resumed = operator.resume().is_err();
+    let closed = operator.close().is_err();
+    let left = operator.leave().is_err();
+    [paused, resumed, closed, left]
+}
+
 #[test]
 fn rings_without_a_slot_refuse_each_call(rt: HostRuntime) {
     let mut lanes = one(&rt, rt.alloc(), 100, 1, 1);
     assert_eq!(rt; lanes.client(0, Step::Submit(1)), Heard::Sent);
     let ask = Step::Discover(Kind::Full, 9);
-    assert_eq!(rt;
-        lanes.client(0, ask),
-        Heard::Refused(RingFault::RingFull, 9)
-    );
+    let full = Heard::Refused(RingFault::RingFull, 9);
+    assert_eq!(rt; lanes.client(0, ask), full);
     assert!(rt; lanes.operator.pause().is_ok());
-    assert!(rt; lanes.operator.pause().is_err() && lanes.operator.resume().is_err());
-    assert!(rt; lanes.operator.close().is_err() && lanes.operator.leave().is_err());
+    assert_eq!(rt; refusals(&mut lanes.operator), [true; 4]);
     assert_eq!(rt; lanes.work(rt.alloc(), 1), WorkerEnd::Turns);
     assert!(rt; lanes.session().is_paused() && !lanes.session().is_closed());
     assert!(rt; lanes.operator.leave().is_ok());

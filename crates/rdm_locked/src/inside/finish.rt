@@ -28,8 +28,6 @@ impl<L: Ledger> Inside<L> {
     /// Then the shares are one of each client, their sum is the number of calls in the log, and the log keeps all that
     /// clients are promised.
     /// Err: SharesMissing, or else ExchangesDiffer; all comes back as it was.
-    // It isn't inlined, as `Port::holding`.
-    #[inline(never)]
     pub fn finish(
         self,
         shares: Vec<CallShare<L>>,
@@ -72,8 +70,7 @@ impl<L: Ledger> Inside<L> {
         None
     }
 
-    // Adds up the shares, of which there is one for each client. It isn't inlined, as `Port::holding`.
-    #[inline(never)]
+    // Adds up the shares, of which there is one for each client.
     fn add_up(self, shares: Vec<CallShare<L>>) -> SessionEnd
         requires parts { L.parts ≡ 17 }
         requires each { self.joined ≤ length shares.items }

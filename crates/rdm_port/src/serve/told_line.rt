@@ -4,7 +4,7 @@ use rdm_join::LineReply;
 use rdm_line::{Line, LineFault};
 use rdm_wire::Frame;
 
-// It is told after so many exchanges.
+// How many exchanges it makes before it tells again.
 const OFTEN: usize = 1000;
 
 /// A line that tells every thousand exchanges how many it has made, and else is the line that it was made of.
