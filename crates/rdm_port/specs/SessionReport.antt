@@ -95,7 +95,7 @@ places_of is_of_kind n (call ∷ calls) =
     if is_of_kind call then n ∷ places_of is_of_kind (n + 1) calls
     else places_of is_of_kind (n + 1) calls
 
--- Each request has one outcome, in the order of the calls, which its own callback told; and so has each discovery. A
+-- Each request has one outcome, in the order of the calls, with its callback's tag; and so has each discovery. A
 -- callback's tag is the place of its call.
 pub record IsSettled (calls : List ClientCall) (o : Outcomes) : Type 0 where
   pub requests : map (λ (t : Told). t.tag) o.requests.items ≡ places_of is_request 0 calls
