@@ -59,10 +59,10 @@ pub fn encode(uid: &str) -> Result<Answered, Refused>
     ensures fault { IfErr result (λ e. IsEncodeFault uid.now e.0) }
 {
     match Uid::parse(uid) {
-        Ok(uid) => Ok(Answered::done(digits_of(&write_branch_reply(
-            uid,
-            LONGEST_PREAMBLE,
-        )))),
+        Ok(uid) => {
+            let reply = write_branch_reply(uid, LONGEST_PREAMBLE);
+            Ok(Answered::done(digits_of(&reply)))
+        }
         Err(fault) => Err((Fault::Uid, Some(Reason::NoUid(fault)))),
     }
 }

@@ -68,8 +68,7 @@ fn seats_of(alloc: Global, clients: &[ClientFile], turns: u64) -> Option<(Vec<u8
     Some((places, callers))
 }
 
-// What came of the clients' calls, in their order, and how many entries the log has free. All callbacks that are left
-// are cancelled.
+// What came of the clients' calls, in their order, and the session. All callbacks that are left are cancelled.
 fn served<X: Drop>(
     alloc: Global,
     end: LanesEnd<Caller<'_>, X, RequestTicket, AskTicket>,
@@ -93,7 +92,7 @@ fn served<X: Drop>(
     }
     Ok(Served {
         outcomes,
-        free: session.free(),
+        session,
     })
 }
 
