@@ -90,10 +90,7 @@ fn served<X: Drop>(
             return Err(ServeFault::Memory);
         }
     }
-    Ok(Served {
-        outcomes,
-        session,
-    })
+    Ok(Served { outcomes, session })
 }
 
 // Cancels the callbacks that the clients held at their ends.
