@@ -4,15 +4,15 @@ ghost use Rattle.rdm_wire.specs.Uid.{IsDevice};
 ghost use Rattle.rdm_port.specs.Fault.{SaysSession, ReadsSession, IsSessionTextFault, IsSessionFileFault, IsServeFault};
 ghost use Rattle.rdm_port.specs.Outcome.{Runs, answer_bytes};
 
-use crate::answer::{Answer, Answered};
-use crate::discover::no_json;
+use crate::answer::{Answer, Answered, Refused};
+use crate::discovering::no_json;
 use crate::fault::Fault;
 use crate::input::{FileFault, read_file};
 use crate::job::PortKind;
 use crate::outcomes::session_text;
 use crate::reason::Reason;
 use crate::scene::SceneFault;
-use crate::serve::{Progress, ServeFault, serve};
+use crate::serving::{Progress, ServeFault, serve};
 use crate::session::{SessionFile, discovery_command, read_session};
 use serde_json::Value;
 use std::alloc::Global;
@@ -21,8 +21,6 @@ use std::marker::Brand;
 use std::sync::Wait;
 use std::sync::ledger::Blank;
 use std::thread::Threads;
-
-type Refused = (Fault, Option<Reason>);
 
 /// What is printed of the session in the reader's file: of each client its requests in order, and then its discoveries
 /// in order. Each client has a thread, and the worker another.

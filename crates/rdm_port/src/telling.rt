@@ -1,0 +1,56 @@
+//! Tells people on standard error why something isn't done, and how far a session is.
+use crate::reason::Reason;
+use crate::serving::Progress;
+use std::io;
+use std::rt::Clock;
+use std::time::Instant;
+
+/// Tells a reason.
+pub fn tell(rt: &impl Eprint, reason: &Reason) -> io::Result<()> {
+    match reason {
+        Reason::Usage => eprintln!(rt; "{reason}"),
+        _ => eprintln!(rt; "wurstlinen: {reason}"),
+    }
+}
+
+// How often people are told how far a session is.
+const SECONDS: u64 = 2;
+
+/// Tells every two seconds how far a session is.
+#[derive(Drop)]
+pub struct Progressing<'a, R: Clock + Eprint> {
+    rt: &'a R,
+    // When it began; none where there is no clock.
+    began: Option<Instant>,
+    // The seconds at which it tells next.
+    next: u64,
+}
+
+impl<'a, R: Clock + Eprint> Progressing<'a, R> {
+    /// From now on.
+    pub fn new(rt: &'a R) -> Progressing<'a, R> {
+        Progressing {
+            rt,
+            began: Instant::now(rt).ok(),
+            next: SECONDS,
+        }
+    }
+
+    fn seconds(&self) -> Option<u64> {
+        let began = self.began?;
+        Some(began.elapsed(self.rt).ok()?.as_secs())
+    }
+}
+
+impl<'a, R: Clock + Eprint> Progress for Progressing<'a, R> {
+    fn tell(&mut self, exchanges: usize) {
+        let Some(seconds) = self.seconds() else {
+            return;
+        };
+        if seconds < self.next {
+            return;
+        }
+        self.next = seconds.saturating_add(SECONDS);
+        let _ = eprintln!(self.rt; "wurstlinen: {exchanges} exchanges after {seconds} seconds");
+    }
+}
