@@ -1,0 +1,9 @@
+//! One growth at most is refused in a test, whichever it is.
+mod desks;
+mod events;
+mod memory;
+mod notes;
+mod queues;
+mod replies;
+mod rig;
+mod sessions;
