@@ -1,6 +1,6 @@
 //! Lists of events that a session answers.
 use super::memory::Memory;
-use super::rig::{ACK, CLIENT, get, is_data, reply, room_for, session, silence};
+use super::rig::{ACK, CLIENT, completion, get, is_data, reply, room_for, session, silence};
 use rdm_join::Status;
 use rdm_queue::{Answer, Event, JoinFault, NoMemory, Outcome, Session, SubmitFault};
 use std::alloc::Global;
@@ -181,7 +181,7 @@ fn is_completed(rt: &impl Abort, alloc: Global, session: &mut Session, tn: u8) -
     assert!(rt; matches!(&answer, Answer::Deliver(Ok(()))));
     let again = session.answer(alloc, &event);
     assert!(rt; matches!(&again, Answer::Deliver(Err(_))));
-    let (_, done) = super::rig::completion(session.next_outcome(CLIENT)).expect(rt, "an outcome");
+    let (_, done) = completion(session.next_outcome(CLIENT)).expect(rt, "an outcome");
     if done.status.number() == 18 {
         assert!(rt; done.reply.is_none() && done.bytes.is_empty());
         return false;

@@ -6,7 +6,10 @@ use super::memory::Memory;
 use arrayvec::ArrayVec;
 use rdm_agent::DEFAULT_BUDGET;
 use rdm_join::{LineEvent, LineReply};
-use rdm_queue::{ClientId, Completion, Config, Log, NoMemory, Outcome, Session};
+use rdm_line::TapeLine;
+use rdm_queue::{
+    Call, ClientId, Completion, Config, Entry, JoinFault, Log, NoMemory, Outcome, Session,
+};
 use rdm_wire::{ReqClass, Request, Uid};
 use std::alloc::Global;
 use std::process::Abort;
@@ -19,6 +22,11 @@ pub const ACK: u8 = 0x00;
 
 /// A reply with a part of the answer.
 pub const ACK_OVERFLOW: u8 = 0x03;
+
+/// The controller's own UID.
+pub fn controller_uid() -> Uid {
+    Uid::new(0x7a70, 0x100)
+}
 
 /// A controller `7a70:00000100` with this many places, and the budget by default.
 pub fn config(places: u8) -> Config
@@ -153,11 +161,20 @@ pub fn session_in(
         Ok(session) => session,
         Err((NoMemory, log)) => {
             memory.refuses(rt);
-            assert!(rt; is_blank(&log));
-            Session::new(alloc, config, log)
-                .ok()
-                .expect(rt, "memory for a session")
+            session_again(rt, alloc, config, log)
         }
+    }
+}
+
+// A session in the log that came back.
+fn session_again(rt: &impl Abort, alloc: Global, config: Config, log: Log) -> Session
+    requires config_is { IsConfig config }
+    requires empty { log.entries ≡ [] }
+{
+    assert!(rt; is_blank(&log));
+    match Session::new(alloc, config, log) {
+        Ok(session) => session,
+        Err(_) => panic!(rt; "memory for a session"),
     }
 }
 
@@ -182,4 +199,52 @@ pub fn room_for<T>(rt: &impl Abort, memory: &mut Memory, alloc: Global, count: u
             Vec::with_capacity(alloc, count).expect(rt, "memory for items")
         }
     }
+}
+
+/// Whether the entry tells of a join with this many places that found no memory.
+pub fn is_refused_join(entry: Option<&Entry>, wanted: u8) -> bool {
+    match entry {
+        Some(Entry::Refuse {
+            client: None,
+            call: Call::Join(places),
+            cause,
+        }) => *places == wanted && cause.0 == 4,
+        _ => false,
+    }
+}
+
+/// Lets this client join with this many places, again where memory is refused. The log alone has changed then.
+pub fn joins(
+    rt: &impl Abort,
+    memory: &mut Memory,
+    alloc: Global,
+    session: &mut Session,
+    client: ClientId,
+    places: u8,
+) {
+    let entries = session.log().entries().len();
+    let joined = session.join_client(alloc, places);
+    if joined == Err(JoinFault::NoMemory) {
+        memory.refuses(rt);
+        assert_eq!(rt; session.log().entries().len(), entries.saturating_add(1));
+        assert!(rt; is_refused_join(session.log().entries().last(), places));
+        assert!(rt; session.is_idle() && !session.is_closed() && !session.is_paused());
+        assert_eq!(rt; session.join_client(alloc, places), Ok(client));
+    } else {
+        assert_eq!(rt; joined, Ok(client));
+    }
+}
+
+/// A line that gives these events.
+pub fn tape(
+    rt: &impl Abort,
+    memory: &mut Memory,
+    alloc: Global,
+    events: &[LineEvent],
+) -> TapeLine {
+    let mut tape = room_for(rt, memory, alloc, events.len());
+    for event in events {
+        assert!(rt; tape.push(event.copied()).is_ok());
+    }
+    TapeLine::new(tape)
 }

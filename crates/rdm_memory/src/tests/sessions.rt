@@ -1,47 +1,13 @@
 //! Sessions and their logs: how they are made, joins, and replies that are delivered.
 use super::memory::Memory;
 use super::rig::{
-    ACK, ACK_OVERFLOW, CLIENT, completion, get, is_blank, is_data, is_get, is_silence, log, reply,
-    session, session_in, silence,
+    ACK, ACK_OVERFLOW, CLIENT, completion, config, get, is_blank, is_data, is_get, is_silence,
+    joins, log, reply, session, session_in, silence,
 };
 use rdm_join::Status;
-use rdm_queue::{Call, ClientId, Completion, Entry, JoinFault, NotAsked, Session, SubmitFault};
+use rdm_queue::{ClientId, Completion, JoinFault, NotAsked, Session, SubmitFault};
 use std::alloc::Global;
 use std::process::Abort;
-
-// Whether the entry tells of a join with this many places that found no memory.
-fn is_refused_join(entry: Option<&Entry>, wanted: u8) -> bool {
-    match entry {
-        Some(Entry::Refuse {
-            client: None,
-            call: Call::Join(places),
-            cause,
-        }) => *places == wanted && cause.0 == 4,
-        _ => false,
-    }
-}
-
-// Lets this client join with this many places, again where memory is refused. The log alone has changed then.
-fn joins(
-    rt: &impl Abort,
-    memory: &mut Memory,
-    alloc: Global,
-    session: &mut Session,
-    client: ClientId,
-    places: u8,
-) {
-    let entries = session.log().entries().len();
-    let joined = session.join_client(alloc, places);
-    if joined == Err(JoinFault::NoMemory) {
-        memory.refuses(rt);
-        assert_eq!(rt; session.log().entries().len(), entries.saturating_add(1));
-        assert!(rt; is_refused_join(session.log().entries().last(), places));
-        assert!(rt; session.is_idle() && !session.is_closed() && !session.is_paused());
-        assert_eq!(rt; session.join_client(alloc, places), Ok(client));
-    } else {
-        assert_eq!(rt; joined, Ok(client));
-    }
-}
 
 #[test]
 fn join_client_of_one_place(rt: HostRuntime) {
@@ -125,7 +91,7 @@ fn log_new_of_the_most_entries(rt: HostRuntime) {
     let mut memory = Memory::new();
     let log = log(&rt, &mut memory, rt.alloc(), 1_000_000);
     assert!(rt; is_blank(&log));
-    let made = session_in(&rt, &mut memory, rt.alloc(), super::rig::config(255), log);
+    let made = session_in(&rt, &mut memory, rt.alloc(), config(255), log);
     assert_eq!(rt; made.free(), 1_000_000);
 }
 
