@@ -146,33 +146,31 @@ pub fn is_blank(log: &Log) -> bool {
         && log.opening().next_run == 0
 }
 
-/// A session in this log, made again where memory is refused; the log then comes back.
+/// A session with this many places in this log, made again where memory is refused; the log then comes back.
 pub fn session_in(
     rt: &impl Abort,
     memory: &mut Memory,
     alloc: Global,
-    config: Config,
+    places: u8,
     log: Log,
 ) -> Session
-    requires config_is { IsConfig config }
-    requires empty { log.entries ≡ [] }
+    requires { log.entries ≡ [] }
 {
-    match Session::new(alloc, config, log) {
+    match Session::new(alloc, config(places), log) {
         Ok(session) => session,
         Err((NoMemory, log)) => {
             memory.refuses(rt);
-            session_again(rt, alloc, config, log)
+            session_again(rt, alloc, places, log)
         }
     }
 }
 
 // A session in the log that came back.
-fn session_again(rt: &impl Abort, alloc: Global, config: Config, log: Log) -> Session
-    requires config_is { IsConfig config }
-    requires empty { log.entries ≡ [] }
+fn session_again(rt: &impl Abort, alloc: Global, places: u8, log: Log) -> Session
+    requires { log.entries ≡ [] }
 {
     assert!(rt; is_blank(&log));
-    match Session::new(alloc, config, log) {
+    match Session::new(alloc, config(places), log) {
         Ok(session) => session,
         Err(_) => panic!(rt; "memory for a session"),
     }
@@ -187,7 +185,7 @@ pub fn session(
     free: usize,
 ) -> Session {
     let log = log(rt, memory, alloc, free);
-    session_in(rt, memory, alloc, config(places), log)
+    session_in(rt, memory, alloc, places, log)
 }
 
 /// Room for so many items, made again where memory is refused.

@@ -1,7 +1,7 @@
 //! Sessions and their logs: how they are made, joins, and replies that are delivered.
 use super::memory::Memory;
 use super::rig::{
-    ACK, ACK_OVERFLOW, CLIENT, completion, config, get, is_blank, is_data, is_get, is_silence,
+    ACK, ACK_OVERFLOW, CLIENT, completion, get, is_blank, is_data, is_get, is_silence,
     joins, log, reply, session, session_in, silence,
 };
 use rdm_join::Status;
@@ -91,7 +91,7 @@ fn log_new_of_the_most_entries(rt: HostRuntime) {
     let mut memory = Memory::new();
     let log = log(&rt, &mut memory, rt.alloc(), 1_000_000);
     assert!(rt; is_blank(&log));
-    let made = session_in(&rt, &mut memory, rt.alloc(), config(255), log);
+    let made = session_in(&rt, &mut memory, rt.alloc(), 255, log);
     assert_eq!(rt; made.free(), 1_000_000);
 }
 
