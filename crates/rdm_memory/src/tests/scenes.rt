@@ -9,11 +9,18 @@ use rdm_wire::{Device, Frame, Uid, encode_mute};
 use std::alloc::Global;
 use std::process::Abort;
 
-// A device of this manufacturer without parameters, which is on the line from the beginning.
-fn device(alloc: Global, number: u32) -> SceneDevice {
-    SceneDevice {
+// Puts in the device with this number. It has no parameters, and is on the line from the beginning.
+fn puts(
+    rt: &impl Abort,
+    alloc: Global,
+    devices: &mut SceneDevices,
+    number: u32,
+) -> Result<(), AddFault> {
+    let uid = Uid::new(0x1234, number);
+    assert!(rt; !uid.is_broadcast());
+    let device = SceneDevice {
         device: Device {
-            uid: Uid::new(0x1234, number),
+            uid,
             control: 0,
             binding: None,
         },
@@ -21,20 +28,7 @@ fn device(alloc: Global, number: u32) -> SceneDevice {
         params: Parameters::new(Vec::new(alloc)),
         from: 0,
         until: None,
-    }
-}
-
-// Puts in the device with this number. It is no broadcast UID's, has few preamble bytes and comes early.
-fn puts(
-    rt: &impl Abort,
-    alloc: Global,
-    devices: &mut SceneDevices,
-    number: u32,
-) -> Result<(), AddFault> {
-    let device = device(alloc, number);
-    assert!(rt; !device.device.uid.is_broadcast());
-    assert!(rt; device.preamble <= 7);
-    assert!(rt; device.from <= 1_000_000_000);
+    };
     devices.add(device)
 }
 
