@@ -33,7 +33,7 @@ fn with_parts(rt: &impl Abort, parts: usize) -> Joiner
     ensures { IsOpen result }
 {
     let mut joiner = Joiner::new();
-    for _ in 0..parts {
+    for _part in 0..parts {
         let step = joiner.add(Judged::Part(response(rt, AckType::Overflow, 231)));
         assert_eq!(rt; step, Step::More);
     }
