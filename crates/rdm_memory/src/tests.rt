@@ -5,7 +5,6 @@ mod locked;
 mod memory;
 mod notes;
 mod players;
-mod program;
 mod queues;
 mod replies;
 mod rig;

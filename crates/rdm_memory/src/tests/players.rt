@@ -9,8 +9,8 @@ use rdm_lanes::{Body, Gate, RingClient};
 use std::sync::atomic::{AtomicU64, Ordering};
 use std::thread;
 
-/// How often a body tries before it gives up.
-const TRIES: u64 = 100_000_000;
+/// How often a body tries before it gives up. It does where no thread could be made for the others.
+const TRIES: u64 = 3_000_000;
 
 /// Two points that are reached or not.
 #[derive(Drop)]

@@ -13,7 +13,8 @@ use std::alloc::Global;
 use std::process::Abort;
 use std::thread::Threads;
 
-const TURNS: u64 = 1_000_000_000;
+// The worker makes them all where no thread could be made for the bodies.
+const TURNS: u64 = 100_000_000;
 
 type End = LanesEnd<Player, TapeLine, Note, AskNote>;
 
@@ -99,17 +100,22 @@ fn are_counted(alloc: Global, ends: Vec<ClientEnd<Note, AskNote>>) -> bool {
     all
 }
 
-#[test]
-fn run_session_of_two_bodies(rt: HostRuntime) {
-    let mut memory = Memory::new();
+// Whether the body met the other one, and both its requests were told.
+fn has_met(body: &Player) -> bool {
+    !body.ran_out && body.told[0].is_some() && body.told[1].is_some()
+}
+
+// Runs two bodies over a line that keeps silent. Says whether they met; else memory for a thread was refused, and each
+// has run all the same.
+fn meet<R: Threads + Abort + Sync>(rt: &R, memory: &mut Memory, alloc: Global) -> bool {
     let quiet = [silence(), silence(), silence(), silence()];
-    let line = tape(&rt, &mut memory, rt.alloc(), &quiet);
-    let mut bodies = room_for(&rt, &mut memory, rt.alloc(), 2);
+    let line = tape(rt, memory, alloc, &quiet);
+    let mut bodies = room_for(rt, memory, alloc, 2);
     assert!(rt; bodies.push(Player::new(0)).is_ok());
     assert!(rt; bodies.push(Player::new(1)).is_ok());
     assert!(rt; bodies.len() == 2);
-    let log = log(&rt, &mut memory, rt.alloc(), 100);
-    let end = runs(&rt, &mut memory, rt.alloc(), log, bodies, line);
+    let log = log(rt, memory, alloc, 100);
+    let end = runs(rt, memory, alloc, log, bodies, line);
     let LanesEnd {
         session,
         line: _,
@@ -118,13 +124,26 @@ fn run_session_of_two_bodies(rt: HostRuntime) {
         ends,
         matched,
     } = end;
-    assert!(rt; are_counted(rt.alloc(), ends));
-    assert!(rt; matched && session.is_idle() && !session.is_closed());
+    let counted = are_counted(alloc, ends);
+    assert!(rt; matched && bodies.len() == 2 && !session.is_closed());
+    assert!(rt; bodies.iter().all(|body| body.runs == 1));
+    if !bodies.iter().all(|body| has_met(body)) {
+        return false;
+    }
+    assert!(rt; counted && session.is_idle());
     assert_eq!(rt; worker, WorkerEnd::AllLeft);
-    assert_eq!(rt; bodies.len(), 2);
     for (body, tags) in bodies.iter().zip([[10, 11], [20, 21]]) {
-        assert!(rt; body.runs == 1 && !body.ran_out);
         assert_eq!(rt; body.told[0], Some((tags[0], Status::Timeout, 0)));
         assert_eq!(rt; body.told[1], Some((tags[1], Status::Timeout, 0)));
+    }
+    true
+}
+
+#[test]
+fn run_session_of_two_bodies(rt: HostRuntime) {
+    let mut memory = Memory::new();
+    if !meet(&rt, &mut memory, rt.alloc()) {
+        memory.refuses(&rt);
+        assert!(rt; meet(&rt, &mut memory, rt.alloc()));
     }
 }
