@@ -103,10 +103,7 @@ fn waits<G: Gate>(gate: &G, point: u8) -> bool {
 }
 
 // Submits a request, and collects what it tells.
-fn requests(
-    client: &mut RingClient<Note, AskNote>,
-    tag: u64,
-) -> Option<(u64, Status, usize)>
+fn requests(client: &mut RingClient<Note, AskNote>, tag: u64) -> Option<(u64, Status, usize)>
     ensures { SameClient client.old client.new }
 {
     submits(client, tag);
