@@ -1,0 +1,14 @@
+//! One growth at most is refused in a test, whichever it is.
+mod desks;
+mod events;
+mod locked;
+mod memory;
+mod notes;
+mod players;
+mod queues;
+mod replies;
+mod rig;
+mod rings;
+mod scenes;
+mod sessions;
+mod threads;
