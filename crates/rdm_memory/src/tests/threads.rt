@@ -14,7 +14,7 @@ use std::process::Abort;
 use std::thread::Threads;
 
 // The worker makes them all where no thread could be made for the bodies.
-const TURNS: u64 = 3_000_000;
+const TURNS: u64 = 100_000_000;
 
 type End = LanesEnd<Player, TapeLine, Note, AskNote>;
 
