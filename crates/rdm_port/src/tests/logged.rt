@@ -80,13 +80,14 @@ fn outcomes_that_the_log_has_not_are_found_out(rt: HostRuntime) -> Result<(), Fa
 
 #[test]
 fn outcomes_that_are_missing_or_too_many_are_found_out(rt: HostRuntime) -> Result<(), Fail> {
-    let failed = Some(AgentFault::LineFailed);
     let session = session_of_one(rt.alloc()).ok_or("a session")?;
     let missing = [Outcomes::new(rt.alloc())];
-    let one = outcomes(rt.alloc(), Status::FailedToSend, b"", failed)?;
-    let other = outcomes(rt.alloc(), Status::FailedToSend, b"", failed)?;
-    let of_two_clients = [one, other];
     assert_eq!(rt; are_logged(rt.alloc(), session.log(), &missing), Ok(false));
+    let mut of_two_clients = Vec::new(rt.alloc());
+    for _ in 0..2 {
+        let failed = Some(AgentFault::LineFailed);
+        of_two_clients.push(outcomes(rt.alloc(), Status::FailedToSend, b"", failed)?)?;
+    }
     assert_eq!(rt;
         are_logged(rt.alloc(), session.log(), &of_two_clients),
         Ok(false)
