@@ -161,5 +161,10 @@ fn tells_how_it_is_used(rt: HostRuntime) {
 }
 
 fn holds(text: &[u8], part: &[u8]) -> bool {
-    text.windows(part.len()).any(|window| window == part)
+    for from in 0..text.len() {
+        if text[from..].starts_with(part) {
+            return true;
+        }
+    }
+    false
 }
