@@ -1,3 +1,7 @@
+pub mod Fronts
+pub mod ViewFacts
+pub mod HistoryLemmas
+pub mod PublishLemmas
 pub mod Counting
 pub mod SeatLemmas
 pub mod PairLemmas
@@ -6,6 +10,8 @@ pub mod ListLemmas
 pub mod GrowthLemmas
 pub mod LaneLemmas
 pub mod LineLemmas
+pub mod FoundLemmas
+pub mod ShowingLemmas
 pub mod CollectLemmas
 pub mod StepLemmas
 pub mod FitLemmas

@@ -1,3 +1,6 @@
+pub mod Views
+pub mod History
+pub mod Publishing
 pub mod Calls
 pub mod Told
 pub mod Counts

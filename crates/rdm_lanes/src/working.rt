@@ -5,6 +5,7 @@ ghost use Rattle.rdm_queue.specs.log.MaySend.{NoSend};
 ghost use Rattle.rdm_line.specs.Events.{event_of};
 ghost use Rattle.rdm_lanes.specs.Lines.{Exchanged, NoExchange, SameSwitches, OnlyCollects, exchange_count};
 ghost use Rattle.rdm_lanes.specs.Lanes.{SameLanes, AllHaveLeft};
+ghost use Rattle.rdm_lanes.specs.Views.{views_found, AreOnce};
 ghost use Rattle.rdm_lanes.specs.Workers.{session_of, lanes_of, operator_has_left};
 ghost use Rattle.rdm_lanes.specs.declared.worker.WorkerEnd.TheVariants.{AllLeft, Turns, LogFull as FullLog};
 ghost use Rattle.rdm_lanes.specs.declared.working.Attempt.TheVariants.{NothingToSend, LogFull as NoRoom};
@@ -19,11 +20,14 @@ use rdm_line::{Line, LineFault};
 use rdm_queue::{ClientId, LEAST_FREE, LogFull};
 use std::alloc::Global;
 
-// What an attempt at an exchange came to.
+/// What an attempt at an exchange came to.
 #[derive(Clone, Copy, PartialEq, Eq)]
-enum Attempt {
+pub enum Attempt {
+    /// An exchange was made.
     Exchanged,
+    /// There is no frame to send.
     NothingToSend,
+    /// The log is full.
     LogFull,
 }
 
@@ -95,7 +99,7 @@ impl Worker {
     }
 
     // Makes at most one call of each client.
-    fn serve_clients(&mut self, alloc: Global)
+    pub(crate) fn serve_clients(&mut self, alloc: Global)
         ensures line { NoExchange self.old.session self.new.session }
         ensures switches { SameSwitches self.old.session self.new.session }
         ensures lanes { SameLanes self.old.lanes.items self.new.lanes.items }
@@ -119,7 +123,7 @@ impl Worker {
     }
 
     // Moves the outcomes of each client.
-    fn move_all(&mut self, alloc: Global)
+    pub(crate) fn move_all(&mut self, alloc: Global)
         ensures collects { OnlyCollects self.old.session self.new.session }
         ensures lanes { SameLanes self.old.lanes.items self.new.lanes.items }
         ensures operator { self.new.operator_left ≡ self.old.operator_left }
@@ -142,7 +146,7 @@ impl Worker {
 
     // Makes at most one call of the operator.
     #[tactic(auto, using(crate::proofs::LineLemmas::line_same))]
-    fn serve_operator(&mut self)
+    pub(crate) fn serve_operator(&mut self)
         ensures line { NoExchange self.old.session self.new.session }
         ensures lanes { self.new.lanes ≡ self.old.lanes }
         ensures operator { self.old.operator_left ≡ true → (self.new.operator_left ≡ true)
@@ -187,9 +191,10 @@ impl Worker {
     }
 
     // Makes an exchange with the line, if there is a frame to send.
-    fn exchange<X: Line>(&mut self, alloc: Global, line: &mut X) -> Attempt
+    pub(crate) fn exchange<X: Line>(&mut self, alloc: Global, line: &mut X) -> Attempt
         ensures exchanged { Exchanged X.step line.old self.old.session line.new self.new.session }
         ensures switches { SameSwitches self.old.session self.new.session }
+        ensures found { AreOnce (views_found self.old.session.entries) (views_found self.new.session.entries) }
         ensures one { exchange_count self.new.session ≤ exchange_count self.old.session + 1 }
         ensures nothing { result ≡ NothingToSend → NoSend self.new.session.opening self.new.session.entries }
         ensures full { result ≡ NoRoom → is_full_log self.new.session ≡ true }
@@ -218,7 +223,7 @@ impl Worker {
     }
 
     // Whether all have left. Nobody sends anything after that, so the rings of calls are then empty.
-    fn have_all_left(&self) -> bool
+    pub(crate) fn have_all_left(&self) -> bool
         ensures { result ≡ true → AllHaveLeft self.now.lanes.items × (self.now.operator_left ≡ true) }
     {
         self.operator_left && self.lanes.iter().all(|lane| lane.left)
