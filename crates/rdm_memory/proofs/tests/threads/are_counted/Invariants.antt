@@ -1,0 +1,6 @@
+-- fewer ends are left
+use Rattle.std.proofs.Common.{length}
+use Rattle.rdm_memory.proofs.tests.threads.are_counted.Given as goal
+
+abbrev pub decreases-loop-end : goal.decreases-loop-end
+decreases-loop-end l = length l.ends.items

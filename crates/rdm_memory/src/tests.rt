@@ -1,0 +1,15 @@
+//! One growth at most is refused in a test, whichever it is.
+mod desks;
+mod events;
+mod locked;
+mod memory;
+mod notes;
+mod players;
+mod program;
+mod queues;
+mod replies;
+mod rig;
+mod rings;
+mod scenes;
+mod sessions;
+mod threads;

@@ -1,0 +1,95 @@
+//! Desks.
+use super::memory::Memory;
+use super::notes::{AskNote, Note, cancels};
+use rdm_client::{Collected, Desk, Full, Misdelivered};
+use rdm_join::Status;
+use rdm_queue::{Completion, NoMemory, Outcome};
+use std::alloc::Global;
+use std::process::Abort;
+
+// A desk with this many places, made again where memory is refused.
+fn desk(rt: &impl Abort, memory: &mut Memory, alloc: Global, places: u8) -> Desk<Note, AskNote> {
+    match Desk::new(alloc, places) {
+        Ok(desk) => desk,
+        Err(NoMemory) => {
+            memory.refuses(rt);
+            match Desk::new(alloc, places) {
+                Ok(desk) => desk,
+                Err(NoMemory) => panic!(rt; "memory for a desk"),
+            }
+        }
+    }
+}
+
+// What a client is given for a request that wasn't answered.
+fn outcome(alloc: Global, number: u64) -> Outcome {
+    Outcome::Request {
+        number: Some(number),
+        done: Completion {
+            status: Status::Timeout,
+            reply: None,
+            bytes: Vec::new(alloc),
+        },
+    }
+}
+
+// What a settle answers.
+type Settled = Result<Collected, (Misdelivered, Outcome)>;
+
+// Whether the callback with this tag was told of that request.
+fn is_told(settled: &Settled, tag: u64) -> bool {
+    match settled {
+        Ok(Collected::Request(told)) => told.tag == tag && told.done.status == Status::Timeout,
+        _ => false,
+    }
+}
+
+// Whether the outcome of the request with this number came back.
+fn is_back(settled: &Settled, wanted: u64) -> bool {
+    match settled {
+        Err((Misdelivered, Outcome::Request { number, .. })) => *number == Some(wanted),
+        _ => false,
+    }
+}
+
+#[test]
+fn desk_new_of_one_place(rt: HostRuntime) {
+    let mut memory = Memory::new();
+    let mut desk = desk(&rt, &mut memory, rt.alloc(), 1);
+    let held = desk.hold(Note(1)).is_ok();
+    let refused = desk.hold(Note(2)).err();
+    let told = desk.settle(outcome(rt.alloc(), 0));
+    let again = desk.settle(outcome(rt.alloc(), 1));
+    let left = cancels(rt.alloc(), desk.end());
+    assert!(rt; held);
+    assert_eq!(rt; refused, Some((Full, Note(2))));
+    assert!(rt; is_told(&told, 1) && is_back(&again, 1));
+    assert_eq!(rt; left, 0);
+}
+
+// A desk holds as many callbacks of requests as it has places, and four of discoveries.
+fn holds(rt: &impl Abort, alloc: Global, places: u8) {
+    let mut memory = Memory::new();
+    let mut desk = desk(rt, &mut memory, alloc, places);
+    let held = (0..u64::from(places)).all(|tag| desk.hold(Note(tag)).is_ok());
+    let asks_held = (0..4).all(|tag| desk.hold_ask(AskNote(tag)).is_ok());
+    let was_full = desk.is_full() && desk.is_full_of_asks();
+    let left = cancels(alloc, desk.end());
+    assert!(rt; held && asks_held && was_full);
+    assert_eq!(rt; left, u64::from(places).saturating_add(4));
+}
+
+#[test]
+fn desk_new_of_no_places(rt: HostRuntime) {
+    holds(&rt, rt.alloc(), 0);
+}
+
+#[test]
+fn desk_new_of_many_places(rt: HostRuntime) {
+    holds(&rt, rt.alloc(), 100);
+}
+
+#[test]
+fn desk_new_of_the_most_places(rt: HostRuntime) {
+    holds(&rt, rt.alloc(), 255);
+}

@@ -1,0 +1,78 @@
+//! The data of joined replies.
+ghost use Rattle.rdm_join.specs.JoinerStanding.{IsOpen};
+
+use super::memory::Memory;
+use super::rig::is_data;
+use arrayvec::ArrayVec;
+use rdm_join::{Joiner, Judged, Status, Step};
+use rdm_wire::{AckType, RespClass, Response, Uid};
+use std::alloc::Global;
+use std::process::Abort;
+
+// A response to a GET of the parameter `0060`, with so many bytes `5a` of data.
+fn response(rt: &impl Abort, ack: AckType, length: usize) -> Response {
+    let mut param = ArrayVec::new();
+    for _ in 0..length {
+        assert!(rt; param.try_push(0x5a).is_ok());
+    }
+    Response {
+        source: Uid::new(0x1234, 1),
+        dest: Uid::new(0x7a70, 0x100),
+        tn: 0,
+        ack,
+        count: 0,
+        sub_device: 0,
+        class: RespClass::Get,
+        pid: 0x0060,
+        param,
+    }
+}
+
+// A joiner that was given so many parts of 231 bytes.
+fn with_parts(rt: &impl Abort, parts: usize) -> Joiner
+    ensures { IsOpen result }
+{
+    let mut joiner = Joiner::new();
+    for _part in 0..parts {
+        let step = joiner.add(Judged::Part(response(rt, AckType::Overflow, 231)));
+        assert_eq!(rt; step, Step::More);
+    }
+    joiner
+}
+
+// The data of so many parts and of a last reply with this many bytes; where memory is refused they are taken again.
+fn takes(rt: &impl Abort, alloc: Global, parts: usize, last: usize, length: usize) {
+    let mut memory = Memory::new();
+    let mut joiner = with_parts(rt, parts);
+    let step = joiner.add(Judged::Whole(response(rt, AckType::Ack, last)));
+    assert_eq!(rt; step, Step::Done(Status::Completed));
+    let data = match joiner.take_data(alloc) {
+        Ok(data) => data,
+        Err(_) => {
+            memory.refuses(rt);
+            assert!(rt; joiner.head().is_some_and(|head| head.ack == AckType::Ack));
+            joiner.take_data(alloc).expect(rt, "the data")
+        }
+    };
+    assert!(rt; is_data(&data, length));
+}
+
+#[test]
+fn take_data_of_no_bytes(rt: HostRuntime) {
+    takes(&rt, rt.alloc(), 0, 0, 0);
+}
+
+#[test]
+fn take_data_of_one_byte(rt: HostRuntime) {
+    takes(&rt, rt.alloc(), 0, 1, 1);
+}
+
+#[test]
+fn take_data_of_a_middle_length(rt: HostRuntime) {
+    takes(&rt, rt.alloc(), 17, 169, 4096);
+}
+
+#[test]
+fn take_data_of_the_greatest_length(rt: HostRuntime) {
+    takes(&rt, rt.alloc(), 283, 162, 65_535);
+}
