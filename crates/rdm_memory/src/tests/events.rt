@@ -32,10 +32,14 @@ fn are_answered(answers: &[Answer]) -> bool {
             Answer::Submit(Ok(0)),
             Answer::Take(Ok(Some(frame))),
             Answer::Deliver(Ok(())),
-            Answer::Collect(Some(Outcome::Request {
-                number: Some(0),
-                done,
-            })),
+            Answer::Collect(
+                Some(
+                    Outcome::Request {
+                        number: Some(0),
+                        done,
+                    },
+                ),
+            ),
             Answer::Close,
         ] => {
             *client == CLIENT

@@ -196,10 +196,26 @@ fn serves_data<L: Ledger, R: Wait + Abort>(rt: &R, alloc: Global, blank: Blank)
     let events = [reply(rt, 0, ACK, 2), reply(rt, 1, ACK, 2)];
     let mut line = tape(rt, &mut memory, alloc, &events);
     let mut record = Vec::new(alloc);
-    let first = answered(rt, &mut memory, alloc, &port, &mut client, &mut line, &mut record);
+    let first = answered(
+        rt,
+        &mut memory,
+        alloc,
+        &port,
+        &mut client,
+        &mut line,
+        &mut record,
+    );
     if first == Status::NoMemory {
         memory.refuses(rt);
-        let second = answered(rt, &mut memory, alloc, &port, &mut client, &mut line, &mut record);
+        let second = answered(
+            rt,
+            &mut memory,
+            alloc,
+            &port,
+            &mut client,
+            &mut line,
+            &mut record,
+        );
         assert_eq!(rt; second, Status::Completed);
     }
     let requests = record.len();
@@ -297,9 +313,15 @@ fn delivered<L: Ledger, R: Abort>(
     assert!(rt; inside.deliver(alloc, reply(rt, tn, ACK, 2)).is_ok());
     let again = inside.deliver(alloc, silence()).err();
     assert!(rt; again.is_some_and(|(NotAsked, event)| is_silence(&event)));
-    let (number, done) = inside.collect_request(CLIENT, share).expect(rt, "an outcome");
+    let (number, done) = inside
+        .collect_request(CLIENT, share)
+        .expect(rt, "an outcome");
     assert_eq!(rt; number, u64::from(tn));
-    let length = if done.status == Status::Completed { 2 } else { 0 };
+    let length = if done.status == Status::Completed {
+        2
+    } else {
+        0
+    };
     assert!(rt; is_data(&done.bytes, length));
     done.status
 }

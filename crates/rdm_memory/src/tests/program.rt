@@ -49,7 +49,12 @@ fn parse_words_of_a_discovery(rt: HostRuntime) {
         incremental: true,
         quick: false,
     };
-    reads(&rt, rt.alloc(), &["discover", "f", "--incremental"], Ok(wanted));
+    reads(
+        &rt,
+        rt.alloc(),
+        &["discover", "f", "--incremental"],
+        Ok(wanted),
+    );
 }
 
 #[test]
@@ -58,7 +63,12 @@ fn parse_words_of_a_session(rt: HostRuntime) {
         file: "f",
         port: PortKind::Rings,
     };
-    reads(&rt, rt.alloc(), &["run", "f", "--port", "rings"], Ok(wanted));
+    reads(
+        &rt,
+        rt.alloc(),
+        &["run", "f", "--port", "rings"],
+        Ok(wanted),
+    );
 }
 
 #[test]
@@ -101,7 +111,9 @@ fn prints<T: Threads + Wait + Sync + Abort>(
     if written.as_slice() == b"fault: memory\n".as_slice() {
         assert_eq!(rt; status, 1);
     } else {
-        let is_told = without.iter().any(|lines| written.as_slice() == lines.as_bytes());
+        let is_told = without
+            .iter()
+            .any(|lines| written.as_slice() == lines.as_bytes());
         assert!(rt; is_told && status == 0);
     }
     let again = printed(rt, alloc, job, file, &mut written);

@@ -1,6 +1,8 @@
 //! Controllers without a log: how they are made, joins, and replies that are delivered.
 use super::memory::Memory;
-use super::rig::{ACK, CLIENT, completion, config, get, is_data, is_get, is_silence, reply, silence};
+use super::rig::{
+    ACK, CLIENT, completion, config, get, is_data, is_get, is_silence, reply, silence,
+};
 use rdm_join::Status;
 use rdm_queue::{Completion, Controller, JoinFault, NoMemory, NotAsked, SubmitFault};
 use std::alloc::Global;

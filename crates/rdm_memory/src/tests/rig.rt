@@ -202,11 +202,13 @@ pub fn room_for<T>(rt: &impl Abort, memory: &mut Memory, alloc: Global, count: u
 /// Whether the entry tells of a join with this many places that found no memory.
 pub fn is_refused_join(entry: Option<&Entry>, wanted: u8) -> bool {
     match entry {
-        Some(Entry::Refuse {
-            client: None,
-            call: Call::Join(places),
-            cause,
-        }) => *places == wanted && cause.0 == 4,
+        Some(
+            Entry::Refuse {
+                client: None,
+                call: Call::Join(places),
+                cause,
+            },
+        ) => *places == wanted && cause.0 == 4,
         _ => false,
     }
 }
@@ -234,12 +236,7 @@ pub fn joins(
 }
 
 /// A line that gives these events.
-pub fn tape(
-    rt: &impl Abort,
-    memory: &mut Memory,
-    alloc: Global,
-    events: &[LineEvent],
-) -> TapeLine {
+pub fn tape(rt: &impl Abort, memory: &mut Memory, alloc: Global, events: &[LineEvent]) -> TapeLine {
     let mut tape = room_for(rt, memory, alloc, events.len());
     for event in events {
         assert!(rt; tape.push(event.copied()).is_ok());

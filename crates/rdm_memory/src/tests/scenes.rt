@@ -130,13 +130,7 @@ fn mute(rt: &impl Abort) -> Frame {
 }
 
 // What comes of so many mutes of the device: the failures and the losses have their numbers, and else it answers.
-fn has_faults(
-    rt: &impl Abort,
-    line: &mut SimLine,
-    exchanges: u64,
-    losses: &[u64],
-    fails: &[u64],
-) {
+fn has_faults(rt: &impl Abort, line: &mut SimLine, exchanges: u64, losses: &[u64], fails: &[u64]) {
     let frame = mute(rt);
     for number in 0..exchanges {
         match line.exchange(&frame) {

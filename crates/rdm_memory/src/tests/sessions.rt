@@ -1,8 +1,8 @@
 //! Sessions and their logs: how they are made, joins, and replies that are delivered.
 use super::memory::Memory;
 use super::rig::{
-    ACK, ACK_OVERFLOW, CLIENT, completion, get, is_blank, is_data, is_get, is_silence,
-    joins, log, reply, session, session_in, silence,
+    ACK, ACK_OVERFLOW, CLIENT, completion, get, is_blank, is_data, is_get, is_silence, joins, log,
+    reply, session, session_in, silence,
 };
 use rdm_join::Status;
 use rdm_queue::{ClientId, Completion, JoinFault, NotAsked, Session, SubmitFault};
