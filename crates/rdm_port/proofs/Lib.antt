@@ -11,3 +11,4 @@ pub mod CommandLemmas
 pub mod SessionForms
 pub mod SettledLemmas
 pub mod PlaceLemmas
+pub mod LoggedLemmas

@@ -9,4 +9,6 @@ pub mod Report
 pub mod Input
 pub mod SessionFiles
 pub mod SessionReport
+pub mod Scripts
+pub mod LoggedOutcomes
 pub mod Commands

@@ -24,6 +24,7 @@ use Rattle.rdm_port.specs.declared.fault.Fault.{Fault}
 use Rattle.rdm_port.specs.Fault.{ReadsScene, ReadsSession, IsFaultOf, fault_line, fault_status}
 use Rattle.rdm_port.specs.Report.{line_of, report_text, report_status}
 use Rattle.rdm_port.specs.SessionReport.{AllSettled, session_text}
+use Rattle.rdm_port.specs.LoggedOutcomes.{HasLog}
 use Rattle.rdm_port.specs.declared.outcomes.Outcomes.{Outcomes}
 use Rattle.rdm_port.specs.SceneDiscovery.{IsSceneDiscovery, IsHonestReport}
 
@@ -69,13 +70,14 @@ pub record Discovers (incremental quick : Bool) (known : Option (List ℕ)) (tex
   pub prints : text ≡ report_text found frames
   pub ends : status ≡ report_status found
 
--- the text tells outcomes of all calls of the session that the file's bytes say; which ones the threads come to isn't
--- said
+-- The text tells outcomes of all calls of the session that the file's bytes say, and they ended as a legal log says.
+-- Which log the threads come to isn't said.
 pub record Runs (known : Option (List ℕ)) (text : List ℕ) (status : ℕ) : Type 0 where
   pub file : SessionFile
   pub reads : ReadsSession known file
   pub outcomes : List Outcomes
   pub settled : AllSettled file.clients.items outcomes
+  pub logged : HasLog outcomes
   pub prints : text ≡ session_text outcomes
   pub ends : status ≡ 0
 

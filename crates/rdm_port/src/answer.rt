@@ -3,6 +3,7 @@ ghost use Rattle.std.specs.Prelude.{◌≡◌, ◌≤◌, length};
 ghost use Rattle.rdm_port.specs.Report.{line_of};
 ghost use Rattle.rdm_port.specs.Outcome.{answer_bytes};
 
+use crate::fault::Fault;
 use crate::reason::Reason;
 use arrayvec::ArrayVec;
 use rdm_wire::LONGEST_BRANCH_REPLY;
@@ -44,14 +45,17 @@ impl Answer {
     }
 }
 
-/// What answers a command line, with its status, and the reason where the answer is a fault of its run.
+/// Why a command line has no answer: its fault, and the reason for people; none where memory was refused.
+pub type Refused = (Fault, Option<Reason>);
+
+/// What answers a command line, with its status, and what people are told besides.
 #[derive(Debug, Drop)]
 pub struct Answered {
     /// What is printed.
     pub text: Answer,
     /// 0: done. 1: a run had a fault.
     pub status: u8,
-    /// The reason of the fault.
+    /// The reason of the fault, or what people should know of the answer.
     pub reason: Option<Reason>,
 }
 

@@ -5,8 +5,9 @@ ghost use Rattle.rdm_port.specs.Fault.{IsDecodeFault, IsEncodeFault};
 ghost use Rattle.rdm_port.specs.Report.{line_of};
 ghost use Rattle.rdm_port.specs.Outcome.{Decodes, Encodes, reply_text, answer_bytes};
 
-use crate::answer::{Answer, LONGEST_TEXT};
+use crate::answer::{Answer, Answered, LONGEST_TEXT, Refused};
 use crate::fault::Fault;
+use crate::reason::Reason;
 use hex::FromHexError;
 use rdm_wire::{
     BranchReply, LONGEST_BRANCH_REPLY, LONGEST_PREAMBLE, Uid, read_branch_reply, write_branch_reply,
@@ -14,36 +15,55 @@ use rdm_wire::{
 use std::alloc::Global;
 
 /// Tells what the bytes that answered a branch say.
-pub fn decode(alloc: Global, digits: &str) -> Result<Answer, Fault>
-    ensures ok { IfOk result (λ text. Decodes digits.now (answer_bytes text)) }
-    ensures fault { IfErr result (λ fault. IsDecodeFault digits.now fault) }
+pub fn decode(alloc: Global, digits: &str) -> Result<Answered, Refused>
+    ensures ok { IfOk result (λ a. Decodes digits.now (answer_bytes a.text)) }
+    ensures status { IfOk result (λ a. a.status ≡ 0) }
+    ensures fault { IfErr result (λ e. IsDecodeFault digits.now e.0) }
 {
     match hex::decode(alloc, digits) {
         Ok(bytes) => Ok(told(read_branch_reply(&bytes))),
-        Err(FromHexError::OutOfMemory) => Err(Fault::Memory),
-        Err(_) => Err(Fault::Hex),
+        Err(FromHexError::OutOfMemory) => Err((Fault::Memory, None)),
+        Err(fault) => Err((Fault::Hex, Some(Reason::NoBytes(fault)))),
     }
 }
 
 // How a reply to a branch is told.
-fn told(reply: BranchReply) -> Answer
-    ensures { answer_bytes result ≡ line_of (reply_text reply) }
+fn told(reply: BranchReply) -> Answered
+    ensures text { answer_bytes result.text ≡ line_of (reply_text reply) }
+    ensures status { result.status ≡ 0 }
 {
     match reply {
-        BranchReply::One(uid) => Answer::line(&uid.to_text()),
-        BranchReply::Silent => Answer::line(b"silent"),
-        BranchReply::Collision => Answer::line(b"collision"),
+        BranchReply::One(uid) => Answered {
+            text: Answer::line(&uid.to_text()),
+            status: 0,
+            reason: broadcast(uid),
+        },
+        BranchReply::Silent => Answered::done(Answer::line(b"silent")),
+        BranchReply::Collision => Answered::done(Answer::line(b"collision")),
+    }
+}
+
+// Why no device sent a reply with this UID; none where one may have.
+fn broadcast(uid: Uid) -> Option<Reason> {
+    if uid.is_broadcast() {
+        Some(Reason::Broadcast)
+    } else {
+        None
     }
 }
 
 /// Writes the reply of a device, with the longest preamble.
-pub fn encode(uid: &str) -> Result<Answer, Fault>
-    ensures ok { IfOk result (λ text. Encodes uid.now (answer_bytes text)) }
-    ensures fault { IfErr result (λ fault. IsEncodeFault uid.now fault) }
+pub fn encode(uid: &str) -> Result<Answered, Refused>
+    ensures ok { IfOk result (λ a. Encodes uid.now (answer_bytes a.text)) }
+    ensures status { IfOk result (λ a. a.status ≡ 0) }
+    ensures fault { IfErr result (λ e. IsEncodeFault uid.now e.0) }
 {
     match Uid::parse(uid) {
-        Ok(uid) => Ok(digits_of(&write_branch_reply(uid, LONGEST_PREAMBLE))),
-        Err(_) => Err(Fault::Uid),
+        Ok(uid) => {
+            let reply = write_branch_reply(uid, LONGEST_PREAMBLE);
+            Ok(Answered::done(digits_of(&reply)))
+        }
+        Err(fault) => Err((Fault::Uid, Some(Reason::NoUid(fault)))),
     }
 }
 

@@ -5,7 +5,7 @@ ghost use Rattle.rdm_port.specs.Fault.{ReadsScene, SaysScene, IsFileFault, IsTex
 ghost use Rattle.rdm_port.specs.Outcome.{Discovers, answer_bytes, kind_of, search_of};
 ghost use Rattle.rdm_port.specs.Report.{report_text, report_status};
 
-use crate::answer::{Answer, Answered};
+use crate::answer::{Answer, Answered, Refused};
 use crate::discovery::{Discovery, discover_in};
 use crate::fault::Fault;
 use crate::input::{FileFault, read_file};
@@ -16,8 +16,6 @@ use rdm_agent::{Kind, Search};
 use serde_json::{Category, Value};
 use std::alloc::Global;
 use std::io::Read;
-
-type Refused = (Fault, Option<Reason>);
 
 /// What a run reports of the scene in the reader's file.
 // It isn't inlined: a run's values are large, and no other answer is to have places for them.

@@ -22,6 +22,7 @@ mod scene;
 mod serving;
 mod session;
 mod telling;
+mod usage;
 
 pub use discovery::{Discovery, discover, discover_in};
 pub use fault::Fault;
@@ -35,6 +36,7 @@ pub use scene::{Found, Mismatch, SceneFault, SceneFile, Step, read_scene};
 pub use serving::{Progress, ServeFault, serve};
 pub use session::{ClientCall, ClientFile, SessionFile, discovery_command, read_session};
 pub use telling::{Progressing, tell};
+pub use usage::USAGE;
 
 #[cfg(test)]
 mod tests;

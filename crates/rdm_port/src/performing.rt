@@ -1,12 +1,11 @@
 //! What a command line prints, its status, and the reason of what isn't done.
-ghost use Rattle.std.specs.Prelude.{◌≡◌, ℕ, List, IfOk, IfErr};
-ghost use Rattle.std.specs.Bool.{OnTrue, OnFalse};
+ghost use Rattle.std.specs.Prelude.{◌≡◌, ℕ, List, IfOk, IfErr, OnOk, OnErr};
 ghost use Rattle.std.specs.Io.KnownBytes.{Appends};
 ghost use Rattle.rdm_port.specs.Fault.{IsFaultOf, fault_line, fault_status};
 ghost use Rattle.rdm_port.specs.Report.{line_of};
 ghost use Rattle.rdm_port.specs.Outcome.{Answers, IsOutcome, IsPrinted, IsCutShort, answer_bytes};
 
-use crate::answer::{Answer, Answered};
+use crate::answer::{Answer, Answered, Refused};
 use crate::branch::{decode, encode};
 use crate::discovering::answer_discover;
 use crate::fault::Fault;
@@ -50,10 +49,15 @@ pub fn carry_out<R: Read, W: Write, P: Progress + Send, T: Threads + Wait + Sync
     ensures { (text : List ℕ) × (status : ℕ) × IsOutcome job.entry (R.remaining reader.old) text status
         × IsPrinted (W.contents writer.old) (W.contents writer.new) text status result.0 }
 {
-    let outcome = outcome_of(rt, alloc, job, reader, progress);
-    let whole = takes_all(writer, outcome.text.as_slice());
-    let status = if whole { outcome.status } else { NOT_WRITTEN };
-    (status, outcome.reason)
+    let Outcome {
+        text,
+        status,
+        reason,
+    } = outcome_of(rt, alloc, job, reader, progress);
+    match write_all(writer, text.as_slice()) {
+        Ok(()) => (status, reason),
+        Err(kind) => (NOT_WRITTEN, Some(Reason::Unwritten(kind))),
+    }
 }
 
 /// Tells nobody how far a session is.
@@ -108,20 +112,14 @@ fn answer<R: Read, P: Progress + Send, T: Threads + Wait + Sync>(
     job: Result<Job<'_>, WordsFault>,
     reader: &mut R,
     progress: &mut P,
-) -> Result<Answered, (Fault, Option<Reason>)>
+) -> Result<Answered, Refused>
     ensures ok { IfOk result (λ a. (j : Job) × (job.entry ≡ Ok j)
         × Answers j (R.remaining reader.old) (answer_bytes a.text) a.status) }
     ensures fault { IfErr result (λ e. IsFaultOf job.entry (R.remaining reader.old) e.0) }
 {
     match job {
-        Ok(Job::Decode(digits)) => match decode(alloc, digits) {
-            Ok(text) => Ok(Answered::done(text)),
-            Err(fault) => Err((fault, None)),
-        },
-        Ok(Job::Encode(uid)) => match encode(uid) {
-            Ok(text) => Ok(Answered::done(text)),
-            Err(fault) => Err((fault, None)),
-        },
+        Ok(Job::Decode(digits)) => decode(alloc, digits),
+        Ok(Job::Encode(uid)) => encode(uid),
         Ok(
             Job::Discover {
                 incremental,
@@ -135,13 +133,14 @@ fn answer<R: Read, P: Progress + Send, T: Threads + Wait + Sync>(
     }
 }
 
-// Writes the bytes, and tells whether the writer took all of them. `write_all` doesn't say what it wrote where it
-// fails.
-fn takes_all<W: Write>(writer: &mut W, bytes: &[u8]) -> bool
-    ensures all { OnTrue result (Appends (W.contents writer.old) (W.contents writer.new) bytes.now) }
-    ensures some { OnFalse result (IsCutShort (W.contents writer.old) (W.contents writer.new) bytes.now) }
+// Writes the bytes. Err: the writer failed so, or takes nothing more. The writer's own `write_all` doesn't say what it
+// wrote where it fails.
+fn write_all<W: Write>(writer: &mut W, bytes: &[u8]) -> Result<(), ErrorKind>
+    ensures all { OnOk result (Appends (W.contents writer.old) (W.contents writer.new) bytes.now) }
+    ensures some { OnErr result (IsCutShort (W.contents writer.old) (W.contents writer.new) bytes.now) }
 {
     let mut written = 0;
+    let mut failure = ErrorKind::WriteZero;
     // A loop has to end: this bound is one that no writer reaches. A write that was interrupted is tried again.
     'writing: for _ in 0..u64::MAX {
         if written == bytes.len() {
@@ -151,8 +150,15 @@ fn takes_all<W: Write>(writer: &mut W, bytes: &[u8]) -> bool
             Ok(0) => break,
             Ok(count) => written += count,
             Err(error) if error.kind() == ErrorKind::Interrupted => {}
-            Err(_) => break,
+            Err(error) => {
+                failure = error.kind();
+                break;
+            }
         }
     }
-    written == bytes.len()
+    if written == bytes.len() {
+        Ok(())
+    } else {
+        Err(failure)
+    }
 }

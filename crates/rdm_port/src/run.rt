@@ -4,7 +4,7 @@ ghost use Rattle.rdm_wire.specs.Uid.{IsDevice};
 ghost use Rattle.rdm_port.specs.Fault.{SaysSession, ReadsSession, IsSessionTextFault, IsSessionFileFault, IsServeFault};
 ghost use Rattle.rdm_port.specs.Outcome.{Runs, answer_bytes};
 
-use crate::answer::{Answer, Answered};
+use crate::answer::{Answer, Answered, Refused};
 use crate::discovering::no_json;
 use crate::fault::Fault;
 use crate::input::{FileFault, read_file};
@@ -21,8 +21,6 @@ use std::marker::Brand;
 use std::sync::Wait;
 use std::sync::ledger::Blank;
 use std::thread::Threads;
-
-type Refused = (Fault, Option<Reason>);
 
 /// What is printed of the session in the reader's file: of each client its requests in order, and then its discoveries
 /// in order. Each client has a thread, and the worker another.

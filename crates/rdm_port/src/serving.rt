@@ -4,11 +4,13 @@ ghost use Rattle.std.specs.Bool.{OnTrue};
 ghost use Rattle.rdm_wire.specs.Uid.{IsDevice};
 ghost use Rattle.rdm_queue.specs.log.Config.{IsConfig};
 ghost use Rattle.rdm_client.specs.declared.told.Told.{Told};
+ghost use Rattle.rdm_port.specs.LoggedOutcomes.{HasLog};
 ghost use Rattle.rdm_port.specs.SessionReport.{AllSettled, IsSettled, is_request, is_ask, places_of};
 ghost use Rattle.rdm_port.specs.declared.outcomes.Discovered.{Discovered};
 
 mod calls;
 mod locked;
+mod logged;
 mod rings;
 mod script;
 mod ticket;
@@ -18,13 +20,14 @@ use crate::job::PortKind;
 use crate::outcomes::{Discovered, Outcomes};
 use crate::scene::SceneFile;
 use crate::serving::locked::serve_locked;
+pub(crate) use crate::serving::logged::are_logged;
 use crate::serving::rings::serve_rings;
 use crate::serving::told_line::ToldLine;
 use crate::session::{ClientCall, ClientFile, SessionFile};
 use rdm_agent::Search;
 use rdm_client::Told;
 use rdm_line::SimLine;
-use rdm_queue::{Config, LEAST_FREE, Log, MOST_PLACES};
+use rdm_queue::{Config, LEAST_FREE, Log, MOST_PLACES, Session, laws};
 use rdm_wire::Uid;
 use std::alloc::Global;
 use std::sync::Wait;
@@ -66,11 +69,12 @@ pub struct SetUp {
 pub struct Served {
     /// What came of each client's calls, in the order of the clients.
     pub outcomes: Vec<Outcomes>,
-    /// How many entries of the log are free.
-    pub free: usize,
+    /// The session, with its log.
+    pub session: Session,
 }
 
-/// Serves a session, and gives what came of each client's calls, in the order of the clients.
+/// Serves a session, and gives what came of each client's calls, in the order of the clients. Each outcome has its
+/// call's tag, and ended as the session's log says.
 /// Err: memory was refused; or else the log is full; or else a client or the worker has made all its turns.
 pub fn serve<L: Ledger + Send + Sync, P: Progress + Send, R: Threads + Wait + Sync>(
     rt: &R,
@@ -86,7 +90,8 @@ pub fn serve<L: Ledger + Send + Sync, P: Progress + Send, R: Threads + Wait + Sy
     requires budget { 1 ≤ file.scene.budget }
     requires ring { 1 ≤ file.ring }
     requires log { file.log ≤ 1000000 }
-    ensures { IfOk result (λ outcomes. AllSettled file.clients.items outcomes.items) }
+    ensures settled { IfOk result (λ outcomes. AllSettled file.clients.items outcomes.items) }
+    ensures logged { IfOk result (λ outcomes. HasLog outcomes.items) }
 {
     let SessionFile {
         scene,
@@ -116,20 +121,29 @@ pub fn serve<L: Ledger + Send + Sync, P: Progress + Send, R: Threads + Wait + Sy
         PortKind::Rings => serve_rings(rt, alloc, set_up, ring, &clients, line),
     };
     match served {
-        Ok(served) => settled(&clients, served),
+        Ok(served) => settled(alloc, &clients, served),
         Err(fault) => Err(fault),
     }
 }
 
 // The outcomes, where each call has one. A log with fewer than three free entries would have refused the worker's next
-// frame, so it is full, also where no frame was left.
-fn settled(clients: &[ClientFile], served: Served) -> Result<Vec<Outcomes>, ServeFault>
-    ensures { IfOk result (λ outcomes. AllSettled clients.now outcomes.items) }
+// frame, so it is full, also where no frame was left. It doesn't come to outcomes that the log doesn't have.
+fn settled(
+    alloc: Global,
+    clients: &[ClientFile],
+    served: Served,
+) -> Result<Vec<Outcomes>, ServeFault>
+    ensures settled { IfOk result (λ outcomes. AllSettled clients.now outcomes.items) }
+    ensures logged { IfOk result (λ outcomes. HasLog outcomes.items) }
 {
-    if served.free < LEAST_FREE {
+    if served.session.free() < LEAST_FREE {
         return Err(ServeFault::Log);
     }
-    if all_settled(clients, &served.outcomes) {
+    laws::legal_keeps_promises();
+    let Ok(is_logged) = are_logged(alloc, served.session.log(), &served.outcomes) else {
+        return Err(ServeFault::Memory);
+    };
+    if is_logged && all_settled(clients, &served.outcomes) {
         Ok(served.outcomes)
     } else {
         Err(ServeFault::Turns)

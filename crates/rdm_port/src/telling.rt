@@ -1,45 +1,15 @@
-//! Tells people on standard error why something isn't done.
+//! Tells people on standard error why something isn't done, and how far a session is.
 use crate::reason::Reason;
 use crate::serving::Progress;
+use std::io;
 use std::rt::Clock;
 use std::time::Instant;
-use std::{io, str};
-
-const USAGE: &str = "\
-usage: wurstlinen decode HEX
-       wurstlinen encode UID
-       wurstlinen discover FILE [--incremental] [--quick]
-       wurstlinen run FILE [--port locked|rings]
-  decode     what the bytes of a reply to a branch say
-  encode     the reply of the device with this UID
-  discover   the devices that a run finds on the line of a scene file
-  run        the results of the clients of a session file
-FILE: JSON; docs/FORMATS.md has its keys";
 
 /// Tells a reason.
 pub fn tell(rt: &impl Eprint, reason: &Reason) -> io::Result<()> {
     match reason {
-        Reason::Usage => eprintln!(rt; "{USAGE}"),
-        Reason::TooLong => eprintln!(rt; "wurstlinen: the file has more than 1048576 bytes"),
-        Reason::Unreadable(kind) => eprintln!(rt; "wurstlinen: the file can't be read: {kind}"),
-        Reason::NoJson { line, column } => {
-            eprintln!(rt; "wurstlinen: no JSON at line {line}, column {column}")
-        }
-        Reason::NoScene(mismatch) => eprintln!(rt; "wurstlinen: {mismatch}"),
-        Reason::TooLittle { key, found } => {
-            eprintln!(rt; "wurstlinen: {key}: expected enough for the whole session, found {found}")
-        }
-        Reason::Fault(fault, found) => {
-            eprintln!(rt; "wurstlinen: {fault}")?;
-            tell_found(rt, found)
-        }
-    }
-}
-
-fn tell_found(rt: &impl Eprint, lines: &[u8]) -> io::Result<()> {
-    match str::from_utf8(lines) {
-        Ok("") | Err(_) => eprintln!(rt; "wurstlinen: no device was found until then"),
-        Ok(lines) => eprint!(rt; "wurstlinen: found until then:\n{lines}"),
+        Reason::Usage => eprintln!(rt; "{reason}"),
+        _ => eprintln!(rt; "wurstlinen: {reason}"),
     }
 }
 

@@ -1,6 +1,8 @@
 //! What lies outside the proofs: values from outside, texts for people, and that calls succeed.
 mod discovering;
 mod files;
+mod logged;
+mod reasons;
 mod replies;
 mod running;
 mod runs;

@@ -57,7 +57,7 @@ pub fn serve_locked<L: Ledger + Send + Sync, X: Line + Send + Drop, R: Threads +
     }
 }
 
-// Ends the port, and tells how many entries its log has free.
+// Ends the port, and hands back its session.
 fn finish<L: Ledger>(
     port: Port<L>,
     ended: Ended<L>,
@@ -69,7 +69,7 @@ fn finish<L: Ledger>(
     match port.finish(shares, record) {
         Ok(end) => Ok(Served {
             outcomes,
-            free: end.session.free(),
+            session: end.session,
         }),
         // It doesn't come to this: all shares are there, and the record is the worker's own.
         Err(_) => Err(ServeFault::Log),

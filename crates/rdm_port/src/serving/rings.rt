@@ -95,8 +95,7 @@ fn seats_of(alloc: Global, clients: &[ClientFile], turns: u64) -> Option<(Vec<u8
     Some((places, callers))
 }
 
-// What came of the clients' calls, in their order, and how many entries the log has free. All callbacks that are left
-// are cancelled.
+// What came of the clients' calls, in their order, and the session. All callbacks that are left are cancelled.
 fn served<J: ViewHistory, X: Drop>(
     alloc: Global,
     end: LanesEnd<J, Caller<'_>, X, RequestTicket, AskTicket>,
@@ -122,7 +121,7 @@ fn served<J: ViewHistory, X: Drop>(
     }
     Ok(Served {
         outcomes,
-        free: session.free(),
+        session,
     })
 }
 

@@ -1,4 +1,8 @@
 //! What a client of a session file does in its turns, whatever stands between it and the worker.
+ghost use Rattle.std.specs.Prelude.{◌≡◌, ◌⊎◌, ◌+◌, [], length, true, false, not, nat_lt, if◌then◌else◌, OnOk, IfErr, None};
+ghost use Rattle.std.specs.Prelude.{◌&&◌, ◌++◌, ◌∷◌, ◌↔◌, Ok};
+ghost use Rattle.rdm_port.specs.Scripts.{IsNext, Notes, has_all};
+
 use crate::outcomes::{Discovered, Outcomes};
 use crate::serving::ServeFault;
 use crate::session::ClientCall;
@@ -28,7 +32,11 @@ pub enum Next<'a> {
 
 impl<'a> Script<'a> {
     /// A client that has made none of these calls.
-    pub fn new(alloc: Global, calls: &'a [ClientCall]) -> Script<'a> {
+    pub fn new(alloc: Global, calls: &'a [ClientCall]) -> Script<'a>
+        ensures calls { result.calls.now ≡ calls.now }
+        ensures none_made { (result.accepted ≡ 0) × (result.is_full ≡ false) }
+        ensures none_told { (result.outcomes.requests.items ≡ []) × (result.outcomes.discoveries.items ≡ []) }
+    {
         Script {
             calls,
             accepted: 0,
@@ -39,7 +47,9 @@ impl<'a> Script<'a> {
 
     /// What the client does in its next turn. It makes its calls in order; after a call that found no room it collects
     /// before it tries again; at the end it collects until each call has its outcome.
-    pub fn next(&self) -> Next<'a> {
+    pub fn next(&self) -> Next<'a>
+        ensures { IsNext self.now result }
+    {
         if self.is_settled() {
             return Next::Done;
         }
@@ -50,10 +60,16 @@ impl<'a> Script<'a> {
     }
 
     /// Notes whether a call was accepted; if not, there was no room for it.
-    pub fn tried(&mut self, is_accepted: bool) {
+    pub fn tried(&mut self, is_accepted: bool)
+        ensures room { self.new.is_full ≡ not is_accepted }
+        ensures accepted { self.new.accepted ≡
+            (if is_accepted && nat_lt self.old.accepted (length self.old.calls.now) then self.old.accepted + 1
+            else self.old.accepted) }
+        ensures same { (self.new.calls ≡ self.old.calls) × (self.new.outcomes ≡ self.old.outcomes) }
+    {
         self.is_full = !is_accepted;
-        if is_accepted {
-            self.accepted = self.accepted.saturating_add(1);
+        if is_accepted && self.accepted < self.calls.len() {
+            self.accepted += 1;
         }
     }
 
@@ -63,7 +79,13 @@ impl<'a> Script<'a> {
         alloc: Global,
         collected: Option<Collected>,
         has_stopped: bool,
-    ) -> Result<(), ServeFault> {
+    ) -> Result<(), ServeFault>
+        ensures notes { OnOk result (Notes collected self.old.outcomes self.new.outcomes) }
+        ensures fault { IfErr result (λ e. (e ≡ ServeFault.Memory)
+            ⊎ ((e ≡ ServeFault.Turns) × (collected ≡ None) × (has_stopped ≡ true))) }
+        ensures room { self.new.is_full ≡ false }
+        ensures same { (self.new.calls ≡ self.old.calls) × (self.new.accepted ≡ self.old.accepted) }
+    {
         self.is_full = false;
         match collected {
             Some(Collected::Request(told)) => match self.outcomes.requests.push(told) {
@@ -79,7 +101,14 @@ impl<'a> Script<'a> {
         }
     }
 
-    fn note(&mut self, discovered: Discovered) -> Result<(), ServeFault> {
+    fn note(&mut self, discovered: Discovered) -> Result<(), ServeFault>
+        ensures noted { OnOk result (self.new.outcomes.discoveries.items
+            ≡ self.old.outcomes.discoveries.items ++ discovered ∷ []) }
+        ensures requests { self.new.outcomes.requests ≡ self.old.outcomes.requests }
+        ensures fault { IfErr result (λ e. e ≡ ServeFault.Memory) }
+        ensures same { (self.new.calls ≡ self.old.calls) × (self.new.accepted ≡ self.old.accepted)
+            × (self.new.is_full ≡ self.old.is_full) }
+    {
         match self.outcomes.discoveries.push(discovered) {
             Ok(()) => Ok(()),
             Err(_) => Err(ServeFault::Memory),
@@ -87,12 +116,17 @@ impl<'a> Script<'a> {
     }
 
     // Whether each call has an outcome.
-    fn is_settled(&self) -> bool {
+    fn is_settled(&self) -> bool
+        ensures { result ≡ has_all self.now }
+    {
         self.outcomes.requests.len() + self.outcomes.discoveries.len() == self.calls.len()
     }
 
     /// Whether the turns sufficed.
-    pub fn at_last_turn(&self) -> Result<(), ServeFault> {
+    pub fn at_last_turn(&self) -> Result<(), ServeFault>
+        ensures suffice { result ≡ Ok tt ↔ (has_all self.now ≡ true) }
+        ensures fault { IfErr result (λ e. e ≡ ServeFault.Turns) }
+    {
         if self.is_settled() {
             Ok(())
         } else {
@@ -101,7 +135,9 @@ impl<'a> Script<'a> {
     }
 
     /// What came of the calls.
-    pub fn into_outcomes(self) -> Outcomes {
+    pub fn into_outcomes(self) -> Outcomes
+        ensures { result ≡ self.entry.outcomes }
+    {
         self.outcomes
     }
 }

@@ -1,4 +1,6 @@
 //! A line that tells how many exchanges it has made.
+ghost use Rattle.std.specs.Prelude.{◌≡◌};
+
 use crate::serving::Progress;
 use rdm_join::LineReply;
 use rdm_line::{Line, LineFault};
@@ -17,7 +19,10 @@ pub struct ToldLine<'a, X, P> {
 
 impl<'a, X, P> ToldLine<'a, X, P> {
     /// A line that has made no exchange yet.
-    pub fn new(line: X, progress: &'a mut P) -> ToldLine<'a, X, P> {
+    pub fn new(line: X, progress: &'a mut P) -> ToldLine<'a, X, P>
+        ensures line { result.line ≡ line }
+        ensures made { result.made ≡ 0 }
+    {
         ToldLine {
             line,
             progress,

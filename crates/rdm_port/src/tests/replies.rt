@@ -199,10 +199,20 @@ fn tells_a_writer_that_fails(rt: HostRuntime) {
 
 // Takes one byte at a time, is interrupted before each, and fails at a count of bytes.
 #[derive(Drop)]
-struct Faltering {
+pub(super) struct Faltering {
     taken: ArrayVec<u8, 32>,
     was_interrupted: bool,
     fails_at: usize,
+}
+
+impl Faltering {
+    pub(super) fn failing_at(fails_at: usize) -> Faltering {
+        Faltering {
+            taken: ArrayVec::new(),
+            was_interrupted: false,
+            fails_at,
+        }
+    }
 }
 
 impl Write for Faltering {
@@ -230,11 +240,7 @@ fn goes_on_where_it_was_interrupted(rt: HostRuntime) {
         (0, 1, b"".as_slice()),
     ];
     for (fails_at, status, taken) in rows {
-        let mut writer = Faltering {
-            taken: ArrayVec::new(),
-            was_interrupted: false,
-            fails_at,
-        };
+        let mut writer = Faltering::failing_at(fails_at);
         let job = Ok(Job::Decode("fe"));
         assert_eq!(rt;
             perform(&rt, rt.alloc(), job, &mut io::empty(), &mut writer),

@@ -22,7 +22,8 @@ returns-in-Ok-session_text-clause-ok g c = record {
   file = c.in-Ok.file;
   reads = c.in-Ok.ensures.ok;
   outcomes = c.in-Ok-serve.outcomes.items;
-  settled = c.in-Ok-serve.ensures;
+  settled = c.in-Ok-serve.ensures.settled;
+  logged = c.in-Ok-serve.ensures.logged;
   prints = ap answer_bytes c.done.ensures.text ∙ (c.in-Ok-session_text.ensures ∙ ap session_text c.deref.ensures.value);
   ends = c.done.ensures.status;
 }

@@ -1,0 +1,20 @@
+//! How the program is used, for people.
+
+/// Each word that the program knows, with examples.
+pub const USAGE: &str = "\
+usage: wurstlinen decode HEX
+       wurstlinen encode UID
+       wurstlinen discover FILE [--incremental] [--quick]
+       wurstlinen run FILE [--port locked|rings]
+  decode         what the bytes of a reply to a branch say
+  encode         the reply of the device with this UID
+  discover       the devices that a run finds on the line of a scene file
+  --incremental  mutes the file's known devices first
+  --quick        sweeps first, which takes fewer frames on a large rig
+  run            the results of the clients of a session file
+  --port         what the clients share: a session behind a lock (locked), as without this word, or rings (rings)
+HEX: bytes as pairs of hexadecimal digits. UID: a device, as 7a70:00000001. FILE: JSON; docs/FORMATS.md has its keys.
+examples: wurstlinen decode fefefefefefefeaafa7ffa75aa55aa55aa55ab55ae57eff5
+          wurstlinen encode 7a70:00000001
+          wurstlinen discover examples/small_rig.json --quick
+          wurstlinen run examples/two_programs.json --port rings";
