@@ -84,7 +84,10 @@ impl fmt::Display for Reason {
             Reason::NoJson { line, column } => write!(f, "no JSON at line {line}, column {column}"),
             Reason::NoScene(mismatch) => write!(f, "{mismatch}"),
             Reason::TooLittle { key, found } => {
-                write!(f, "{key}: expected enough for the whole session, found {found}")
+                write!(
+                    f,
+                    "{key}: expected enough for the whole session, found {found}"
+                )
             }
             Reason::Fault(fault, found) => write_fault(f, *fault, found),
             Reason::Unwritten(kind) => write!(f, "the answer can't be written: {kind}"),

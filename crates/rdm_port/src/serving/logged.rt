@@ -193,10 +193,7 @@ fn fault_logged(
 {
     match entry {
         Entry::Answer { number, fault, .. }
-            if is_asker(askers, opening.next_ask, *number, client) =>
-        {
-            Some(*fault)
-        }
+            if is_asker(askers, opening.next_ask, *number, client) => { Some(*fault) }
         _ => None,
     }
 }

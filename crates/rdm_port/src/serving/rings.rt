@@ -12,8 +12,8 @@ use crate::serving::{ServeFault, Served, SetUp};
 use crate::session::{ClientCall, ClientFile};
 use rdm_client::{Tells, TellsAsk};
 use rdm_lanes::{
-    BlankHistory, Body, ClientEnd, Gate, LanesEnd, OpenFault, RingClient, ViewHistory, WORKER_STOPPED,
-    run_session_by,
+    BlankHistory, Body, ClientEnd, Gate, LanesEnd, OpenFault, RingClient, ViewHistory,
+    WORKER_STOPPED, run_session_by,
 };
 use rdm_line::Line;
 use std::alloc::Global;
@@ -44,11 +44,7 @@ pub fn serve_rings<X: Line + Send + Drop, R: Threads + Wait + Sync>(
 }
 
 // The same, with this history of the views that the worker publishes.
-fn serve_views<
-    J: ViewHistory + Send + Sync,
-    X: Line + Send + Drop,
-    R: Threads + Wait + Sync,
->(
+fn serve_views<J: ViewHistory + Send + Sync, X: Line + Send + Drop, R: Threads + Wait + Sync>(
     rt: &R,
     alloc: Global,
     history: BlankHistory,
@@ -119,17 +115,11 @@ fn served<J: ViewHistory, X: Drop>(
             return Err(ServeFault::Memory);
         }
     }
-    Ok(Served {
-        outcomes,
-        session,
-    })
+    Ok(Served { outcomes, session })
 }
 
 // Cancels the callbacks that the clients held at their ends.
-fn cancel_ends<J: ViewHistory>(
-    alloc: Global,
-    ends: Vec<ClientEnd<J, RequestTicket, AskTicket>>,
-) {
+fn cancel_ends<J: ViewHistory>(alloc: Global, ends: Vec<ClientEnd<J, RequestTicket, AskTicket>>) {
     let mut ends = ends;
     while let Some(end) = ends.pop() {
         cancel_all(alloc, end.into_unspent());

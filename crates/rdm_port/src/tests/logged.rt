@@ -48,7 +48,10 @@ fn outcomes(
         reply: None,
         bytes: Vec::from_slice(alloc, data)?,
     };
-    outcomes.requests.push(Told { tag: 0, done }).map_err(|_| "memory")?;
+    outcomes
+        .requests
+        .push(Told { tag: 0, done })
+        .map_err(|_| "memory")?;
     let discovered = Discovered {
         tag: 1,
         fault,
@@ -84,6 +87,9 @@ fn outcomes_that_are_missing_or_too_many_are_found_out(rt: HostRuntime) -> Resul
     let other = outcomes(rt.alloc(), Status::FailedToSend, b"", failed)?;
     let of_two_clients = [one, other];
     assert_eq!(rt; are_logged(rt.alloc(), session.log(), &missing), Ok(false));
-    assert_eq!(rt; are_logged(rt.alloc(), session.log(), &of_two_clients), Ok(false));
+    assert_eq!(rt;
+        are_logged(rt.alloc(), session.log(), &of_two_clients),
+        Ok(false)
+    );
     Ok(())
 }

@@ -115,10 +115,7 @@ fn tells_why_a_file_is_not_answered(rt: HostRuntime) {
 #[test]
 fn tells_why_a_file_is_not_read(rt: HostRuntime) -> Result<(), Fail> {
     let rows = [
-        (
-            FileFault::TooLong,
-            "the file has more than 1048576 bytes",
-        ),
+        (FileFault::TooLong, "the file has more than 1048576 bytes"),
         (
             FileFault::Unreadable(io::ErrorKind::NotFound),
             "the file can't be read: entity not found",
@@ -135,7 +132,10 @@ fn tells_why_a_file_is_not_read(rt: HostRuntime) -> Result<(), Fail> {
 fn tells_that_an_answer_is_not_written(rt: HostRuntime) {
     let mut writer = Faltering::failing_at(4);
     let (text, status) = told(&rt, rt.alloc(), &["decode", "fe"], b"", &mut writer);
-    assert_eq!(rt; text.as_slice(), b"the answer can't be written: broken pipe".as_slice());
+    assert_eq!(rt;
+        text.as_slice(),
+        b"the answer can't be written: broken pipe".as_slice()
+    );
     assert_eq!(rt; status, 1);
 }
 
