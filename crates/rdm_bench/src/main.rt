@@ -22,6 +22,7 @@ mod rings;
 mod serving;
 mod sizes;
 mod tape;
+mod views;
 
 use crate::bench::Bench;
 use crate::fault::Fault;
@@ -83,7 +84,10 @@ fn time<R: CpuClock + Print + Eprint + Wait>(
         Subject::Log => log::time(bench, size),
         Subject::Frames => frames::tell(bench.rt, bench.alloc, size, bench.rounds),
         Subject::Port => port::time(bench, size),
-        Subject::Rings => rings::time(bench, size),
+        Subject::Rings => {
+            rings::time(bench, size)?;
+            views::time(bench)
+        }
         Subject::All => {
             agent::time(bench, size)?;
             calls::time(bench, size)?;
@@ -92,6 +96,7 @@ fn time<R: CpuClock + Print + Eprint + Wait>(
             frames::tell(bench.rt, bench.alloc, size, bench.rounds)?;
             port::time(bench, size)?;
             rings::time(bench, size)?;
+            views::time(bench)?;
             sizes::print(bench.rt)
         }
     }

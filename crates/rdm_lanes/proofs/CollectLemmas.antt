@@ -9,9 +9,9 @@ use Rattle.rdm_queue.specs.declared.entry.ClientId.{ClientId}
 use Rattle.rdm_queue.specs.declared.entry.Opening.{Opening}
 use Rattle.rdm_queue.specs.declared.entry.Owner.TheVariants as owners
 use Rattle.rdm_queue.specs.declared.entry.Entry.{Entry}
-use Rattle.rdm_queue.specs.declared.entry.Entry.TheVariants.{Join, Refuse, Accept, Ask, Send, Came, Finish, Answer, Collect, Pause, Resume, Close}
+use Rattle.rdm_queue.specs.declared.entry.Entry.TheVariants.{Join, Send, Came, Finish, Answer, Collect, Pause, Resume, Close}
 use Rattle.rdm_queue.specs.log.Entries.{join_of, answered_of}
-use Rattle.rdm_queue.specs.log.MaySend.{MaySend, NoSend, MaySendRequest, MayBegin, MaySendRun}
+use Rattle.rdm_queue.specs.log.MaySend.{NoSend, MaySendRequest, MayBegin, MaySendRun}
 use Rattle.rdm_queue.specs.log.Legal.{Legal, MayFollow}
 use Rattle.rdm_queue.specs.log.LogState.{LogState, is_full_log, free_entries}
 use Rattle.rdm_queue.proofs.LogLemmas.PushLemmas.{accepts_same, asks_same, sends_same, finishes_same, answered_same, awaited-push, is_closed-push, is_paused-push}

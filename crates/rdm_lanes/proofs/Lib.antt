@@ -3,6 +3,7 @@ pub mod ViewFacts
 pub mod HistoryLemmas
 pub mod PublishLemmas
 pub mod Counting
+pub mod ReadLemmas
 pub mod SeatLemmas
 pub mod PairLemmas
 pub mod HandLemmas

@@ -40,6 +40,7 @@ use Rattle.rdm_queue.specs.promises.Outcomes.OutcomeValue.{DiscoveryValue}
 use Rattle.rdm_queue.proofs.LogLemmas.Places.{slice_get-append_left}
 use Rattle.rdm_queue.proofs.PromiseLemmas.StableResults.{filter_has}
 use Rattle.rdm_queue.proofs.PromiseLemmas.OwnDiscoveries.{discoveries_promised}
+use Rattle.rdm_lanes.specs.declared.history.ViewHistory.{Ghosts}
 use Rattle.rdm_lanes.specs.declared.ends.ClientEnd.{ClientEnd}
 use Rattle.rdm_lanes.specs.Lines.{exchanges}
 use Rattle.rtrb.specs.Ring.{known_items}
@@ -123,7 +124,7 @@ split_at [] i x e = absurd (no_item e)
 split_at (y ∷ xs) zero x e = let same : y ≡ x = cc in ([], xs, ap (λ (z : _). z ∷ xs) same)
 split_at (y ∷ xs) (suc i) x e = let rest = split_at xs i x e in (y ∷ rest.0, rest.1, ap (λ (zs : List _). y ∷ zs) rest.2)
 
-pub told_by : {C A : Type 0} (k : LogState) (c : ℕ) (e : ClientEnd C A) (v : OutcomeValue) (i : ℕ) → Agrees c k e → slice_get (end_got e) i ≡ Some v → IsToldBy k.opening k.entries c v
+pub told_by : {J : Type 0} {h : Ghosts J} {C A : Type 0} (k : LogState) (c : ℕ) (e : ClientEnd J C A h) (v : OutcomeValue) (i : ℕ) → Agrees c k e → slice_get (end_got e) i ≡ Some v → IsToldBy k.opening k.entries c v
 unfolding told_values
 told_by k c e v i agrees at =
     let o = k.opening in
@@ -176,7 +177,7 @@ discovery_of h front back Resume number done is = cc
 discovery_of h front back Close number done is = cc
 
 -- exactly the devices
-pub tells_devices : {C A : Type 0} (config : Config) (search : Search) (room : ℕ) (places : List ℕ) (s t : SimState) (k : LogState) (c : ℕ) (e : ClientEnd C A) → IsEndOver config search room places s t k c e → IsStayingScene s → TellsTheDevices s e
+pub tells_devices : {J : Type 0} {h : Ghosts J} {C A : Type 0} (config : Config) (search : Search) (room : ℕ) (places : List ℕ) (s t : SimState) (k : LogState) (c : ℕ) (e : ClientEnd J C A h) → IsEndOver config search room places s t k c e → IsStayingScene s → TellsTheDevices s e
 tells_devices config search room places s t k c e over is number done got fault = by_kind (discovery_of k.entries told.front told.back told.entry number done told.is)
   where
     told : IsToldBy k.opening k.entries c (DiscoveryValue number done)
@@ -205,7 +206,7 @@ in_one s u [] all one = absurd one
 in_one s u (y ∷ ys) all (inl here) = (y.before.exchanges, sym (ap (λ (us : List ℕ). has us u) (all.0 y.before.exchanges)) ∙ here)
 in_one s u (y ∷ ys) all (inr later) = in_one s u ys all.1 later
 
-pub tells_changing : {C A : Type 0} (config : Config) (search : Search) (room : ℕ) (places : List ℕ) (s t : SimState) (k : LogState) (c : ℕ) (e : ClientEnd C A) → IsEndOver config search room places s t k c e → IsLossyScene s → TellsTheChanging s e
+pub tells_changing : {J : Type 0} {h : Ghosts J} {C A : Type 0} (config : Config) (search : Search) (room : ℕ) (places : List ℕ) (s t : SimState) (k : LogState) (c : ℕ) (e : ClientEnd J C A h) → IsEndOver config search room places s t k c e → IsLossyScene s → TellsTheChanging s e
 tells_changing config search room places s t k c e over is = record { staying = staying; no_stranger = no_stranger }
   where
     h : List Entry

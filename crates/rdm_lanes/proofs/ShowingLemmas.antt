@@ -6,7 +6,7 @@ use Rattle.rdm_client.specs.declared.view.DeviceView.{DeviceView}
 use Rattle.rdm_queue.specs.declared.entry.Entry.{Entry}
 use Rattle.rdm_queue.specs.log.LogState.{LogState, grown}
 use Rattle.rdm_queue.specs.log.Runs.{known_devices, devices_run}
-use Rattle.rdm_lanes.specs.Lines.{NoExchange, Exchanged}
+use Rattle.rdm_lanes.specs.Lines.{NoExchange}
 use Rattle.rdm_lanes.specs.Views.{opening_view, last_view, last_view_run, views_found, all_views, AreOnce}
 use Rattle.rdm_lanes.specs.Publishing.{Publishing, IsShowing, Publishes}
 use Rattle.rdm_lanes.proofs.ViewFacts.{last_added}
@@ -45,7 +45,7 @@ but_last {X} (x ∷ xs) (y ∷ ys) is few = onward (but_last xs ys (cc is) (omeg
     onward (inr more) = inr (more.0, rw (same, more.1) refl)
 
 -- readers may take all, and all were added
-showing_all : (all : List DeviceView) (p : Publishing) (u : Bool) → p.shown ≡ all → p.added ≡ all → IsShowing all p u
+pub showing_all : (all : List DeviceView) (p : Publishing) (u : Bool) → p.shown ≡ all → p.added ≡ all → IsShowing all p u
 showing_all all p u shown added = record {
   begin = subst (λ (l : List DeviceView). l ≡ take (length l) all) (sym shown) (take_whole all);
   added = subst (λ (l : List DeviceView). l ≡ take (length l) all) (sym added) (take_whole all);

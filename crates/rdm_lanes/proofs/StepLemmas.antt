@@ -20,14 +20,14 @@ use Rattle.rdm_queue.specs.log.Entries.{join_of, answered_of}
 use Rattle.rdm_queue.specs.log.History.{is_closed, can_pause, can_resume}
 use Rattle.rdm_queue.specs.log.LogState.{LogState, grown, is_full_log}
 use Rattle.rdm_queue.specs.log.Legal.{Legal, MayFollow}
-use Rattle.rdm_queue.specs.promises.Blocks.{GrowsBy, UnlessFull, SubmitLogs, SubmitAdds, DiscoverLogs, DiscoverAdds, PauseLogs, ResumeLogs, CloseAdds, CloseAddsWhere, CollectAdds, IsWithResults, is_result, AllResults}
+use Rattle.rdm_queue.specs.promises.Blocks.{GrowsBy, UnlessFull, SubmitLogs, SubmitAdds, DiscoverLogs, DiscoverAdds, PauseLogs, ResumeLogs, CloseAdds, CloseAddsWhere, CollectAdds, is_result, AllResults}
 use Rattle.rdm_lanes.specs.Lines.{NoExchange, SameSwitches, IsBetweenTurns, OnlyCollects}
 use Rattle.rdm_lanes.specs.Serving.{IsOnlyTold}
 use Rattle.rdm_lanes.proofs.ListLemmas.{all_follow}
 use Rattle.rdm_lanes.proofs.GrowthLemmas.{touches, Untouched}
 use Rattle.rdm_lanes.proofs.LaneLemmas.{waits}
 use Rattle.rdm_lanes.proofs.FoundLemmas.{quiet_views, close_views}
-use Rattle.rdm_lanes.proofs.LineLemmas.{is_quiet, AllQuiet, NobodyJoins, is_switch, NoSwitch, quiet_all_off, results_off, results_no_join, served_quiet, line_off, switches_stay, served_closed, AllRightly, is_refusal, rightly_without}
+use Rattle.rdm_lanes.proofs.LineLemmas.{is_quiet, AllQuiet, NobodyJoins, is_switch, quiet_all_off, results_off, results_no_join, served_quiet, line_off, switches_stay, served_closed, AllRightly, is_refusal, rightly_without}
 
 quiet_unanswered : (e : Entry) → is_quiet e ≡ true → answered_of e ≡ None
 quiet_unanswered (Answer n r fault) is = absurd (true≢false (sym is))

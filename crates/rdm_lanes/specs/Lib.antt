@@ -10,6 +10,7 @@ pub mod Lines
 pub mod Lanes
 pub mod Serving
 pub mod Workers
+pub mod ViewsRead
 pub mod Ends
 pub mod Opened
 pub mod Rooms

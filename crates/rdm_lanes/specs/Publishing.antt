@@ -1,6 +1,7 @@
 -- What a publisher of views has.
 use Rattle.std.specs.Prelude.{◌≡◌, ◌+◌, ◌<◌, ◌≤◌, Bool, false, List, [], length, take}
 use Rattle.std.specs.List.{AllByRecursion}
+use mathlib.Core.List.{IsPrefix}
 use Rattle.rdm_client.specs.declared.view.DeviceView.{DeviceView}
 use Rattle.rdm_queue.specs.log.LogState.{LogState}
 use Rattle.rdm_lanes.specs.Views.{last_view_run, all_views}
@@ -33,3 +34,16 @@ pub record Publishes (k : LogState) (p : Publishing) (unpublished : Bool) : Type
   pub no_run : k.opening.devices_run ≡ 0
   pub no_devices : k.opening.devices ≡ []
   pub showing : IsShowing (all_views k.entries) p unpublished
+
+-- What was published begins all views of a log. It is all of them, unless a publication is still to be made.
+pub record IsPublished (all shown : List DeviceView) (behind : Bool) : Type 0 where
+  pub begin : IsPrefix shown all
+  pub whole : behind ≡ false → shown ≡ all
+
+-- What was published and what was read are beginnings of one list. Where the last view that was read isn't of a later
+-- run than the last that was published, what was read begins what was published.
+pub record BeginOne (shown read : List DeviceView) : Type 0 where
+  pub all : List DeviceView
+  pub shown_begins : IsPrefix shown all
+  pub read_begins : IsPrefix read all
+  pub early : last_view_run read ≤ last_view_run shown → IsPrefix read shown

@@ -1,9 +1,13 @@
 -- Published device views: the list of them, and how it goes on.
-use Rattle.std.specs.Prelude.{◌≡◌, ◌⊎◌, ℕ, ◌<◌, ◌==◌, Bool, false, List, [], ◌∷◌, ◌++◌, fold, map, Option, Some, None, if◌then◌else◌}
+use Rattle.std.specs.Prelude.{◌≡◌, ◌⊎◌, ℕ, ◌<◌, ◌==◌, Bool, false, List, [], ◌∷◌, ◌++◌, fold, map, Option, Some, None}
+use Rattle.std.specs.Prelude.{nat_lt, if◌then◌else◌}
+use Rattle.rdm_wire.specs.declared.device.Device.{Device}
 use Rattle.rdm_agent.specs.declared.fault.AgentFault.{AgentFault}
 use Rattle.rdm_queue.specs.declared.entry.Entry.{Entry}
 use Rattle.rdm_queue.specs.log.Entries.{answers}
 use Rattle.rdm_queue.specs.log.Runs.{run_devices}
+use Rattle.rdm_queue.specs.promises.Outcomes.{OutcomeValue}
+use Rattle.rdm_queue.specs.promises.Outcomes.OutcomeValue.{RequestValue, DiscoveryValue}
 use Rattle.rdm_client.specs.declared.view.DeviceView.{DeviceView}
 
 -- what is seen before any run has ended without fault
@@ -64,3 +68,21 @@ all_views h = opening_view ∷ views_found h
 abbrev pub AreOnce : List DeviceView → List DeviceView → Type 0
 AreOnce before after = (after ≡ before)
     ⊎ ((v : DeviceView) × (after ≡ before ++ v ∷ []) × (last_view_run (opening_view ∷ before) < v.run))
+
+-- the later of two views, by run; the first, where they are of one run
+abbrev pub later_view : DeviceView → DeviceView → DeviceView
+later_view first second = if nat_lt first.run second.run then second else first
+
+-- what a client knows of devices by a discovery's outcome without fault
+abbrev pub found_by : DeviceView → ℕ → Option AgentFault → List Device → DeviceView
+found_by before run None devices = record { run = run; set = devices }
+found_by before run (Some fault) devices = before
+
+-- what it knows after an outcome, if it knew this before
+abbrev pub found_after : DeviceView → OutcomeValue → DeviceView
+found_after before (RequestValue number done) = before
+found_after before (DiscoveryValue number done) = found_by before done.run done.fault done.devices
+
+-- what it knows by all its outcomes: those of the last one without fault
+unfoldable pub last_found : List OutcomeValue → DeviceView
+last_found values = fold found_after opening_view values

@@ -1,29 +1,17 @@
-//! A worker that publishes a view of the devices after each exchange that ends a run without fault, and before it moves
-//! that run's answers out.
-ghost use Rattle.std.specs.Prelude.{◌≡◌, ◌≤◌, ◌+◌, true, false, Some, None};
-ghost use Rattle.rdm_queue.specs.log.LogState.{is_full_log};
-ghost use Rattle.rdm_queue.specs.log.MaySend.{NoSend};
-ghost use Rattle.rdm_lanes.specs.Lines.{Exchanged, NoExchange, SameSwitches, OnlyCollects, exchange_count};
-ghost use Rattle.rdm_lanes.specs.Lanes.{SameLanes, AllHaveLeft};
-ghost use Rattle.rdm_lanes.specs.Views.{all_views};
+//! The worker, which has the session and one end of each ring, and publishes views of the devices.
 ghost use Rattle.rdm_lanes.specs.Publishing.{Publishes};
-ghost use Rattle.rdm_lanes.specs.declared.worker.WorkerEnd.TheVariants.{AllLeft, Turns, LogFull as FullLog};
-ghost use Rattle.rdm_lanes.specs.declared.working.Attempt.TheVariants.{NothingToSend, LogFull as NoRoom};
 
-use crate::comparing::shows_legal;
 use crate::history::ViewHistory;
 use crate::publishing::{Publisher, Shown};
-use crate::worker::{Worker, WorkerEnd};
-use crate::working::Attempt;
+use crate::worker::Worker;
 use left_right::Absorb;
 use rdm_client::DeviceView;
-use rdm_line::Line;
-use rdm_queue::Session;
-use std::alloc::Global;
 use std::sync::Wait;
 
-/// A worker with what it publishes (profile of this project): the views of its session's log, in order. Until a
-/// publication that was refused is made it makes no exchange, moves no outcome and doesn't end because all have left.
+/// Who makes the calls of the clients and of the operator, and the exchanges with the line (profile of this project).
+/// It has the session, and publishes the views of its log, in order: the devices that each run found which was answered
+/// without fault. What it has received of each client is that client's calls in the log, and what it has sent each is
+/// what the log tells that client. Nobody else has joined or called anything. `T` is `Shown<J>`.
 #[derive(Drop)]
 pub struct ViewWorker<
     J: ViewHistory,
@@ -35,182 +23,4 @@ pub struct ViewWorker<
     // Whether the last publication was refused.
     pub(crate) unpublished: bool,
     ghost publishes: { Publishes server.session views unpublished },
-}
-
-impl<J: ViewHistory, R: Wait + Drop> ViewWorker<J, Shown<J>, R> {
-    /// Works for this many turns at most, as [`Worker::work`] does. In a turn it publishes the devices that its exchange
-    /// found before it moves outcomes. Where a publication is refused, it is tried again in the next turn; until it is
-    /// made, no exchange is made, no outcome is moved, and the work doesn't end because all have left.
-    pub fn work<X: Line>(&mut self, alloc: Global, line: &mut X, turns: u64) -> WorkerEnd
-        ensures exchanged { Exchanged X.step line.old self.old.server.session line.new self.new.server.session }
-        ensures lanes { SameLanes self.old.server.lanes.items self.new.server.lanes.items }
-        ensures turns { (exchange_count self.new.server.session ≤ exchange_count self.old.server.session + turns)
-            × (turns ≡ 0 → result ≡ Turns) }
-        ensures all_left { result ≡ AllLeft → AllHaveLeft self.new.server.lanes.items
-            × (self.new.server.operator_left ≡ true)
-            × NoSend self.new.server.session.opening self.new.server.session.entries }
-        ensures published { result ≡ AllLeft → self.new.unpublished ≡ false }
-        ensures full { result ≡ FullLog → is_full_log self.new.server.session ≡ true }
-        ensures operator { self.old.server.operator_left ≡ true → (self.new.server.operator_left ≡ true)
-            × SameSwitches self.old.server.session self.new.server.session }
-    {
-        for _turn in 0..turns {
-            if let Some(end) = self.turn(alloc, line) {
-                return end;
-            }
-        }
-        WorkerEnd::Turns
-    }
-
-    // One turn. Some: the worker stops.
-    fn turn<X: Line>(&mut self, alloc: Global, line: &mut X) -> Option<WorkerEnd>
-        ensures exchanged { Exchanged X.step line.old self.old.server.session line.new self.new.server.session }
-        ensures lanes { SameLanes self.old.server.lanes.items self.new.server.lanes.items }
-        ensures one { exchange_count self.new.server.session ≤ exchange_count self.old.server.session + 1 }
-        ensures all_left { result ≡ Some AllLeft → AllHaveLeft self.new.server.lanes.items
-            × (self.new.server.operator_left ≡ true)
-            × NoSend self.new.server.session.opening self.new.server.session.entries }
-        ensures published { result ≡ Some AllLeft → self.new.unpublished ≡ false }
-        ensures full { result ≡ Some FullLog → is_full_log self.new.server.session ≡ true }
-        ensures operator { self.old.server.operator_left ≡ true → (self.new.server.operator_left ≡ true)
-            × SameSwitches self.old.server.session self.new.server.session }
-    {
-        match self.serve_all(alloc, line) {
-            None => None,
-            Some(Attempt::Exchanged) => None,
-            Some(Attempt::NothingToSend) if self.server.have_all_left() => Some(WorkerEnd::AllLeft),
-            Some(Attempt::NothingToSend) => None,
-            Some(Attempt::LogFull) => Some(WorkerEnd::LogFull),
-        }
-    }
-
-    // All that is done in a turn, and what its attempt at an exchange came to. None: a publication was refused, and
-    // nothing was done after that.
-    fn serve_all<X: Line>(&mut self, alloc: Global, line: &mut X) -> Option<Attempt>
-        ensures exchanged { Exchanged X.step line.old self.old.server.session line.new self.new.server.session }
-        ensures lanes { SameLanes self.old.server.lanes.items self.new.server.lanes.items }
-        ensures one { exchange_count self.new.server.session ≤ exchange_count self.old.server.session + 1 }
-        ensures nothing { result ≡ Some NothingToSend
-            → NoSend self.new.server.session.opening self.new.server.session.entries }
-        ensures published { result ≡ Some NothingToSend → self.new.unpublished ≡ false }
-        ensures full { result ≡ Some NoRoom → is_full_log self.new.server.session ≡ true }
-        ensures operator { self.old.server.operator_left ≡ true → (self.new.server.operator_left ≡ true)
-            × SameSwitches self.old.server.session self.new.server.session }
-    {
-        self.serve_calls(alloc);
-        if !self.publish(alloc) {
-            return None;
-        }
-        let attempt = self.exchange(alloc, line);
-        if !self.publish(alloc) {
-            return None;
-        }
-        self.move_all(alloc);
-        shows_legal(&self.server.session);
-        Some(attempt)
-    }
-
-    // Makes at most one call of each client and of the operator.
-    fn serve_calls(&mut self, alloc: Global)
-        ensures line { NoExchange self.old.server.session self.new.server.session }
-        ensures lanes { SameLanes self.old.server.lanes.items self.new.server.lanes.items }
-        ensures operator { self.old.server.operator_left ≡ true → (self.new.server.operator_left ≡ true)
-            × SameSwitches self.old.server.session self.new.server.session }
-    {
-        self.server.serve_clients(alloc);
-        self.server.serve_operator();
-    }
-
-    // Publishes what is still to be published, and says whether that is done.
-    fn publish(&mut self, alloc: Global) -> bool
-        ensures made { result ≡ true → self.new.unpublished ≡ false }
-        ensures server { self.new.server ≡ self.old.server }
-    {
-        if !self.unpublished {
-            return true;
-        }
-        let ViewWorker {
-            server,
-            views,
-            unpublished,
-        } = self;
-        if !publish_next(alloc, &server.session, views, *unpublished) {
-            return false;
-        }
-        *unpublished = false;
-        true
-    }
-
-    // Makes an exchange with the line, if there is a frame to send. What it found is still to be published.
-    fn exchange<X: Line>(&mut self, alloc: Global, line: &mut X) -> Attempt
-        requires { self.old.unpublished ≡ false }
-        ensures exchanged { Exchanged X.step line.old self.old.server.session line.new self.new.server.session }
-        ensures switches { SameSwitches self.old.server.session self.new.server.session }
-        ensures one { exchange_count self.new.server.session ≤ exchange_count self.old.server.session + 1 }
-        ensures nothing { result ≡ NothingToSend
-            → NoSend self.new.server.session.opening self.new.server.session.entries }
-        ensures full { result ≡ NoRoom → is_full_log self.new.server.session ≡ true }
-        ensures lanes { self.new.server.lanes ≡ self.old.server.lanes }
-        ensures operator { self.new.server.operator_left ≡ self.old.server.operator_left }
-    {
-        let attempt = self.server.exchange(alloc, line);
-        self.unpublished = true;
-        attempt
-    }
-
-    // Moves the outcomes of each client, once all views are published.
-    fn move_all(&mut self, alloc: Global)
-        requires { self.old.unpublished ≡ false }
-        ensures collects { OnlyCollects self.old.server.session self.new.server.session }
-        ensures lanes { SameLanes self.old.server.lanes.items self.new.server.lanes.items }
-        ensures operator { self.new.server.operator_left ≡ self.old.server.operator_left }
-        ensures published { self.new.unpublished ≡ false }
-    {
-        self.server.move_all(alloc);
-    }
-}
-
-// Adds the view that is lacking, if one is, and publishes the last one. It says whether that is published.
-#[tactic(auto, using(crate::proofs::ShowingLemmas::publishes_still, crate::proofs::ShowingLemmas::publishes_shown))]
-fn publish_next<J: ViewHistory, R: Wait + Drop>(
-    alloc: Global,
-    session: &Session,
-    views: &mut Publisher<J, Shown<J>, R>,
-    unpublished: bool,
-) -> bool
-    requires due { unpublished ≡ true }
-    requires publishes { Publishes session.now views.old unpublished }
-    ensures made { result ≡ true → Publishes session.now views.new false }
-    ensures publishes { Publishes session.now views.new unpublished }
-{
-    if !add_next(alloc, session, views, unpublished) {
-        return false;
-    }
-    if !views.show() {
-        return false;
-    }
-    true
-}
-
-// Adds the view that is lacking, if one is, and says whether all views are added.
-#[tactic(auto, using(crate::proofs::ShowingLemmas::publishes_still, crate::proofs::ShowingLemmas::publishes_next, crate::proofs::ShowingLemmas::added_all, crate::proofs::ShowingLemmas::added_next))]
-fn add_next<J: ViewHistory, R: Wait + Drop>(
-    alloc: Global,
-    session: &Session,
-    views: &mut Publisher<J, Shown<J>, R>,
-    unpublished: bool,
-) -> bool
-    requires due { unpublished ≡ true }
-    requires publishes { Publishes session.now views.old unpublished }
-    ensures added { result ≡ true → views.new.added ≡ all_views session.now.entries }
-    ensures publishes { Publishes session.now views.new unpublished }
-{
-    let run = session.devices_run();
-    if run <= views.run() {
-        return true;
-    }
-    if !views.add(alloc, run, session.devices()) {
-        return false;
-    }
-    true
 }

@@ -1,14 +1,19 @@
 //! Discoveries over rings and a tape.
+ghost use Rattle.std.specs.Prelude.{◌≡◌};
+ghost use Rattle.rdm_lanes.specs.Workers.{book_of};
+
 use super::driven::{Driven, opened};
-use super::heard::{Found, Heard, Step};
+use super::heard::{Found, Heard, Sight, Step};
 use super::said::{Said, tells_at, tells_run};
-use crate::WorkerEnd;
+use crate::{BlankHistory, Shown, ViewHistory, WorkerEnd};
 use arrayvec::ArrayVec;
 use rdm_agent::Kind;
 use rdm_join::{LineEvent, LineReply};
 use rdm_wire::{Device, Uid, encode_response, mute_response, write_branch_reply};
 use std::alloc::Global;
+use std::marker::Brand;
 use std::process::Abort;
+use std::sync::Wait;
 
 // What the line answers to a frame.
 #[derive(Clone, Copy)]
@@ -134,49 +139,74 @@ fn found(tag: u64, run: u64, second: Device) -> Found {
     }
 }
 
-// Makes both runs, each with its last frame in the last turn.
-fn makes_both(rt: &impl Abort, alloc: Global, lanes: &mut Driven) {
+// What a client knows of devices after this run, which found two.
+fn seen(run: u64) -> Option<Sight> {
+    Some(Sight {
+        run,
+        count: 2,
+        both: true,
+    })
+}
+
+// Makes both runs, each with its last frame in the last turn. A view is read before the answer is collected; what the
+// client collects it knows of without reading.
+fn makes_both<J: ViewHistory, R: Wait + Drop>(
+    rt: &impl Abort,
+    alloc: Global,
+    lanes: &mut Driven<J, Shown<J>, R>,
+) {
     let known = [first().uid, gone().uid];
     let present = [first().uid, new().uid];
     let full = Step::Discover(Kind::Full, 5);
     assert_eq!(rt; lanes.client(0, full), Heard::Sent);
     assert_eq!(rt; lanes.work(alloc, 11), WorkerEnd::Turns);
     assert_eq!(rt; lanes.finds(0, known), None);
+    assert_eq!(rt; lanes.looks(0, known).map(|sight| sight.run), Some(0));
     assert_eq!(rt; lanes.work(alloc, 1), WorkerEnd::Turns);
+    assert_eq!(rt; lanes.looks(0, known), seen(1));
     assert_eq!(rt; lanes.finds(0, known), Some(found(5, 1, gone())));
     let incremental = Step::Discover(Kind::Incremental, 6);
     assert_eq!(rt; lanes.client(0, incremental), Heard::Sent);
     assert_eq!(rt; lanes.work(alloc, 17), WorkerEnd::Turns);
+    assert_eq!(rt; lanes.knows(0, known), seen(1));
     assert_eq!(rt; lanes.finds(0, present), Some(found(6, 2, new())));
+    assert_eq!(rt; lanes.knows(0, present), seen(2));
+    assert_eq!(rt; lanes.looks(0, present), seen(2));
 }
 
-#[test]
-fn an_incremental_run_over_rings_has_the_frames_12_to_28(rt: HostRuntime) {
-    let events = tape(&rt, rt.alloc());
+fn searches_twice<J: ViewHistory, R: Abort + Wait>(rt: &R, alloc: Global, history: BlankHistory)
+    requires { book_of history ≡ J.book }
+{
+    let events = tape(rt, alloc);
     let places = [1u8];
-    let mut lanes = opened(&rt, rt.alloc(), 100, 4, places.as_slice(), events);
-    makes_both(&rt, rt.alloc(), &mut lanes);
-    let (session, counts) = lanes.end(&rt, rt.alloc());
+    let mut lanes = opened::<J, R>(rt, alloc, history, 100, 4, places.as_slice(), events);
+    makes_both(rt, alloc, &mut lanes);
+    let (session, counts) = lanes.end(rt, alloc);
     assert_eq!(rt; counts.as_slice(), [(2, 2, 0)].as_slice());
     assert_eq!(rt; session.log().entries().len(), 65);
     tells_at(
-        &rt,
+        rt,
         &session,
         0,
         &[Said::Join(0, 1), Said::Ask(0, 0, Kind::Full)],
     );
-    tells_run(&rt, &session, 2, 1, 0, 11);
+    tells_run(rt, &session, 2, 1, 0, 11);
     let between = [
         Said::Answer(0, 1, None),
         Said::Collect(0),
         Said::Ask(0, 1, Kind::Incremental),
     ];
-    tells_at(&rt, &session, 26, between.as_slice());
-    tells_run(&rt, &session, 29, 2, 12, 28);
+    tells_at(rt, &session, 26, between.as_slice());
+    tells_run(rt, &session, 29, 2, 12, 28);
     tells_at(
-        &rt,
+        rt,
         &session,
         63,
         &[Said::Answer(1, 2, None), Said::Collect(0)],
     );
+}
+
+#[test]
+fn an_incremental_run_over_rings_has_the_frames_12_to_28(rt: HostRuntime) {
+    searches_twice::<Brand, _>(&rt, rt.alloc(), BlankHistory::new());
 }

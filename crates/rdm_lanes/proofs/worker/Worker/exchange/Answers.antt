@@ -1,4 +1,4 @@
-use Rattle.std.proofs.Common.{◌≡◌, ◌∙◌, List, Option, Result, Ok, Some, None, ap, sym, subst, refl, inl, arith}
+use Rattle.std.proofs.Common.{◌≡◌, ◌∙◌, Ok, ap, sym, subst, inl, arith}
 use Rattle.rdm_queue.specs.log.LogState.{LogState}
 use Rattle.rdm_lanes.specs.Lines.{IsBetweenTurns}
 use Rattle.rdm_lanes.specs.Lanes.{AllFit}
