@@ -11,8 +11,8 @@ use std::thread;
 
 type Client<J> = RingClient<J, Note, AskNote>;
 
-/// How often a body tries before it gives up.
-const TRIES: u64 = 100_000_000;
+/// How often a body tries before it gives up. It does where no thread could be made for the others.
+const TRIES: u64 = 3_000_000;
 
 /// Two points that are reached or not.
 #[derive(Drop)]

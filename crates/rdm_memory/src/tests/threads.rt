@@ -16,13 +16,14 @@ use std::process::Abort;
 use std::sync::Wait;
 use std::thread::Threads;
 
-const TURNS: u64 = 1_000_000_000;
+// The worker makes them all where no thread could be made for the bodies.
+const TURNS: u64 = 100_000_000;
 
 // Why a session wasn't run, and what came back.
 type Refused = (Log, Vec<Player>, TapeLine);
 
-// Runs two bodies over a line that keeps silent. Err: memory is refused; the log comes back as a new one, and the
-// bodies without having run.
+// Runs two bodies over a line that keeps silent, and says whether they met. Err: memory is refused; the log comes back
+// as a new one, and the bodies without having run.
 fn runs<J: ViewHistory + Send + Sync, R: Threads + Wait + Abort + Sync>(
     rt: &R,
     alloc: Global,
@@ -30,7 +31,7 @@ fn runs<J: ViewHistory + Send + Sync, R: Threads + Wait + Abort + Sync>(
     log: Log,
     bodies: Vec<Player>,
     line: TapeLine,
-) -> Result<(), Refused>
+) -> Result<bool, Refused>
     requires name { book_of history ≡ J.book }
     requires empty { log.entries ≡ [] }
     requires two { length bodies.items ≡ 2 }
@@ -53,10 +54,7 @@ fn runs<J: ViewHistory + Send + Sync, R: Threads + Wait + Abort + Sync>(
         TURNS,
     );
     match ended {
-        Ok(end) => {
-            is_whole(rt, alloc, end);
-            Ok(())
-        }
+        Ok(end) => Ok(have_met(rt, alloc, end)),
         Err((fault, log, bodies, line)) => {
             assert_eq!(rt; fault, RunFault::NoMemory);
             assert!(rt; is_blank(&log));
@@ -66,13 +64,14 @@ fn runs<J: ViewHistory + Send + Sync, R: Threads + Wait + Abort + Sync>(
     }
 }
 
-// Each client sent two requests, which were told, and collected both.
+// Whether the bodies met, and each request was told; else memory for a thread was refused, and each body has run all
+// the same.
 #[inline(never)]
-fn is_whole<J: ViewHistory>(
+fn have_met<J: ViewHistory>(
     rt: &impl Abort,
     alloc: Global,
     end: LanesEnd<J, Player, TapeLine, Note, AskNote>,
-) {
+) -> bool {
     let LanesEnd {
         session,
         line: _,
@@ -83,15 +82,24 @@ fn is_whole<J: ViewHistory>(
         published: _,
         behind,
     } = end;
-    assert!(rt; are_counted(alloc, ends));
-    assert!(rt; matched && !behind && session.is_idle() && !session.is_closed());
+    let counted = are_counted(alloc, ends);
+    assert!(rt; matched && !behind && bodies.len() == 2 && !session.is_closed());
+    assert!(rt; bodies.iter().all(|body| body.runs == 1));
+    if !bodies.iter().all(|body| has_met(body)) {
+        return false;
+    }
+    assert!(rt; counted && session.is_idle());
     assert_eq!(rt; worker, WorkerEnd::AllLeft);
-    assert_eq!(rt; bodies.len(), 2);
     for (body, tags) in bodies.iter().zip([[10, 11], [20, 21]]) {
-        assert!(rt; body.runs == 1 && !body.ran_out);
         assert_eq!(rt; body.told[0], Some((tags[0], Status::Timeout, 0)));
         assert_eq!(rt; body.told[1], Some((tags[1], Status::Timeout, 0)));
     }
+    true
+}
+
+// Whether the body met the other one, and both its requests were told.
+fn has_met(body: &Player) -> bool {
+    !body.ran_out && body.told[0].is_some() && body.told[1].is_some()
 }
 
 // Whether each client sent two requests, collected two outcomes, and held no callback.
@@ -106,22 +114,32 @@ fn are_counted<J: ViewHistory>(alloc: Global, ends: Vec<ClientEnd<J, Note, AskNo
     all
 }
 
-#[test]
-fn run_session_of_two_bodies(rt: HostRuntime) {
-    let mut memory = Memory::new();
+// Runs the two bodies, once more where memory is refused before they have run. Says whether they met.
+fn meet<R: Threads + Wait + Abort + Sync>(rt: &R, memory: &mut Memory, alloc: Global) -> bool {
     let quiet = [silence(), silence(), silence(), silence()];
-    let line = tape(&rt, &mut memory, rt.alloc(), &quiet);
-    let mut bodies = room_for(&rt, &mut memory, rt.alloc(), 2);
+    let line = tape(rt, memory, alloc, &quiet);
+    let mut bodies = room_for(rt, memory, alloc, 2);
     assert!(rt; bodies.push(Player::new(0)).is_ok());
     assert!(rt; bodies.push(Player::new(1)).is_ok());
     assert!(rt; bodies.len() == 2);
-    let log = log(&rt, &mut memory, rt.alloc(), 100);
-    let history = BlankHistory::new();
-    let ended = runs::<Brand, _>(&rt, rt.alloc(), history, log, bodies, line);
-    if let Err((log, bodies, line)) = ended {
+    let log = log(rt, memory, alloc, 100);
+    match runs::<Brand, R>(rt, alloc, BlankHistory::new(), log, bodies, line) {
+        Ok(met) => met,
+        Err((log, bodies, line)) => {
+            memory.refuses(rt);
+            match runs::<Brand, R>(rt, alloc, BlankHistory::new(), log, bodies, line) {
+                Ok(met) => met,
+                Err(_) => panic!(rt; "memory for a session in threads"),
+            }
+        }
+    }
+}
+
+#[test]
+fn run_session_of_two_bodies(rt: HostRuntime) {
+    let mut memory = Memory::new();
+    if !meet(&rt, &mut memory, rt.alloc()) {
         memory.refuses(&rt);
-        let history = BlankHistory::new();
-        let again = runs::<Brand, _>(&rt, rt.alloc(), history, log, bodies, line);
-        assert!(rt; again.is_ok());
+        assert!(rt; meet(&rt, &mut memory, rt.alloc()));
     }
 }
