@@ -13,6 +13,7 @@ use Rattle.rdm_lanes.specs.declared.fault.OpenFault.TheVariants.{TooManyClients,
 use Rattle.rdm_lanes.specs.declared.client.RingClient.{RingClient}
 use Rattle.rdm_lanes.specs.declared.lane.Lane.{Lane}
 use Rattle.rdm_lanes.specs.Pairs.{ArePair, client_rings}
+use Rattle.rdm_lanes.specs.Views.{opening_view}
 
 -- the first fault that the places show, where there are this many for all
 abbrev pub places_fault : ℕ → List ℕ → Option OpenFault
@@ -48,6 +49,7 @@ module _ {J : Type 0} {h : Ghosts J} {C A : Type 0} where
     pub empty : client.desk ≡ record { requests = []; asks = []; places = places }
     pub not_left : client.left ≡ false
     pub slots : (producer_capacity client.calls ≡ ring) × (consumer_capacity client.replies ≡ ring)
+    pub nothing_seen : client.views ≡ opening_view ∷ []
 
   -- with its lane
   pub record IsNewWith (ring places : ℕ) (client : RingClient J C A h) (lane : Lane) : Type 0 where

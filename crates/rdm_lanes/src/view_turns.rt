@@ -23,10 +23,13 @@ use std::alloc::Global;
 use std::sync::Wait;
 
 impl<J: ViewHistory, R: Wait + Drop> ViewWorker<J, Shown<J>, R> {
-    /// Works for this many turns at most. In one turn it takes at most one call from each client's ring, in the
-    /// clients' order, and then at most one from the operator's; makes at most one exchange; publishes the devices that
-    /// it found; and then moves outcomes to the clients' rings, while they have free slots. It stops early once all have
-    /// left, or once the log is full.
+    /// Works for this many turns at most. In one turn it does these, in order:
+    /// - it publishes a view whose publication was refused;
+    /// - it takes at most one call from each client's ring, in the clients' order, and then one from the operator's;
+    /// - it makes at most one exchange, and publishes the devices that it found;
+    /// - it moves outcomes to the clients' rings, while they have free slots.
+    ///
+    /// It stops early once all have left, or once the log is full.
     ///
     /// It looks at a ring's front first. While fewer than three entries of the log are free it takes no call. A submit
     /// waits for a place of its client in the session, and a discover until fewer than four of its client's are
@@ -35,7 +38,7 @@ impl<J: ViewHistory, R: Wait + Drop> ViewWorker<J, Shown<J>, R> {
     ///
     /// Memory is taken for joined data, for the set of each discovery's outcome, which waits where it is refused, and
     /// for each view. A publication that is refused changes nothing, and is tried again in the next turn. Until it is
-    /// made, no exchange is made, no outcome is moved, and the work doesn't end because all have left.
+    /// made, no call is taken, no exchange is made, no outcome is moved, and the work doesn't end because all have left.
     pub fn work<X: Line>(&mut self, alloc: Global, line: &mut X, turns: u64) -> WorkerEnd
         ensures exchanged { Exchanged X.step line.old (session_of self.old) line.new (session_of self.new) }
         ensures lanes { SameLanes (lanes_of self.old) (lanes_of self.new) }
@@ -79,7 +82,8 @@ impl<J: ViewHistory, R: Wait + Drop> ViewWorker<J, Shown<J>, R> {
     }
 
     // All that is done in a turn, and what its attempt at an exchange came to. None: a publication was refused, and
-    // nothing was done after that.
+    // nothing was done after that. A view that was refused before comes first, since a call that is taken after a close
+    // is told at once.
     fn serve_all<X: Line>(&mut self, alloc: Global, line: &mut X) -> Option<Attempt>
         ensures exchanged { Exchanged X.step line.old self.old.server.session line.new self.new.server.session }
         ensures lanes { SameLanes self.old.server.lanes.items self.new.server.lanes.items }
@@ -91,10 +95,10 @@ impl<J: ViewHistory, R: Wait + Drop> ViewWorker<J, Shown<J>, R> {
         ensures operator { self.old.server.operator_left ≡ true → (self.new.server.operator_left ≡ true)
             × SameSwitches self.old.server.session self.new.server.session }
     {
-        self.serve_calls(alloc);
         if !self.publish(alloc) {
             return None;
         }
+        self.serve_calls(alloc);
         let attempt = self.exchange(alloc, line);
         if !self.publish(alloc) {
             return None;
@@ -106,6 +110,7 @@ impl<J: ViewHistory, R: Wait + Drop> ViewWorker<J, Shown<J>, R> {
 
     // Makes at most one call of each client and of the operator.
     fn serve_calls(&mut self, alloc: Global)
+        ensures published { self.new.unpublished ≡ self.old.unpublished }
         ensures line { NoExchange self.old.server.session self.new.server.session }
         ensures lanes { SameLanes self.old.server.lanes.items self.new.server.lanes.items }
         ensures operator { self.old.server.operator_left ≡ true → (self.new.server.operator_left ≡ true)
