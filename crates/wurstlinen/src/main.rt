@@ -1,6 +1,6 @@
 //! Reads and writes the replies of RDM devices to a branch of the discovery tree, discovers simulated devices, and runs
-//! sessions of clients on a simulated line. What it prints is the work of `rdm_port`; here are the words of the process,
-//! its files and its streams.
+//! sessions of clients on a simulated line. What it prints is the work of `rdm_port`; here are the words of the
+//! process, its files and its streams.
 #![tactic(auto)]
 
 ghost use Rattle.std.specs.Prelude.{◌≡◌, IfOk, map, string_bytes};
