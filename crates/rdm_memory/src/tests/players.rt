@@ -12,7 +12,7 @@ use std::thread;
 type Client<J> = RingClient<J, Note, AskNote>;
 
 /// How often a body tries before it gives up. It does where no thread could be made for the others.
-const TRIES: u64 = 3_000_000;
+const TRIES: u64 = 300_000;
 
 /// Two points that are reached or not.
 #[derive(Drop)]

@@ -17,7 +17,7 @@ use std::sync::Wait;
 use std::thread::Threads;
 
 // The worker makes them all where no thread could be made for the bodies.
-const TURNS: u64 = 100_000_000;
+const TURNS: u64 = 3_000_000;
 
 // Why a session wasn't run, and what came back.
 type Refused = (Log, Vec<Player>, TapeLine);
