@@ -104,11 +104,7 @@ fn leave<J: ViewHistory>(alloc: Global, mut clients: Vec<Client<J>>) {
 }
 
 // Turns while the same number of requests wait: one is answered and collected, and another submitted.
-struct Turns<
-    J: ViewHistory,
-    T: Absorb<Shown<J>, State = [DeviceView; 0]> + Drop,
-    W: Wait + Drop,
-> {
+struct Turns<J: ViewHistory, T: Absorb<Shown<J>, State = [DeviceView; 0]> + Drop, W: Wait + Drop> {
     alloc: Global,
     clients: Vec<Client<J>>,
     worker: ViewWorker<J, T, W>,

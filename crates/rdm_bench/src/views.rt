@@ -109,11 +109,7 @@ const WORKS: [(Work, Name); 3] = [
 
 // A publisher and its readers.
 #[derive(Drop)]
-struct Views<
-    J: ViewHistory,
-    T: Absorb<Shown<J>, State = [DeviceView; 0]> + Drop,
-    W: Wait + Drop,
-> {
+struct Views<J: ViewHistory, T: Absorb<Shown<J>, State = [DeviceView; 0]> + Drop, W: Wait + Drop> {
     alloc: Global,
     publisher: Publisher<J, T, W>,
     readers: Vec<ViewReader<J>>,

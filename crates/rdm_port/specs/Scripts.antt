@@ -1,5 +1,6 @@
 -- What a client of a session file does in its turns, and what it notes.
-use Rattle.std.specs.Prelude.{◌≡◌, ◌⊎◌, ◌+◌, ◌≤◌, ◌++◌, ◌∷◌, [], ◌==◌, Bool, true, false, length, slice_get, Option, Some, None}
+use Rattle.std.specs.Prelude.{◌≡◌, ◌⊎◌, ◌+◌, ◌≤◌, ◌++◌, ◌∷◌, [], ◌==◌, Bool, true, false, length, slice_get}
+use Rattle.std.specs.Prelude.{Option, Some, None}
 use Rattle.rdm_wire.specs.Devices.{uids_of}
 use Rattle.rdm_client.specs.declared.told.AskTold.{AskTold}
 use Rattle.rdm_client.specs.declared.told.Collected.{Collected}

@@ -74,7 +74,7 @@ pub struct Served {
 }
 
 /// Serves a session, and gives what came of each client's calls, in the order of the clients. Each outcome has its
-/// call's tag, and ended as the session's log says.
+/// call's tag, and ended as a legal log says: its status and how many bytes it has, or its fault.
 /// Err: memory was refused; or else the log is full; or else a client or the worker has made all its turns.
 pub fn serve<L: Ledger + Send + Sync, P: Progress + Send, R: Threads + Wait + Sync>(
     rt: &R,

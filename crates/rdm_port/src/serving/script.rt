@@ -1,6 +1,6 @@
 //! What a client of a session file does in its turns, whatever stands between it and the worker.
-ghost use Rattle.std.specs.Prelude.{◌≡◌, ◌⊎◌, ◌+◌, [], length, true, false, not, nat_lt, if◌then◌else◌, OnOk, IfErr, None};
-ghost use Rattle.std.specs.Prelude.{◌&&◌, ◌++◌, ◌∷◌, ◌↔◌, Ok};
+ghost use Rattle.std.specs.Prelude.{◌≡◌, ◌⊎◌, ◌+◌, ◌&&◌, ◌++◌, ◌∷◌, ◌↔◌, [], length, true, false, not, nat_lt};
+ghost use Rattle.std.specs.Prelude.{if◌then◌else◌, OnOk, IfErr, Ok, None};
 ghost use Rattle.rdm_port.specs.Scripts.{IsNext, Notes, has_all};
 
 use crate::outcomes::{Discovered, Outcomes};

@@ -22,7 +22,7 @@ returns-then-not-publish-2-clause-exchanged g c =
     let line = subst (λ (w : Worker). NoExchange w.session c.serve_calls.new.self.server.session) c.publish.ensures.server c.serve_calls.ensures.line in
     subst (λ (w : Worker). Exchanged g.X.Line.step c.args.line.now a c.exchange-attempt.new.line w.session) (sym c.publish-2.ensures.server)
     (exchanged_within g.X.Line.step c.args.line.now c.exchange-attempt.new.line a c.serve_calls.new.self.server.session b b
-        line c.exchange-attempt.ensures.exchanged (line_same b))
+    line c.exchange-attempt.ensures.exchanged (line_same b))
 
 pub returns-clause-exchanged : goal.returns-clause-exchanged
 returns-clause-exchanged g c =
