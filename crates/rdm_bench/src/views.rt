@@ -56,7 +56,8 @@ fn time_all<J: ViewHistory, R: CpuClock + Print + Eprint + Wait>(
 // As many devices as there may be.
 fn all_devices() -> Result<DeviceSet, Fault> {
     let mut set = DeviceSet::new();
-    for uid in &devices(DEVICES, Spread::Random)? {
+    let uids = devices(DEVICES, Spread::Random)?;
+    for uid in uids.as_slice() {
         let device = Device {
             uid: *uid,
             control: 0,
