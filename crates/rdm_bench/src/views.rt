@@ -32,7 +32,8 @@ fn time_all<J: ViewHistory, R: CpuClock + Print + Eprint + Wait>(
 ) -> Result<(), Fault>
     requires { book_of history ≡ J.book }
 {
-    let Ok(publisher) = Publisher::new(bench.alloc, bench.rt, history, READERS) else {
+    let opened = Publisher::<J, Shown<J>, &R>::new(bench.alloc, bench.rt, history, READERS);
+    let Ok(publisher) = opened else {
         return Err(Fault::NoMemory);
     };
     let mut readers = Vec::new(bench.alloc);
