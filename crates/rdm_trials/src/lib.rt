@@ -1,5 +1,6 @@
-//! Trials of the whole, over a session and over a port: a close at each place. Nothing stands on this crate; it has
-//! tests alone, so that the crates below need not be proved again with them.
+//! Trials of the whole: a close at each place, full logs, and clients in threads of their own, over a session, over a
+//! port and over rings. Nothing stands on this crate; it has tests alone, so that the crates below needn't be proved
+//! again with them.
 #![tactic(auto)]
 
 #[cfg(test)]
