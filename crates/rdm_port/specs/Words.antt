@@ -20,8 +20,8 @@ one_argument name argument =
 
 -- the program's command line, before its commands
 abbrev pub bare : App
-bare = record (new_app (codes "rdm_port")) {
-  top = record (new_app (codes "rdm_port")).top {
+bare = record (new_app (codes "wurstlinen")) {
+  top = record (new_app (codes "wurstlinen")).top {
     no_binary_name = true;
     subcommand_required = true;
     disable_help_flag = true;

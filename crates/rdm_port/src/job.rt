@@ -116,7 +116,7 @@ fn bare<'a>(alloc: Global) -> Command<'a>
     ensures app { app_of result ≡ bare }
     ensures local { (fields_of result).has_globals ≡ false }
 {
-    Command::new(alloc, "rdm_port")
+    Command::new(alloc, "wurstlinen")
         .no_binary_name(true)
         .subcommand_required(true)
         .disable_help_flag(true)

@@ -4,7 +4,7 @@ ghost use Rattle.rdm_wire.specs.Devices.{uids_of};
 ghost use Rattle.rdm_port.specs.SessionReport.{session_text, client_text, request_lines, discovery_lines};
 ghost use Rattle.rdm_port.specs.SessionReport.{request_line, discovery_line, whose, reply_told, type_text, uids_text};
 
-use crate::report::{tell_fault, tell_uid};
+use crate::reporting::{tell_fault, tell_uid};
 use itoa::Buffer;
 use rdm_agent::AgentFault;
 use rdm_client::{AskTold, Told};

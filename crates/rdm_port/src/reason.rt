@@ -1,6 +1,6 @@
 //! Why something isn't done, for people.
 use crate::input::FileFault;
-use crate::report::device_lines;
+use crate::reporting::device_lines;
 use crate::scene::{Mismatch, SceneFault};
 use rdm_agent::AgentFault;
 use rdm_wire::DeviceSet;

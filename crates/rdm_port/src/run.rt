@@ -5,14 +5,14 @@ ghost use Rattle.rdm_port.specs.Fault.{SaysSession, ReadsSession, IsSessionTextF
 ghost use Rattle.rdm_port.specs.Outcome.{Runs, answer_bytes};
 
 use crate::answer::{Answer, Answered};
-use crate::discover::no_json;
+use crate::discovering::no_json;
 use crate::fault::Fault;
 use crate::input::{FileFault, read_file};
 use crate::job::PortKind;
 use crate::outcomes::session_text;
 use crate::reason::Reason;
 use crate::scene::SceneFault;
-use crate::serve::{Progress, ServeFault, serve};
+use crate::serving::{Progress, ServeFault, serve};
 use crate::session::{SessionFile, discovery_command, read_session};
 use serde_json::Value;
 use std::alloc::Global;

@@ -1,6 +1,6 @@
 //! What a run on the line of a scene prints. The counts of frames are worked out by hand.
 use crate::job::Job;
-use crate::perform::perform;
+use crate::performing::perform;
 use std::alloc::Global;
 use std::sync::Wait;
 use std::test::Fail;

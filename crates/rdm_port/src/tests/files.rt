@@ -1,6 +1,6 @@
 //! What is refused of files, and for which reasons.
 use crate::job::Job;
-use crate::perform::{Silent, carry_out};
+use crate::performing::{Silent, carry_out};
 use crate::reason::Reason;
 use crate::scene::Mismatch;
 use crate::tests::discovering::printed;

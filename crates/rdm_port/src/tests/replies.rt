@@ -1,6 +1,6 @@
 //! What command lines print, and their statuses.
 use crate::job::{Job, PortKind, WordsFault, parse_words};
-use crate::perform::perform;
+use crate::performing::perform;
 use arrayvec::ArrayVec;
 use std::io;
 use std::io::Write;

@@ -1,6 +1,6 @@
 //! What sessions of clients print. The lines are worked out from the formats; none depends on which thread comes first.
 use crate::job::{Job, PortKind};
-use crate::perform::perform;
+use crate::performing::perform;
 use std::alloc::Global;
 use std::sync::Wait;
 use std::thread::Threads;

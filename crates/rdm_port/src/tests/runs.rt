@@ -1,6 +1,6 @@
 //! Sessions from their words to their lines, and the limits of session files, over both ports.
 use crate::job::{Job, PortKind, parse_words};
-use crate::perform::perform;
+use crate::performing::perform;
 use crate::tests::files::{Broken, padded};
 use crate::tests::running::{PORTS, printed};
 use std::test::Fail;

@@ -1,6 +1,6 @@
 //! What is refused of session files, and for which reasons.
 use crate::job::{Job, PortKind};
-use crate::perform::{Silent, carry_out};
+use crate::performing::{Silent, carry_out};
 use crate::reason::Reason;
 use crate::tests::files::tell;
 use crate::tests::running::printed;

@@ -1,6 +1,6 @@
 //! Runs on a tape.
 use crate::discovery::discover;
-use crate::report::report;
+use crate::reporting::report;
 use rdm_agent::{DEFAULT_BUDGET, Kind, Search};
 use rdm_join::{LineEvent, LineReply};
 use rdm_line::TapeLine;

@@ -1,0 +1,11 @@
+use Rattle.std.proofs.Common.{ap}
+use Rattle.rdm_port.specs.Forms.{is_memory}
+use Rattle.serde_json.specs.View.{view}
+use Rattle.rdm_port.proofs.discovering.scene_of.Goals as goal
+
+pub returns-in-Err-Mismatch-clause-fault : goal.returns-in-Err-Mismatch-clause-fault
+returns-in-Err-Mismatch-clause-fault c = record {
+  value = view c.in-Ok.value;
+  json = c.in-Ok.ensures.ok.1;
+  none = c.in-Err-Mismatch.ensures (ap is_memory c.in-Err-Mismatch.field-0-is);
+}

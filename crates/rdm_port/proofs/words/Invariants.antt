@@ -1,7 +1,0 @@
-use Rattle.std.proofs.Common.{◌≡◌, map, take}
-use Rattle.std.specs.Prelude.{string_bytes}
-use Rattle.rdm_port.specs.Words.{texts_of}
-use Rattle.rdm_port.proofs.words.Given as goal
-
-abbrev pub invariant-loop-arg : goal.invariant-loop-arg
-invariant-loop-arg l = texts_of l.words.items ≡ map string_bytes (take l.arg-index l.args)

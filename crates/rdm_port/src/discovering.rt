@@ -1,0 +1,125 @@
+//! Answers the command that discovers the devices of a scene.
+ghost use Rattle.std.specs.Prelude.{◌≡◌, ◌⊎◌, IfOk, IfErr};
+ghost use Rattle.serde_json.specs.Errors.{IsMemory};
+ghost use Rattle.rdm_port.specs.Fault.{ReadsScene, SaysScene, IsFileFault, IsTextFault};
+ghost use Rattle.rdm_port.specs.Outcome.{Discovers, answer_bytes, kind_of, search_of};
+ghost use Rattle.rdm_port.specs.Report.{report_text, report_status};
+
+use crate::answer::{Answer, Answered};
+use crate::discovery::{Discovery, discover_in};
+use crate::fault::Fault;
+use crate::input::{FileFault, read_file};
+use crate::reason::Reason;
+use crate::reporting::report;
+use crate::scene::{SceneFault, SceneFile, read_scene};
+use rdm_agent::{Kind, Search};
+use serde_json::{Category, Value};
+use std::alloc::Global;
+use std::io::Read;
+
+type Refused = (Fault, Option<Reason>);
+
+/// What a run reports of the scene in the reader's file.
+// It isn't inlined: a run's values are large, and no other answer is to have places for them.
+#[inline(never)]
+pub fn answer_discover<R: Read>(
+    alloc: Global,
+    incremental: bool,
+    quick: bool,
+    reader: &mut R,
+) -> Result<Answered, Refused>
+    ensures ok { IfOk result (λ a.
+        Discovers incremental quick (R.remaining reader.old) (answer_bytes a.text) a.status) }
+    ensures fault { IfErr result (λ e. (e.0 ≡ Fault.Memory) ⊎ IsFileFault (R.remaining reader.old) e.0) }
+{
+    let file = match scene_file(alloc, reader) {
+        Ok(file) => file,
+        Err(refused) => return Err(refused),
+    };
+    let kind = kind_of(incremental);
+    let search = search_of(quick);
+    let Ok(run) = discover_in(alloc, file.scene, search, kind, &file.known, file.budget) else {
+        return Err((Fault::Memory, None));
+    };
+    answered(alloc, &run)
+}
+
+fn kind_of(incremental: bool) -> Kind
+    ensures { result ≡ kind_of incremental }
+{
+    if incremental {
+        Kind::Incremental
+    } else {
+        Kind::Full
+    }
+}
+
+fn search_of(quick: bool) -> Search
+    ensures { result ≡ search_of quick }
+{
+    if quick { Search::Quick } else { Search::Steady }
+}
+
+// The scene in the reader's file.
+fn scene_file<R: Read>(alloc: Global, reader: &mut R) -> Result<SceneFile, Refused>
+    ensures ok { IfOk result (λ f. ReadsScene (R.remaining reader.old) f) }
+    ensures fault { IfErr result (λ e. (e.0 ≡ Fault.Memory) ⊎ IsFileFault (R.remaining reader.old) e.0) }
+{
+    let bytes = match read_file(alloc, reader) {
+        Ok(bytes) => bytes,
+        Err(FileFault::NoMemory) => return Err((Fault::Memory, None)),
+        Err(fault) => return Err((Fault::File, Reason::of_file(fault))),
+    };
+    scene_of(alloc, &bytes)
+}
+
+// The scene that the bytes of a file say.
+fn scene_of(alloc: Global, bytes: &[u8]) -> Result<SceneFile, Refused>
+    ensures ok { IfOk result (λ f. SaysScene bytes.now f) }
+    ensures fault { IfErr result (λ e. IsTextFault bytes.now e.0) }
+{
+    let value = match Value::from_slice(alloc, bytes) {
+        Ok(value) => value,
+        Err(error) => return Err(no_json(&error)),
+    };
+    match read_scene(alloc, &value) {
+        Ok(file) => Ok(file),
+        Err(SceneFault::Mismatch(mismatch)) => {
+            Err((Fault::Scene, Some(Reason::NoScene(mismatch))))
+        }
+        Err(SceneFault::NoMemory) => Err((Fault::Memory, None)),
+    }
+}
+
+/// Why bytes weren't read as JSON.
+pub(crate) fn no_json(error: &serde_json::Error) -> Refused
+    ensures memory { IsMemory error.now → result.0 ≡ Fault.Memory }
+    ensures text { ¬ IsMemory error.now → result.0 ≡ Fault.Json }
+{
+    if error.classify() == Category::Memory {
+        (Fault::Memory, None)
+    } else {
+        let (line, column) = (error.line(), error.column());
+        (Fault::Json, Some(Reason::NoJson { line, column }))
+    }
+}
+
+// What is printed of a run; with a fault, what it found until then is the reason.
+fn answered(alloc: Global, run: &Discovery) -> Result<Answered, Refused>
+    ensures text { IfOk result (λ a. answer_bytes a.text ≡ report_text run.now.found run.now.frames) }
+    ensures status { IfOk result (λ a. a.status ≡ report_status run.now.found) }
+    ensures memory { IfErr result (λ e. e.0 ≡ Fault.Memory) }
+{
+    let Ok(text) = report(alloc, run) else {
+        return Err((Fault::Memory, None));
+    };
+    let text = Answer::Lines(text);
+    match &run.found {
+        Ok(_) => Ok(Answered::done(text)),
+        Err((fault, found)) => Ok(Answered {
+            text,
+            status: 1,
+            reason: Reason::of_fault(alloc, *fault, found),
+        }),
+    }
+}

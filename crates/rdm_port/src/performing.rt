@@ -1,0 +1,158 @@
+//! What a command line prints, its status, and the reason of what isn't done.
+ghost use Rattle.std.specs.Prelude.{◌≡◌, ℕ, List, IfOk, IfErr};
+ghost use Rattle.std.specs.Bool.{OnTrue, OnFalse};
+ghost use Rattle.std.specs.Io.KnownBytes.{Appends};
+ghost use Rattle.rdm_port.specs.Fault.{IsFaultOf, fault_line, fault_status};
+ghost use Rattle.rdm_port.specs.Report.{line_of};
+ghost use Rattle.rdm_port.specs.Outcome.{Answers, IsOutcome, IsPrinted, IsCutShort, answer_bytes};
+
+use crate::answer::{Answer, Answered};
+use crate::branch::{decode, encode};
+use crate::discovering::answer_discover;
+use crate::fault::Fault;
+use crate::job::{Job, WordsFault};
+use crate::reason::Reason;
+use crate::run::answer_run;
+use crate::serving::Progress;
+use std::alloc::Global;
+use std::io::{ErrorKind, Read, Write};
+use std::sync::Wait;
+use std::thread::Threads;
+
+const NOT_WRITTEN: u8 = 1;
+
+/// Prints what answers a command line, and gives its status: 0 where it is done, 1 where there is a fault or the
+/// writer fails, 2 where the words fit no command (profile of this project). The reader is for a command that reads a
+/// file; one whose reads fail stands for a file that can't be opened.
+pub fn perform<R: Read, W: Write, T: Threads + Wait + Sync>(
+    rt: &T,
+    alloc: Global,
+    job: Result<Job<'_>, WordsFault>,
+    reader: &mut R,
+    writer: &mut W,
+) -> u8
+    ensures { (text : List ℕ) × (status : ℕ) × IsOutcome job.entry (R.remaining reader.old) text status
+        × IsPrinted (W.contents writer.old) (W.contents writer.new) text status result }
+{
+    let (status, _) = carry_out(rt, alloc, job, reader, writer, &mut Silent);
+    status
+}
+
+/// As [`perform`], and gives the reason too where it isn't done; a session that runs tells how far it is.
+pub fn carry_out<R: Read, W: Write, P: Progress + Send, T: Threads + Wait + Sync>(
+    rt: &T,
+    alloc: Global,
+    job: Result<Job<'_>, WordsFault>,
+    reader: &mut R,
+    writer: &mut W,
+    progress: &mut P,
+) -> (u8, Option<Reason>)
+    ensures { (text : List ℕ) × (status : ℕ) × IsOutcome job.entry (R.remaining reader.old) text status
+        × IsPrinted (W.contents writer.old) (W.contents writer.new) text status result.0 }
+{
+    let outcome = outcome_of(rt, alloc, job, reader, progress);
+    let whole = takes_all(writer, outcome.text.as_slice());
+    let status = if whole { outcome.status } else { NOT_WRITTEN };
+    (status, outcome.reason)
+}
+
+/// Tells nobody how far a session is.
+#[derive(Clone, Copy, Drop)]
+pub struct Silent;
+
+impl Progress for Silent {
+    fn tell(&mut self, _exchanges: usize) {}
+}
+
+// What is printed, the status, and the reason of what isn't done.
+#[derive(Drop)]
+struct Outcome {
+    text: Answer,
+    status: u8,
+    reason: Option<Reason>,
+}
+
+fn outcome_of<R: Read, P: Progress + Send, T: Threads + Wait + Sync>(
+    rt: &T,
+    alloc: Global,
+    job: Result<Job<'_>, WordsFault>,
+    reader: &mut R,
+    progress: &mut P,
+) -> Outcome
+    ensures { IsOutcome job.entry (R.remaining reader.old) (answer_bytes result.text) result.status }
+{
+    match answer(rt, alloc, job, reader, progress) {
+        Ok(
+            Answered {
+                text,
+                status,
+                reason,
+            },
+        ) => Outcome {
+            text,
+            status,
+            reason,
+        },
+        Err((fault, reason)) => Outcome {
+            text: Answer::line(fault.line().as_bytes()),
+            status: fault.status(),
+            reason,
+        },
+    }
+}
+
+// What answers a command line.
+fn answer<R: Read, P: Progress + Send, T: Threads + Wait + Sync>(
+    rt: &T,
+    alloc: Global,
+    job: Result<Job<'_>, WordsFault>,
+    reader: &mut R,
+    progress: &mut P,
+) -> Result<Answered, (Fault, Option<Reason>)>
+    ensures ok { IfOk result (λ a. (j : Job) × (job.entry ≡ Ok j)
+        × Answers j (R.remaining reader.old) (answer_bytes a.text) a.status) }
+    ensures fault { IfErr result (λ e. IsFaultOf job.entry (R.remaining reader.old) e.0) }
+{
+    match job {
+        Ok(Job::Decode(digits)) => match decode(alloc, digits) {
+            Ok(text) => Ok(Answered::done(text)),
+            Err(fault) => Err((fault, None)),
+        },
+        Ok(Job::Encode(uid)) => match encode(uid) {
+            Ok(text) => Ok(Answered::done(text)),
+            Err(fault) => Err((fault, None)),
+        },
+        Ok(
+            Job::Discover {
+                incremental,
+                quick,
+                ..
+            },
+        ) => answer_discover(alloc, incremental, quick, reader),
+        Ok(Job::Run { port, .. }) => answer_run(rt, alloc, port, reader, progress),
+        Err(WordsFault::Words) => Err((Fault::CommandLine, Some(Reason::Usage))),
+        Err(WordsFault::NoMemory) => Err((Fault::Memory, None)),
+    }
+}
+
+// Writes the bytes, and tells whether the writer took all of them. `write_all` doesn't say what it wrote where it
+// fails.
+fn takes_all<W: Write>(writer: &mut W, bytes: &[u8]) -> bool
+    ensures all { OnTrue result (Appends (W.contents writer.old) (W.contents writer.new) bytes.now) }
+    ensures some { OnFalse result (IsCutShort (W.contents writer.old) (W.contents writer.new) bytes.now) }
+{
+    let mut written = 0;
+    // A loop has to end: this bound is one that no writer reaches. A write that was interrupted is tried again.
+    'writing: for _ in 0..u64::MAX {
+        if written == bytes.len() {
+            break;
+        }
+        match writer.write(&bytes[written..]) {
+            Ok(0) => break,
+            Ok(count) => written += count,
+            Err(error) if error.kind() == ErrorKind::Interrupted => {}
+            Err(_) => break,
+        }
+    }
+    written == bytes.len()
+}

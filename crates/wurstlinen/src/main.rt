@@ -1,0 +1,100 @@
+//! Reads and writes the replies of RDM devices to a branch of the discovery tree, discovers simulated devices, and runs
+//! sessions of clients on a simulated line. What it prints is the work of `rdm_port`; here are the words of the process,
+//! its files and its streams.
+#![tactic(auto)]
+
+ghost use Rattle.std.specs.Prelude.{◌≡◌, IfOk, map, string_bytes};
+ghost use Rattle.rdm_port.specs.Words.{texts_of};
+
+use rdm_port::{Job, Progressing, WordsFault, carry_out, parse_words, tell};
+use std::alloc::{AllocError, Global};
+use std::io::Read;
+use std::process::ExitCode;
+use std::rt::Runtime;
+use std::sync::Wait;
+use std::thread::Threads;
+use std::{env, fs, io};
+
+fn main(rt: HostRuntime) -> ExitCode {
+    let status = match args(&rt) {
+        Ok(args) => obey(&rt, rt.alloc(), &args),
+        Err(fault) => print(&rt, rt.alloc(), Err(fault)),
+    };
+    ExitCode::from(status)
+}
+
+fn obey<T: Runtime + Threads + Wait + Sync>(rt: &T, alloc: Global, args: &[String]) -> u8 {
+    match words(alloc, args) {
+        Ok(words) => print(rt, alloc, parse_words(alloc, &words)),
+        Err(_) => print(rt, alloc, Err(WordsFault::NoMemory)),
+    }
+}
+
+// Prints the answer on standard output, and the reason of what isn't done on standard error.
+fn print<T: Runtime + Threads + Wait + Sync>(
+    rt: &T,
+    alloc: Global,
+    job: Result<Job<'_>, WordsFault>,
+) -> u8 {
+    let file = match &job {
+        Ok(job) => job.file(),
+        Err(_) => None,
+    };
+    let Some(path) = file else {
+        return print_from(rt, alloc, job, &mut io::empty());
+    };
+    match fs::open(rt, path) {
+        Ok(mut file) => print_from(rt, alloc, job, &mut file),
+        Err(error) => print_from(rt, alloc, job, &mut Unopened(error.kind())),
+    }
+}
+
+fn print_from<R: Read, T: Runtime + Threads + Wait + Sync>(
+    rt: &T,
+    alloc: Global,
+    job: Result<Job<'_>, WordsFault>,
+    reader: &mut R,
+) -> u8 {
+    let mut progress = Progressing::new(rt);
+    let (status, reason) = carry_out(rt, alloc, job, reader, &mut io::writer(rt), &mut progress);
+    if let Some(reason) = reason {
+        // Where standard error fails too, the status tells of it.
+        let _ = tell(rt, &reason);
+    }
+    status
+}
+
+// A file that can't be opened: each read of it fails so.
+#[derive(Clone, Copy, Drop)]
+struct Unopened(io::ErrorKind);
+
+impl Read for Unopened {
+    fn read(&mut self, _bytes: &mut [u8]) -> io::Result<usize> {
+        // A read that was interrupted would be tried again.
+        match self.0 {
+            io::ErrorKind::Interrupted => Err(io::Error::from(io::ErrorKind::Other)),
+            kind => Err(io::Error::from(kind)),
+        }
+    }
+}
+
+// The words after the program's name. One that is no text fits no command.
+fn args(rt: &HostRuntime) -> Result<Vec<String>, WordsFault> {
+    let args = env::args(rt).map_err(|error| match error.kind() {
+        io::ErrorKind::OutOfMemory => WordsFault::NoMemory,
+        _ => WordsFault::Words,
+    })?;
+    args.skip(1)
+        .collect(rt.alloc())
+        .map_err(|_| WordsFault::NoMemory)
+}
+
+fn words<'a>(alloc: Global, args: &'a [String]) -> Result<Vec<&'a str>, AllocError>
+    ensures { IfOk result (λ words. texts_of words.items ≡ map string_bytes args.now) }
+{
+    let mut words = Vec::new(alloc);
+    for arg in args {
+        words.push(arg.as_str())?;
+    }
+    Ok(words)
+}
