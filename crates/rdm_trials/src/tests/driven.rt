@@ -129,32 +129,32 @@ impl<X: Line + Drop> Driven<X> {
         self.worker.work(alloc, &mut self.line, turns)
     }
 
-    /// Lets the first client play its script, the worker work for so many turns at most, and the operator close and
-    /// leave where it is to, each in a thread of its own. The script has to reach the points that they wait for.
+    /// Lets this client play its script, the worker work for so many turns at most, and the operator close and leave
+    /// where it is to, each in a thread of its own. The script has to reach the points that they wait for.
     #[inline(never)]
     pub fn together<S: Script + Send, R: Threads + Sync>(
         &mut self,
         rt: &R,
         alloc: Global,
+        at: usize,
         turns: u64,
         script: &mut S,
     ) -> Option<WorkerEnd>
     where
         X: Send,
     {
-        if self.clients.is_empty() {
+        if at >= self.clients.len() {
             return None;
         }
-        let (begin, close) = (Point::new(), Point::new());
-        if !script.closes() {
-            let _ = self.operator.leave();
-        }
-        let (worker, line) = (&mut self.worker, &mut self.line);
-        let (client, operator) = (&mut self.clients[0], &mut self.operator);
-        let (end, _) = join_mut(
+        let end = beside(
             rt,
-            &mut || works(alloc, worker, line, turns, &begin),
-            &mut || plays_beside(rt, client, operator, script, &begin, &close),
+            alloc,
+            turns,
+            &mut self.worker,
+            &mut self.line,
+            &mut self.clients[at],
+            &mut self.operator,
+            script,
         );
         Some(end)
     }
@@ -174,6 +174,32 @@ impl<X: Line + Drop> Driven<X> {
         assert!(rt; matched);
         (session, all_counts(rt, alloc, ends))
     }
+}
+
+// The worker beside a client and the operator.
+fn beside<X: Line + Send, S: Script + Send, R: Threads + Sync>(
+    rt: &R,
+    alloc: Global,
+    turns: u64,
+    worker: &mut Worker,
+    line: &mut X,
+    client: &mut RingClient<Note, AskNote>,
+    operator: &mut Operator,
+    script: &mut S,
+) -> WorkerEnd
+    ensures lanes { SameLanes (lanes_of worker.old) (lanes_of worker.new) }
+    ensures client { SameClient client.old client.new }
+{
+    let (begin, close) = (Point::new(), Point::new());
+    if !script.closes() {
+        let _ = operator.leave();
+    }
+    let (end, _) = join_mut(
+        rt,
+        &mut || works(alloc, worker, line, turns, &begin),
+        &mut || plays_beside(rt, client, operator, script, &begin, &close),
+    );
+    end
 }
 
 // Works once the point is reached.

@@ -1,6 +1,6 @@
 //! A pause, a request, two discoveries and a resume; one run answers both discoveries in ten exchanges, and then the
 //! request goes out. What becomes of them where a close comes between.
-use super::heard::{FIRST, Found, Heard, NONE};
+use super::heard::{Found, Heard};
 use rdm_agent::AgentFault;
 use rdm_join::Status;
 
@@ -15,11 +15,10 @@ pub const EXCHANGES: usize = 11;
 pub fn due(exchanges: usize, accepted: usize) -> [Heard; 3] {
     let mut due = [Heard::Nothing; 3];
     let all = if exchanges == 0 {
-        let aborted = Some(AgentFault::Aborted);
         [
             Heard::Request(0, Status::FailedToSend),
-            Heard::Discovery(0, 0, aborted, NONE),
-            Heard::Discovery(1, 0, aborted, NONE),
+            unbegun(0),
+            unbegun(1),
         ]
     } else {
         begun(exchanges)
@@ -30,31 +29,44 @@ pub fn due(exchanges: usize, accepted: usize) -> [Heard; 3] {
     due
 }
 
+// What a discovery is told that no run was begun for.
+fn unbegun(tag: u64) -> Heard {
+    Heard::Discovery(tag, 0, Some(AgentFault::Aborted), Found::Nobody)
+}
+
 // The same where the run had begun.
 fn begun(exchanges: usize) -> [Heard; 3] {
-    let fault = if exchanges < 10 {
-        Some(AgentFault::Aborted)
+    [
+        discovery(0, exchanges),
+        discovery(1, exchanges),
+        Heard::Request(0, status_of(exchanges)),
+    ]
+}
+
+// What the discovery with this tag is told of the run.
+fn discovery(tag: u64, exchanges: usize) -> Heard {
+    if exchanges < 5 {
+        Heard::Discovery(tag, 1, Some(AgentFault::Aborted), Found::Nobody)
+    } else if exchanges < 10 {
+        Heard::Discovery(tag, 1, Some(AgentFault::Aborted), Found::First)
     } else {
-        None
-    };
-    let found = if exchanges < 5 { NONE } else { FIRST };
-    let status = if exchanges < EXCHANGES {
+        Heard::Discovery(tag, 1, None, Found::First)
+    }
+}
+
+fn status_of(exchanges: usize) -> Status {
+    if exchanges < EXCHANGES {
         Status::FailedToSend
     } else {
         Status::Completed
-    };
-    [
-        Heard::Discovery(0, 1, fault, found),
-        Heard::Discovery(1, 1, fault, found),
-        Heard::Request(0, status),
-    ]
+    }
 }
 
 /// The run whose devices are seen then, and which they are.
 pub fn seen(exchanges: usize) -> (u64, Found) {
     if exchanges < 10 {
-        (0, NONE)
+        (0, Found::Nobody)
     } else {
-        (1, FIRST)
+        (1, Found::First)
     }
 }

@@ -5,45 +5,32 @@ use rdm_join::Status;
 use rdm_queue::Outcome;
 use rdm_wire::{DeviceSet, Uid};
 
-/// The devices that scenes have.
-pub const DEVICES: [(u16, u32); 3] = [(0x1234, 1), (0x9abc, 2), (0x5678, 9)];
-
 /// Which devices a discovery found, in short.
 #[derive(Clone, Copy, Debug, PartialEq, Eq)]
-pub struct Found {
-    /// How many.
-    pub count: usize,
-    /// Whether `1234:00000001`, `9abc:00000002` and `5678:00000009` are among them.
-    pub are: [bool; 3],
+pub enum Found {
+    /// None.
+    Nobody,
+    /// `1234:00000001`.
+    First,
+    /// That one, and `9abc:00000002`.
+    FirstAndSecond,
+    /// `1234:00000001` and `5678:00000009`.
+    FirstAndGone,
+    /// Others.
+    Others,
 }
-
-/// None was found.
-pub const NONE: Found = Found {
-    count: 0,
-    are: [false; 3],
-};
-
-/// The first of them alone was found.
-pub const FIRST: Found = Found {
-    count: 1,
-    are: [true, false, false],
-};
-
-/// The first two were found.
-pub const BOTH: Found = Found {
-    count: 2,
-    are: [true, true, false],
-};
 
 /// What a set has.
 pub fn found_in(set: &DeviceSet) -> Found {
-    let mut are = [false; 3];
-    for (is_there, (manufacturer, device)) in are.iter_mut().zip(DEVICES) {
-        *is_there = set.contains(Uid::new(manufacturer, device));
-    }
-    Found {
-        count: set.len(),
-        are,
+    let first = set.contains(Uid::new(0x1234, 1));
+    let second = set.contains(Uid::new(0x9abc, 2));
+    let gone = set.contains(Uid::new(0x5678, 9));
+    match set.len() {
+        0 => Found::Nobody,
+        1 if first => Found::First,
+        2 if first && second => Found::FirstAndSecond,
+        2 if first && gone => Found::FirstAndGone,
+        _ => Found::Others,
     }
 }
 

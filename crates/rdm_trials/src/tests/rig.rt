@@ -87,10 +87,7 @@ pub fn line_of(
 ) -> Result<SimLine, Fail> {
     let mut devices = SceneDevices::new(alloc);
     for placed in placed {
-        let device = device_of(rt, alloc, *placed)?;
-        assert!(rt; !device.device.uid.is_broadcast());
-        assert!(rt; device.preamble <= 7 && device.from <= 1_000_000_000);
-        assert!(rt; devices.add(device).is_ok());
+        add(rt, alloc, &mut devices, *placed)?;
     }
     let mut collisions = Vec::new(alloc);
     collisions.push(noise(rt))?;
@@ -112,25 +109,40 @@ pub fn line_of_one(rt: &impl Abort, alloc: Global) -> Result<SimLine, Fail> {
     line_of(rt, alloc, &[stays(first_device())], &[], &[])
 }
 
-// A device as it stands in a scene.
-fn device_of(rt: &impl Abort, alloc: Global, placed: Placed) -> Result<SceneDevice, Fail> {
+// Puts a device into a scene.
+fn add(
+    rt: &impl Abort,
+    alloc: Global,
+    devices: &mut SceneDevices,
+    placed: Placed,
+) -> Result<(), Fail> {
+    let params = params_of(rt, alloc)?;
+    let uid = placed.uid;
+    assert!(rt; !uid.is_broadcast() && placed.from <= 1_000_000_000);
+    let device = SceneDevice {
+        device: Device {
+            uid,
+            control: 0,
+            binding: None,
+        },
+        preamble: 7,
+        params,
+        from: placed.from,
+        until: placed.until,
+    };
+    assert!(rt; devices.add(device).is_ok());
+    Ok(())
+}
+
+// The parameter `0060` in one part of two bytes.
+fn params_of(rt: &impl Abort, alloc: Global) -> Result<Parameters, Fail> {
     let mut part: ParameterPart = ArrayVec::new();
     assert!(rt; part.try_extend_from_slice(&[1, 2]).is_ok());
     let mut parts = Vec::new(alloc);
     parts.push(part)?;
     let mut params = Vec::new(alloc);
     params.push(Parameter::new(0x0060, parts))?;
-    Ok(SceneDevice {
-        device: Device {
-            uid: placed.uid,
-            control: 0,
-            binding: None,
-        },
-        preamble: 7,
-        params: Parameters::new(params),
-        from: placed.from,
-        until: placed.until,
-    })
+    Ok(Parameters::new(params))
 }
 
 // A byte that spells nobody.

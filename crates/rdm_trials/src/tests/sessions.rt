@@ -75,9 +75,11 @@ fn told_by<X: Drop>(
     } = end;
     assert!(rt; matched);
     let counts = all_counts(rt, alloc, ends);
-    assert!(rt; counts.iter().all(|count| *count == (2, 2, 0)));
+    for (sent, collected, held) in counts {
+        assert_eq!(rt; (sent, collected, held), (2, 2, 0));
+    }
     let mut heard = Vec::new(alloc);
-    for body in &bodies {
+    for body in bodies {
         heard.push(body.heard)?;
     }
     Ok(Played {

@@ -1,17 +1,10 @@
 //! A tape of a full run and of an incremental run after it.
-use super::heard::Found;
 use arrayvec::ArrayVec;
 use rdm_join::{LineEvent, LineReply};
 use rdm_queue::{Entry, Owner, Session};
 use rdm_wire::{Device, Frame, Uid, encode_response, mute_response, write_branch_reply};
 use std::alloc::Global;
 use std::process::Abort;
-
-/// What the first run finds.
-pub const GONE_AND_FIRST: Found = Found {
-    count: 2,
-    are: [true, false, true],
-};
 
 /// The transaction numbers of a run's first frame and its last one, and how many frames it has.
 pub fn run_numbers(session: &Session, run: u64) -> Option<(u8, u8, usize)> {

@@ -2,13 +2,13 @@
 ghost use Rattle.rdm_lanes.specs.Clients.{SameClient};
 
 use super::driven::{Driven, Script, Step, makes, opened};
-use super::heard::{BOTH, FIRST, Found, Heard, found_in};
+use super::heard::{Found, Heard, found_in};
 use super::logs::{Counts, counted, frames};
 use super::notes::{AskNote, Note};
 use super::playing::{Player, Point, awaits, sends};
 use super::rig::{Placed, first_device, line_of, line_of_one, second_device, stays};
 use super::sessions::{Played, plays};
-use super::tapes::{GONE_AND_FIRST, run_numbers, two_runs};
+use super::tapes::{run_numbers, two_runs};
 use rdm_agent::{AgentFault, Kind};
 use rdm_join::Status;
 use rdm_lanes::{RingClient, RingFault, WorkerEnd};
@@ -58,7 +58,7 @@ fn a_ring_of_one_slot_takes_one_call_in_threads(rt: HostRuntime) {
             heard: Heard::Nothing,
             late: [None; 2],
         };
-        let end = lanes.together(&rt, rt.alloc(), 1, &mut script);
+        let end = lanes.together(&rt, rt.alloc(), 0, 1, &mut script);
         assert_eq!(rt; end, Some(WorkerEnd::Turns));
         let early = [None, Some(second), Some(RingFault::RingFull)];
         assert_eq!(rt; script.early, early);
@@ -96,7 +96,7 @@ impl Closing {
             }
             Heard::Discovery(tag, _, fault, found) if tag == self.asks => {
                 self.asks = self.asks.saturating_add(1);
-                if fault.is_none() && found == FIRST {
+                if fault.is_none() && found == Found::First {
                     self.found = self.found.saturating_add(1);
                 } else if fault != Some(AgentFault::Aborted) {
                     self.others = self.others.saturating_add(1);
@@ -141,7 +141,7 @@ fn a_close_comes_while_a_client_calls_over_rings(rt: HostRuntime) -> Result<(), 
             completed: 0,
             found: 0,
         };
-        let end = lanes.together(&rt, rt.alloc(), TURNS, &mut script);
+        let end = lanes.together(&rt, rt.alloc(), 0, TURNS, &mut script);
         assert_eq!(rt; end, Some(WorkerEnd::AllLeft));
         assert_eq!(rt;
             (script.requests, script.asks, script.others),
@@ -189,7 +189,7 @@ fn a_full_log_ends_the_work_in_threads(rt: HostRuntime) {
         let places = [2u8];
         let mut lanes = opened(&rt, rt.alloc(), 5, 2, places.as_slice(), line);
         let mut script = TwoCalls { sent: [None; 2] };
-        let end = lanes.together(&rt, rt.alloc(), 5, &mut script);
+        let end = lanes.together(&rt, rt.alloc(), 0, 5, &mut script);
         assert_eq!(rt; (end, script.sent), (Some(WorkerEnd::LogFull), [None; 2]));
         let (session, ends) = lanes.end(&rt, rt.alloc());
         assert_eq!(rt; ends.as_slice(), [(2, 0, 2)].as_slice());
@@ -222,13 +222,13 @@ fn an_incremental_run_on_a_tape_in_threads(rt: HostRuntime) -> Result<(), Fail> 
         } = plays(&rt, rt.alloc(), 1, players, line)?;
         assert_eq!(rt; worker, WorkerEnd::AllLeft);
         let wanted = [
-            Heard::Discovery(5, 1, None, GONE_AND_FIRST),
-            Heard::Discovery(6, 2, None, BOTH),
+            Heard::Discovery(5, 1, None, Found::FirstAndGone),
+            Heard::Discovery(6, 2, None, Found::FirstAndSecond),
         ];
         assert_eq!(rt; heard.as_slice(), [wanted].as_slice());
         assert_eq!(rt;
             (session.devices_run(), found_in(session.devices())),
-            (2, BOTH)
+            (2, Found::FirstAndSecond)
         );
         assert_eq!(rt; run_numbers(&session, 1), Some((0, 11, 12)));
         assert_eq!(rt; run_numbers(&session, 2), Some((12, 28, 17)));
@@ -248,19 +248,19 @@ const VISITS: [Visit; 3] = [
     Visit {
         from: 5,
         until: None,
-        found: BOTH,
+        found: Found::FirstAndSecond,
         frames: 12,
     },
     Visit {
         from: 5,
         until: Some(7),
-        found: BOTH,
+        found: Found::FirstAndSecond,
         frames: 12,
     },
     Visit {
         from: 5,
         until: Some(6),
-        found: FIRST,
+        found: Found::First,
         frames: 21,
     },
 ];

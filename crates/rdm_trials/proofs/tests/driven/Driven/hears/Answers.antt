@@ -4,7 +4,7 @@ use Rattle.rdm_lanes.proofs.PairLemmas.{client_called}
 use Rattle.rdm_trials.proofs.tests.driven.Driven.hears.Goals as goal
 
 pub invariant_of-self : goal.invariant_of-self
-invariant_of-self c =
+invariant_of-self g c =
     let me = c.args.self.now in
     let mine = c.index_mut.result.now in
     let here = slice_get_read me.clients.items (length me.clients.items) c.args.at mine refl (omega (arith, c.if-at-len.false, c.len.ensures, me.clients.ok.0)) c.index_mut.ensures.value in
