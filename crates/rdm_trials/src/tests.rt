@@ -12,4 +12,5 @@ mod port_end;
 mod rig;
 mod sessions;
 mod tapes;
+mod threads_port;
 mod threads_rings;

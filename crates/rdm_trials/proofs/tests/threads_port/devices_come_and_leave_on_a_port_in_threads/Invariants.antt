@@ -1,0 +1,5 @@
+-- the blank picks the ledger
+use Rattle.rdm_trials.proofs.tests.threads_port.devices_come_and_leave_on_a_port_in_threads.Given as goal
+
+abbrev pub ghosts-plays : goal.ghosts-plays
+ghosts-plays g a = record { name = a.blank.name; parts = a.blank.parts }
