@@ -174,8 +174,8 @@ impl Trouble {
     }
 }
 
-// A byte that spells nothing.
-fn noise() -> Result<Collision, Fault> {
+/// A byte that spells nothing.
+pub(crate) fn noise() -> Result<Collision, Fault> {
     let mut bytes = LineReply::new();
     if bytes.try_push(0xff).is_err() {
         return Err(Fault::Unexpected("LineReply::try_push"));
@@ -186,8 +186,8 @@ fn noise() -> Result<Collision, Fault> {
     }
 }
 
-// The text of some UID.
-fn phantom(random: &mut Random) -> Result<Collision, Fault> {
+/// The text of some UID.
+pub(crate) fn phantom(random: &mut Random) -> Result<Collision, Fault> {
     match Uid::from_number(random.next() >> 16) {
         Some(uid) => Ok(Collision::Uid(uid)),
         None => Err(Fault::Unexpected("Uid::from_number")),
@@ -261,8 +261,8 @@ fn ask(agent: &mut Agent, line: &mut SimLine, tn: u8)
     agent.hear(read(op, tn, &answer));
 }
 
-// What came after the frame of this operation.
-fn read(op: Op, tn: u8, answer: &Result<LineReply, LineFault>) -> OpReply
+/// What came after the frame of this operation.
+pub(crate) fn read(op: Op, tn: u8, answer: &Result<LineReply, LineFault>) -> OpReply
     requires { op ≢ End }
     ensures { fits result op ≡ true }
 {

@@ -22,7 +22,11 @@ pub(crate) enum Subject {
     Port,
     /// Clients over rings.
     Rings,
-    /// Each of these, and the sizes of the values.
+    /// Whole runs on lines that lose, lie and fail; nothing is timed.
+    Scenes,
+    /// Ports and sessions over rings, one after another; nothing is timed.
+    Soak,
+    /// Each of these but scenes and soak, and the sizes of the values.
     All,
 }
 
@@ -44,6 +48,9 @@ pub(crate) enum Job {
 
 /// How many requests a log is filled by at most.
 const MOST_LOGGED: usize = 100_000;
+
+/// How many scenes of each kind there are at most.
+const MOST_SCENES: usize = 10_000;
 
 /// How many requests one client may have waiting at most.
 const MOST_WAITING: usize = 255;
@@ -104,6 +111,8 @@ impl Subject {
             "frames" => Some(Subject::Frames),
             "port" => Some(Subject::Port),
             "rings" => Some(Subject::Rings),
+            "scenes" => Some(Subject::Scenes),
+            "soak" => Some(Subject::Soak),
             "all" => Some(Subject::All),
             _ => None,
         }
@@ -121,6 +130,8 @@ impl Subject {
             Subject::Frames => 1 <= size && size <= MOST_DEVICES,
             Subject::Port => 1 <= size && size <= MOST_WAITING,
             Subject::Rings => 1 <= size && size <= MOST_WAITING,
+            Subject::Scenes => 1 <= size && size <= MOST_SCENES,
+            Subject::Soak => 1 <= size && size <= MOST_LOGGED,
             Subject::All => 1 <= size && size <= MOST_PARAMETER_BYTES,
         }
     }

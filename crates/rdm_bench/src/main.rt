@@ -19,8 +19,12 @@ mod port;
 mod queue;
 mod random;
 mod rings;
+mod scenes;
 mod serving;
 mod sizes;
+mod soak;
+mod soaked;
+mod strays;
 mod tape;
 
 use crate::bench::Bench;
@@ -28,6 +32,7 @@ use crate::fault::Fault;
 use crate::job::{Job, Subject, parse_words};
 use std::env::Env;
 use std::process::ExitCode;
+use std::rt::Files;
 use std::sync::Wait;
 use std::time::CpuClock;
 use std::{env, io};
@@ -41,7 +46,10 @@ usage: rdm_bench SUBJECT SIZE ROUNDS | rdm_bench sizes
   frames  frames of both searches; SIZE: devices on the line, 1 to 1024; ROUNDS: on how many lines of each kind
   port    clients on a port; SIZE: requests that wait, 1 to 255
   rings   clients over rings; SIZE: requests that wait, 1 to 255
-  all     each of these, and the sizes; SIZE: 1 to 231
+  scenes  whole runs on lines that lose, lie and fail; SIZE: scenes of each kind, 1 to 10000; ROUNDS: on how many
+          lines of each kind that aren't honest
+  soak    16 clients of a port, and over rings; SIZE: requests, 1 to 100000; ROUNDS: ports, one after another
+  all     each of these but scenes and soak, and the sizes; SIZE: 1 to 231
   sizes   how many bytes the values take
 ROUNDS: how often each of the 21 samples repeats its work, 1 to 1000";
 
@@ -52,7 +60,9 @@ fn main(rt: HostRuntime) -> ExitCode {
     }
 }
 
-fn run<R: Env + AllocGlobal + CpuClock + Print + Eprint + Wait>(rt: &R) -> Result<(), Fault> {
+fn run<R: Env + AllocGlobal + CpuClock + Files + Print + Eprint + Wait>(
+    rt: &R,
+) -> Result<(), Fault> {
     let words = env::args(rt)?.skip(1).collect::<Vec<String>>(rt.alloc())?;
     match parse_words(&words).ok_or(Fault::Words)? {
         Job::Sizes => sizes::print(rt),
@@ -71,7 +81,7 @@ fn run<R: Env + AllocGlobal + CpuClock + Print + Eprint + Wait>(rt: &R) -> Resul
     }
 }
 
-fn time<R: CpuClock + Print + Eprint + Wait>(
+fn time<R: CpuClock + Files + Print + Eprint + Wait>(
     bench: &Bench<'_, R>,
     subject: Subject,
     size: usize,
@@ -84,6 +94,8 @@ fn time<R: CpuClock + Print + Eprint + Wait>(
         Subject::Frames => frames::tell(bench.rt, bench.alloc, size, bench.rounds),
         Subject::Port => port::time(bench, size),
         Subject::Rings => rings::time(bench, size),
+        Subject::Scenes => scenes::tell(bench.rt, bench.alloc, size, bench.rounds),
+        Subject::Soak => soak::tell(bench.rt, bench.alloc, size, bench.rounds),
         Subject::All => {
             agent::time(bench, size)?;
             calls::time(bench, size)?;
