@@ -1,14 +1,21 @@
-//! What no clause says: what comes of whole sessions.
+//! What no clause says: what comes of whole sessions, and of files and words that nobody meant.
 mod closes_port;
 mod closes_rings;
 mod closes_session;
 mod driven;
 mod due;
+mod faltering;
+mod full_logs;
 mod heard;
+mod hostile_files;
+mod hostile_words;
 mod logs;
 mod notes;
+mod objects;
 mod playing;
 mod port_end;
+mod program;
+mod random;
 mod rig;
 mod sessions;
 mod tapes;
