@@ -2,7 +2,7 @@
 use Rattle.std.specs.Prelude.{◌≡◌, ◌≤◌, ◌<◌, ◌^◌, ℕ, List, [], ◌∷◌, codes}
 use Rattle.std.specs.Str.Parse.{IsNumeral, digits_value, without_leading_plus}
 use Rattle.rdm_bench.specs.declared.job.Subject.{Subject}
-use Rattle.rdm_bench.specs.declared.job.Subject.TheVariants.{Agent, Calls, Queue, Log, Frames, Port, Rings, All}
+use Rattle.rdm_bench.specs.declared.job.Subject.TheVariants.{Agent, Calls, Queue, Log, Frames, Port, Rings, Scenes, All}
 use Rattle.rdm_bench.specs.declared.job.Job.{Job}
 use Rattle.rdm_bench.specs.declared.job.Job.TheVariants.{Sizes, Time}
 
@@ -15,6 +15,7 @@ name_of Log = codes "log"
 name_of Frames = codes "frames"
 name_of Port = codes "port"
 name_of Rings = codes "rings"
+name_of Scenes = codes "scenes"
 name_of All = codes "all"
 
 -- a subject may have this size
@@ -26,6 +27,7 @@ Takes Log size = (1 ≤ size) × (size ≤ 100000)
 Takes Frames size = (1 ≤ size) × (size ≤ 1024)
 Takes Port size = (1 ≤ size) × (size ≤ 255)
 Takes Rings size = (1 ≤ size) × (size ≤ 255)
+Takes Scenes size = (1 ≤ size) × (size ≤ 10000)
 Takes All size = (1 ≤ size) × (size ≤ 231)
 
 -- the text is that number in decimal digits, of which a plus may stand in front

@@ -72,11 +72,16 @@ impl fmt::Display for Runs {
     fn fmt<W: fmt::Write>(&self, f: &mut fmt::Formatter<W>) -> fmt::Result {
         let spread = self.spread;
         let trouble = self.trouble.name;
-        let search = match self.search {
-            Search::Steady => "steady",
-            Search::Quick => "quick",
-        };
+        let search = name_of(self.search);
         write!(f, "frames, {spread}, {trouble}, {search}")
+    }
+}
+
+/// What a search is called.
+pub(crate) fn name_of(search: Search) -> &'static str {
+    match search {
+        Search::Steady => "steady",
+        Search::Quick => "quick",
     }
 }
 
@@ -174,8 +179,8 @@ impl Trouble {
     }
 }
 
-// A byte that spells nothing.
-fn noise() -> Result<Collision, Fault> {
+/// A byte that spells nothing.
+pub(crate) fn noise() -> Result<Collision, Fault> {
     let mut bytes = LineReply::new();
     if bytes.try_push(0xff).is_err() {
         return Err(Fault::Unexpected("LineReply::try_push"));
@@ -186,8 +191,8 @@ fn noise() -> Result<Collision, Fault> {
     }
 }
 
-// The text of some UID.
-fn phantom(random: &mut Random) -> Result<Collision, Fault> {
+/// The text of some UID.
+pub(crate) fn phantom(random: &mut Random) -> Result<Collision, Fault> {
     match Uid::from_number(random.next() >> 16) {
         Some(uid) => Ok(Collision::Uid(uid)),
         None => Err(Fault::Unexpected("Uid::from_number")),
@@ -229,18 +234,24 @@ fn run(alloc: Global, scene: Scene, search: Search, present: &UidSet) -> Result<
     let Ok(mut line) = SimLine::new(alloc, scene) else {
         return Err(Fault::NoMemory);
     };
-    let mut agent = Agent::start_by(search, Kind::Full, &UidSet::new(), DEFAULT_BUDGET);
-    for made in 0..DEFAULT_BUDGET {
-        if agent.next() == Op::End {
-            break;
-        }
-        ask(&mut agent, &mut line, (made % 256) as u8);
-    }
+    let agent = searched(search, &mut line);
     if finds(&agent, present) {
         Ok(agent.frames())
     } else {
         Err(Fault::Unexpected("the devices found"))
     }
+}
+
+/// A run over this line, to its end.
+pub(crate) fn searched(search: Search, line: &mut SimLine) -> Agent {
+    let mut agent = Agent::start_by(search, Kind::Full, &UidSet::new(), DEFAULT_BUDGET);
+    for made in 0..DEFAULT_BUDGET {
+        if agent.next() == Op::End {
+            break;
+        }
+        ask(&mut agent, line, (made % 256) as u8);
+    }
+    agent
 }
 
 // Whether the run has ended without fault, with exactly these devices.
@@ -261,8 +272,8 @@ fn ask(agent: &mut Agent, line: &mut SimLine, tn: u8)
     agent.hear(read(op, tn, &answer));
 }
 
-// What came after the frame of this operation.
-fn read(op: Op, tn: u8, answer: &Result<LineReply, LineFault>) -> OpReply
+/// What came after the frame of this operation.
+pub(crate) fn read(op: Op, tn: u8, answer: &Result<LineReply, LineFault>) -> OpReply
     requires { op ≢ End }
     ensures { fits result op ≡ true }
 {

@@ -22,7 +22,9 @@ pub(crate) enum Subject {
     Port,
     /// Clients over rings.
     Rings,
-    /// Each of these, and the sizes of the values.
+    /// Whole runs on lines that lose, lie and fail; nothing is timed.
+    Scenes,
+    /// Each of these but scenes, and the sizes of the values.
     All,
 }
 
@@ -44,6 +46,9 @@ pub(crate) enum Job {
 
 /// How many requests a log is filled by at most.
 const MOST_LOGGED: usize = 100_000;
+
+/// How many scenes of each kind there are at most.
+const MOST_SCENES: usize = 10_000;
 
 /// How many requests one client may have waiting at most.
 const MOST_WAITING: usize = 255;
@@ -104,6 +109,7 @@ impl Subject {
             "frames" => Some(Subject::Frames),
             "port" => Some(Subject::Port),
             "rings" => Some(Subject::Rings),
+            "scenes" => Some(Subject::Scenes),
             "all" => Some(Subject::All),
             _ => None,
         }
@@ -121,6 +127,7 @@ impl Subject {
             Subject::Frames => 1 <= size && size <= MOST_DEVICES,
             Subject::Port => 1 <= size && size <= MOST_WAITING,
             Subject::Rings => 1 <= size && size <= MOST_WAITING,
+            Subject::Scenes => 1 <= size && size <= MOST_SCENES,
             Subject::All => 1 <= size && size <= MOST_PARAMETER_BYTES,
         }
     }

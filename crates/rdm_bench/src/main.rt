@@ -3,6 +3,7 @@
 #![tactic(auto)]
 
 mod agent;
+mod astray;
 mod bench;
 mod calls;
 mod clients;
@@ -19,9 +20,13 @@ mod port;
 mod queue;
 mod random;
 mod rings;
+mod scenes;
+mod seeded;
 mod serving;
 mod sizes;
+mod strays;
 mod tape;
+mod views;
 
 use crate::bench::Bench;
 use crate::fault::Fault;
@@ -40,8 +45,10 @@ usage: rdm_bench SUBJECT SIZE ROUNDS | rdm_bench sizes
   log     the log of a session; SIZE: requests in it, 1 to 100000
   frames  frames of both searches; SIZE: devices on the line, 1 to 1024; ROUNDS: on how many lines of each kind
   port    clients on a port; SIZE: requests that wait, 1 to 255
-  rings   clients over rings; SIZE: requests that wait, 1 to 255
-  all     each of these, and the sizes; SIZE: 1 to 231
+  rings   clients over rings, and views that they read; SIZE: requests that wait, 1 to 255
+  scenes  whole runs on lines that lose, lie and fail; SIZE: scenes of each kind, 1 to 10000; ROUNDS: on how many
+          lines of each kind that aren't honest
+  all     each of these but scenes, and the sizes; SIZE: 1 to 231
   sizes   how many bytes the values take
 ROUNDS: how often each of the 21 samples repeats its work, 1 to 1000";
 
@@ -83,7 +90,11 @@ fn time<R: CpuClock + Print + Eprint + Wait>(
         Subject::Log => log::time(bench, size),
         Subject::Frames => frames::tell(bench.rt, bench.alloc, size, bench.rounds),
         Subject::Port => port::time(bench, size),
-        Subject::Rings => rings::time(bench, size),
+        Subject::Rings => {
+            rings::time(bench, size)?;
+            views::time(bench)
+        }
+        Subject::Scenes => scenes::tell(bench.rt, bench.alloc, size, bench.rounds),
         Subject::All => {
             agent::time(bench, size)?;
             calls::time(bench, size)?;
@@ -92,6 +103,7 @@ fn time<R: CpuClock + Print + Eprint + Wait>(
             frames::tell(bench.rt, bench.alloc, size, bench.rounds)?;
             port::time(bench, size)?;
             rings::time(bench, size)?;
+            views::time(bench)?;
             sizes::print(bench.rt)
         }
     }

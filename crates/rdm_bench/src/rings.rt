@@ -1,5 +1,8 @@
 //! Requests over rings, while so many wait: clients take turns, and a worker serves the line between them. All of them
 //! are in one thread.
+ghost use Rattle.std.specs.Prelude.{◌≡◌};
+ghost use Rattle.rdm_lanes.specs.Workers.{book_of};
+
 use crate::bench::{Bench, Name, Sample};
 use crate::clients::{SCENES, Scene, after, answering, entries_for, is_answered};
 use crate::fault::Fault;
@@ -7,10 +10,15 @@ use crate::median::SAMPLES;
 use crate::notes::{AskNote, Note, cancel};
 use crate::packets::request;
 use crate::serving::{config, new_log};
-use rdm_client::Collected;
-use rdm_lanes::{Lanes, RingClient, Worker, WorkerEnd, open_lanes};
+use left_right::Absorb;
+use rdm_client::{Collected, DeviceView};
+use rdm_lanes::{
+    BlankHistory, Lanes, RingClient, Shown, ViewHistory, ViewWorker, WorkerEnd, open_lanes,
+};
 use rdm_line::TapeLine;
 use std::alloc::Global;
+use std::marker::Brand;
+use std::sync::Wait;
 use std::time::CpuClock;
 
 // How many slots each ring has.
@@ -19,27 +27,31 @@ const SLOTS: u8 = 255;
 // All the places that sixteen clients may have.
 const PLACES: [u8; 16] = [u8::MAX; 16];
 
-type Client = RingClient<Note, AskNote>;
+type Client<J> = RingClient<J, Note, AskNote>;
 
 /// Times requests while so many wait.
-pub(crate) fn time<R: CpuClock + Print + Eprint>(
+pub(crate) fn time<R: CpuClock + Print + Eprint + Wait>(
     bench: &Bench<'_, R>,
     waiting: usize,
 ) -> Result<(), Fault> {
     for scene in &SCENES {
-        time_one(bench, scene, waiting)?;
+        time_one::<Brand, R>(bench, BlankHistory::new(), scene, waiting)?;
     }
     Ok(())
 }
 
-fn time_one<R: CpuClock + Print + Eprint>(
+fn time_one<J: ViewHistory, R: CpuClock + Print + Eprint + Wait>(
     bench: &Bench<'_, R>,
+    history: BlankHistory,
     scene: &Scene,
     waiting: usize,
-) -> Result<(), Fault> {
+) -> Result<(), Fault>
+    requires { book_of history ≡ J.book }
+{
     let turns = bench.rounds.wrapping_mul(SAMPLES);
     let line = answering(bench.alloc, turns)?;
-    let lanes = opened(bench.alloc, scene.clients, turns.wrapping_add(waiting))?;
+    let requests = turns.wrapping_add(waiting);
+    let lanes = opened::<J, R>(bench.rt, bench.alloc, history, scene.clients, requests)?;
     let Lanes {
         clients,
         operator: _operator,
@@ -67,16 +79,24 @@ fn time_one<R: CpuClock + Print + Eprint>(
 }
 
 // So many clients, with room for so many requests in the log.
-fn opened(alloc: Global, clients: u8, requests: usize) -> Result<Lanes<Note, AskNote>, Fault> {
+fn opened<'a, J: ViewHistory, R: Wait>(
+    rt: &'a R,
+    alloc: Global,
+    history: BlankHistory,
+    clients: u8,
+    requests: usize,
+) -> Result<Lanes<J, Shown<J>, &'a R, Note, AskNote>, Fault>
+    requires { book_of history ≡ J.book }
+{
     let log = new_log(alloc, entries_for(requests))?;
     let places = &PLACES[..usize::from(clients.min(16))];
-    match open_lanes(alloc, config(), log, SLOTS, places) {
+    match open_lanes(rt, alloc, history, config(), log, SLOTS, places) {
         Ok(lanes) => Ok(lanes),
         Err(_) => Err(Fault::NoMemory),
     }
 }
 
-fn leave(alloc: Global, mut clients: Vec<Client>) {
+fn leave<J: ViewHistory>(alloc: Global, mut clients: Vec<Client<J>>) {
     while let Some(client) = clients.pop() {
         cancel(alloc, client.end().into_unspent());
     }
@@ -84,10 +104,10 @@ fn leave(alloc: Global, mut clients: Vec<Client>) {
 }
 
 // Turns while the same number of requests wait: one is answered and collected, and another submitted.
-struct Turns {
+struct Turns<J: ViewHistory, T: Absorb<Shown<J>, State = [DeviceView; 0]> + Drop, W: Wait + Drop> {
     alloc: Global,
-    clients: Vec<Client>,
-    worker: Worker,
+    clients: Vec<Client<J>>,
+    worker: ViewWorker<J, T, W>,
     line: TapeLine,
     // Whose outcome is next.
     collector: usize,
@@ -95,7 +115,7 @@ struct Turns {
     submitter: usize,
 }
 
-impl Turns {
+impl<J: ViewHistory, W: Wait + Drop> Turns<J, Shown<J>, W> {
     // Lets the clients submit, and times the turns.
     fn time<R: CpuClock + Print + Eprint>(
         &mut self,
@@ -130,7 +150,7 @@ impl Turns {
     fn exchange(&mut self) -> Result<(), Fault> {
         match self.worker.work(self.alloc, &mut self.line, 1) {
             WorkerEnd::Turns => Ok(()),
-            WorkerEnd::AllLeft | WorkerEnd::LogFull => Err(Fault::Unexpected("Worker::work")),
+            WorkerEnd::AllLeft | WorkerEnd::LogFull => Err(Fault::Unexpected("ViewWorker::work")),
         }
     }
 
@@ -147,7 +167,7 @@ impl Turns {
     }
 }
 
-impl Sample for Turns {
+impl<J: ViewHistory, W: Wait + Drop> Sample for Turns<J, Shown<J>, W> {
     fn run(&mut self) -> Result<u64, Fault> {
         self.exchange()?;
         self.collect()?;

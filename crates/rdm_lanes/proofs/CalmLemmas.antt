@@ -48,6 +48,7 @@ use Rattle.rdm_queue.proofs.LogLemmas.RunLemmas.{before_first-cons, entries_befo
 use Rattle.rdm_queue.proofs.PromiseLemmas.NothingAfterClose.{closed_more}
 use Rattle.rdm_queue.proofs.PromiseLemmas.RunsAnswer.{named_begun, ended}
 use Rattle.rdm_queue.proofs.PromiseLemmas.TellsTheLine.{tells_the_line}
+use Rattle.rdm_lanes.specs.declared.history.ViewHistory.{Ghosts}
 use Rattle.rdm_lanes.specs.declared.ends.ClientEnd.{ClientEnd}
 use Rattle.rdm_lanes.specs.Lines.{exchanges}
 use Rattle.rdm_lanes.specs.OverThreads.{IsStayingScene, IsCalmScene, IsEnough, IsByDefault, IsEndOver, TellsNoFault}
@@ -199,7 +200,7 @@ refused_closed o front c client (calls.Join n) cause number done own is refused 
     no_ask e = cc
 
 -- no outcome that a client got has a fault
-pub tells_no_fault : {C A : Type 0} (config : Config) (search : Search) (room : ℕ) (places : List ℕ) (s t : SimState) (k : LogState) (c : ℕ) (e : ClientEnd C A) → IsEndOver config search room places s t k c e → IsCalmScene s → IsEnough config search s → TellsNoFault e
+pub tells_no_fault : {J : Type 0} {h : Ghosts J} {C A : Type 0} (config : Config) (search : Search) (room : ℕ) (places : List ℕ) (s t : SimState) (k : LogState) (c : ℕ) (e : ClientEnd J C A h) → IsEndOver config search room places s t k c e → IsCalmScene s → IsEnough config search s → TellsNoFault e
 tells_no_fault config search room places s t k c e over is enough number done got = by_kind (discovery_of h told.front told.back told.entry number done told.is)
   where
     o : Opening
@@ -249,5 +250,5 @@ default_enough config how s is default =
     within : length (uids_of_scene s.devices) ≤ 1024 → enough_by Steady (uids_of_scene s.devices) kinds.Incremental (uids_of_scene s.devices) ≤ DEFAULT_BUDGET
     within few = omega (arith, few)
 
-pub tells_none_by_default : {C A : Type 0} (config : Config) (search : Search) (room : ℕ) (places : List ℕ) (s t : SimState) (k : LogState) (c : ℕ) (e : ClientEnd C A) → IsEndOver config search room places s t k c e → IsCalmScene s → IsByDefault config search → TellsNoFault e
+pub tells_none_by_default : {J : Type 0} {h : Ghosts J} {C A : Type 0} (config : Config) (search : Search) (room : ℕ) (places : List ℕ) (s t : SimState) (k : LogState) (c : ℕ) (e : ClientEnd J C A h) → IsEndOver config search room places s t k c e → IsCalmScene s → IsByDefault config search → TellsNoFault e
 tells_none_by_default config search room places s t k c e over is default = tells_no_fault config search room places s t k c e over is (default_enough config search s is default)

@@ -10,7 +10,7 @@ use Rattle.rdm_queue.specs.declared.entry.Opening.{Opening}
 use Rattle.rdm_queue.specs.declared.entry.Owner.TheVariants as owners
 use Rattle.rdm_queue.specs.declared.entry.Entry.{Entry}
 use Rattle.rdm_queue.specs.declared.entry.Entry.TheVariants.{Join, Send, Came, Finish, Answer, Collect, Pause, Resume, Close}
-use Rattle.rdm_queue.specs.log.Entries.{join_of}
+use Rattle.rdm_queue.specs.log.Entries.{join_of, answered_of}
 use Rattle.rdm_queue.specs.log.MaySend.{NoSend, MaySendRequest, MayBegin, MaySendRun}
 use Rattle.rdm_queue.specs.log.Legal.{Legal, MayFollow}
 use Rattle.rdm_queue.specs.log.LogState.{LogState, is_full_log, free_entries}
@@ -19,6 +19,7 @@ use Rattle.rdm_queue.proofs.LogLemmas.RunLemmas.{open_run_same, last_run_same, a
 use Rattle.rdm_queue.proofs.LogLemmas.RoomLemmas.{added, added_by, taken_block}
 use Rattle.rdm_lanes.specs.Lines.{NoExchange, SameSwitches, OnlyCollects, is_collect}
 use Rattle.rdm_lanes.proofs.ListLemmas.{all_follow}
+use Rattle.rdm_lanes.proofs.FoundLemmas.{quiet_views}
 use Rattle.rdm_lanes.proofs.LineLemmas.{is_off_line, is_switch, line_off, switches_stay, grown_join, grown_same}
 
 abbrev pub AllCollects : List Entry → Type 0
@@ -44,6 +45,10 @@ no_join : (e : Entry) → is_collect e ≡ true → join_of e ≡ None
 no_join (Join c n) is = absurd (true≢false (sym is))
 no_join _ is = refl
 
+unanswered : (e : Entry) → is_collect e ≡ true → answered_of e ≡ None
+unanswered (Answer n r fault) is = absurd (true≢false (sym is))
+unanswered _ is = refl
+
 no_switch : (e : Entry) → is_collect e ≡ true → is_switch e ≡ false
 no_switch Pause is = absurd (true≢false (sym is))
 no_switch Resume is = absurd (true≢false (sym is))
@@ -54,6 +59,8 @@ pub collects_line : (old new : LogState) → OnlyCollects old new → NoExchange
 collects_line old new is = line_off old new is.block is.grows
     (all_follow (λ e. is_collect e ≡ true) (λ e. is_off_line e ≡ true) off_line is.block is.each)
     (all_follow (λ e. is_collect e ≡ true) (λ e. join_of e ≡ None) no_join is.block is.each)
+    (quiet_views old.entries is.block (all_follow (λ e. is_collect e ≡ true) (λ e. is_off_line e ≡ true) off_line is.block is.each)
+    (all_follow (λ e. is_collect e ≡ true) (λ e. answered_of e ≡ None) unanswered is.block is.each))
 
 pub collects_switches : (old new : LogState) → OnlyCollects old new → SameSwitches old new
 collects_switches old new is = switches_stay old new is.block is.grows

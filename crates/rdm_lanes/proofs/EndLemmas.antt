@@ -8,6 +8,7 @@ use Rattle.std.proofs.lemmas.List.{length-set, length-map, map-append}
 use Rattle.std.proofs.lemmas.List.Elements.{filter-append}
 use Rattle.rtrb.specs.Ring.{sent as pushed, received as popped, known_items}
 use Rattle.rdm_queue.specs.log.LogState.{LogState}
+use Rattle.rdm_lanes.specs.declared.history.ViewHistory.{Ghosts}
 use Rattle.rdm_lanes.specs.declared.call.ClientCall.{ClientCall}
 use Rattle.rdm_lanes.specs.declared.call.ClientCall.TheVariants.{Submit, Discover, Leave}
 use Rattle.rdm_lanes.specs.declared.ring_outcome.RingOutcome.{RingOutcome}
@@ -96,24 +97,24 @@ within_get [] i low = absurd (omega (arith, low))
 within_get (x ∷ xs) zero low = (x, refl)
 within_get (x ∷ xs) (suc i) low = within_get xs i (omega (arith, low))
 
-module _ {C A : Type 0} where
+module _ {J : Type 0} {h : Ghosts J} {C A : Type 0} where
   -- while the ends are compared: those before `at` are settled, the others are still pairs
-  pub record Comparing (k : LogState) (first : List Lane) (before : List (ClientEnd C A)) (lanes : List Lane) (ends : List (ClientEnd C A)) (at : ℕ) : Type 0 where
+  pub record Comparing (k : LogState) (first : List Lane) (before : List (ClientEnd J C A h)) (lanes : List Lane) (ends : List (ClientEnd J C A h)) (at : ℕ) : Type 0 where
     pub long : length ends ≡ length lanes
     pub lanes_long : length lanes ≡ length first
     pub same_left : (i : ℕ) (a b : Lane) → slice_get first i ≡ Some a → slice_get lanes i ≡ Some b → b.left ≡ a.left
-    pub settled : (i : ℕ) (e : ClientEnd C A) → i < at → slice_get ends i ≡ Some e → Agrees i k e
-    pub read : (i : ℕ) (lane : Lane) (e : ClientEnd C A) → i < at → slice_get lanes i ≡ Some lane → slice_get ends i ≡ Some e → lane.left ≡ true → left_in e.calls ≡ []
-    pub pairs : (i : ℕ) (lane : Lane) (e : ClientEnd C A) → at ≤ i → slice_get lanes i ≡ Some lane → slice_get ends i ≡ Some e → ArePair (end_rings e) lane × Fits i k lane
+    pub settled : (i : ℕ) (e : ClientEnd J C A h) → i < at → slice_get ends i ≡ Some e → Agrees i k e
+    pub read : (i : ℕ) (lane : Lane) (e : ClientEnd J C A h) → i < at → slice_get lanes i ≡ Some lane → slice_get ends i ≡ Some e → lane.left ≡ true → left_in e.calls ≡ []
+    pub pairs : (i : ℕ) (lane : Lane) (e : ClientEnd J C A h) → at ≤ i → slice_get lanes i ≡ Some lane → slice_get ends i ≡ Some e → ArePair (end_rings e) lane × Fits i k lane
     pub told : AllTold before ends
 
-  same_told : (a : ClientEnd C A) → SameTold a a
-  same_told a = record { sent_are = refl; got_are = refl; unspent_is = refl }
+  same_told : (a : ClientEnd J C A h) → SameTold a a
+  same_told a = record { sent_are = refl; got_are = refl; unspent_is = refl; views_are = refl }
 
-  same_told_join : (a b d : ClientEnd C A) → SameTold a b → SameTold b d → SameTold a d
-  same_told_join a b d p q = record { sent_are = q.sent_are ∙ p.sent_are; got_are = q.got_are ∙ p.got_are; unspent_is = q.unspent_is ∙ p.unspent_is }
+  same_told_join : (a b d : ClientEnd J C A h) → SameTold a b → SameTold b d → SameTold a d
+  same_told_join a b d p q = record { sent_are = q.sent_are ∙ p.sent_are; got_are = q.got_are ∙ p.got_are; unspent_is = q.unspent_is ∙ p.unspent_is; views_are = q.views_are ∙ p.views_are }
 
-  pub comparing_none : (k : LogState) (lanes : List Lane) (ends : List (ClientEnd C A)) → AllFit k lanes → PairUp lanes ends → Comparing k lanes ends lanes ends 0
+  pub comparing_none : (k : LogState) (lanes : List Lane) (ends : List (ClientEnd J C A h)) → AllFit k lanes → PairUp lanes ends → Comparing k lanes ends lanes ends 0
   comparing_none k lanes ends all pairs = record {
     long = sym (length-map ends end_rings) ∙ pairs.long;
     lanes_long = refl;
@@ -124,17 +125,17 @@ module _ {C A : Type 0} where
     told = record { long = refl; each = λ i a b p q. let e = get_or_from_slice_get ends i a b p in let f = get_or_from_slice_get ends i b b q in rw (sym e ∙ f) (same_told b) };
   }
 
-  settles : (c : ℕ) (k : LogState) (lane : Lane) (e : ClientEnd C A) → Fits c k lane → pushed e.calls ≡ popped lane.calls ++ left_in e.calls → popped e.replies ++ known_items e.replies ≡ pushed lane.replies → Agrees c k e
+  settles : (c : ℕ) (k : LogState) (lane : Lane) (e : ClientEnd J C A h) → Fits c k lane → pushed e.calls ≡ popped lane.calls ++ left_in e.calls → popped e.replies ++ known_items e.replies ≡ pushed lane.replies → Agrees c k e
   settles c k lane e f put got = record {
     sent_are = ap work_in put ∙ work_parts (popped lane.calls) (left_in e.calls) ∙ ap (λ (xs : List ClientCall). xs ++ work_in (left_in e.calls)) (f.calls_are ∙ append-nil _);
     got_are = rw (sym (value_parts (popped e.replies) (known_items e.replies)), got) f.told_are;
   }
 
-  reads : (c : ℕ) (k : LogState) (lane : Lane) (e : ClientEnd C A) → Fits c k lane → pushed e.calls ≡ popped lane.calls ++ left_in e.calls → lane.left ≡ true → left_in e.calls ≡ []
+  reads : (c : ℕ) (k : LogState) (lane : Lane) (e : ClientEnd J C A h) → Fits c k lane → pushed e.calls ≡ popped lane.calls ++ left_in e.calls → lane.left ≡ true → left_in e.calls ≡ []
   reads c k lane e f put left =
       nothing_after (work_in (pushed e.calls)) (popped lane.calls) (left_in e.calls) e.left (all_work (pushed e.calls)) (sym put ∙ e.counted.leave_is_last) (sym f.left_is ∙ left)
 
-  pub comparing_more : (k : LogState) (first : List Lane) (before : List (ClientEnd C A)) (lanes : List Lane) (ends : List (ClientEnd C A)) (at : ℕ) (l m : Lane) (e d : ClientEnd C A)
+  pub comparing_more : (k : LogState) (first : List Lane) (before : List (ClientEnd J C A h)) (lanes : List Lane) (ends : List (ClientEnd J C A h)) (at : ℕ) (l m : Lane) (e d : ClientEnd J C A h)
       → Comparing k first before lanes ends at → slice_get lanes at ≡ Some l → slice_get ends at ≡ Some e
       → pushed d.calls ≡ popped l.calls ++ left_in d.calls → popped d.replies ++ known_items d.replies ≡ pushed l.replies → SameTold e d → m.left ≡ l.left
       → Comparing k first before (slice_set lanes at m) (slice_set ends at d) (at + 1)
@@ -180,12 +181,12 @@ module _ {C A : Type 0} where
     };
   }
 
-  pub all_compared : (k : LogState) (first : List Lane) (before : List (ClientEnd C A)) (lanes : List Lane) (ends : List (ClientEnd C A)) (at : ℕ) → length first ≤ at → Comparing k first before lanes ends at → AllAgree k ends
+  pub all_compared : (k : LogState) (first : List Lane) (before : List (ClientEnd J C A h)) (lanes : List Lane) (ends : List (ClientEnd J C A h)) (at : ℕ) → length first ≤ at → Comparing k first before lanes ends at → AllAgree k ends
   all_compared k first before lanes ends at all is = record {
     each = λ i e here. is.settled i e (omega (arith, slice_get_within ends i e here, is.long, is.lanes_long, all)) here;
   }
 
-  pub all_read : (k : LogState) (first : List Lane) (before : List (ClientEnd C A)) (lanes : List Lane) (ends : List (ClientEnd C A)) (at : ℕ) → length first ≤ at → Comparing k first before lanes ends at → AllHaveLeft first → AllRead ends
+  pub all_read : (k : LogState) (first : List Lane) (before : List (ClientEnd J C A h)) (lanes : List Lane) (ends : List (ClientEnd J C A h)) (at : ℕ) → length first ≤ at → Comparing k first before lanes ends at → AllHaveLeft first → AllRead ends
   all_read k first before lanes ends at all is left = record {
     each = λ i e here.
         let within = slice_get_within ends i e here in

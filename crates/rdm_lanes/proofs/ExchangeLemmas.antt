@@ -21,6 +21,8 @@ use Rattle.rdm_queue.proofs.LogLemmas.PushLemmas.{awaited-push}
 use Rattle.rdm_queue.proofs.LogLemmas.LegalFacts.{legal_facts, sent_evenly}
 use Rattle.rdm_lanes.specs.Lines.{exchanges, exchange_count, Exchanged, NoExchange, SameSwitches, InBound, NoCallLost, IsBetweenTurns}
 use Rattle.rdm_lanes.specs.Serving.{IsOnlyTold}
+use Rattle.rdm_lanes.specs.Views.{views_found, GainOneAtMost}
+use Rattle.rdm_lanes.proofs.FoundLemmas.{exchange_views}
 use Rattle.rdm_lanes.proofs.LaneLemmas.{waits, waits_join}
 use Rattle.rdm_lanes.proofs.LineLemmas.{traded_one, exchanges_off, results_off, results_no_join, results_no_switch, joins_stay, switches_stay, awaited_off, in_bound_grows, none_lost_grows, rightly_without, results_no_refusal, grown_join}
 use Rattle.rdm_lanes.proofs.StepLemmas.{results_untouched}
@@ -60,6 +62,7 @@ pub record IsExchange (old new : LogState) (frame : ArrayVec ℕ) (event : LineE
   pub grows : new ≡ grown old block
   pub nobody_joined : joins new.entries ≡ joins old.entries
   pub added : exchanges new.entries ≡ exchanges old.entries ++ (frame, event) ∷ []
+  pub found : GainOneAtMost (views_found old.entries) (views_found new.entries)
   pub switches : SameSwitches old new
   pub wait : (c : ℕ) → IsOnlyTold c old new
 
@@ -71,6 +74,7 @@ delivered old mid new owner frame event block results sent came all grew bound l
   grows = grew_all;
   nobody_joined = ap (λ (k : LogState). joins k.entries) grew_all ∙ joins_stay h (Send owner frame ∷ Came event ∷ results) (refl, (refl, results_no_join results all));
   added = ap (λ (k : LogState). exchanges k.entries) whole ∙ exchanges_off ((h ++ Send owner frame ∷ []) ++ Came event ∷ []) results (results_off results all) ∙ traded_one h owner frame event even;
+  found = subst (λ (k : LogState). GainOneAtMost (views_found h) (views_found k.entries)) (sym whole) (exchange_views old.opening h owner frame event results (subst (λ (k : LogState). EachAfter (MayFollow k.opening) k.entries) whole legal_new.each) all);
   switches = switches_stay old new (Send owner frame ∷ Came event ∷ results) grew_all (refl, (refl, results_no_switch results all));
   wait = λ c. waits_join c old mid new (waits c old mid (Send owner frame ∷ []) sent legal_mid (refl, tt)) (waits c mid new (Came event ∷ results) came legal_new (refl, results_untouched c results all));
 }

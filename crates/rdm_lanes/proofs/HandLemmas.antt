@@ -2,30 +2,31 @@
 use Rattle.std.proofs.Common.{◌≡◌, ◌+◌, ◌≤◌, List, [], ◌∷◌, ◌++◌, length, map, Vec, vec_capacity, refl, sym, ap, ◌∙◌, append-nil, append_assoc, length-append, arith}
 use Rattle.std.specs.declared.alloc.Global.{Global}
 use Rattle.std.proofs.lemmas.List.{map-append}
+use Rattle.rdm_lanes.specs.declared.history.ViewHistory.{Ghosts}
 use Rattle.rdm_lanes.specs.declared.client.RingClient.{RingClient}
 use Rattle.rdm_lanes.specs.declared.ends.ClientEnd.{ClientEnd}
 use Rattle.rdm_lanes.specs.Ends.{end_rings}
 use Rattle.rdm_lanes.specs.Pairs.{Rings, client_rings}
 
-module _ {C A : Type 0} where
-  pub record Ending (first clients : List (RingClient C A)) (ends : Vec (ClientEnd C A) Global) : Type 0 where
+module _ {J : Type 0} {h : Ghosts J} {C A : Type 0} where
+  pub record Ending (first clients : List (RingClient J C A h)) (ends : Vec (ClientEnd J C A h) Global) : Type 0 where
     pub rings : map end_rings ends.items ++ map client_rings clients ≡ map client_rings first
     pub long : length ends.items + length clients ≡ length first
     pub fits : length first ≤ vec_capacity ends
 
-  pub end_none : (clients : List (RingClient C A)) (ends : Vec (ClientEnd C A) Global) → ends.items ≡ [] → length clients ≤ vec_capacity ends → Ending clients clients ends
+  pub end_none : (clients : List (RingClient J C A h)) (ends : Vec (ClientEnd J C A h) Global) → ends.items ≡ [] → length clients ≤ vec_capacity ends → Ending clients clients ends
   end_none clients ends none fits = record { rings = rw none refl; long = rw none (omega arith); fits = fits }
 
-  pub end_more : (first clients rest : List (RingClient C A)) (ends new : Vec (ClientEnd C A) Global) (client : RingClient C A) (end : ClientEnd C A)
+  pub end_more : (first clients rest : List (RingClient J C A h)) (ends new : Vec (ClientEnd J C A h) Global) (client : RingClient J C A h) (end : ClientEnd J C A h)
       → Ending first clients ends → clients ≡ client ∷ rest → new.items ≡ ends.items ++ end ∷ [] → vec_capacity new ≡ vec_capacity ends
       → end.calls ≡ client.calls → end.replies ≡ client.replies → Ending first rest new
   end_more first clients rest ends new client end is here e capacity calls replies = record {
     rings =
-        ap (λ (xs : List (ClientEnd C A)). map end_rings xs ++ map client_rings rest) e
+        ap (λ (xs : List (ClientEnd J C A h)). map end_rings xs ++ map client_rings rest) e
         ∙ ap (λ (rs : List Rings). rs ++ map client_rings rest) (map-append end_rings ends.items (end ∷ []))
         ∙ append_assoc (map end_rings ends.items) (end_rings end ∷ []) (map client_rings rest)
         ∙ ap (λ (r : Rings). map end_rings ends.items ++ r ∷ map client_rings rest) (both calls replies)
-        ∙ ap (λ (xs : List (RingClient C A)). map end_rings ends.items ++ map client_rings xs) (sym here)
+        ∙ ap (λ (xs : List (RingClient J C A h)). map end_rings ends.items ++ map client_rings xs) (sym here)
         ∙ is.rings;
     long = omega (arith, is.long, ap length here, ap length e ∙ length-append ends.items (end ∷ []));
     fits = omega (arith, is.fits, capacity);
@@ -34,6 +35,6 @@ module _ {C A : Type 0} where
       both : end.calls ≡ client.calls → end.replies ≡ client.replies → end_rings end ≡ client_rings client
       both p q = rw (p, q) refl
 
-  pub all_ended : (first clients : List (RingClient C A)) (ends : Vec (ClientEnd C A) Global) → Ending first clients ends → clients ≡ [] → map end_rings ends.items ≡ map client_rings first
+  pub all_ended : (first clients : List (RingClient J C A h)) (ends : Vec (ClientEnd J C A h) Global) → Ending first clients ends → clients ≡ [] → map end_rings ends.items ≡ map client_rings first
   all_ended first clients ends is none =
-      sym (append-nil (map end_rings ends.items)) ∙ ap (λ (xs : List (RingClient C A)). map end_rings ends.items ++ map client_rings xs) (sym none) ∙ is.rings
+      sym (append-nil (map end_rings ends.items)) ∙ ap (λ (xs : List (RingClient J C A h)). map end_rings ends.items ++ map client_rings xs) (sym none) ∙ is.rings

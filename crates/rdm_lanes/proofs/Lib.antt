@@ -1,4 +1,9 @@
+pub mod Fronts
+pub mod ViewFacts
+pub mod HistoryLemmas
+pub mod PublishLemmas
 pub mod Counting
+pub mod ReadLemmas
 pub mod SeatLemmas
 pub mod PairLemmas
 pub mod HandLemmas
@@ -6,6 +11,8 @@ pub mod ListLemmas
 pub mod GrowthLemmas
 pub mod LaneLemmas
 pub mod LineLemmas
+pub mod FoundLemmas
+pub mod ShowingLemmas
 pub mod CollectLemmas
 pub mod StepLemmas
 pub mod FitLemmas
@@ -20,4 +27,5 @@ pub mod OpenLemmas
 pub mod SessionLemmas
 pub mod PartLemmas
 pub mod SceneLemmas
+pub mod FirstLemmas
 pub mod CalmLemmas

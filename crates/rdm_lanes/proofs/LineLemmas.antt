@@ -20,6 +20,7 @@ use Rattle.rdm_queue.specs.promises.InBound.{FaultNeedsClose, AnswersInBound}
 use Rattle.rdm_queue.proofs.LogLemmas.PushLemmas.{awaited-push, is_closed-push, is_paused-push}
 use Rattle.rdm_queue.proofs.LogLemmas.Places.{zip_both_more}
 use Rattle.rdm_lanes.specs.Lines.{exchange_of, exchanges, NoExchange, SameSwitches, InBound, IsBetweenTurns, NoCallLost, may_refuse}
+use Rattle.rdm_lanes.specs.Views.{views_found}
 use Rattle.rdm_lanes.proofs.ListLemmas.{filter_map_nothing, all_follow}
 
 -- an entry that neither is of the line, nor ends anything, nor closes
@@ -292,12 +293,13 @@ served_quiet old new block is all rightly s = rw is (record {
 })
 
 -- a block without frames and joins
-pub line_off : (old new : LogState) (block : List Entry) → new ≡ grown old block → AllOffLine block → NobodyJoins block → NoExchange old new
-line_off old new block is all nobody = record {
+pub line_off : (old new : LogState) (block : List Entry) → new ≡ grown old block → AllOffLine block → NobodyJoins block → views_found (old.entries ++ block) ≡ views_found old.entries → NoExchange old new
+line_off old new block is all nobody views = record {
   block = block;
   grows = is;
   nobody_joined = ap (λ (k : LogState). joins k.entries) is ∙ joins_stay old.entries block nobody;
   same = ap (λ (k : LogState). exchanges k.entries) is ∙ exchanges_off old.entries block all;
+  same_views = ap (λ (k : LogState). views_found k.entries) is ∙ views;
 }
 
 pub grown_join : (a b d : LogState) (block more : List Entry) → b ≡ grown a block → d ≡ grown b more → d ≡ grown a (block ++ more)
@@ -307,10 +309,10 @@ pub grown_same : (a : LogState) → a ≡ grown a []
 grown_same a = ap (λ (h : List Entry). record a { entries = h }) (sym (append-nil a.entries))
 
 pub line_join : (a b d : LogState) → NoExchange a b → NoExchange b d → NoExchange a d
-line_join a b d p q = record { block = p.block ++ q.block; grows = grown_join a b d p.block q.block p.grows q.grows; nobody_joined = q.nobody_joined ∙ p.nobody_joined; same = q.same ∙ p.same }
+line_join a b d p q = record { block = p.block ++ q.block; grows = grown_join a b d p.block q.block p.grows q.grows; nobody_joined = q.nobody_joined ∙ p.nobody_joined; same = q.same ∙ p.same; same_views = q.same_views ∙ p.same_views }
 
 pub line_same : (a : LogState) → NoExchange a a
-line_same a = record { block = []; grows = grown_same a; nobody_joined = refl; same = refl }
+line_same a = record { block = []; grows = grown_same a; nobody_joined = refl; same = refl; same_views = refl }
 
 -- a close, and an exchange
 pub closed_after : (o : Opening) (h : List Entry) → is_closed o (h ++ Close ∷ []) ≡ true

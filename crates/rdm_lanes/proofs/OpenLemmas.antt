@@ -25,6 +25,7 @@ use Rattle.rdm_queue.specs.log.LogState.{LogState, grown, opened, is_full_log, f
 use Rattle.rdm_queue.specs.log.Legal.{Legal}
 use Rattle.rdm_queue.specs.promises.Blocks.{GrowsBy, JoinLogs, JoinAdds, UnlessFull}
 use Rattle.rdm_queue.proofs.LogLemmas.Places.{slice_get-push}
+use Rattle.rdm_lanes.specs.declared.history.ViewHistory.{Ghosts}
 use Rattle.rdm_lanes.specs.declared.call.ClientCall.{ClientCall}
 use Rattle.rdm_lanes.specs.declared.ring_outcome.RingOutcome.{RingOutcome}
 use Rattle.rdm_lanes.specs.declared.client.RingClient.{RingClient}
@@ -40,6 +41,12 @@ use Rattle.rdm_lanes.specs.Opened.{places_fault, IsFullFor, join_entries, opened
 use Rattle.rdm_lanes.proofs.LaneLemmas.{waits, fits_waits}
 use Rattle.rdm_lanes.proofs.LineLemmas.{AllQuiet, NoSwitch, quiet_all_off, served_quiet, exchanges_off, awaited_off, closed_stays, paused_stays, is_refusal, rightly_without}
 use Rattle.rdm_lanes.proofs.GrowthLemmas.{Untouched, calls_untouched}
+use Rattle.rdm_queue.specs.log.Entries.{answered_of}
+use Rattle.rdm_lanes.specs.Views.{opening_view, runs_found, views_found, all_views}
+use Rattle.rdm_lanes.specs.Publishing.{Publishing, NoneLater, Publishes}
+use Rattle.rdm_lanes.proofs.FoundLemmas.{quiet_views}
+use Rattle.rdm_lanes.proofs.ShowingLemmas.{showing_all}
+use Rattle.rdm_lanes.proofs.ViewFacts.{none_later_opening}
 use Rattle.rdm_lanes.proofs.EndLemmas.{within_get, map_get}
 
 -- a client's counts at first
@@ -76,9 +83,9 @@ at_end xs y i x is e = elim (slice_get-push xs y i x e) [ inl h ↦ absurd (omeg
 before_end : {X : Type 0} (xs : List X) (y : X) (i : ℕ) (x : X) → i < length xs → slice_get (xs ++ y ∷ []) i ≡ Some x → slice_get xs i ≡ Some x
 before_end xs y i x low e = elim (slice_get-push xs y i x e) [ inl h ↦ h | inr p ↦ absurd (omega (arith, p.place, low)) ]
 
-module _ {C A : Type 0} where
+module _ {J : Type 0} {h : Ghosts J} {C A : Type 0} where
   -- a client more
-  pub new_more : (ring : ℕ) (ps : List ℕ) (clients : List (RingClient C A)) (lanes : List Lane) (p : ℕ) (client : RingClient C A) (lane : Lane) → AreNewWith ring ps clients lanes → IsNewWith ring p client lane → AreNewWith ring (ps ++ p ∷ []) (clients ++ client ∷ []) (lanes ++ lane ∷ [])
+  pub new_more : (ring : ℕ) (ps : List ℕ) (clients : List (RingClient J C A h)) (lanes : List Lane) (p : ℕ) (client : RingClient J C A h) (lane : Lane) → AreNewWith ring ps clients lanes → IsNewWith ring p client lane → AreNewWith ring (ps ++ p ∷ []) (clients ++ client ∷ []) (lanes ++ lane ∷ [])
   new_more ring ps clients lanes p client lane all new = record {
     clients_long = length-append clients (client ∷ []) ∙ ap (λ (n : ℕ). n + 1) all.clients_long ∙ sym (length-append ps (p ∷ []));
     lanes_long = length-append lanes (lane ∷ []) ∙ ap (λ (n : ℕ). n + 1) all.lanes_long ∙ sym (length-append ps (p ∷ []));
@@ -94,11 +101,11 @@ module _ {C A : Type 0} where
         ];
   }
 
-  pub new_at : (ring : ℕ) (ps : List ℕ) (clients : List (RingClient C A)) (lanes : List Lane) (i p : ℕ) (client : RingClient C A) (lane : Lane) → i < length ps → p ≡ get_or ps i p → AreNewWith ring (take i ps) clients lanes → IsNewWith ring p client lane
+  pub new_at : (ring : ℕ) (ps : List ℕ) (clients : List (RingClient J C A h)) (lanes : List Lane) (i p : ℕ) (client : RingClient J C A h) (lane : Lane) → i < length ps → p ≡ get_or ps i p → AreNewWith ring (take i ps) clients lanes → IsNewWith ring p client lane
       → AreNewWith ring (take (i + 1) ps) (clients ++ client ∷ []) (lanes ++ lane ∷ [])
   new_at ring ps clients lanes i p client lane low is all new = rw (take_more ps i p low, sym is) (new_more ring (take i ps) clients lanes p client lane all new)
 
-  pub new_hold_nothing : (ring : ℕ) (ps : List ℕ) (clients : List (RingClient C A)) (lanes : List Lane) → AreNewWith ring ps clients lanes → HoldNothing clients
+  pub new_hold_nothing : (ring : ℕ) (ps : List ℕ) (clients : List (RingClient J C A h)) (lanes : List Lane) → AreNewWith ring ps clients lanes → HoldNothing clients
   new_hold_nothing ring ps clients lanes all = record {
     each = λ i client here.
         let low = slice_get_within clients i client here in
@@ -108,7 +115,7 @@ module _ {C A : Type 0} where
         (rw new.empty refl, rw new.empty refl);
   }
 
-  pub new_clients : (ring : ℕ) (ps : List ℕ) (clients : List (RingClient C A)) (lanes : List Lane) → AreNewWith ring ps clients lanes → AreNew ring ps clients
+  pub new_clients : (ring : ℕ) (ps : List ℕ) (clients : List (RingClient J C A h)) (lanes : List Lane) → AreNewWith ring ps clients lanes → AreNew ring ps clients
   new_clients ring ps clients lanes all = record {
     long = all.clients_long;
     each = λ i p client at here.
@@ -116,7 +123,7 @@ module _ {C A : Type 0} where
         (all.each i p client lane.0 at here lane.1).new;
   }
 
-  pub new_pairs : (ring : ℕ) (ps : List ℕ) (clients : List (RingClient C A)) (lanes : List Lane) → AreNewWith ring ps clients lanes → ClientsPair lanes clients
+  pub new_pairs : (ring : ℕ) (ps : List ℕ) (clients : List (RingClient J C A h)) (lanes : List Lane) → AreNewWith ring ps clients lanes → ClientsPair lanes clients
   new_pairs ring ps clients lanes all = record {
     long = length-map clients client_rings ∙ all.clients_long ∙ sym all.lanes_long;
     each = λ i lane rings in_lanes in_rings.
@@ -126,10 +133,10 @@ module _ {C A : Type 0} where
   }
 
   -- the clients that are left once the last is taken
-  pub hold_front : (xs : List (RingClient C A)) (client : RingClient C A) → HoldNothing (xs ++ client ∷ []) → HoldNothing xs
+  pub hold_front : (xs : List (RingClient J C A h)) (client : RingClient J C A h) → HoldNothing (xs ++ client ∷ []) → HoldNothing xs
   hold_front xs client all = record { each = λ i x here. all.each i x (push_left xs client i x here) }
     where
-      push_left : (xs : List (RingClient C A)) (client : RingClient C A) (i : ℕ) (x : RingClient C A) → slice_get xs i ≡ Some x → slice_get (xs ++ client ∷ []) i ≡ Some x
+      push_left : (xs : List (RingClient J C A h)) (client : RingClient J C A h) (i : ℕ) (x : RingClient J C A h) → slice_get xs i ≡ Some x → slice_get (xs ++ client ∷ []) i ≡ Some x
       push_left [] client i x e = absurd (no_item e)
         where
           no_item : None ≡ Some x → ⊥
@@ -137,10 +144,10 @@ module _ {C A : Type 0} where
       push_left (y ∷ xs) client zero x e = e
       push_left (y ∷ xs) client (suc i) x e = push_left xs client i x e
 
-  pub hold_last : (xs : List (RingClient C A)) (client : RingClient C A) → HoldNothing (xs ++ client ∷ []) → (client.desk.requests ≡ []) × (client.desk.asks ≡ [])
+  pub hold_last : (xs : List (RingClient J C A h)) (client : RingClient J C A h) → HoldNothing (xs ++ client ∷ []) → (client.desk.requests ≡ []) × (client.desk.asks ≡ [])
   hold_last xs client all = all.each (length xs) client (last_of xs client)
     where
-      last_of : (xs : List (RingClient C A)) (client : RingClient C A) → slice_get (xs ++ client ∷ []) (length xs) ≡ Some client
+      last_of : (xs : List (RingClient J C A h)) (client : RingClient J C A h) → slice_get (xs ++ client ∷ []) (length xs) ≡ Some client
       last_of [] client = refl
       last_of (y ∷ xs) client = last_of xs client
 
@@ -169,6 +176,21 @@ joins_no_refusal m (p ∷ ps) = (refl, joins_no_refusal (m + 1) ps)
 joins_untouched : (c m : ℕ) (ps : List ℕ) → Untouched c (join_entries m ps)
 joins_untouched c m [] = tt
 joins_untouched c m (p ∷ ps) = (refl, joins_untouched c (m + 1) ps)
+
+joins_unanswered : (m : ℕ) (ps : List ℕ) → AllByRecursion (λ e. answered_of e ≡ None) (join_entries m ps)
+joins_unanswered m [] = tt
+joins_unanswered m (p ∷ ps) = (refl, joins_unanswered (m + 1) ps)
+
+nothing_seen : views_found [] ≡ []
+unfolding runs_found answers
+nothing_seen = refl
+
+-- readers may take the opening view, which is all that there is
+pub publishes_opened : (config : Config) (search : Search) (room : ℕ) (ps : List ℕ) (p : Publishing) → p.shown ≡ opening_view ∷ [] → p.added ≡ opening_view ∷ [] → Publishes (opened_with config search room ps) p
+publishes_opened config search room ps p shown added = record { no_run = refl; no_devices = refl; showing = showing_all (all_views (join_entries 0 ps)) p (subst NoneLater (sym all) none_later_opening) (shown ∙ sym all) (added ∙ sym all) }
+  where
+    all : all_views (join_entries 0 ps) ≡ opening_view ∷ []
+    all = ap (λ vs. opening_view ∷ vs) (quiet_views [] (join_entries 0 ps) (quiet_all_off (join_entries 0 ps) (joins_quiet 0 ps)) (joins_unanswered 0 ps) ∙ nothing_seen)
 
 -- a session in which clients have joined
 abbrev pub empty_log : Config → Search → ℕ → LogState
@@ -224,7 +246,7 @@ no_calls : (c : ℕ) → calls_by c [] ≡ []
 unfolding calls_by
 no_calls c = refl
 
-lanes_places : {C A : Type 0} (ring : ℕ) (ps : List ℕ) (clients : List (RingClient C A)) (lanes : List Lane) → AreNewWith ring ps clients lanes → ps ≡ map lane_places lanes
+lanes_places : {J : Type 0} {h : Ghosts J} {C A : Type 0} (ring : ℕ) (ps : List ℕ) (clients : List (RingClient J C A h)) (lanes : List Lane) → AreNewWith ring ps clients lanes → ps ≡ map lane_places lanes
 lanes_places ring ps clients lanes all = same_list ps (map lane_places lanes) (sym (length-map lanes lane_places ∙ all.lanes_long)) (λ i p q in_ps in_lanes.
     let found = map_get lane_places lanes i q in_lanes in
     let low = slice_get_within ps i p in_ps in
@@ -237,7 +259,7 @@ lanes_places ring ps clients lanes all = same_list ps (map lane_places lanes) (s
     same_list (x ∷ xs) [] long each = absurd (omega (arith, long))
     same_list (x ∷ xs) (y ∷ ys) long each = rw (each 0 x y refl refl, same_list xs ys (omega (arith, long)) (λ i a b p q. each (suc i) a b p q)) refl
 
-pub fits_opened : {C A : Type 0} (config : Config) (search : Search) (room ring : ℕ) (ps : List ℕ) (clients : List (RingClient C A)) (lanes : List Lane) → Legal (opened config) (join_entries 0 ps) → AreNewWith ring ps clients lanes → AllFit (opened_with config search room ps) lanes
+pub fits_opened : {J : Type 0} {h : Ghosts J} {C A : Type 0} (config : Config) (search : Search) (room ring : ℕ) (ps : List ℕ) (clients : List (RingClient J C A h)) (lanes : List Lane) → Legal (opened config) (join_entries 0 ps) → AreNewWith ring ps clients lanes → AllFit (opened_with config search room ps) lanes
 fits_opened config search room ring ps clients lanes legal all = record {
   each = λ i lane here.
       let low = slice_get_within lanes i lane here in

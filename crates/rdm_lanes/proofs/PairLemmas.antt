@@ -1,4 +1,4 @@
--- For whoever drives clients by hand: their rings stay the worker's, so that `Worker::end` may compare them. A client's
+-- For whoever drives clients by hand: their rings stay the worker's, so that `ViewWorker::end` may compare them. A client's
 -- calls say that it is the same client, the worker's work that its lanes are the same, and `RingClient::end` that its
 -- rings are. `pairs_kept_on` joins these, for clients and for what is left of them.
 use Rattle.std.proofs.Common.{◌≡◌, ℕ, zero, suc, List, [], ◌∷◌, map, get_or, Some, None, refl, sym, ap, ◌∙◌, slice_get, inl, inr, arith}
@@ -6,6 +6,7 @@ use Rattle.std.specs.Prelude.{slice_set}
 use Rattle.std.proofs.lemmas.List.{length-map, length-set}
 use Rattle.std.proofs.lemmas.Option.{slice_get_within, slice_get-get_or, get_or_from_slice_get}
 use Rattle.rtrb.specs.Ring.{SameProducer, SameConsumer}
+use Rattle.rdm_lanes.specs.declared.history.ViewHistory.{Ghosts}
 use Rattle.rdm_lanes.specs.declared.lane.Lane.{Lane}
 use Rattle.rdm_lanes.specs.declared.client.RingClient.{RingClient}
 use Rattle.rdm_lanes.specs.declared.ends.ClientEnd.{ClientEnd}
@@ -60,9 +61,9 @@ map-set f [] at x = refl
 map-set f (y ∷ xs) zero x = refl
 map-set f (y ∷ xs) (suc at) x = ap (λ ys. f y ∷ ys) (map-set f xs at x)
 
-module _ {C A : Type 0} where
+module _ {J : Type 0} {h : Ghosts J} {C A : Type 0} where
   -- one client made a call
-  pub same_rings_set : (clients : List (RingClient C A)) (at : ℕ) (c d : RingClient C A) → slice_get clients at ≡ Some c → SameClient c d → SameRings (map client_rings clients) (map client_rings (slice_set clients at d))
+  pub same_rings_set : (clients : List (RingClient J C A h)) (at : ℕ) (c d : RingClient J C A h) → slice_get clients at ≡ Some c → SameClient c d → SameRings (map client_rings clients) (map client_rings (slice_set clients at d))
   same_rings_set clients at c d here same = record {
     long = length-map (slice_set clients at d) client_rings ∙ length-set clients at d ∙ sym (length-map clients client_rings);
     each = λ i a b in_old in_new.
@@ -76,16 +77,16 @@ module _ {C A : Type 0} where
         ];
   }
     where
-      one : (xs : List (RingClient C A)) (i : ℕ) (v w : RingClient C A) → slice_get xs i ≡ Some v → slice_get xs i ≡ Some w → v ≡ w
+      one : (xs : List (RingClient J C A h)) (i : ℕ) (v w : RingClient J C A h) → slice_get xs i ≡ Some v → slice_get xs i ≡ Some w → v ≡ w
       one xs i v w e f = sym (get_or_from_slice_get xs i v w e) ∙ get_or_from_slice_get xs i w w f
 
-  pub client_called : (lanes : List Lane) (clients : List (RingClient C A)) (at : ℕ) (c d : RingClient C A) → ClientsPair lanes clients → slice_get clients at ≡ Some c → SameClient c d → ClientsPair lanes (slice_set clients at d)
+  pub client_called : (lanes : List Lane) (clients : List (RingClient J C A h)) (at : ℕ) (c d : RingClient J C A h) → ClientsPair lanes clients → slice_get clients at ≡ Some c → SameClient c d → ClientsPair lanes (slice_set clients at d)
   client_called lanes clients at c d pairs here same = pairs_kept_on lanes lanes (map client_rings clients) (map client_rings (slice_set clients at d)) pairs (same_lanes lanes) (same_rings_set clients at c d here same)
 
   -- the worker has worked
-  pub worker_worked : (lanes news : List Lane) (clients : List (RingClient C A)) → ClientsPair lanes clients → SameLanes lanes news → ClientsPair news clients
+  pub worker_worked : (lanes news : List Lane) (clients : List (RingClient J C A h)) → ClientsPair lanes clients → SameLanes lanes news → ClientsPair news clients
   worker_worked lanes news clients pairs same = pairs_kept_on lanes news (map client_rings clients) (map client_rings clients) pairs same (same_rings (map client_rings clients))
 
   -- the clients have ended
-  pub clients_ended : (lanes : List Lane) (clients : List (RingClient C A)) (ends : List (ClientEnd C A)) → ClientsPair lanes clients → map end_rings ends ≡ map client_rings clients → PairUp lanes ends
+  pub clients_ended : (lanes : List Lane) (clients : List (RingClient J C A h)) (ends : List (ClientEnd J C A h)) → ClientsPair lanes clients → map end_rings ends ≡ map client_rings clients → PairUp lanes ends
   clients_ended lanes clients ends pairs same = rw same pairs

@@ -40,10 +40,11 @@ use Rattle.rdm_queue.specs.promises.Outcomes.OutcomeValue.{DiscoveryValue}
 use Rattle.rdm_queue.proofs.LogLemmas.Places.{slice_get-append_left}
 use Rattle.rdm_queue.proofs.PromiseLemmas.StableResults.{filter_has}
 use Rattle.rdm_queue.proofs.PromiseLemmas.OwnDiscoveries.{discoveries_promised}
+use Rattle.rdm_lanes.specs.declared.history.ViewHistory.{Ghosts}
 use Rattle.rdm_lanes.specs.declared.ends.ClientEnd.{ClientEnd}
 use Rattle.rdm_lanes.specs.Lines.{exchanges}
 use Rattle.rtrb.specs.Ring.{known_items}
-use Rattle.rdm_lanes.specs.Told.{told_values, uncollected_values, values_in}
+use Rattle.rdm_lanes.specs.Told.{told_values, uncollected_values, values_in, TellsAll}
 use Rattle.rdm_lanes.specs.Ends.{end_got, Agrees}
 use Rattle.rdm_lanes.specs.OverThreads.{IsLossyScene, IsStayingScene, HasGot, IsEndOver, TellsTheDevices, TellsTheChanging}
 use Rattle.rdm_lanes.proofs.GrowthLemmas.{tells}
@@ -123,15 +124,12 @@ split_at [] i x e = absurd (no_item e)
 split_at (y ∷ xs) zero x e = let same : y ≡ x = cc in ([], xs, ap (λ (z : _). z ∷ xs) same)
 split_at (y ∷ xs) (suc i) x e = let rest = split_at xs i x e in (y ∷ rest.0, rest.1, ap (λ (zs : List _). y ∷ zs) rest.2)
 
-pub told_by : {C A : Type 0} (k : LogState) (c : ℕ) (e : ClientEnd C A) (v : OutcomeValue) (i : ℕ) → Agrees c k e → slice_get (end_got e) i ≡ Some v → IsToldBy k.opening k.entries c v
+pub told_in : (o : Opening) (h : List Entry) (c : ℕ) (values : List OutcomeValue) (v : OutcomeValue) (i : ℕ) → TellsAll o c h values → slice_get values i ≡ Some v → IsToldBy o h c v
 unfolding told_values
-told_by k c e v i agrees at =
-    let o = k.opening in
-    let h = k.entries in
-    let got = slice_get-append_left (end_got e) (values_in (known_items e.replies)) i v at in
-    let some = get_map (λ (v : OutcomeValue). Some v) (end_got e ++ values_in (known_items e.replies)) i v got in
-    let all = slice_get-append_left (map (λ (v : OutcomeValue). Some v) (end_got e ++ values_in (known_items e.replies))) (uncollected_values o c h) i (Some v) some in
-    let in_told : slice_get (told_values o c h) i ≡ Some (Some v) = ap (λ (vs : List (Option OutcomeValue)). slice_get vs i) (sym agrees.got_are) ∙ all in
+told_in o h c values v i tells_all at =
+    let some = get_map (λ (v : OutcomeValue). Some v) values i v at in
+    let all = slice_get-append_left (map (λ (v : OutcomeValue). Some v) values) (uncollected_values o c h) i (Some v) some in
+    let in_told : slice_get (told_values o c h) i ≡ Some (Some v) = ap (λ (vs : List (Option OutcomeValue)). slice_get vs i) (sym tells_all) ∙ all in
     let found = map_get (outcome_of h) (told o c h) i (Some v) (values_are o c h i (Some v) in_told) in
     let place = filter_has (tells o c h) h i found.0 found.1 in
     let parts = split_at h place.0 found.0 place.1 in
@@ -140,11 +138,15 @@ told_by k c e v i agrees at =
     values_are : (o : Opening) (c : ℕ) (h : List Entry) (i : ℕ) (v : Option OutcomeValue) → slice_get (told_values o c h) i ≡ Some v → slice_get (map (outcome_of h) (told o c h)) i ≡ Some v
     values_are o c h i v at = at
 
+pub told_by : {J : Type 0} {h : Ghosts J} {C A : Type 0} (k : LogState) (c : ℕ) (e : ClientEnd J C A h) (v : OutcomeValue) (i : ℕ) → Agrees c k e → slice_get (end_got e) i ≡ Some v → IsToldBy k.opening k.entries c v
+told_by k c e v i agrees at = told_in k.opening k.entries c (end_got e ++ values_in (known_items e.replies)) v i agrees.got_are (slice_get-append_left (end_got e) (values_in (known_items e.replies)) i v at)
+
 -- it is an Answer, or the refusal of a discovery by a close
 pub record IsAnswered (h front back : List Entry) (e : Entry) (number : Option ℕ) (done : Discovered) : Type 0 where
   pub n : ℕ
   pub run : ℕ
   pub is : e ≡ Answer n run done.fault
+  pub run_is : done.run ≡ run
   pub devices : done.devices ≡ answer_devices run h
 
 pub record IsRefusedByClose (e : Entry) (done : Discovered) : Type 0 where
@@ -162,7 +164,7 @@ by_refusal c (calls.Join places) cause number done is = cc
 pub discovery_of : (h front back : List Entry) (e : Entry) (number : Option ℕ) (done : Discovered) → outcome_of h e ≡ Some (DiscoveryValue number done) → IsAnswered h front back e number done ⊎ IsRefusedByClose e done
 discovery_of h front back (Answer n r fault) number done is =
     let same : discovered_by r fault h ≡ done = cc in
-    inl (record { n = n; run = r; is = ap (λ (f : Option AgentFault). Answer n r f) (ap (λ (d : Discovered). d.fault) same); devices = ap (λ (d : Discovered). d.devices) (sym same) })
+    inl (record { n = n; run = r; is = ap (λ (f : Option AgentFault). Answer n r f) (ap (λ (d : Discovered). d.fault) same); run_is = ap (λ (d : Discovered). d.run) (sym same); devices = ap (λ (d : Discovered). d.devices) (sym same) })
 discovery_of h front back (Refuse c call cause) number done is = inr (by_refusal c call cause number done is)
 discovery_of h front back (Finish n status len) number done is = cc
 discovery_of h front back (Join c n) number done is = cc
@@ -176,7 +178,7 @@ discovery_of h front back Resume number done is = cc
 discovery_of h front back Close number done is = cc
 
 -- exactly the devices
-pub tells_devices : {C A : Type 0} (config : Config) (search : Search) (room : ℕ) (places : List ℕ) (s t : SimState) (k : LogState) (c : ℕ) (e : ClientEnd C A) → IsEndOver config search room places s t k c e → IsStayingScene s → TellsTheDevices s e
+pub tells_devices : {J : Type 0} {h : Ghosts J} {C A : Type 0} (config : Config) (search : Search) (room : ℕ) (places : List ℕ) (s t : SimState) (k : LogState) (c : ℕ) (e : ClientEnd J C A h) → IsEndOver config search room places s t k c e → IsStayingScene s → TellsTheDevices s e
 tells_devices config search room places s t k c e over is number done got fault = by_kind (discovery_of k.entries told.front told.back told.entry number done told.is)
   where
     told : IsToldBy k.opening k.entries c (DiscoveryValue number done)
@@ -205,7 +207,7 @@ in_one s u [] all one = absurd one
 in_one s u (y ∷ ys) all (inl here) = (y.before.exchanges, sym (ap (λ (us : List ℕ). has us u) (all.0 y.before.exchanges)) ∙ here)
 in_one s u (y ∷ ys) all (inr later) = in_one s u ys all.1 later
 
-pub tells_changing : {C A : Type 0} (config : Config) (search : Search) (room : ℕ) (places : List ℕ) (s t : SimState) (k : LogState) (c : ℕ) (e : ClientEnd C A) → IsEndOver config search room places s t k c e → IsLossyScene s → TellsTheChanging s e
+pub tells_changing : {J : Type 0} {h : Ghosts J} {C A : Type 0} (config : Config) (search : Search) (room : ℕ) (places : List ℕ) (s t : SimState) (k : LogState) (c : ℕ) (e : ClientEnd J C A h) → IsEndOver config search room places s t k c e → IsLossyScene s → TellsTheChanging s e
 tells_changing config search room places s t k c e over is = record { staying = staying; no_stranger = no_stranger }
   where
     h : List Entry

@@ -1,5 +1,5 @@
 -- What each call of a session leaves of the line, and of the other clients.
-use Rattle.std.proofs.Common.{◌≡◌, ◌≢◌, ℕ, Bool, true, false, true≢false, List, [], ◌∷◌, Some, None, Result, Ok, Err, refl, sym}
+use Rattle.std.proofs.Common.{◌≡◌, ◌≢◌, ℕ, Bool, true, false, true≢false, List, [], ◌∷◌, Some, None, Result, Ok, Err, refl, sym, subst}
 use Rattle.std.specs.Prelude.{◌==◌, if◌then◌else◌}
 use Rattle.std.specs.List.{AllByRecursion}
 use Rattle.std.proofs.lemmas.Bool.{ne_eqb}
@@ -15,17 +15,23 @@ use Rattle.rdm_queue.specs.declared.fault.SubmitFault.TheVariants as submit_faul
 use Rattle.rdm_queue.specs.declared.fault.AskFault.TheVariants as ask_faults
 use Rattle.rdm_queue.specs.declared.fault.LogFull.{LogFull}
 use Rattle.rdm_queue.specs.declared.outcome.Outcome.{Outcome}
-use Rattle.rdm_queue.specs.log.Entries.{join_of}
+use Rattle.rdm_wire.specs.Lists.{EachAfter}
+use Rattle.rdm_queue.specs.log.Entries.{join_of, answered_of}
 use Rattle.rdm_queue.specs.log.History.{is_closed, can_pause, can_resume}
 use Rattle.rdm_queue.specs.log.LogState.{LogState, grown, is_full_log}
-use Rattle.rdm_queue.specs.log.Legal.{Legal}
+use Rattle.rdm_queue.specs.log.Legal.{Legal, MayFollow}
 use Rattle.rdm_queue.specs.promises.Blocks.{GrowsBy, UnlessFull, SubmitLogs, SubmitAdds, DiscoverLogs, DiscoverAdds, PauseLogs, ResumeLogs, CloseAdds, CloseAddsWhere, CollectAdds, is_result, AllResults}
 use Rattle.rdm_lanes.specs.Lines.{NoExchange, SameSwitches, IsBetweenTurns, OnlyCollects}
 use Rattle.rdm_lanes.specs.Serving.{IsOnlyTold}
 use Rattle.rdm_lanes.proofs.ListLemmas.{all_follow}
 use Rattle.rdm_lanes.proofs.GrowthLemmas.{touches, Untouched}
 use Rattle.rdm_lanes.proofs.LaneLemmas.{waits}
+use Rattle.rdm_lanes.proofs.FoundLemmas.{quiet_views, close_views}
 use Rattle.rdm_lanes.proofs.LineLemmas.{is_quiet, AllQuiet, NobodyJoins, is_switch, quiet_all_off, results_off, results_no_join, served_quiet, line_off, switches_stay, served_closed, AllRightly, is_refusal, rightly_without}
+
+quiet_unanswered : (e : Entry) → is_quiet e ≡ true → answered_of e ≡ None
+quiet_unanswered (Answer n r fault) is = absurd (true≢false (sym is))
+quiet_unanswered _ is = refl
 
 -- a step of a session that is not of the line, and in which nobody joins
 pub record IsQuietStep (old new : LogState) : Type 0 where
@@ -35,7 +41,7 @@ pub record IsQuietStep (old new : LogState) : Type 0 where
 pub quiet_step : (old new : LogState) (block : List Entry) → new ≡ grown old block → AllQuiet block → NobodyJoins block → AllRightly old.opening old.entries block → IsQuietStep old new
 quiet_step old new block is all nobody rightly = record {
   served = served_quiet old new block is all rightly;
-  line = line_off old new block is (quiet_all_off block all) nobody;
+  line = line_off old new block is (quiet_all_off block all) nobody (quiet_views old.entries block (quiet_all_off block all) (all_follow (λ e. is_quiet e ≡ true) (λ e. answered_of e ≡ None) quiet_unanswered block all));
 }
 
 -- a client's call: it pauses, resumes and closes nothing either
@@ -138,12 +144,13 @@ pub record IsCloseStep (old new : LogState) : Type 0 where
 closes_where : (b : Bool) (old new : LogState) (block : List Entry) → CloseAddsWhere b block → new ≡ grown old block → Legal new.opening new.entries → IsCloseStep old new
 closes_where true old new block adds is legal = record {
   served = served_quiet old new [] (rw adds at is) tt tt;
-  line = line_off old new [] (rw adds at is) tt tt;
+  line = line_off old new [] (rw adds at is) tt tt (quiet_views old.entries [] tt tt);
   wait = λ c. waits c old new [] (rw adds at is) legal tt;
 }
 closes_where false old new block adds is legal = record {
   served = served_closed old new adds.results (rw adds.whole at is) adds.each;
-  line = line_off old new (Close ∷ adds.results) (rw adds.whole at is) (refl, results_off adds.results adds.each) (refl, results_no_join adds.results adds.each);
+  line = line_off old new (Close ∷ adds.results) (rw adds.whole at is) (refl, results_off adds.results adds.each) (refl, results_no_join adds.results adds.each)
+      (close_views old.opening old.entries adds.results (subst (λ (k : LogState). EachAfter (MayFollow k.opening) k.entries) (rw adds.whole at is) legal.each) adds.each);
   wait = λ c. waits c old new (Close ∷ adds.results) (rw adds.whole at is) legal (refl, results_untouched c adds.results adds.each);
 }
 

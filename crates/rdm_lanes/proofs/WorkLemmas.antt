@@ -1,5 +1,7 @@
 -- What the steps of a worker leave.
-use Rattle.std.proofs.Common.{◌≡◌, ◌≤◌, ◌+◌, ℕ, true, refl, ◌∙◌}
+use Rattle.std.proofs.Common.{◌≡◌, ◌≤◌, ◌+◌, ℕ, true, List, refl, ◌∙◌}
+use mathlib.Core.List.{IsPrefix}
+use Rattle.rdm_client.specs.declared.view.DeviceView.{DeviceView}
 use Rattle.rdm_line.specs.Events.{Exchange}
 use Rattle.rdm_lanes.specs.declared.worker.Worker.{Worker}
 use Rattle.rdm_lanes.specs.Lines.{NoExchange, SameSwitches, OnlyCollects, Exchanged, exchange_count}
@@ -42,9 +44,10 @@ moves_on a b d p q = record {
   operator = q.operator ∙ p.operator;
 }
 
--- the worker made so many turns
-pub record Worked {L : Type 0} (step : L → Exchange → L → Type 0) (turns : ℕ) (before : L) (old : Worker) (after : L) (new : Worker) : Type 0 where
+-- the worker made this many turns, and these views were published before and after them
+pub record Worked {L : Type 0} (step : L → Exchange → L → Type 0) (turns : ℕ) (before : L) (old : Worker) (after : L) (new : Worker) (shown_before shown_after : List DeviceView) : Type 0 where
   pub exchanged : Exchanged step before old.session after new.session
   pub few : exchange_count new.session ≤ exchange_count old.session + turns
   pub lanes : SameLanes old.lanes.items new.lanes.items
   pub operator : old.operator_left ≡ true → (new.operator_left ≡ true) × SameSwitches old.session new.session
+  pub views : IsPrefix shown_before shown_after

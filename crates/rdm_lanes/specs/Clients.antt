@@ -2,6 +2,7 @@
 use Rattle.std.specs.Prelude.{ℕ, Bool, ◌||◌, List, length, Option, Some, None, nat_le, if◌then◌else◌}
 use Rattle.rtrb.specs.Ring.{sent as pushed, received as popped, SameProducer, SameConsumer}
 use Rattle.rdm_queue.specs.promises.Outcomes.{OutcomeValue}
+use Rattle.rdm_lanes.specs.declared.history.ViewHistory.{Ghosts}
 use Rattle.rdm_lanes.specs.declared.call.ClientCall.{ClientCall}
 use Rattle.rdm_lanes.specs.declared.fault.RingFault.{RingFault}
 use Rattle.rdm_lanes.specs.declared.fault.RingFault.TheVariants.{Full, Left}
@@ -16,21 +17,21 @@ call_fault left places held sent =
     if left then Some Left
     else (if nat_le places held || nat_le 18446744073709551615 sent then Some Full else None)
 
-module _ {C A : Type 0} where
+module _ {J : Type 0} {h : Ghosts J} {C A : Type 0} where
   -- the submits and discovers that a client sent, and the outcomes that it got, in order
-  abbrev pub sent_by : RingClient C A → List ClientCall
+  abbrev pub sent_by : RingClient J C A h → List ClientCall
   sent_by client = work_in (pushed client.calls)
 
-  abbrev pub got_by : RingClient C A → List OutcomeValue
+  abbrev pub got_by : RingClient J C A h → List OutcomeValue
   got_by client = values_in (popped client.replies)
 
-  abbrev pub submit_fault : RingClient C A → Option RingFault
+  abbrev pub submit_fault : RingClient J C A h → Option RingFault
   submit_fault client =
       call_fault client.left client.desk.places (length client.desk.requests) client.sent
 
-  abbrev pub discover_fault : RingClient C A → Option RingFault
+  abbrev pub discover_fault : RingClient J C A h → Option RingFault
   discover_fault client = call_fault client.left 4 (length client.desk.asks) client.sent
 
   -- the same client, by its rings
-  abbrev pub SameClient : RingClient C A → RingClient C A → Type 0
+  abbrev pub SameClient : RingClient J C A h → RingClient J C A h → Type 0
   SameClient old new = SameProducer old.calls new.calls × SameConsumer old.replies new.replies

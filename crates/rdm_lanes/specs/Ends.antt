@@ -6,6 +6,7 @@ use Rattle.rtrb.specs.declared.producer.Producer.{Producer}
 use Rattle.rtrb.specs.Ring.{sent as pushed, received as popped, known_free, known_items, producer_capacity}
 use Rattle.rdm_queue.specs.promises.Outcomes.{OutcomeValue}
 use Rattle.rdm_queue.specs.log.LogState.{LogState}
+use Rattle.rdm_lanes.specs.declared.history.ViewHistory.{Ghosts}
 use Rattle.rdm_lanes.specs.declared.call.ClientCall.{ClientCall}
 use Rattle.rdm_lanes.specs.declared.lane.Lane.{Lane}
 use Rattle.rdm_lanes.specs.declared.ends.ClientEnd.{ClientEnd}
@@ -18,42 +19,44 @@ use Rattle.rdm_lanes.specs.Pairs.{Rings, RingsPair}
 abbrev pub left_in : Producer ClientCall Global AnyItems → List ClientCall
 left_in calls = drop (length (pushed calls) - (producer_capacity calls - known_free calls)) (pushed calls)
 
-module _ {C A : Type 0} where
+module _ {J : Type 0} {h : Ghosts J} {C A : Type 0} where
   -- the submits and discovers that a client had sent at its end, and the outcomes that it had got, in order
-  abbrev pub end_sent : ClientEnd C A → List ClientCall
+  abbrev pub end_sent : ClientEnd J C A h → List ClientCall
   end_sent e = work_in (pushed e.calls)
 
-  abbrev pub end_got : ClientEnd C A → List OutcomeValue
+  abbrev pub end_got : ClientEnd J C A h → List OutcomeValue
   end_got e = values_in (popped e.replies)
 
   -- the client's ends of its rings
-  abbrev pub end_rings : ClientEnd C A → Rings
+  abbrev pub end_rings : ClientEnd J C A h → Rings
   end_rings e = (e.calls, e.replies)
 
   -- the ends are those of the lanes, each in its place
-  abbrev pub PairUp : List Lane → List (ClientEnd C A) → Type 0
+  abbrev pub PairUp : List Lane → List (ClientEnd J C A h) → Type 0
   PairUp lanes ends = RingsPair lanes (map end_rings ends)
 
   -- What client c sent is its calls in the log, in order, each once, and then the submits and discovers that are left
   -- in its ring. What it got, then what is left in its ring of outcomes, and then what it hasn't collected, is all that
   -- the log tells it.
-  pub record Agrees (c : ℕ) (k : LogState) (e : ClientEnd C A) : Type 0 where
+  pub record Agrees (c : ℕ) (k : LogState) (e : ClientEnd J C A h) : Type 0 where
     pub sent_are : end_sent e ≡ calls_by c k.entries ++ work_in (left_in e.calls)
     pub got_are : TellsAll k.opening c k.entries (end_got e ++ values_in (known_items e.replies))
 
-  pub record AllAgree (k : LogState) (ends : List (ClientEnd C A)) : Type 0 where
-    pub each : (i : ℕ) (e : ClientEnd C A) → slice_get ends i ≡ Some e → Agrees i k e
+  pub record AllAgree (k : LogState) (ends : List (ClientEnd J C A h)) : Type 0 where
+    pub each : (i : ℕ) (e : ClientEnd J C A h) → slice_get ends i ≡ Some e → Agrees i k e
 
   -- the rings of calls are empty
-  pub record AllRead (ends : List (ClientEnd C A)) : Type 0 where
-    pub each : (i : ℕ) (e : ClientEnd C A) → slice_get ends i ≡ Some e → left_in e.calls ≡ []
+  pub record AllRead (ends : List (ClientEnd J C A h)) : Type 0 where
+    pub each : (i : ℕ) (e : ClientEnd J C A h) → slice_get ends i ≡ Some e → left_in e.calls ≡ []
 
   -- what an end tells is the same
-  pub record SameTold (a b : ClientEnd C A) : Type 0 where
+  pub record SameTold (a b : ClientEnd J C A h) : Type 0 where
     pub sent_are : pushed b.calls ≡ pushed a.calls
     pub got_are : popped b.replies ≡ popped a.replies
     pub unspent_is : b.unspent ≡ a.unspent
+    pub views_are : b.views ≡ a.views
 
-  pub record AllTold (before after : List (ClientEnd C A)) : Type 0 where
+  pub record AllTold (before after : List (ClientEnd J C A h)) : Type 0 where
     pub long : length after ≡ length before
-    pub each : (i : ℕ) (a b : ClientEnd C A) → slice_get before i ≡ Some a → slice_get after i ≡ Some b → SameTold a b
+    pub each : (i : ℕ) (a b : ClientEnd J C A h) → slice_get before i ≡ Some a → slice_get after i ≡ Some b
+        → SameTold a b

@@ -1,3 +1,6 @@
+pub mod Views
+pub mod History
+pub mod Publishing
 pub mod Calls
 pub mod Told
 pub mod Counts
@@ -7,6 +10,7 @@ pub mod Lines
 pub mod Lanes
 pub mod Serving
 pub mod Workers
+pub mod ViewsRead
 pub mod Ends
 pub mod Opened
 pub mod Rooms

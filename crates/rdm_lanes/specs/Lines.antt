@@ -13,6 +13,7 @@ use Rattle.rdm_queue.specs.log.Entries.{Traded, traded, joins}
 use Rattle.rdm_queue.specs.log.History.{awaited, is_closed, is_paused, next_request, next_ask}
 use Rattle.rdm_queue.specs.log.LogState.{LogState, grown}
 use Rattle.rdm_queue.specs.promises.InBound.{IsCalmRun}
+use Rattle.rdm_lanes.specs.Views.{views_found}
 
 -- a frame and what came for it
 abbrev pub exchange_of : Traded → Exchange
@@ -36,12 +37,13 @@ pub record Exchanged {L : Type 0} (step : L → Exchange → L → Type 0) (befo
   pub added : exchanges new.entries ≡ exchanges old.entries ++ made
   pub steps : Makes L step before made after
 
--- the log grew; the line was asked nothing, and nobody joined
+-- the log grew; the line was asked nothing, nobody joined, and no view was added
 pub record NoExchange (old new : LogState) : Type 0 where
   pub block : List Entry
   pub grows : new ≡ grown old block
   pub nobody_joined : joins new.entries ≡ joins old.entries
   pub same : exchanges new.entries ≡ exchanges old.entries
+  pub same_views : views_found new.entries ≡ views_found old.entries
 
 -- nobody paused, resumed or closed
 pub record SameSwitches (old new : LogState) : Type 0 where

@@ -7,11 +7,13 @@ use Rattle.rdm_queue.specs.declared.config.Config.{Config}
 use Rattle.rdm_queue.specs.declared.entry.Entry.{Entry}
 use Rattle.rdm_queue.specs.declared.entry.Entry.TheVariants.{Join}
 use Rattle.rdm_queue.specs.log.LogState.{LogState, opened}
+use Rattle.rdm_lanes.specs.declared.history.ViewHistory.{Ghosts}
 use Rattle.rdm_lanes.specs.declared.fault.OpenFault.{OpenFault}
 use Rattle.rdm_lanes.specs.declared.fault.OpenFault.TheVariants.{TooManyClients, NoPlaces, NoMemory, LogFull}
 use Rattle.rdm_lanes.specs.declared.client.RingClient.{RingClient}
 use Rattle.rdm_lanes.specs.declared.lane.Lane.{Lane}
 use Rattle.rdm_lanes.specs.Pairs.{ArePair, client_rings}
+use Rattle.rdm_lanes.specs.Views.{opening_view}
 
 -- the first fault that the places show, where there are this many for all
 abbrev pub places_fault : ℕ → List ℕ → Option OpenFault
@@ -38,18 +40,19 @@ abbrev pub opened_with : Config → Search → ℕ → List ℕ → LogState
 opened_with config search room places =
     record { opening = opened config; entries = join_entries 0 places; room = room; search = search }
 
-module _ {C A : Type 0} where
-  -- a client with this many places, and with rings of this many slots, that has neither sent nor got
-  -- anything, nor left
-  pub record IsNew (ring places : ℕ) (client : RingClient C A) : Type 0 where
+module _ {J : Type 0} {h : Ghosts J} {C A : Type 0} where
+  -- a client with this many places, and with rings of this many slots, that has neither sent nor got anything, nor left,
+  -- and has read the opening view alone
+  pub record IsNew (ring places : ℕ) (client : RingClient J C A h) : Type 0 where
     pub nothing_sent : pushed client.calls ≡ []
     pub nothing_got : popped client.replies ≡ []
     pub empty : client.desk ≡ record { requests = []; asks = []; places = places }
     pub not_left : client.left ≡ false
     pub slots : (producer_capacity client.calls ≡ ring) × (consumer_capacity client.replies ≡ ring)
+    pub opening_read : client.views ≡ opening_view ∷ []
 
   -- with its lane
-  pub record IsNewWith (ring places : ℕ) (client : RingClient C A) (lane : Lane) : Type 0 where
+  pub record IsNewWith (ring places : ℕ) (client : RingClient J C A h) (lane : Lane) : Type 0 where
     pub new : IsNew ring places client
     pub nothing_received : popped lane.calls ≡ []
     pub nothing_told : pushed lane.replies ≡ []
@@ -60,20 +63,20 @@ module _ {C A : Type 0} where
     pub pair : ArePair (client_rings client) lane
 
   -- a client for each of these places, in order
-  pub record AreNew (ring : ℕ) (places : List ℕ) (clients : List (RingClient C A)) : Type 0 where
+  pub record AreNew (ring : ℕ) (places : List ℕ) (clients : List (RingClient J C A h)) : Type 0 where
     pub long : length clients ≡ length places
-    pub each : (i p : ℕ) (client : RingClient C A) → slice_get places i ≡ Some p → slice_get clients i ≡ Some client
+    pub each : (i p : ℕ) (client : RingClient J C A h) → slice_get places i ≡ Some p → slice_get clients i ≡ Some client
         → IsNew ring p client
 
   -- with their lanes
-  pub record AreNewWith (ring : ℕ) (places : List ℕ) (clients : List (RingClient C A)) (lanes : List Lane)
+  pub record AreNewWith (ring : ℕ) (places : List ℕ) (clients : List (RingClient J C A h)) (lanes : List Lane)
       : Type 0 where
     pub clients_long : length clients ≡ length places
     pub lanes_long : length lanes ≡ length places
-    pub each : (i p : ℕ) (client : RingClient C A) (lane : Lane) → slice_get places i ≡ Some p
+    pub each : (i p : ℕ) (client : RingClient J C A h) (lane : Lane) → slice_get places i ≡ Some p
         → slice_get clients i ≡ Some client → slice_get lanes i ≡ Some lane → IsNewWith ring p client lane
 
   -- none holds a callback
-  pub record HoldNothing (clients : List (RingClient C A)) : Type 0 where
-    pub each : (i : ℕ) (client : RingClient C A) → slice_get clients i ≡ Some client
+  pub record HoldNothing (clients : List (RingClient J C A h)) : Type 0 where
+    pub each : (i : ℕ) (client : RingClient J C A h) → slice_get clients i ≡ Some client
         → (client.desk.requests ≡ []) × (client.desk.asks ≡ [])

@@ -15,6 +15,7 @@ use Rattle.rdm_queue.specs.declared.config.Config.{Config}
 use Rattle.rdm_queue.specs.log.LogState.{LogState}
 use Rattle.rdm_queue.specs.promises.Outcomes.{Discovered}
 use Rattle.rdm_queue.specs.promises.Outcomes.OutcomeValue.{DiscoveryValue}
+use Rattle.rdm_lanes.specs.declared.history.ViewHistory.{Ghosts}
 use Rattle.rdm_lanes.specs.declared.ends.ClientEnd.{ClientEnd}
 use Rattle.rdm_lanes.specs.Ends.{end_got, Agrees}
 use Rattle.rdm_lanes.specs.Sessions.{SessionOver}
@@ -43,28 +44,28 @@ IsEnough config search s =
 abbrev pub IsByDefault : Config → Search → Type 0
 IsByDefault config search = (config.budget ≡ DEFAULT_BUDGET) × (search ≡ Steady)
 
-module _ {C A : Type 0} where
+module _ {J : Type 0} {h : Ghosts J} {C A : Type 0} where
   -- the client got this outcome of a discovery
-  abbrev pub HasGot : ClientEnd C A → Option ℕ → Discovered → Type 0
+  abbrev pub HasGot : ClientEnd J C A h → Option ℕ → Discovered → Type 0
   HasGot e number done = (i : ℕ) × (slice_get (end_got e) i ≡ Some (DiscoveryValue number done))
 
   -- a session over the line, and the end of its client c
   pub record IsEndOver (config : Config) (search : Search) (room : ℕ) (places : List ℕ) (s t : SimState)
-      (k : LogState) (c : ℕ) (e : ClientEnd C A) : Type 0 where
+      (k : LogState) (c : ℕ) (e : ClientEnd J C A h) : Type 0 where
     pub session : SessionOver SimStep config search room places s t k
     pub agrees : Agrees c k e
 
   -- without fault exactly the line's devices
-  abbrev pub TellsTheDevices : SimState → ClientEnd C A → Type 0
+  abbrev pub TellsTheDevices : SimState → ClientEnd J C A h → Type 0
   TellsTheDevices s e = (number : Option ℕ) (done : Discovered) → HasGot e number done → done.fault ≡ None
       → uids_of done.devices ≡ uids_of_scene s.devices
 
   -- without fault
-  abbrev pub TellsNoFault : ClientEnd C A → Type 0
+  abbrev pub TellsNoFault : ClientEnd J C A h → Type 0
   TellsNoFault e = (number : Option ℕ) (done : Discovered) → HasGot e number done → done.fault ≡ None
 
   -- of devices that come and leave: without fault each that is always there, and none that never is
-  pub record TellsTheChanging (s : SimState) (e : ClientEnd C A) : Type 0 where
+  pub record TellsTheChanging (s : SimState) (e : ClientEnd J C A h) : Type 0 where
     pub staying : (number : Option ℕ) (done : Discovered) (u : ℕ) → HasGot e number done → done.fault ≡ None
         → ((i : ℕ) → has (present_at s.devices i) u ≡ true) → has (uids_of done.devices) u ≡ true
     pub no_stranger : (number : Option ℕ) (done : Discovered) (u : ℕ) → HasGot e number done

@@ -1,23 +1,39 @@
--- A worker and an operator, as contracts speak of them.
-use Rattle.std.specs.Prelude.{Bool, List}
+-- A worker, an operator and a history, as contracts speak of them.
+use Rattle.std.specs.Prelude.{◌≡◌, Bool, List}
+use Rattle.logbook.specs.Pages.{Book}
 use Rattle.rtrb.specs.Ring.{sent as pushed}
 use Rattle.rdm_queue.specs.log.LogState.{LogState}
 use Rattle.rdm_lanes.specs.declared.call.OperatorCall.{OperatorCall}
 use Rattle.rdm_lanes.specs.declared.lane.Lane.{Lane}
 use Rattle.rdm_lanes.specs.declared.operator.Operator.{Operator}
-use Rattle.rdm_lanes.specs.declared.worker.Worker.{Worker}
+use Rattle.left_right.specs.declared.Absorb.{Ghosts as Absorbs}
+use Rattle.rdm_lanes.specs.declared.history.ViewHistory.{Ghosts}
+use Rattle.rdm_lanes.specs.declared.publishing.Shown.{Shown}
+use Rattle.rdm_lanes.specs.declared.view_worker.ViewWorker.{ViewWorker}
+use Rattle.rdm_lanes.specs.declared.history.BlankHistory.{BlankHistory}
+use Rattle.rdm_client.specs.declared.view.DeviceView.{DeviceView}
+use Rattle.rdm_lanes.specs.Views.{all_views}
 
--- the worker's session, by its log
-abbrev pub session_of : Worker → LogState
-session_of worker = worker.session
+module _ {J T R : Type 0} {h : Ghosts J} {v : Absorbs T (Shown J) (List DeviceView)} where
+  -- the worker's session, by its log
+  abbrev pub session_of : ViewWorker J T R h v → LogState
+  session_of worker = worker.server.session
 
--- its ends of the clients' rings, in the clients' order
-abbrev pub lanes_of : Worker → List Lane
-lanes_of worker = worker.lanes.items
+  -- its ends of the clients' rings, in the clients' order
+  abbrev pub lanes_of : ViewWorker J T R h v → List Lane
+  lanes_of worker = worker.server.lanes.items
 
--- whether the operator's leave was received
-abbrev pub operator_has_left : Worker → Bool
-operator_has_left worker = worker.operator_left
+  -- whether the operator's leave was received
+  abbrev pub operator_has_left : ViewWorker J T R h v → Bool
+  operator_has_left worker = worker.server.operator_left
+
+  -- the views that clients may read, in order
+  abbrev pub published_by : ViewWorker J T R h v → List DeviceView
+  published_by worker = worker.views.shown
+
+  -- all views of the session's log are published
+  abbrev pub HasPublishedAll : ViewWorker J T R h v → Type 0
+  HasPublishedAll worker = published_by worker ≡ all_views worker.server.session.entries
 
 -- what the operator sent, in order
 abbrev pub called_by : Operator → List OperatorCall
@@ -26,3 +42,7 @@ called_by operator = pushed operator.calls
 -- whether it has left
 abbrev pub has_left : Operator → Bool
 has_left operator = operator.left
+
+-- which history it is
+abbrev pub book_of : BlankHistory → Book
+book_of history = history.seen.book

@@ -2,6 +2,7 @@
 ghost use Rattle.rdm_lanes.specs.Clients.{SameClient};
 
 use crate::client::RingClient;
+use crate::history::ViewHistory;
 
 /// The point at which the worker of a session arrives once it has stopped: nothing comes after what is on the rings.
 pub const WORKER_STOPPED: u8 = 255;
@@ -19,6 +20,6 @@ pub trait Gate {
 pub trait Body<C, A> {
     /// Runs once, in a thread of its own where one can be made. A body that waits for another one gives up after a
     /// stated number of tries, since without threads they run one after the other.
-    fn run<G: Gate>(&mut self, client: &mut RingClient<C, A>, gate: &G)
+    fn run<J: ViewHistory, G: Gate>(&mut self, client: &mut RingClient<J, C, A>, gate: &G)
         ensures { SameClient client.old client.new };
 }

@@ -1,25 +1,36 @@
 //! A client of the rings.
 ghost use Rattle.std.specs.Prelude.{◌≡◌, ◌+◌, length};
+ghost use Rattle.rtrb.specs.Ring.{received as popped};
 ghost use Rattle.rdm_lanes.specs.Counts.{IsCounted};
+ghost use Rattle.rdm_lanes.specs.Told.{values_in};
+ghost use Rattle.rdm_lanes.specs.Views.{last_found};
 
 use crate::call::ClientCall;
+use crate::history::ViewHistory;
+use crate::reading::ViewReader;
 use crate::ring_outcome::RingOutcome;
-use rdm_client::{AskCallback, Callback, Desk};
+use rdm_client::{AskCallback, Callback, Desk, DeviceView};
 use rtrb::{Consumer, Producer};
 use std::alloc::Global;
 
-/// A client with a ring for its calls and one for its outcomes (profile of this project). None of its calls waits for
-/// anybody, and none takes memory. Contracts see what it sent, the submits and discovers in order, and what it got, the
-/// outcomes in order.
+/// A client with a ring for its calls and one for its outcomes, and with a reader of the views that the worker
+/// publishes (profile of this project). None of its calls waits for anybody, and none takes memory. Contracts see:
+/// - what it sent, the submits and discovers in order;
+/// - what it got, the outcomes in order;
+/// - the published views that it has read up to, in order.
 ///
 /// It isn't [`Drop`]: [`RingClient::end`] hands back the callbacks that it holds.
-pub struct RingClient<C = Callback, A = AskCallback> {
+pub struct RingClient<J: ViewHistory, C = Callback, A = AskCallback> {
     pub(crate) desk: Desk<C, A>,
     pub(crate) calls: Producer<ClientCall, Global>,
     pub(crate) replies: Consumer<RingOutcome, Global>,
+    pub(crate) views: ViewReader<J>,
+    // What its last discovery without fault found.
+    pub(crate) found: Box<DeviceView>,
     pub(crate) sent: u64,
     pub(crate) collected: u64,
     pub(crate) left: bool,
     ghost counted: { IsCounted calls replies sent collected left },
     ghost held: { collected + (length desk.requests + length desk.asks) ≡ sent },
+    ghost last: { found.value ≡ last_found (values_in (popped replies)) },
 }

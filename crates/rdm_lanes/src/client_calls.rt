@@ -9,18 +9,22 @@ ghost use Rattle.rdm_lanes.specs.declared.fault.RingFault.TheVariants.{RingFull 
 ghost use Rattle.rdm_lanes.specs.Told.{outcome_in, HoldsFor};
 ghost use Rattle.rdm_lanes.specs.Clients.{SameClient, sent_by, got_by, submit_fault, discover_fault};
 ghost use Rattle.rdm_lanes.specs.Ends.{end_sent, end_got};
+ghost use mathlib.Core.List.{IsPrefix};
+ghost use Rattle.rdm_lanes.specs.Views.{last_view, last_view_run, last_found, later_view};
 
 use crate::call::ClientCall;
 use crate::client::RingClient;
 use crate::ends::ClientEnd;
 use crate::fault::{RingFault, RingFull};
+use crate::found::{keep_found, later};
+use crate::history::ViewHistory;
 use crate::ring_outcome::RingOutcome;
 use crate::settle::settle;
 use rdm_agent::Kind;
-use rdm_client::{Collected, Tells, TellsAsk};
+use rdm_client::{Collected, DeviceView, Tells, TellsAsk};
 use rdm_wire::Request;
 
-impl<C: Tells, A: TellsAsk> RingClient<C, A> {
+impl<J: ViewHistory, C: Tells, A: TellsAsk> RingClient<J, C, A> {
     /// Sends a request to the worker, and holds its callback until the outcome is collected.
     /// Err: the first fault that stands, Left, Full or RingFull; nothing has changed, and the request and the callback
     /// come back. Full: callbacks of as many requests are held as the client has places, or `u64::MAX` calls were sent.
@@ -35,6 +39,7 @@ impl<C: Tells, A: TellsAsk> RingClient<C, A> {
         ensures got { got_by self.new ≡ got_by self.old }
         ensures left { self.new.left ≡ self.old.left }
         ensures client { SameClient self.old self.new }
+        ensures views { self.new.views ≡ self.old.views }
     {
         if self.left {
             return Err((RingFault::Left, request, callback));
@@ -67,6 +72,7 @@ impl<C: Tells, A: TellsAsk> RingClient<C, A> {
         ensures got { got_by self.new ≡ got_by self.old }
         ensures left { self.new.left ≡ self.old.left }
         ensures client { SameClient self.old self.new }
+        ensures views { self.new.views ≡ self.old.views }
     {
         if self.left {
             return Err((RingFault::Left, callback));
@@ -97,13 +103,37 @@ impl<C: Tells, A: TellsAsk> RingClient<C, A> {
         ensures sent { sent_by self.new ≡ sent_by self.old }
         ensures left { self.new.left ≡ self.old.left }
         ensures client { SameClient self.old self.new }
+        ensures views { self.new.views ≡ self.old.views }
     {
         if self.replies.slots() == 0 || !self.holds_for_front() {
             return None;
         }
-        let told = settle(&mut self.desk, self.replies.pop_known());
+        let item = self.replies.pop_known();
+        keep_found(&mut self.found, &item);
+        let told = settle(&mut self.desk, item);
         self.collected += 1;
         Some(told)
+    }
+
+    /// Reads what the worker has published, for [`RingClient::devices`]. What had been read begins what is read then. It
+    /// copies no set. Where nothing can be read, as when the worker is gone, the last view that was read stands.
+    pub fn read(&mut self)
+        ensures views { IsPrefix self.old.views self.new.views }
+        ensures sent { sent_by self.new ≡ sent_by self.old }
+        ensures got { got_by self.new ≡ got_by self.old }
+        ensures left { self.new.left ≡ self.old.left }
+        ensures desk { self.new.desk ≡ self.old.desk }
+        ensures client { SameClient self.old self.new }
+    {
+        self.views.read();
+    }
+
+    /// The devices: the later, by run, of the last view that was read and of what the client's own last discovery
+    /// without fault found, as far as its outcome was collected. It copies no set.
+    pub fn devices(&self) -> &DeviceView
+        ensures { result.now ≡ later_view (last_view self.now.views) (last_found (got_by self.now)) }
+    {
+        later(self.views.last(), &self.found)
     }
 
     /// Tells the worker that the client leaves: it sends nothing more. What has come, and what is still to come, can
@@ -117,6 +147,7 @@ impl<C: Tells, A: TellsAsk> RingClient<C, A> {
         ensures got { got_by self.new ≡ got_by self.old }
         ensures desk { self.new.desk ≡ self.old.desk }
         ensures client { SameClient self.old self.new }
+        ensures views { self.new.views ≡ self.old.views }
     {
         if self.left {
             return Ok(());
@@ -142,16 +173,19 @@ impl<C: Tells, A: TellsAsk> RingClient<C, A> {
 
     /// Ends the client, and hands back the callbacks that it holds.
     #[tactic(auto, using(crate::proofs::Counting::values_long))]
-    pub fn end(self) -> ClientEnd<C, A>
+    pub fn end(self) -> ClientEnd<J, C, A>
         ensures unspent { result.unspent ≡ record { requests = self.desk.requests; asks = self.desk.asks } }
         ensures sent { (end_sent result ≡ sent_by self) × (result.sent ≡ length (end_sent result)) }
         ensures got { (end_got result ≡ got_by self) × (result.collected ≡ length (end_got result)) }
         ensures rings { (result.calls ≡ self.calls) × (result.replies ≡ self.replies) }
+        ensures views { (result.views ≡ self.views) × (result.run ≡ last_view_run self.views) }
     {
         let RingClient {
             desk,
             calls,
             replies,
+            views,
+            found: _,
             sent,
             collected,
             left,
@@ -160,8 +194,10 @@ impl<C: Tells, A: TellsAsk> RingClient<C, A> {
             unspent: desk.end(),
             sent,
             collected,
+            run: views.last().run,
             calls,
             replies,
+            views,
             left,
         }
     }

@@ -5,38 +5,30 @@ ghost use Rattle.rdm_queue.specs.log.Legal.{Legal};
 ghost use Rattle.rdm_queue.specs.promises.Promised.{Promised};
 ghost use Rattle.rdm_lanes.specs.Lines.{IsBetweenTurns};
 ghost use Rattle.rdm_lanes.specs.Lanes.{AllFit, AllHaveLeft};
-ghost use Rattle.rdm_lanes.specs.Workers.{session_of, lanes_of};
 ghost use Rattle.rdm_lanes.specs.Pairs.{ArePair};
 ghost use Rattle.rdm_lanes.specs.Ends.{end_rings, left_in, PairUp, AllAgree, AllRead, AllTold, SameTold};
 
 use crate::ends::ClientEnd;
+use crate::history::ViewHistory;
 use crate::lane::Lane;
 use crate::worker::Worker;
 use rdm_client::{Tells, TellsAsk};
 use rdm_queue::Session;
 
 impl Worker {
-    /// Ends the worker, and compares both ends of each client's rings. The ends are those of the clients that were
-    /// opened with this worker, in their order: the clauses of all that was lent the clients since then carry this.
-    ///
-    /// What each client sent is its calls in the log, in order, each once, and then what is left in its ring: nothing,
-    /// where its leave was received. What it got, then what is left in its ring of outcomes, and then what it hasn't
-    /// collected, is all that the log tells it. Nobody else has joined or called anything. The log is legal, and keeps
-    /// what clients are promised.
-    ///
-    /// The flag says whether all ends could be compared. It is always true, since the ends are the worker's own.
-    pub fn end<C: Tells, A: TellsAsk>(
+    // Compares both ends of each client's rings, as a worker does at its end.
+    pub(crate) fn compared<J: ViewHistory, C: Tells, A: TellsAsk>(
         self,
-        ends: Vec<ClientEnd<C, A>>,
-    ) -> (Session, Vec<ClientEnd<C, A>>, bool)
-        requires pairs { PairUp (lanes_of self) ends.items }
-        ensures log { result.0 ≡ session_of self }
-        ensures fits { AllFit (session_of self) (lanes_of self) }
-        ensures served { IsBetweenTurns (session_of self) }
-        ensures legal { Legal (session_of self).opening (session_of self).entries }
-        ensures promised { Promised (session_of self).opening (session_of self).entries }
-        ensures agree { AllAgree (session_of self) result.1.items }
-        ensures read { AllHaveLeft (lanes_of self) → AllRead result.1.items }
+        ends: Vec<ClientEnd<J, C, A>>,
+    ) -> (Session, Vec<ClientEnd<J, C, A>>, bool)
+        requires pairs { PairUp self.lanes.items ends.items }
+        ensures log { result.0 ≡ self.session }
+        ensures fits { AllFit self.session self.lanes.items }
+        ensures served { IsBetweenTurns self.session }
+        ensures legal { Legal self.session.opening self.session.entries }
+        ensures promised { Promised self.session.opening self.session.entries }
+        ensures agree { AllAgree self.session result.1.items }
+        ensures read { AllHaveLeft self.lanes.items → AllRead result.1.items }
         ensures told { AllTold ends.items result.1.items }
         ensures matched { result.2 ≡ true }
     {
@@ -52,7 +44,7 @@ impl Worker {
 }
 
 // Compares both ends of a client's rings.
-fn compare<C: Tells, A: TellsAsk>(lane: &mut Lane, end: &mut ClientEnd<C, A>)
+fn compare<J: ViewHistory, C: Tells, A: TellsAsk>(lane: &mut Lane, end: &mut ClientEnd<J, C, A>)
     requires { ArePair (end_rings end.old) lane.old }
     ensures calls { pushed end.new.calls ≡ popped lane.old.calls ++ left_in end.new.calls }
     ensures replies { popped end.new.replies ++ known_items end.new.replies ≡ pushed lane.old.replies }

@@ -1,8 +1,11 @@
 //! What a client leaves behind.
 ghost use Rattle.std.specs.Prelude.{◌≡◌, ◌+◌, length};
 ghost use Rattle.rdm_lanes.specs.Counts.{IsCounted};
+ghost use Rattle.rdm_lanes.specs.Views.{last_view_run};
 
 use crate::call::ClientCall;
+use crate::history::ViewHistory;
+use crate::reading::ViewReader;
 use crate::ring_outcome::RingOutcome;
 use rdm_client::{AskCallback, Callback, Unspent};
 use rtrb::{Consumer, Producer};
@@ -10,21 +13,25 @@ use std::alloc::Global;
 
 /// What is left of a client at its end, and how much it did (profile of this project). It isn't [`Drop`]: the
 /// callbacks that were not spent are taken out of it.
-pub struct ClientEnd<C = Callback, A = AskCallback> {
+pub struct ClientEnd<J: ViewHistory, C = Callback, A = AskCallback> {
     /// The callbacks that were not spent.
     pub unspent: Unspent<C, A>,
     /// How many submits and discovers it sent.
     pub sent: u64,
     /// How many outcomes it collected.
     pub collected: u64,
+    /// The run of the last published view that it read; 0 where it read none of a run.
+    pub run: u64,
     pub(crate) calls: Producer<ClientCall, Global>,
     pub(crate) replies: Consumer<RingOutcome, Global>,
+    pub(crate) views: ViewReader<J>,
     pub(crate) left: bool,
     ghost counted: { IsCounted calls replies sent collected left },
     ghost held: { collected + (length unspent.requests + length unspent.asks) ≡ sent },
+    ghost run_is: { run ≡ last_view_run views },
 }
 
-impl<C, A> ClientEnd<C, A> {
+impl<J: ViewHistory, C, A> ClientEnd<J, C, A> {
     /// The callbacks that were not spent; the rest goes.
     pub fn into_unspent(self) -> Unspent<C, A>
         ensures { result ≡ self.unspent }
@@ -33,8 +40,10 @@ impl<C, A> ClientEnd<C, A> {
             unspent,
             sent: _,
             collected: _,
+            run: _,
             calls: _,
             replies: _,
+            views: _,
             left: _,
         } = self;
         unspent

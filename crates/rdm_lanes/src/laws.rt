@@ -9,28 +9,32 @@ ghost use Rattle.rdm_lanes.specs.OverThreads.{IsLossyScene, IsStayingScene, IsEn
 ghost use Rattle.rdm_lanes.specs.OverThreads.{TellsTheDevices, TellsTheChanging};
 ghost use Rattle.rdm_lanes.specs.OverThreads.{IsCalmScene, IsEnough, IsByDefault, TellsNoFault};
 
+use crate::history::ViewHistory;
+
 /// Over a simulated line that loses no five exchanges with successive numbers, and whose devices stay, each discovery's
 /// outcome without fault that a client got has exactly that line's devices. A session of
 /// [`run_session`](crate::run_session) is such a session.
-pub fn clients_get_the_devices<C, A>()
-    ensures { (config : Config) (search : Search) (room : ℕ) (places : List ℕ) (s t : SimState) (k : LogState) (c : ℕ)
-        (e : ClientEnd C A) → IsEndOver config search room places s t k c e → IsStayingScene s → TellsTheDevices s e }
+pub fn clients_get_the_devices<J: ViewHistory, C, A>()
+    ensures { (config : Config) (search : Search) (room : ℕ) (places : List ℕ) (s t : SimState) (k : LogState)
+        (c : ℕ) (e : ClientEnd J C A (record { book = J.book })) → IsEndOver config search room places s t k c e
+        → IsStayingScene s → TellsTheDevices s e }
 {}
 
 /// Where no exchange fails, either, and the budget is as large as the search's bound on frames asks, none has a fault.
 /// The budget by default is, for a steady search of at most 1,024 devices, which is as many as a scene may have.
-pub fn clients_get_no_fault<C, A>()
+pub fn clients_get_no_fault<J: ViewHistory, C, A>()
     ensures enough { (config : Config) (search : Search) (room : ℕ) (places : List ℕ) (s t : SimState) (k : LogState)
-        (c : ℕ) (e : ClientEnd C A) → IsEndOver config search room places s t k c e → IsCalmScene s
-        → IsEnough config search s → TellsNoFault e }
+        (c : ℕ) (e : ClientEnd J C A (record { book = J.book })) → IsEndOver config search room places s t k c e
+        → IsCalmScene s → IsEnough config search s → TellsNoFault e }
     ensures by_default { (config : Config) (search : Search) (room : ℕ) (places : List ℕ) (s t : SimState)
-        (k : LogState) (c : ℕ) (e : ClientEnd C A) → IsEndOver config search room places s t k c e → IsCalmScene s
-        → IsByDefault config search → TellsNoFault e }
+        (k : LogState) (c : ℕ) (e : ClientEnd J C A (record { book = J.book })) → IsEndOver config search room places s t k c e
+        → IsCalmScene s → IsByDefault config search → TellsNoFault e }
 {}
 
 /// Where devices come and leave, each outcome without fault has each device that is always there; and none has a device
 /// that never is.
-pub fn clients_get_no_stranger<C, A>()
-    ensures { (config : Config) (search : Search) (room : ℕ) (places : List ℕ) (s t : SimState) (k : LogState) (c : ℕ)
-        (e : ClientEnd C A) → IsEndOver config search room places s t k c e → IsLossyScene s → TellsTheChanging s e }
+pub fn clients_get_no_stranger<J: ViewHistory, C, A>()
+    ensures { (config : Config) (search : Search) (room : ℕ) (places : List ℕ) (s t : SimState) (k : LogState)
+        (c : ℕ) (e : ClientEnd J C A (record { book = J.book })) → IsEndOver config search room places s t k c e
+        → IsLossyScene s → TellsTheChanging s e }
 {}

@@ -1,19 +1,25 @@
-//! Clients that never wait: each has a ring for its calls and a ring for its outcomes, whose other ends a worker has.
+//! Clients that never wait. Each has a ring for its calls and a ring for its outcomes, whose other ends a worker has,
+//! and reads the device views that the worker publishes.
 #![tactic(auto)]
 
 mod body;
 mod call;
 mod client;
 mod client_calls;
+mod compared;
 mod comparing;
 mod ends;
 mod fault;
+mod found;
+mod history;
 mod lane;
 pub mod laws;
 mod moving;
 mod open;
 mod opening;
 mod operator;
+mod publishing;
+mod reading;
 mod ring_outcome;
 mod rooms;
 mod seat;
@@ -22,21 +28,28 @@ mod session_run;
 mod settle;
 mod threads;
 mod together;
+mod view_turns;
+mod view_worker;
 mod worker;
 mod working;
 
 pub use body::{Body, Gate, WORKER_STOPPED};
 pub use call::{ClientCall, OperatorCall};
 pub use client::RingClient;
+pub use compared::Compared;
 pub use ends::ClientEnd;
 pub use fault::{OpenFault, RingFault, RingFull};
+pub use history::{BlankHistory, Front, ViewHistory};
 pub use lane::Lane;
 pub use open::{Lanes, open_lanes, open_lanes_by};
 pub use operator::Operator;
+pub use publishing::{Publisher, Shown};
+pub use reading::ViewReader;
 pub use ring_outcome::RingOutcome;
 pub use session_run::{RunFault, run_session, run_session_by};
 pub use together::LanesEnd;
-pub use worker::{Worker, WorkerEnd};
+pub use view_worker::ViewWorker;
+pub use worker::WorkerEnd;
 
 #[cfg(test)]
 mod tests;

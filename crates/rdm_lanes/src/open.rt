@@ -1,47 +1,70 @@
 //! How clients, an operator and a worker are opened.
-ghost use Rattle.std.specs.Prelude.{◌≡◌, ◌≤◌, [], false, IfOk, IfErr, IsErr, MatchOption};
+ghost use Rattle.std.specs.Prelude.{◌≡◌, ◌≤◌, ◌∷◌, [], false, IfOk, IfErr, IsErr, MatchOption};
 ghost use Rattle.rtrb.specs.Ring.{producer_capacity};
 ghost use Rattle.rdm_queue.specs.log.Config.{IsConfig};
 ghost use Rattle.rdm_lanes.specs.Opened.{places_fault, opened_with, AreNew, IsFullFor, IsLaterFault};
 ghost use Rattle.rdm_queue.specs.log.LogState.{blank_log};
 ghost use Rattle.rdm_agent.specs.declared.search.Search.TheVariants.{Steady};
 ghost use Rattle.rdm_lanes.specs.Pairs.{ClientsPair};
-ghost use Rattle.rdm_lanes.specs.Workers.{session_of, lanes_of, operator_has_left, called_by, has_left};
+ghost use Rattle.rdm_lanes.specs.Views.{opening_view};
+ghost use Rattle.rdm_lanes.specs.Workers.{session_of, lanes_of, operator_has_left, published_by};
+ghost use Rattle.rdm_lanes.specs.Workers.{called_by, has_left, book_of};
 
 use crate::client::RingClient;
 use crate::fault::OpenFault;
+use crate::history::{BlankHistory, ViewHistory};
 use crate::opening::{discard, joined, open_clients, total};
 use crate::operator::Operator;
+use crate::publishing::{Publisher, Shown};
+use crate::view_worker::ViewWorker;
 use crate::worker::Worker;
+use left_right::Absorb;
 use rdm_agent::Search;
-use rdm_client::{AskCallback, Callback, Tells, TellsAsk};
+use rdm_client::{AskCallback, Callback, DeviceView, Tells, TellsAsk};
 use rdm_queue::{Config, Log, MOST_CLIENTS};
 use rtrb::RingBuffer;
 use std::alloc::Global;
+use std::sync::Wait;
 
-/// The clients of a session, its operator and its worker (profile of this project).
-pub struct Lanes<C = Callback, A = AskCallback> {
+/// The clients of a session, its operator and its worker (profile of this project). `T` is `Shown<J>`.
+pub struct Lanes<
+    J: ViewHistory,
+    T: Absorb<Shown<J>, State = [DeviceView; 0]> + Drop,
+    R: Wait + Drop,
+    C = Callback,
+    A = AskCallback,
+> {
     /// The clients, in the order of their places.
-    pub clients: Vec<RingClient<C, A>>,
+    pub clients: Vec<RingClient<J, C, A>>,
     /// The operator.
     pub operator: Operator,
     /// The worker, which has the session.
-    pub worker: Worker,
+    pub worker: ViewWorker<J, T, R>,
 }
 
 /// A session with a client for each of these places, an operator and a worker (profile of this project). Its runs
 /// search steadily. Each client has a ring of this many slots for its calls and one for its outcomes, and the operator
-/// one for its calls. All their memory is taken here. The controller's UID isn't broadcast, there are at most
-/// [`MOST_PLACES`](rdm_queue::MOST_PLACES) places, the budget is at least 1, the log has no entries, and a ring has at
-/// least one slot.
+/// one for its calls. The memory of the rings is taken here, with that of what each client finds. A view takes its own
+/// when it is published. `J` is the history of the views that the worker publishes.
+///
+/// The conditions are these:
+/// - the controller's UID isn't broadcast;
+/// - there are at most [`MOST_PLACES`](rdm_queue::MOST_PLACES) places;
+/// - the budget is at least 1;
+/// - the log has no entries;
+/// - a ring has at least one slot.
+///
 /// Err: the first fault that stands; the log comes back without entries, as a new one with the same room.
-pub fn open_lanes<C: Tells, A: TellsAsk>(
+pub fn open_lanes<J: ViewHistory, C: Tells, A: TellsAsk, R: Wait + Drop>(
+    rt: R,
     alloc: Global,
+    history: BlankHistory,
     config: Config,
     log: Log,
     ring: u8,
     places: &[u8],
-) -> Result<Lanes<C, A>, (OpenFault, Log)>
+) -> Result<Lanes<J, Shown<J>, R, C, A>, (OpenFault, Log)>
+    requires name { book_of history ≡ J.book }
     requires config_is { IsConfig config }
     requires empty { log.entries ≡ [] }
     requires slots { 1 ≤ ring }
@@ -50,23 +73,36 @@ pub fn open_lanes<C: Tells, A: TellsAsk>(
     ensures operator { IfOk result (λ lanes. (called_by lanes.operator ≡ []) × (has_left lanes.operator ≡ false)
         × (operator_has_left lanes.worker ≡ false) × (producer_capacity lanes.operator.calls ≡ ring)) }
     ensures pairs { IfOk result (λ lanes. ClientsPair (lanes_of lanes.worker) lanes.clients.items) }
+    ensures published { IfOk result (λ lanes. published_by lanes.worker ≡ opening_view ∷ []) }
     ensures fault { MatchOption (places_fault config.places places.now)
         ((IsFullFor log.room places.now → IsErr result) × IfErr result (λ e. IsLaterFault log.room places.now e.0))
         (λ fault. IsErr result × IfErr result (λ e. e.0 ≡ fault)) }
     ensures back { IfErr result (λ e. e.1 ≡ blank_log log.room) }
 {
-    open_lanes_by(alloc, Search::Steady, config, log, ring, places)
+    open_lanes_by(
+        rt,
+        alloc,
+        history,
+        Search::Steady,
+        config,
+        log,
+        ring,
+        places,
+    )
 }
 
 /// The same under the same conditions and with the same errors, of a session whose runs search so.
-pub fn open_lanes_by<C: Tells, A: TellsAsk>(
+pub fn open_lanes_by<J: ViewHistory, C: Tells, A: TellsAsk, R: Wait + Drop>(
+    rt: R,
     alloc: Global,
+    history: BlankHistory,
     search: Search,
     config: Config,
     log: Log,
     ring: u8,
     places: &[u8],
-) -> Result<Lanes<C, A>, (OpenFault, Log)>
+) -> Result<Lanes<J, Shown<J>, R, C, A>, (OpenFault, Log)>
+    requires name { book_of history ≡ J.book }
     requires config_is { IsConfig config }
     requires empty { log.entries ≡ [] }
     requires slots { 1 ≤ ring }
@@ -75,6 +111,7 @@ pub fn open_lanes_by<C: Tells, A: TellsAsk>(
     ensures operator { IfOk result (λ lanes. (called_by lanes.operator ≡ []) × (has_left lanes.operator ≡ false)
         × (operator_has_left lanes.worker ≡ false) × (producer_capacity lanes.operator.calls ≡ ring)) }
     ensures pairs { IfOk result (λ lanes. ClientsPair (lanes_of lanes.worker) lanes.clients.items) }
+    ensures published { IfOk result (λ lanes. published_by lanes.worker ≡ opening_view ∷ []) }
     ensures fault { MatchOption (places_fault config.places places.now)
         ((IsFullFor log.room places.now → IsErr result) × IfErr result (λ e. IsLaterFault log.room places.now e.0))
         (λ fault. IsErr result × IfErr result (λ e. e.0 ≡ fault)) }
@@ -86,18 +123,24 @@ pub fn open_lanes_by<C: Tells, A: TellsAsk>(
     let Ok((calls, heard)) = RingBuffer::new(alloc, usize::from(ring)) else {
         return Err((OpenFault::NoMemory, log.cleared()));
     };
-    let Some((clients, lanes)) = open_clients(alloc, ring, places) else {
+    let Ok(views) = Publisher::new(alloc, rt, history, places.len().max(1)) else {
+        return Err((OpenFault::NoMemory, log.cleared()));
+    };
+    let Some((clients, lanes)) = open_clients(alloc, &views, ring, places) else {
         return Err((OpenFault::NoMemory, log.cleared()));
     };
     match joined(alloc, search, config, log, places) {
         Ok(session) => Ok(Lanes {
             clients,
             operator: Operator { calls, left: false },
-            worker: Worker {
-                session,
-                lanes,
-                operator: heard,
-                operator_left: false,
+            worker: ViewWorker {
+                server: Worker {
+                    session,
+                    lanes,
+                    operator: heard,
+                    operator_left: false,
+                },
+                views,
             },
         }),
         Err(refused) => {

@@ -1,20 +1,25 @@
 //! The steps by which clients, an operator and a worker are opened.
-ghost use Rattle.std.specs.Prelude.{◌≡◌, [], length, OnOk, IfOk, IfErr, IfSome, ◌≤◌, sum, false};
+ghost use Rattle.std.specs.Prelude.{◌≡◌, [], ◌∷◌, length, OnOk, IfOk, IfErr, IfSome, ◌≤◌, sum, false};
 ghost use Rattle.rdm_queue.specs.log.Config.{IsConfig};
 ghost use Rattle.rdm_queue.specs.log.Legal.{Legal};
 ghost use Rattle.rdm_queue.specs.log.LogState.{blank_log};
 ghost use Rattle.rdm_lanes.specs.Opened.{opened_with, join_entries, IsNewWith, AreNewWith, HoldNothing};
 ghost use Rattle.rdm_lanes.specs.Opened.{IsFullFor, IsLaterFault};
+ghost use Rattle.rdm_lanes.specs.Views.{opening_view};
 
 use crate::client::RingClient;
 use crate::comparing::shows_legal;
 use crate::fault::OpenFault;
+use crate::history::ViewHistory;
 use crate::lane::Lane;
+use crate::publishing::{Publisher, Shown};
 use rdm_agent::Search;
-use rdm_client::{Desk, Tells, TellsAsk};
+use rdm_client::{Desk, DeviceView, Tells, TellsAsk};
 use rdm_queue::{Config, JoinFault, Log, Session};
+use rdm_wire::DeviceSet;
 use rtrb::RingBuffer;
 use std::alloc::Global;
+use std::sync::Wait;
 
 /// The sum of the places of at most sixteen clients.
 pub fn total(places: &[u8]) -> u16
@@ -30,13 +35,21 @@ pub fn total(places: &[u8]) -> u16
 
 /// A client with this many places, and its lane. None: there was no memory.
 #[tactic(auto, using(crate::proofs::OpenLemmas::counted_new))]
-pub fn open_client<C: Tells, A: TellsAsk>(
+pub fn open_client<J: ViewHistory, C: Tells, A: TellsAsk, R: Wait + Drop>(
     alloc: Global,
+    publisher: &Publisher<J, Shown<J>, R>,
     ring: u8,
     places: u8,
-) -> Option<(RingClient<C, A>, Lane)>
+) -> Option<(RingClient<J, C, A>, Lane)>
+    requires { publisher.now.shown ≡ opening_view ∷ [] }
     ensures { IfSome result (λ r. IsNewWith ring places r.0 r.1) }
 {
+    let Ok(views) = publisher.reader() else {
+        return None;
+    };
+    let Some(found) = opening_found(alloc) else {
+        return None;
+    };
     let Ok((calls, heard)) = RingBuffer::new(alloc, usize::from(ring)) else {
         return None;
     };
@@ -50,6 +63,8 @@ pub fn open_client<C: Tells, A: TellsAsk>(
         desk,
         calls,
         replies,
+        views,
+        found,
         sent: 0,
         collected: 0,
         left: false,
@@ -65,12 +80,29 @@ pub fn open_client<C: Tells, A: TellsAsk>(
     Some((client, lane))
 }
 
+// What a client knows of devices at first, in memory of its own. It isn't inlined, so that only it holds a set.
+#[inline(never)]
+fn opening_found(alloc: Global) -> Option<Box<DeviceView>>
+    ensures { IfSome result (λ found. found.value ≡ opening_view) }
+{
+    Box::new(
+        alloc,
+        DeviceView {
+            run: 0,
+            set: DeviceSet::new(),
+        },
+    )
+    .ok()
+}
+
 /// A client with its lane for each of these places. None: there was no memory.
-pub fn open_clients<C: Tells, A: TellsAsk>(
+pub fn open_clients<J: ViewHistory, C: Tells, A: TellsAsk, R: Wait + Drop>(
     alloc: Global,
+    publisher: &Publisher<J, Shown<J>, R>,
     ring: u8,
     places: &[u8],
-) -> Option<(Vec<RingClient<C, A>>, Vec<Lane>)>
+) -> Option<(Vec<RingClient<J, C, A>>, Vec<Lane>)>
+    requires { publisher.now.shown ≡ opening_view ∷ [] }
     ensures { IfSome result (λ r. AreNewWith ring places.now r.0.items r.1.items) }
 {
     let Ok(mut lanes) = Vec::with_capacity(alloc, places.len()) else {
@@ -80,7 +112,7 @@ pub fn open_clients<C: Tells, A: TellsAsk>(
         return None;
     };
     for n in places {
-        let Some((client, lane)) = open_client(alloc, ring, *n) else {
+        let Some((client, lane)) = open_client(alloc, publisher, ring, *n) else {
             discard(clients);
             return None;
         };
@@ -91,7 +123,7 @@ pub fn open_clients<C: Tells, A: TellsAsk>(
 }
 
 /// Ends clients that hold no callbacks.
-pub fn discard<C: Tells, A: TellsAsk>(clients: Vec<RingClient<C, A>>)
+pub fn discard<J: ViewHistory, C: Tells, A: TellsAsk>(clients: Vec<RingClient<J, C, A>>)
     requires { HoldNothing clients.items }
 {
     let mut clients = clients;
@@ -100,6 +132,8 @@ pub fn discard<C: Tells, A: TellsAsk>(clients: Vec<RingClient<C, A>>)
             desk,
             calls: _,
             replies: _,
+            views: _,
+            found: _,
             sent: _,
             collected: _,
             left: _,

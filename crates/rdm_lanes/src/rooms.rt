@@ -6,22 +6,23 @@ ghost use Rattle.rdm_lanes.specs.Rooms.{HasRoomFor};
 
 use crate::client::RingClient;
 use crate::ends::ClientEnd;
+use crate::history::ViewHistory;
 use crate::seat::Seat;
 use rdm_client::{AskCallback, Callback, Tells, TellsAsk};
 use std::alloc::Global;
 
 /// Room for the seats of a session, and for what it hands back. It is taken before any body runs.
-pub struct Rooms<B, C = Callback, A = AskCallback> {
+pub struct Rooms<J: ViewHistory, B, C = Callback, A = AskCallback> {
     /// For the bodies beside their clients.
-    pub seats: Vec<Seat<B, C, A>>,
+    pub seats: Vec<Seat<J, B, C, A>>,
     /// For what is left of the clients.
-    pub ends: Vec<ClientEnd<C, A>>,
+    pub ends: Vec<ClientEnd<J, C, A>>,
     /// For the bodies.
     pub bodies: Vec<B>,
 }
 
 /// Room for this many bodies. None: there was no memory.
-pub fn rooms_for<B, C, A>(alloc: Global, count: usize) -> Option<Rooms<B, C, A>>
+pub fn rooms_for<J: ViewHistory, B, C, A>(alloc: Global, count: usize) -> Option<Rooms<J, B, C, A>>
     ensures { IfSome result (λ rooms. HasRoomFor count rooms) }
 {
     let Ok(seats) = Vec::with_capacity(alloc, count) else {
@@ -43,7 +44,7 @@ pub fn rooms_for<B, C, A>(alloc: Global, count: usize) -> Option<Rooms<B, C, A>>
     })
 }
 
-impl<B, C, A> Rooms<B, C, A> {
+impl<J: ViewHistory, B, C, A> Rooms<J, B, C, A> {
     /// Gives back room that isn't used.
     pub fn give_up(self)
         requires { (self.seats.items ≡ []) × (self.ends.items ≡ []) × (self.bodies.items ≡ []) }
@@ -60,11 +61,11 @@ impl<B, C, A> Rooms<B, C, A> {
 }
 
 /// Each body beside its client, in the room that is given.
-pub fn seated<B, C, A>(
+pub fn seated<J: ViewHistory, B, C, A>(
     bodies: Vec<B>,
-    clients: Vec<RingClient<C, A>>,
-    room: Vec<Seat<B, C, A>>,
-) -> Vec<Seat<B, C, A>>
+    clients: Vec<RingClient<J, C, A>>,
+    room: Vec<Seat<J, B, C, A>>,
+) -> Vec<Seat<J, B, C, A>>
     requires one_each { length bodies.items ≡ length clients.items }
     requires empty { room.items ≡ [] }
     requires fits { length bodies.items ≤ vec_capacity room }
@@ -85,11 +86,11 @@ pub fn seated<B, C, A>(
 }
 
 /// The bodies, and the ends of their clients, in the rooms that are given.
-pub fn unseated<B, C: Tells, A: TellsAsk>(
-    seats: Vec<Seat<B, C, A>>,
+pub fn unseated<J: ViewHistory, B, C: Tells, A: TellsAsk>(
+    seats: Vec<Seat<J, B, C, A>>,
     bodies: Vec<B>,
-    ends: Vec<ClientEnd<C, A>>,
-) -> (Vec<B>, Vec<ClientEnd<C, A>>)
+    ends: Vec<ClientEnd<J, C, A>>,
+) -> (Vec<B>, Vec<ClientEnd<J, C, A>>)
     requires empty { (bodies.items ≡ []) × (ends.items ≡ []) }
     requires fit { (length seats.items ≤ vec_capacity bodies) × (length seats.items ≤ vec_capacity ends) }
     ensures bodies { length result.0.items ≡ length seats.items }

@@ -1,11 +1,12 @@
 //! A body and its client.
 use crate::client::RingClient;
+use crate::history::ViewHistory;
 use rdm_client::{AskCallback, Callback};
 
 /// A body and its client.
-pub struct Seat<B, C = Callback, A = AskCallback> {
+pub struct Seat<J: ViewHistory, B, C = Callback, A = AskCallback> {
     /// What the client does.
     pub body: B,
     /// The client.
-    pub client: RingClient<C, A>,
+    pub client: RingClient<J, C, A>,
 }

@@ -1,5 +1,5 @@
 //! A whole session: clients, each with what it does, and a worker over a line, in threads.
-ghost use Rattle.std.specs.Prelude.{◌≡◌, ◌≤◌, [], length, true, IfOk, IfErr, IsErr, MatchOption};
+ghost use Rattle.std.specs.Prelude.{◌≡◌, ◌≢◌, ◌≤◌, [], length, true, false, IfOk, IfErr, IsErr, MatchOption};
 ghost use Rattle.rdm_queue.specs.log.Config.{IsConfig};
 ghost use Rattle.rdm_queue.specs.log.LogState.{is_full_log};
 ghost use Rattle.rdm_queue.specs.log.MaySend.{NoSend};
@@ -11,9 +11,14 @@ ghost use Rattle.rdm_agent.specs.declared.search.Search.TheVariants.{Steady};
 ghost use Rattle.rdm_lanes.specs.Lines.{exchange_count};
 ghost use Rattle.rdm_lanes.specs.Ends.{AllAgree, AllRead};
 ghost use Rattle.rdm_lanes.specs.Sessions.{SessionOver};
+ghost use Rattle.rdm_lanes.specs.Workers.{book_of};
+ghost use Rattle.rdm_lanes.specs.Views.{all_views};
+ghost use Rattle.rdm_lanes.specs.Publishing.{IsPublished};
+ghost use Rattle.rdm_lanes.specs.ViewsRead.{AllViewsRead, AllShownFirst};
 
 use crate::body::{Body, Gate};
 use crate::fault::OpenFault;
+use crate::history::{BlankHistory, ViewHistory};
 use crate::open::{fault_of_places, open_lanes_by};
 use crate::rooms::rooms_for;
 use crate::together::{LanesEnd, run_lanes};
@@ -22,6 +27,7 @@ use rdm_client::{Tells, TellsAsk};
 use rdm_line::Line;
 use rdm_queue::{Config, Log};
 use std::alloc::Global;
+use std::sync::Wait;
 use std::thread::Threads;
 
 /// Why a session can't be run (profile of this project): as lanes can't be opened.
@@ -29,21 +35,25 @@ pub type RunFault = OpenFault;
 
 /// Runs a session (profile of this project): opens a client for each of these places, and runs its body in a thread of
 /// its own, beside the worker with this many turns. There is no operator, so nobody pauses or closes. Where a thread
-/// can't be made its work is done in one that there is, after the other work there.
+/// can't be made its work is done in one that there is, after the other work there. `J` is the history of the views that
+/// the worker publishes. What was published, and what each client has read of it, is compared at the end too.
 ///
-/// The conditions are those of [`open_lanes`](crate::open_lanes), and there are as many bodies as places.
+/// The conditions are those of [`open_lanes`](crate::open_lanes), and there are as many bodies as places. Once the
+/// worker has stopped its clients' ends are compared, as at a [`ViewWorker::end`](crate::ViewWorker::end).
 /// Err: the first of the faults of `open_lanes` that stands, before any body ran; the log comes back as a new one with
 /// the same room, and the bodies and the line as they were.
 pub fn run_session<
+    J: ViewHistory + Send + Sync,
     B: Body<C, A> + Send,
     C: Tells + Send,
     A: TellsAsk + Send,
     G: Gate + Sync,
     X: Line + Send,
-    R: Threads + Sync,
+    R: Threads + Wait + Sync,
 >(
     rt: &R,
     alloc: Global,
+    history: BlankHistory,
     config: Config,
     log: Log,
     ring: u8,
@@ -52,7 +62,8 @@ pub fn run_session<
     gate: &G,
     line: X,
     turns: u64,
-) -> Result<LanesEnd<B, X, C, A>, (RunFault, Log, Vec<B>, X)>
+) -> Result<LanesEnd<J, B, X, C, A>, (RunFault, Log, Vec<B>, X)>
+    requires name { book_of history ≡ J.book }
     requires config_is { IsConfig config }
     requires empty { log.entries ≡ [] }
     requires slots { 1 ≤ ring }
@@ -68,6 +79,10 @@ pub fn run_session<
     ensures one_each { IfOk result (λ end. (length end.ends.items ≡ length places.now)
         × (length end.bodies.items ≡ length places.now)) }
     ensures matched { IfOk result (λ end. end.matched ≡ true) }
+    ensures published { IfOk result (λ end. IsPublished (all_views end.session.entries) end.published) }
+    ensures all_published { IfOk result (λ end. end.worker ≢ Turns → end.published ≡ all_views end.session.entries) }
+    ensures views { IfOk result (λ end. AllViewsRead end.published end.ends.items) }
+    ensures shown_first { IfOk result (λ end. AllShownFirst end.published end.ends.items) }
     ensures fault { MatchOption (places_fault config.places places.now)
         ((IsFullFor log.room places.now → IsErr result) × IfErr result (λ e. IsLaterFault log.room places.now e.0))
         (λ fault. IsErr result × IfErr result (λ e. e.0 ≡ fault)) }
@@ -76,6 +91,7 @@ pub fn run_session<
     run_session_by(
         rt,
         alloc,
+        history,
         Search::Steady,
         config,
         log,
@@ -90,15 +106,17 @@ pub fn run_session<
 
 /// The same under the same conditions and with the same errors, of a session whose runs search so.
 pub fn run_session_by<
+    J: ViewHistory + Send + Sync,
     B: Body<C, A> + Send,
     C: Tells + Send,
     A: TellsAsk + Send,
     G: Gate + Sync,
     X: Line + Send,
-    R: Threads + Sync,
+    R: Threads + Wait + Sync,
 >(
     rt: &R,
     alloc: Global,
+    history: BlankHistory,
     search: Search,
     config: Config,
     log: Log,
@@ -108,7 +126,8 @@ pub fn run_session_by<
     gate: &G,
     line: X,
     turns: u64,
-) -> Result<LanesEnd<B, X, C, A>, (RunFault, Log, Vec<B>, X)>
+) -> Result<LanesEnd<J, B, X, C, A>, (RunFault, Log, Vec<B>, X)>
+    requires name { book_of history ≡ J.book }
     requires config_is { IsConfig config }
     requires empty { log.entries ≡ [] }
     requires slots { 1 ≤ ring }
@@ -124,6 +143,10 @@ pub fn run_session_by<
     ensures one_each { IfOk result (λ end. (length end.ends.items ≡ length places.now)
         × (length end.bodies.items ≡ length places.now)) }
     ensures matched { IfOk result (λ end. end.matched ≡ true) }
+    ensures published { IfOk result (λ end. IsPublished (all_views end.session.entries) end.published) }
+    ensures all_published { IfOk result (λ end. end.worker ≢ Turns → end.published ≡ all_views end.session.entries) }
+    ensures views { IfOk result (λ end. AllViewsRead end.published end.ends.items) }
+    ensures shown_first { IfOk result (λ end. AllShownFirst end.published end.ends.items) }
     ensures fault { MatchOption (places_fault config.places places.now)
         ((IsFullFor log.room places.now → IsErr result) × IfErr result (λ e. IsLaterFault log.room places.now e.0))
         (λ fault. IsErr result × IfErr result (λ e. e.0 ≡ fault)) }
@@ -135,7 +158,7 @@ pub fn run_session_by<
     let Some(rooms) = rooms_for(alloc, bodies.len()) else {
         return Err((OpenFault::NoMemory, log.cleared(), bodies, line));
     };
-    match open_lanes_by(alloc, search, config, log, ring, places) {
+    match open_lanes_by(rt, alloc, history, search, config, log, ring, places) {
         Ok(lanes) => Ok(run_lanes(rt, alloc, lanes, rooms, bodies, gate, line, turns)),
         Err((fault, log)) => {
             rooms.give_up();

@@ -9,4 +9,5 @@ mod players;
 mod said;
 mod scenes;
 mod tape_runs;
+mod views;
 mod waiting;

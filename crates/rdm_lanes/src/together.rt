@@ -1,5 +1,5 @@
 //! A session over open lanes: the bodies in their seats, the worker beside them, and the comparison at the end.
-ghost use Rattle.std.specs.Prelude.{◌≡◌, ◌≤◌, ◌+◌, List, length, true};
+ghost use Rattle.std.specs.Prelude.{◌≡◌, ◌≢◌, ◌≤◌, ◌+◌, List, length, true, false};
 ghost use Rattle.rdm_queue.specs.log.Legal.{Legal};
 ghost use Rattle.rdm_queue.specs.log.LogState.{is_full_log};
 ghost use Rattle.rdm_queue.specs.log.MaySend.{NoSend};
@@ -11,10 +11,17 @@ ghost use Rattle.rdm_lanes.specs.Lanes.{AllFit};
 ghost use Rattle.rdm_lanes.specs.Ends.{AllAgree, AllRead};
 ghost use Rattle.rdm_lanes.specs.Pairs.{ClientsPair};
 ghost use Rattle.rdm_lanes.specs.Rooms.{HasRoomFor};
+ghost use Rattle.rdm_lanes.specs.Workers.{session_of, lanes_of};
+ghost use Rattle.rdm_lanes.specs.Views.{all_views};
+ghost use Rattle.rdm_lanes.specs.Publishing.{IsPublished};
+ghost use Rattle.rdm_lanes.specs.ViewsRead.{AllViewsRead, AllShownFirst};
 
 use crate::body::{Body, Gate};
+use crate::compared::Compared;
 use crate::ends::ClientEnd;
+use crate::history::{Front, ViewHistory};
 use crate::open::Lanes;
+use crate::publishing::Shown;
 use crate::rooms::{Rooms, seated, unseated};
 use crate::threads::run_together;
 use crate::worker::WorkerEnd;
@@ -22,14 +29,15 @@ use rdm_client::{AskCallback, Callback, Tells, TellsAsk};
 use rdm_line::Line;
 use rdm_queue::Session;
 use std::alloc::Global;
+use std::sync::Wait;
 use std::thread::Threads;
 
 /// How a session over rings ended (profile of this project).
-pub struct LanesEnd<B, X, C = Callback, A = AskCallback> {
+pub struct LanesEnd<J: ViewHistory, B, X, C = Callback, A = AskCallback> {
     /// The session, with its log.
     pub session: Session,
     /// What is left of each client, in order.
-    pub ends: Vec<ClientEnd<C, A>>,
+    pub ends: Vec<ClientEnd<J, C, A>>,
     /// Whether both ends of all rings could be compared. It is always true.
     pub matched: bool,
     /// The bodies, in order.
@@ -38,45 +46,53 @@ pub struct LanesEnd<B, X, C = Callback, A = AskCallback> {
     pub worker: WorkerEnd,
     /// The line.
     pub line: X,
+    /// The views that were published. Their number is at hand; the views themselves are seen by contracts alone.
+    pub published: Front<J>,
 }
 
 /// Runs the bodies beside the worker, without an operator, and compares both ends of all rings.
 pub fn run_lanes<
+    J: ViewHistory + Send + Sync,
     B: Body<C, A> + Send,
     C: Tells + Send,
     A: TellsAsk + Send,
     G: Gate + Sync,
     X: Line + Send,
     R: Threads + Sync,
+    W: Wait + Drop + Send,
 >(
     rt: &R,
     alloc: Global,
-    lanes: Lanes<C, A>,
-    rooms: Rooms<B, C, A>,
+    lanes: Lanes<J, Shown<J>, W, C, A>,
+    rooms: Rooms<J, B, C, A>,
     bodies: Vec<B>,
     gate: &G,
     line: X,
     turns: u64,
-) -> LanesEnd<B, X, C, A>
-    requires pairs { ClientsPair lanes.worker.lanes.items lanes.clients.items }
+) -> LanesEnd<J, B, X, C, A>
+    requires pairs { ClientsPair (lanes_of lanes.worker) lanes.clients.items }
     requires one_each { length bodies.items ≡ length lanes.clients.items }
     requires room { HasRoomFor (length bodies.items) rooms }
-    ensures exchanged { Exchanged X.step line lanes.worker.session result.line result.session }
+    ensures exchanged { Exchanged X.step line (session_of lanes.worker) result.line result.session }
     ensures served { IsBetweenTurns result.session }
     ensures legal { Legal result.session.opening result.session.entries }
     ensures promised { Promised result.session.opening result.session.entries }
-    ensures switches { SameSwitches lanes.worker.session result.session }
-    ensures fits { (lanes_left : List Lane) × (length lanes_left ≡ length lanes.worker.lanes.items)
+    ensures switches { SameSwitches (session_of lanes.worker) result.session }
+    ensures fits { (lanes_left : List Lane) × (length lanes_left ≡ length (lanes_of lanes.worker))
         × AllFit result.session lanes_left }
     ensures agree { AllAgree result.session result.ends.items }
     ensures all_left { result.worker ≡ AllLeft → AllRead result.ends.items
         × NoSend result.session.opening result.session.entries }
     ensures full { result.worker ≡ FullLog → is_full_log result.session ≡ true }
-    ensures turns { (exchange_count result.session ≤ exchange_count lanes.worker.session + turns)
+    ensures turns { (exchange_count result.session ≤ exchange_count (session_of lanes.worker) + turns)
         × (turns ≡ 0 → result.worker ≡ Turns) }
     ensures one_each { (length result.ends.items ≡ length bodies.items)
         × (length result.bodies.items ≡ length bodies.items) }
     ensures matched { result.matched ≡ true }
+    ensures published { IsPublished (all_views result.session.entries) result.published }
+    ensures all_published { result.worker ≢ Turns → result.published ≡ all_views result.session.entries }
+    ensures views { AllViewsRead result.published result.ends.items }
+    ensures shown_first { AllShownFirst result.published result.ends.items }
 {
     let Lanes {
         clients,
@@ -92,7 +108,12 @@ pub fn run_lanes<
     let alone = worker.without_operator();
     let (worker, left, line, end) = run_together(rt, alloc, alone, taken, gate, line, turns);
     let (bodies, ends) = unseated(left, back, ends);
-    let (session, ends, matched) = worker.end(ends);
+    let Compared {
+        session,
+        ends,
+        matched,
+        published,
+    } = worker.end(ends);
     LanesEnd {
         session,
         ends,
@@ -100,5 +121,6 @@ pub fn run_lanes<
         bodies,
         worker: end,
         line,
+        published,
     }
 }

@@ -5,6 +5,7 @@ mod locked;
 mod memory;
 mod notes;
 mod players;
+mod program;
 mod queues;
 mod replies;
 mod rig;

@@ -12,19 +12,21 @@ use crate::input::{FileFault, read_file};
 use crate::reason::Reason;
 use crate::reporting::report;
 use crate::scene::{SceneFault, SceneFile, read_scene};
+use crate::serving::Progress;
 use rdm_agent::{Kind, Search};
 use serde_json::{Category, Value};
 use std::alloc::Global;
 use std::io::Read;
 
-/// What a run reports of the scene in the reader's file.
+/// What a run reports of the scene in the reader's file. It tells how far it is.
 // It isn't inlined: a run's values are large, and no other answer is to have places for them.
 #[inline(never)]
-pub fn answer_discover<R: Read>(
+pub fn answer_discover<R: Read, P: Progress>(
     alloc: Global,
     incremental: bool,
     quick: bool,
     reader: &mut R,
+    progress: &mut P,
 ) -> Result<Answered, Refused>
     ensures ok { IfOk result (λ a.
         Discovers incremental quick (R.remaining reader.old) (answer_bytes a.text) a.status) }
@@ -36,7 +38,12 @@ pub fn answer_discover<R: Read>(
     };
     let kind = kind_of(incremental);
     let search = search_of(quick);
-    let Ok(run) = discover_in(alloc, file.scene, search, kind, &file.known, file.budget) else {
+    let SceneFile {
+        scene,
+        known,
+        budget,
+    } = file;
+    let Ok(run) = discover_in(alloc, scene, search, kind, &known, budget, progress) else {
         return Err((Fault::Memory, None));
     };
     answered(alloc, &run)

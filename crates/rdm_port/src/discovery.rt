@@ -12,6 +12,7 @@ ghost use Rattle.rdm_line.specs.SimRuns.{NoFiveSuccessive};
 ghost use Rattle.rdm_port.specs.Discovery.{GoesOn, IsDiscovery};
 ghost use Rattle.rdm_port.specs.SceneDiscovery.{IsSceneDiscovery, IsHonestReport};
 
+use crate::serving::{Progress, tell_often};
 use rdm_agent::{Agent, AgentFault, Kind, Op, OpReply, Search};
 use rdm_join::LineReply;
 use rdm_line::{Line, LineFault, NoMemory, Scene, SimLine};
@@ -28,14 +29,15 @@ pub struct Discovery {
 }
 
 /// Makes a discovery run on a line, from the controller `source`, that searches so: the agent's frames, numbered from
-/// 0, go over the line, and the agent hears what came, until it asks nothing more.
-pub fn discover<L: Line>(
+/// 0, go over the line, and the agent hears what came, until it asks nothing more. Every thousandth exchange is told.
+pub fn discover<L: Line, P: Progress>(
     line: &mut L,
     source: Uid,
     search: Search,
     kind: Kind,
     known: &UidSet,
     budget: u64,
+    progress: &mut P,
 ) -> Discovery
     ensures run { IsDiscovery L L.step source search kind known.now budget
         line.old line.new result.found result.frames }
@@ -47,6 +49,7 @@ pub fn discover<L: Line>(
             break;
         }
         ask(&mut agent, line, source, (made % 256) as u8);
+        tell_often(progress, (made + 1) as usize);
     }
     // For the proof alone: after as many exchanges as the budget allows, nothing is asked next.
     let _end = agent.next();
@@ -83,14 +86,15 @@ fn read(op: Op, source: Uid, tn: u8, answer: &Result<LineReply, LineFault>) -> O
 /// Makes a discovery run on a simulated line of this scene. [`NoMemory`]: memory was refused, and no run was made.
 ///
 /// As long as no five replies of a kind are lost in succession, it finds each device that is on the line throughout,
-/// and none that never is.
-pub fn discover_in(
+/// and none that never is. Every thousandth exchange is told.
+pub fn discover_in<P: Progress>(
     alloc: Global,
     scene: Scene,
     search: Search,
     kind: Kind,
     known: &UidSet,
     budget: u64,
+    progress: &mut P,
 ) -> Result<Discovery, NoMemory>
     ensures run { IfOk result (λ d. IsSceneDiscovery scene search kind known.now budget d.found d.frames) }
     ensures honest { NoFiveSuccessive scene.losses.items
@@ -98,7 +102,7 @@ pub fn discover_in(
 {
     let source = scene.source;
     match SimLine::new(alloc, scene) {
-        Ok(mut line) => Ok(discover(&mut line, source, search, kind, known, budget)),
+        Ok(mut line) => Ok(discover(&mut line, source, search, kind, known, budget, progress)),
         Err((NoMemory, _)) => Err(NoMemory),
     }
 }

@@ -37,7 +37,7 @@ pub fn perform<R: Read, W: Write, T: Threads + Wait + Sync>(
     status
 }
 
-/// As [`perform`], and gives the reason too where it isn't done; a session that runs tells how far it is.
+/// As [`perform`], and gives the reason too where it isn't done. A session or a discovery tells how far it is.
 pub fn carry_out<R: Read, W: Write, P: Progress + Send, T: Threads + Wait + Sync>(
     rt: &T,
     alloc: Global,
@@ -60,7 +60,7 @@ pub fn carry_out<R: Read, W: Write, P: Progress + Send, T: Threads + Wait + Sync
     }
 }
 
-/// Tells nobody how far a session is.
+/// Tells nobody how far a command is.
 #[derive(Clone, Copy, Drop)]
 pub struct Silent;
 
@@ -126,7 +126,7 @@ fn answer<R: Read, P: Progress + Send, T: Threads + Wait + Sync>(
                 quick,
                 ..
             },
-        ) => answer_discover(alloc, incremental, quick, reader),
+        ) => answer_discover(alloc, incremental, quick, reader, progress),
         Ok(Job::Run { port, .. }) => answer_run(rt, alloc, port, reader, progress),
         Err(WordsFault::Words) => Err((Fault::CommandLine, Some(Reason::Usage))),
         Err(WordsFault::NoMemory) => Err((Fault::Memory, None)),

@@ -34,10 +34,20 @@ use std::sync::Wait;
 use std::sync::ledger::{Blank, Ledger};
 use std::thread::Threads;
 
-/// Who is told how far a session is.
+// How many exchanges are made before it is told again.
+const OFTEN: usize = 1000;
+
+/// Who is told how far a session or a discovery is.
 pub trait Progress {
     /// This many exchanges were made.
     fn tell(&mut self, exchanges: usize);
+}
+
+/// Tells every thousandth exchange.
+pub(crate) fn tell_often<P: Progress>(progress: &mut P, made: usize) {
+    if made > 0 && made % OFTEN == 0 {
+        progress.tell(made);
+    }
 }
 
 /// Why not all calls of a session are settled.

@@ -1,4 +1,4 @@
-//! Tells people on standard error why something isn't done, and how far a session is.
+//! Tells people on standard error why something isn't done, and how far a session or a discovery is.
 use crate::reason::Reason;
 use crate::serving::Progress;
 use std::io;
@@ -13,10 +13,10 @@ pub fn tell(rt: &impl Eprint, reason: &Reason) -> io::Result<()> {
     }
 }
 
-// How often people are told how far a session is.
+// How often people are told how far a session or a discovery is.
 const SECONDS: u64 = 2;
 
-/// Tells every two seconds how far a session is.
+/// Tells every two seconds how far a session or a discovery is.
 #[derive(Drop)]
 pub struct Progressing<'a, R: Clock + Eprint> {
     rt: &'a R,

@@ -5,7 +5,7 @@
 ghost use Rattle.rdm_lanes.specs.Clients.{SameClient};
 
 use super::notes::{AskNote, Note, get};
-use crate::{RingClient, RingFault};
+use crate::{RingClient, RingFault, ViewHistory};
 use rdm_agent::{AgentFault, Kind};
 use rdm_client::Collected;
 use rdm_join::Status;
@@ -43,7 +43,7 @@ pub enum Heard {
 
 /// Makes the client's call.
 #[inline(never)]
-pub fn makes(client: &mut RingClient<Note, AskNote>, step: Step) -> Heard
+pub fn makes<J: ViewHistory>(client: &mut RingClient<J, Note, AskNote>, step: Step) -> Heard
     ensures { SameClient client.old client.new }
 {
     match step {
@@ -65,7 +65,7 @@ pub fn makes(client: &mut RingClient<Note, AskNote>, step: Step) -> Heard
 
 /// Collects, and says what came of it.
 #[inline(never)]
-pub fn hears(client: &mut RingClient<Note, AskNote>) -> Heard
+pub fn hears<J: ViewHistory>(client: &mut RingClient<J, Note, AskNote>) -> Heard
     ensures { SameClient client.old client.new }
 {
     match client.collect() {
@@ -96,7 +96,10 @@ pub struct Found {
 
 /// Collects, and says what came of it where it was a discovery's outcome, and which of these devices it found.
 #[inline(never)]
-pub fn finds(client: &mut RingClient<Note, AskNote>, wanted: [Uid; 2]) -> Option<Found>
+pub fn finds<J: ViewHistory>(
+    client: &mut RingClient<J, Note, AskNote>,
+    wanted: [Uid; 2],
+) -> Option<Found>
     ensures { SameClient client.old client.new }
 {
     found_in(&client.collect(), wanted)
@@ -117,5 +120,36 @@ fn found_in(collected: &Option<Collected>, wanted: [Uid; 2]) -> Option<Found> {
             })
         }
         _ => None,
+    }
+}
+
+/// The devices that a client knows of.
+#[derive(Clone, Copy, Debug, PartialEq, Eq)]
+pub struct Sight {
+    /// The run that found them; 0 where none has.
+    pub run: u64,
+    /// How many there are.
+    pub count: usize,
+    /// Whether the two that were looked for are among them.
+    pub both: bool,
+}
+
+/// Reads, and says which devices the client knows of then.
+#[inline(never)]
+pub fn looks<J: ViewHistory>(client: &mut RingClient<J, Note, AskNote>, wanted: [Uid; 2]) -> Sight
+    ensures { SameClient client.old client.new }
+{
+    client.read();
+    knows(client, wanted)
+}
+
+/// Which devices the client knows of without reading.
+#[inline(never)]
+pub fn knows<J: ViewHistory>(client: &RingClient<J, Note, AskNote>, wanted: [Uid; 2]) -> Sight {
+    let view = client.devices();
+    Sight {
+        run: view.run,
+        count: view.set.len(),
+        both: view.set.contains(wanted[0]) && view.set.contains(wanted[1]),
     }
 }

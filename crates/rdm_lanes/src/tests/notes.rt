@@ -2,8 +2,9 @@
 ghost use Rattle.std.specs.Prelude.{◌≡◌, []};
 ghost use Rattle.rdm_queue.specs.log.Config.{IsConfig};
 ghost use Rattle.rdm_client.specs.Callbacks.{told, ask_told};
+ghost use Rattle.rdm_lanes.specs.Workers.{book_of};
 
-use crate::{ClientEnd, Lanes, OpenFault, open_lanes};
+use crate::{BlankHistory, ClientEnd, Lanes, OpenFault, ViewHistory, open_lanes};
 use arrayvec::ArrayVec;
 use rdm_agent::{AgentFault, DEFAULT_BUDGET};
 use rdm_client::{AskTold, Tells, TellsAsk, Told, Unfinished, Unspent};
@@ -12,6 +13,7 @@ use rdm_queue::{AskCompletion, Completion, Config, Log};
 use rdm_wire::{DeviceSet, ReqClass, Request, Uid};
 use std::alloc::Global;
 use std::process::Abort;
+use std::sync::Wait;
 
 /// A request's callback that tells and does nothing else.
 #[derive(Debug, PartialEq, Eq, Drop)]
@@ -89,15 +91,18 @@ pub fn log(rt: &impl Abort, alloc: Global, free: usize) -> Log
 
 /// Why lanes for these places can't be opened, in a log with this many free entries. The log comes back without
 /// entries.
-pub fn refused(
-    rt: &impl Abort,
+pub fn refused<J: ViewHistory, R: Abort + Wait>(
+    rt: &R,
     alloc: Global,
+    history: BlankHistory,
     free: usize,
     greatest: u8,
     places: &[u8],
-) -> Option<OpenFault> {
+) -> Option<OpenFault>
+    requires { book_of history ≡ J.book }
+{
     let log = log(rt, alloc, free);
-    match open_lanes::<Note, AskNote>(alloc, config(greatest), log, 2, places) {
+    match open_lanes::<J, Note, AskNote, &R>(rt, alloc, history, config(greatest), log, 2, places) {
         Ok(lanes) => {
             let Lanes {
                 clients,
@@ -119,22 +124,24 @@ pub fn refused(
 }
 
 /// How many calls a client sent, how many outcomes it collected, and how many callbacks it held at its end.
-pub fn counted(alloc: Global, end: ClientEnd<Note, AskNote>) -> (u64, u64, u64) {
+pub fn counted<J: ViewHistory>(alloc: Global, end: ClientEnd<J, Note, AskNote>) -> (u64, u64, u64) {
     let ClientEnd {
         unspent,
         sent,
         collected,
+        run: _,
         calls: _,
         replies: _,
+        views: _,
         left: _,
     } = end;
     (sent, collected, cancels(alloc, unspent))
 }
 
 /// Whether all that is left of clients counts so.
-pub fn all_counted(
+pub fn all_counted<J: ViewHistory>(
     alloc: Global,
-    ends: Vec<ClientEnd<Note, AskNote>>,
+    ends: Vec<ClientEnd<J, Note, AskNote>>,
     counts: (u64, u64, u64),
 ) -> bool {
     let mut ends = ends;
@@ -147,7 +154,7 @@ pub fn all_counted(
 }
 
 // Cancels all that is left, and says how many there were.
-fn cancels(alloc: Global, unspent: Unspent<Note, AskNote>) -> u64 {
+pub fn cancels(alloc: Global, unspent: Unspent<Note, AskNote>) -> u64 {
     let mut unspent = unspent;
     let mut cancelled = 0u64;
     while let Some(left) = unspent.next() {

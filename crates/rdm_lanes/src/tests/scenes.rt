@@ -1,23 +1,28 @@
 //! Sessions in threads over simulated lines.
+ghost use Rattle.std.specs.Prelude.{◌≡◌};
+ghost use Rattle.rdm_lanes.specs.Workers.{book_of};
+
 use super::heard::Found;
 use super::notes::{AskNote, Note, all_counted, config, log};
 use super::players::{Points, Seeker};
 use super::said::frames;
-use crate::{LanesEnd, WorkerEnd, run_session_by};
+use crate::{BlankHistory, LanesEnd, ViewHistory, WorkerEnd, run_session_by};
 use arrayvec::ArrayVec;
 use rdm_agent::Search;
 use rdm_join::LineReply;
 use rdm_line::{Collision, CollisionBytes, Parameters, Scene, SceneDevice, SceneDevices, SimLine};
 use rdm_wire::{Device, Uid};
 use std::alloc::Global;
+use std::marker::Brand;
 use std::process::Abort;
+use std::sync::Wait;
 use std::test::Fail;
 use std::thread::Threads;
 
 const TURNS: u64 = 1_000_000_000;
 
-// The device `1234:00000001`, with a control field and a binding UID.
-fn first() -> Device {
+/// The device `1234:00000001`, with a control field and a binding UID.
+pub fn first() -> Device {
     Device {
         uid: Uid::new(0x1234, 1),
         control: 2,
@@ -25,8 +30,8 @@ fn first() -> Device {
     }
 }
 
-// The device `9abc:00000002`.
-fn second() -> Device {
+/// The device `9abc:00000002`.
+pub fn second() -> Device {
     Device {
         uid: Uid::new(0x9abc, 2),
         control: 0,
@@ -52,9 +57,9 @@ fn present(rt: &impl Abort, alloc: Global, devices: &[Device]) -> SceneDevices {
     present
 }
 
-// A line with these devices, on which replies that collide come so, and on which these exchanges are lost.
+/// A line with these devices, on which replies that collide come so, and on which these exchanges are lost.
 #[inline(never)]
-fn line_of(
+pub fn line_of(
     rt: &impl Abort,
     alloc: Global,
     devices: &[Device],
@@ -84,12 +89,15 @@ fn noise(rt: &impl Abort) -> Collision {
 
 // Lets a client ask for one discovery over the line: what it was told, and how many frames the session took.
 #[inline(never)]
-fn seeks<R: Threads + Abort + Sync>(
+fn seeks<J: ViewHistory + Send + Sync, R: Threads + Abort + Wait + Sync>(
     rt: &R,
     alloc: Global,
+    history: BlankHistory,
     search: Search,
     line: SimLine,
-) -> (Option<Found>, usize) {
+) -> (Option<Found>, usize)
+    requires { book_of history ≡ J.book }
+{
     let gate = Points::new();
     let mut bodies = Vec::new(alloc);
     let wanted = [first().uid, second().uid];
@@ -101,9 +109,10 @@ fn seeks<R: Threads + Abort + Sync>(
     assert!(rt; bodies.len() == 1);
     let log = log(rt, alloc, 1000);
     let places = [1u8];
-    let ended = run_session_by::<Seeker, Note, AskNote, Points, SimLine, R>(
+    let ended = run_session_by::<J, Seeker, Note, AskNote, Points, SimLine, R>(
         rt,
         alloc,
+        history,
         search,
         config(1),
         log,
@@ -124,6 +133,7 @@ fn seeks<R: Threads + Abort + Sync>(
                 worker,
                 ends,
                 matched,
+                published: _,
             } = end;
             assert!(rt; all_counted(alloc, ends, (1, 1, 0)) && matched);
             assert_eq!(rt; worker, WorkerEnd::AllLeft);
@@ -150,7 +160,7 @@ fn found(first: Device, second: Option<Device>) -> Option<Found> {
 fn a_discovery_over_rings_finds_the_device(rt: HostRuntime) -> Result<(), Fail> {
     let devices = [first()];
     let line = line_of(&rt, rt.alloc(), &devices, Collision::Or, &[])?;
-    let told = seeks(&rt, rt.alloc(), Search::Steady, line);
+    let told = seeks::<Brand, _>(&rt, rt.alloc(), BlankHistory::new(), Search::Steady, line);
     assert_eq!(rt; told, (found(first(), None), 10));
     Ok(())
 }
@@ -163,7 +173,7 @@ fn a_line_that_loses_and_lies_tells_of_its_devices(rt: HostRuntime) -> Result<()
         let devices = [first(), second()];
         let lie = Collision::Uid(Uid::new(0x5555, 3));
         let line = line_of(&rt, rt.alloc(), &devices, lie, &[9, 11])?;
-        let told = seeks(&rt, rt.alloc(), Search::Steady, line);
+        let told = seeks::<Brand, _>(&rt, rt.alloc(), BlankHistory::new(), Search::Steady, line);
         assert_eq!(rt; told, (found(first(), Some(second())), 25));
     }
     Ok(())
@@ -177,7 +187,7 @@ fn a_quick_session_makes_fewer_frames(rt: HostRuntime) -> Result<(), Fail> {
     for (search, wanted) in rows {
         let devices = [first(), second()];
         let line = line_of(&rt, rt.alloc(), &devices, noise(&rt), &[])?;
-        let told = seeks(&rt, rt.alloc(), search, line);
+        let told = seeks::<Brand, _>(&rt, rt.alloc(), BlankHistory::new(), search, line);
         assert_eq!(rt; told, (found(first(), Some(second())), wanted));
     }
     Ok(())

@@ -5,9 +5,11 @@ use super::notes::{AskNote, Note};
 use super::rig::get;
 use rdm_client::Collected;
 use rdm_join::Status;
-use rdm_lanes::{Body, Gate, RingClient};
+use rdm_lanes::{Body, Gate, RingClient, ViewHistory};
 use std::sync::atomic::{AtomicU64, Ordering};
 use std::thread;
+
+type Client<J> = RingClient<J, Note, AskNote>;
 
 /// How often a body tries before it gives up. It does where no thread could be made for the others.
 const TRIES: u64 = 3_000_000;
@@ -73,7 +75,7 @@ impl Player {
 }
 
 impl Body<Note, AskNote> for Player {
-    fn run<G: Gate>(&mut self, client: &mut RingClient<Note, AskNote>, gate: &G) {
+    fn run<J: ViewHistory, G: Gate>(&mut self, client: &mut Client<J>, gate: &G) {
         self.runs = self.runs.saturating_add(1);
         let (mine, other) = if self.number == 0 { (0, 1) } else { (1, 0) };
         if self.number == 0 {
@@ -103,7 +105,7 @@ fn waits<G: Gate>(gate: &G, point: u8) -> bool {
 }
 
 // Submits a request, and collects what it tells.
-fn requests(client: &mut RingClient<Note, AskNote>, tag: u64) -> Option<(u64, Status, usize)>
+fn requests<J: ViewHistory>(client: &mut Client<J>, tag: u64) -> Option<(u64, Status, usize)>
     ensures { SameClient client.old client.new }
 {
     submits(client, tag);
@@ -111,7 +113,7 @@ fn requests(client: &mut RingClient<Note, AskNote>, tag: u64) -> Option<(u64, St
 }
 
 // Submits a request.
-fn submits(client: &mut RingClient<Note, AskNote>, tag: u64)
+fn submits<J: ViewHistory>(client: &mut Client<J>, tag: u64)
     ensures { SameClient client.old client.new }
 {
     match client.submit(get(), Note(tag)) {
@@ -121,7 +123,7 @@ fn submits(client: &mut RingClient<Note, AskNote>, tag: u64)
 }
 
 // Collects what a request told, within the tries.
-fn collects(client: &mut RingClient<Note, AskNote>) -> Option<(u64, Status, usize)>
+fn collects<J: ViewHistory>(client: &mut Client<J>) -> Option<(u64, Status, usize)>
     ensures { SameClient client.old client.new }
 {
     for _try in 0..TRIES {
@@ -135,7 +137,7 @@ fn collects(client: &mut RingClient<Note, AskNote>) -> Option<(u64, Status, usiz
 
 // What a request told, if its outcome has come.
 #[inline(never)]
-fn hears(client: &mut RingClient<Note, AskNote>) -> Option<(u64, Status, usize)>
+fn hears<J: ViewHistory>(client: &mut Client<J>) -> Option<(u64, Status, usize)>
     ensures { SameClient client.old client.new }
 {
     match client.collect() {
@@ -145,7 +147,7 @@ fn hears(client: &mut RingClient<Note, AskNote>) -> Option<(u64, Status, usize)>
 }
 
 // Leaves, within the tries.
-fn leaves(client: &mut RingClient<Note, AskNote>)
+fn leaves<J: ViewHistory>(client: &mut Client<J>)
     ensures { SameClient client.old client.new }
 {
     for _try in 0..TRIES {

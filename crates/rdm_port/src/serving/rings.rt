@@ -2,6 +2,7 @@
 ghost use Rattle.std.specs.Prelude.{◌≡◌, ◌≤◌, [], length, IfSome};
 ghost use Rattle.rdm_queue.specs.log.Config.{IsConfig};
 ghost use Rattle.rdm_lanes.specs.Clients.{SameClient};
+ghost use Rattle.rdm_lanes.specs.Workers.{book_of};
 
 use crate::outcomes::Outcomes;
 use crate::serving::calls::{cancel_all, copy_of};
@@ -11,19 +12,22 @@ use crate::serving::{ServeFault, Served, SetUp};
 use crate::session::{ClientCall, ClientFile};
 use rdm_client::{Tells, TellsAsk};
 use rdm_lanes::{
-    Body, ClientEnd, Gate, LanesEnd, OpenFault, RingClient, WORKER_STOPPED, run_session_by,
+    BlankHistory, Body, ClientEnd, Gate, LanesEnd, OpenFault, RingClient, ViewHistory,
+    WORKER_STOPPED, run_session_by,
 };
 use rdm_line::Line;
 use std::alloc::Global;
+use std::marker::Brand;
+use std::sync::Wait;
 use std::sync::atomic::{AtomicBool, Ordering};
 use std::thread;
 use std::thread::Threads;
 
-type Client = RingClient<RequestTicket, AskTicket>;
+type Client<J> = RingClient<J, RequestTicket, AskTicket>;
 
 /// Serves the clients: each has a thread and two rings with this many slots, and the worker another thread.
 /// Err: memory was refused, or the log is full before all clients have joined.
-pub fn serve_rings<X: Line + Send + Drop, R: Threads + Sync>(
+pub fn serve_rings<X: Line + Send + Drop, R: Threads + Wait + Sync>(
     rt: &R,
     alloc: Global,
     set_up: SetUp,
@@ -31,6 +35,25 @@ pub fn serve_rings<X: Line + Send + Drop, R: Threads + Sync>(
     clients: &[ClientFile],
     line: X,
 ) -> Result<Served, ServeFault>
+    requires config_is { IsConfig set_up.config }
+    requires empty { set_up.log.entries ≡ [] }
+    requires slots { 1 ≤ ring }
+{
+    let history = BlankHistory::new();
+    serve_views::<Brand, X, R>(rt, alloc, history, set_up, ring, clients, line)
+}
+
+// The same, with this history of the views that the worker publishes.
+fn serve_views<J: ViewHistory + Send + Sync, X: Line + Send + Drop, R: Threads + Wait + Sync>(
+    rt: &R,
+    alloc: Global,
+    history: BlankHistory,
+    set_up: SetUp,
+    ring: u8,
+    clients: &[ClientFile],
+    line: X,
+) -> Result<Served, ServeFault>
+    requires name { book_of history ≡ J.book }
     requires config_is { IsConfig set_up.config }
     requires empty { set_up.log.entries ≡ [] }
     requires slots { 1 ≤ ring }
@@ -45,8 +68,8 @@ pub fn serve_rings<X: Line + Send + Drop, R: Threads + Sync>(
         return Err(ServeFault::Memory);
     };
     let gate = Stop(AtomicBool::new(false));
-    let ended = run_session_by(
-        rt, alloc, search, config, log, ring, &places, callers, &gate, line, turns,
+    let ended = run_session_by::<J, _, _, _, _, X, R>(
+        rt, alloc, history, search, config, log, ring, &places, callers, &gate, line, turns,
     );
     match ended {
         Ok(end) => served(alloc, end),
@@ -69,9 +92,9 @@ fn seats_of(alloc: Global, clients: &[ClientFile], turns: u64) -> Option<(Vec<u8
 }
 
 // What came of the clients' calls, in their order, and the session. All callbacks that are left are cancelled.
-fn served<X: Drop>(
+fn served<J: ViewHistory, X: Drop>(
     alloc: Global,
-    end: LanesEnd<Caller<'_>, X, RequestTicket, AskTicket>,
+    end: LanesEnd<J, Caller<'_>, X, RequestTicket, AskTicket>,
 ) -> Result<Served, ServeFault> {
     let LanesEnd {
         session,
@@ -80,6 +103,7 @@ fn served<X: Drop>(
         bodies,
         worker: _,
         line: _,
+        published: _,
     } = end;
     cancel_ends(alloc, ends);
     let mut outcomes = Vec::new(alloc);
@@ -94,7 +118,7 @@ fn served<X: Drop>(
 }
 
 // Cancels the callbacks that the clients held at their ends.
-fn cancel_ends(alloc: Global, ends: Vec<ClientEnd<RequestTicket, AskTicket>>) {
+fn cancel_ends<J: ViewHistory>(alloc: Global, ends: Vec<ClientEnd<J, RequestTicket, AskTicket>>) {
     let mut ends = ends;
     while let Some(end) = ends.pop() {
         cancel_all(alloc, end.into_unspent());
@@ -139,7 +163,11 @@ impl<'a> Caller<'a> {
     }
 
     // Plays the script. A turn is one submit, discover or collect, with or without success.
-    fn play<G: Gate>(&mut self, client: &mut Client, gate: &G) -> Result<(), ServeFault>
+    fn play<J: ViewHistory, G: Gate>(
+        &mut self,
+        client: &mut Client<J>,
+        gate: &G,
+    ) -> Result<(), ServeFault>
         ensures { SameClient client.old client.new }
     {
         for _turn in 0..self.turns {
@@ -155,7 +183,11 @@ impl<'a> Caller<'a> {
         self.script.at_last_turn()
     }
 
-    fn collect<G: Gate>(&mut self, client: &mut Client, gate: &G) -> Result<(), ServeFault>
+    fn collect<J: ViewHistory, G: Gate>(
+        &mut self,
+        client: &mut Client<J>,
+        gate: &G,
+    ) -> Result<(), ServeFault>
         ensures { SameClient client.old client.new }
     {
         // It is read before the collect: then all that the worker put on the ring is collected.
@@ -168,7 +200,7 @@ impl<'a> Caller<'a> {
     }
 
     // Leaves. A client whose turns run out may find its ring full, until the worker takes a call or has stopped.
-    fn leave<G: Gate>(&self, client: &mut Client, gate: &G)
+    fn leave<J: ViewHistory, G: Gate>(&self, client: &mut Client<J>, gate: &G)
         ensures { SameClient client.old client.new }
     {
         for _turn in 0..self.turns {
@@ -181,14 +213,19 @@ impl<'a> Caller<'a> {
 }
 
 impl Body<RequestTicket, AskTicket> for Caller<'_> {
-    fn run<G: Gate>(&mut self, client: &mut Client, gate: &G) {
+    fn run<J: ViewHistory, G: Gate>(&mut self, client: &mut Client<J>, gate: &G) {
         self.end = self.play(client, gate);
         self.leave(client, gate);
     }
 }
 
 // Whether a call is sent to the worker; if not, there is no place or no slot for it.
-fn is_accepted(alloc: Global, client: &mut Client, call: &ClientCall, place: u64) -> bool
+fn is_accepted<J: ViewHistory>(
+    alloc: Global,
+    client: &mut Client<J>,
+    call: &ClientCall,
+    place: u64,
+) -> bool
     ensures { SameClient client.old client.new }
 {
     match call {

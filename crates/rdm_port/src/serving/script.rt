@@ -1,6 +1,6 @@
 //! What a client of a session file does in its turns, whatever stands between it and the worker.
 ghost use Rattle.std.specs.Prelude.{◌≡◌, ◌⊎◌, ◌+◌, ◌&&◌, ◌++◌, ◌∷◌, ◌↔◌, [], length, true, false, not, nat_lt};
-ghost use Rattle.std.specs.Prelude.{if◌then◌else◌, OnOk, IfErr, Ok, None};
+ghost use Rattle.std.specs.Prelude.{if◌then◌else◌, OnOk, IfErr, Ok, Err, None};
 ghost use Rattle.rdm_port.specs.Scripts.{IsNext, Notes, has_all};
 
 use crate::outcomes::{Discovered, Outcomes};
@@ -83,6 +83,7 @@ impl<'a> Script<'a> {
         ensures notes { OnOk result (Notes collected self.old.outcomes self.new.outcomes) }
         ensures fault { IfErr result (λ e. (e ≡ ServeFault.Memory)
             ⊎ ((e ≡ ServeFault.Turns) × (collected ≡ None) × (has_stopped ≡ true))) }
+        ensures stops { collected ≡ None → has_stopped ≡ true → result ≡ Err ServeFault.Turns }
         ensures room { self.new.is_full ≡ false }
         ensures same { (self.new.calls ≡ self.old.calls) × (self.new.accepted ≡ self.old.accepted) }
     {

@@ -1,13 +1,10 @@
 //! A line that tells how many exchanges it has made.
 ghost use Rattle.std.specs.Prelude.{◌≡◌};
 
-use crate::serving::Progress;
+use crate::serving::{Progress, tell_often};
 use rdm_join::LineReply;
 use rdm_line::{Line, LineFault};
 use rdm_wire::Frame;
-
-// How many exchanges it makes before it tells again.
-const OFTEN: usize = 1000;
 
 /// A line that tells every thousand exchanges how many it has made, and else is the line that it was made of.
 #[derive(Drop)]
@@ -38,9 +35,7 @@ impl<X: Line, P: Progress> Line for ToldLine<'_, X, P> {
 
     fn exchange(&mut self, frame: &Frame) -> Result<LineReply, LineFault> {
         self.made = self.made.saturating_add(1);
-        if self.made % OFTEN == 0 {
-            self.progress.tell(self.made);
-        }
+        tell_often(self.progress, self.made);
         self.line.exchange(frame)
     }
 

@@ -3,9 +3,17 @@ use Rattle.rdm_queue.specs.log.LogState.{LogState}
 use Rattle.rdm_queue.specs.log.Legal.{Legal}
 use Rattle.rdm_lanes.specs.Lines.{IsBetweenTurns}
 use Rattle.rdm_lanes.specs.Lanes.{AllFit}
+use Rattle.rdm_lanes.specs.Publishing.{Publishes}
 use Rattle.rdm_lanes.specs.Opened.{opened_with}
-use Rattle.rdm_lanes.proofs.OpenLemmas.{few_places, served_opened, fits_opened, new_hold_nothing, new_clients, new_pairs}
+use Rattle.rdm_lanes.proofs.OpenLemmas.{few_places, served_opened, fits_opened, new_hold_nothing, new_clients, new_pairs, publishes_opened}
+use Rattle.rdm_lanes.proofs.FirstLemmas.{new_shown_first}
 use Rattle.rdm_lanes.proofs.open.open_lanes_by.Goals as goal
+
+pub invariant_of-result-in-Ok-joined : goal.invariant_of-result-in-Ok-joined
+invariant_of-result-in-Ok-joined g c = record {
+  publishes = subst (λ (k : LogState). Publishes k c.in-Ok-new.views) (sym c.in-Ok-joined.ensures.session) (publishes_opened c.args.config c.args.search c.args.log.room c.args.places.now c.in-Ok-new.views c.in-Ok-new.ensures.0 c.in-Ok-new.ensures.1);
+  shown_first = new_shown_first c.in-Ok-new.views.shown c.args.ring c.args.places.now c.in-Some-open_clients.clients.items c.in-Some-open_clients.lanes.items c.in-Some-open_clients.ensures;
+}
 
 pub invariant_of-result : goal.invariant_of-result
 invariant_of-result g c =

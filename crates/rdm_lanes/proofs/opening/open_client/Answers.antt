@@ -1,9 +1,11 @@
-use Rattle.std.proofs.Common.{refl}
+use Rattle.std.proofs.Common.{◌∙◌, refl, sym}
 use Rattle.rdm_lanes.proofs.OpenLemmas.{counted_new}
+use Rattle.rdm_lanes.proofs.ReadLemmas.{nothing_found}
 use Rattle.rdm_lanes.proofs.opening.open_client.Goals as goal
 
 pub invariant_of-client : goal.invariant_of-client
 invariant_of-client g c = record {
-  counted = counted_new c.in-Ok.calls c.in-Ok-new.replies c.in-Ok.ensures.producer.0 c.in-Ok-new.ensures.consumer.0;
-  held = rw c.in-Ok-new-2.ensures refl;
+  counted = counted_new c.in-Ok-new.calls c.in-Ok-new-2.replies c.in-Ok-new.ensures.producer.0 c.in-Ok-new-2.ensures.consumer.0;
+  held = rw c.in-Ok-new-3.ensures refl;
+  last = rw c.in-Ok-new-2.ensures.consumer.0 (c.in-Some.ensures ∙ sym nothing_found);
 }

@@ -7,8 +7,8 @@ use Rattle.rdm_lanes.proofs.together.run_lanes.Goals as goal
 
 pub end-session-requires : goal.end-session-requires
 end-session-requires g c =
-    let first = c.args.lanes.worker.lanes.items in
-    let news = c.run_together-worker.result.0.lanes.items in
+    let first = c.args.lanes.worker.server.lanes.items in
+    let news = c.run_together-worker.result.0.server.lanes.items in
     let seats = subst (λ (rings : List Rings). RingsPair first rings) (sym c.seated-taken.ensures.rings) c.requires.pairs in
     let kept = pairs_kept first news c.seated-taken.result.items c.run_together-worker.result.1.items seats (rw c.without_operator-alone.ensures.same.1 at c.run_together-worker.ensures.lanes) c.run_together-worker.ensures.seats in
     record { pairs = subst (λ (rings : List Rings). RingsPair news rings) (sym c.unseated-bodies.ensures.ends) kept }
@@ -24,7 +24,7 @@ returns-clause-one_each g c =
 
 pub returns-clause-fits : goal.returns-clause-fits
 returns-clause-fits g c =
-    let news = c.run_together-worker.result.0.lanes.items in
+    let news = c.run_together-worker.result.0.server.lanes.items in
     (news, c.run_together-worker.ensures.lanes.long ∙ ap (λ v. length v.items) c.without_operator-alone.ensures.same.1, rw (sym c.end-session.ensures.log) at c.end-session.ensures.fits)
 
 pub returns-clause-all_left : goal.returns-clause-all_left

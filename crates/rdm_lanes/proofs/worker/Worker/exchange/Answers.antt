@@ -1,7 +1,8 @@
-use Rattle.std.proofs.Common.{◌≡◌, ◌∙◌, Ok, ap, sym, subst, arith}
+use Rattle.std.proofs.Common.{◌≡◌, ◌∙◌, Ok, ap, sym, subst, inl, arith}
 use Rattle.rdm_queue.specs.log.LogState.{LogState}
 use Rattle.rdm_lanes.specs.Lines.{IsBetweenTurns}
 use Rattle.rdm_lanes.specs.Lanes.{AllFit}
+use Rattle.rdm_lanes.specs.Views.{views_found}
 use Rattle.rdm_lanes.proofs.LaneLemmas.{all_wait, grown_places}
 use Rattle.rdm_lanes.proofs.ExchangeLemmas.{took_none, took_full, none_to_send, is_full_then, exchange_made, exchanged_one, one_more}
 use Rattle.rdm_lanes.proofs.worker.Worker.exchange.Goals as goal
@@ -45,3 +46,18 @@ returns-in-Ok-None-clause-nothing g c = λ is. none_to_send c.args.self.now.sess
 
 pub returns-in-Err-clause-full : goal.returns-in-Err-clause-full
 returns-in-Err-clause-full g c = λ is. is_full_then c.args.self.now.session c.take.new.self c.take.result c.in-Err.field-0 c.in-Err.is c.take.ensures.adds
+
+pub returns-in-Ok-Some-clause-found : goal.returns-in-Ok-Some-clause-found
+returns-in-Ok-Some-clause-found g c =
+    let me = c.args.self.now in
+    (exchange_made me.session c.take.new.self c.deliver.new.self c.in-Ok-Some.frame c.event_from-event.result c.take.result c.deliver.result (c.in-Ok-Some.is ∙ ap (λ x. Ok x) c.in-Ok-Some.field-0-is) c.take.ensures.adds c.deliver.ensures.adds c.take.ensures.legal c.deliver.ensures.legal me.served).found
+
+pub returns-in-Ok-None-clause-found : goal.returns-in-Ok-None-clause-found
+returns-in-Ok-None-clause-found g c =
+    let me = c.args.self.now in
+    inl (ap (λ (k : LogState). views_found k.entries) (took_none me.session c.take.new.self c.take.result (c.in-Ok-None.is ∙ ap (λ x. Ok x) c.in-Ok-None.field-0-is) c.take.ensures.adds))
+
+pub returns-in-Err-clause-found : goal.returns-in-Err-clause-found
+returns-in-Err-clause-found g c =
+    let me = c.args.self.now in
+    inl (ap (λ (k : LogState). views_found k.entries) (took_full me.session c.take.new.self c.take.result c.in-Err.field-0 c.in-Err.is c.take.ensures.adds))

@@ -3,4 +3,4 @@ use Rattle.rdm_lanes.specs.Clients.{SameClient}
 use Rattle.rdm_memory.proofs.tests.players.collects.Given as goal
 
 abbrev pub invariant-loop-try : goal.invariant-loop-try
-invariant-loop-try l = SameClient l.fn.client l.client
+invariant-loop-try g l = SameClient l.fn.client l.client

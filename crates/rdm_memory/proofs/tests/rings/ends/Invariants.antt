@@ -3,4 +3,4 @@ use Rattle.std.proofs.Common.{length}
 use Rattle.rdm_memory.proofs.tests.rings.ends.Given as goal
 
 abbrev pub decreases-loop-client : goal.decreases-loop-client
-decreases-loop-client l = length l.clients.items
+decreases-loop-client g l = length l.clients.items

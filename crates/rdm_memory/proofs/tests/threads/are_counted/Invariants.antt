@@ -3,4 +3,4 @@ use Rattle.std.proofs.Common.{length}
 use Rattle.rdm_memory.proofs.tests.threads.are_counted.Given as goal
 
 abbrev pub decreases-loop-end : goal.decreases-loop-end
-decreases-loop-end l = length l.ends.items
+decreases-loop-end g l = length l.ends.items

@@ -1,5 +1,0 @@
-use Rattle.rdm_lanes.proofs.WorkLemmas.{Worked}
-use Rattle.rdm_lanes.proofs.worker.Worker.work.Given as goal
-
-abbrev pub invariant-loop-turn : goal.invariant-loop-turn
-invariant-loop-turn g l = Worked g.X.Line.step l._turn l.fn.line l.fn.self l.line l.self
