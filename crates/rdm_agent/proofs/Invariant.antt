@@ -57,7 +57,7 @@ pub record Searches (known : List ℕ) (busy : Option ℕ) (top : Span) (below :
   pub stack : IsStack top below
   pub cleared : (u : ℕ) → u < top.lo → (has found u ≡ true) ⊎ IsCleared x u
 
--- so many unmutes were made
+-- this many unmutes were made
 pub record IsUnmuting (known : List ℕ) (more : ℕ) (left : List ℕ) (x : List Seen) (found : List ℕ) : Type 0 where
   pub unmutes : AllByRecursion (λ e. e.asked ≡ Unmute) x
   pub no_failure : AllByRecursion NotFailed x

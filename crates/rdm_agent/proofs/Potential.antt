@@ -19,7 +19,7 @@ is_left found r u = is_within r.lo r.hi u && not (has found u)
 abbrev pub left_in : List ℕ → List ℕ → Span → ℕ
 left_in present found r = length (filter (is_left found r) present)
 
--- a range of 2^level UIDs with so many devices left: five silences, and for each device five branches and five mutes,
+-- a range of 2^level UIDs with this many devices left: five silences, and for each device five branches and five mutes,
 -- and seven exchanges and a half at each level
 abbrev pub worth : ℕ → ℕ → ℕ
 worth level devices = 10 + devices * (20 + 15 * level)
@@ -90,7 +90,7 @@ pub record CostsSwept (present : List ℕ) (line : LineState) (found : List ℕ)
   pub lost : has present u ≡ true → tries ≤ line.lost_mutes
   pub spelt : (has present u ≡ true) ⊎ (2 ≤ left_in present found (probe sweep.suspect top))
 
--- a phase still costs so many half exchanges at most; a run that has ended costs nothing, and has no fault
+-- a phase still costs this many half exchanges at most; a run that has ended costs nothing, and has no fault
 abbrev pub Costs : Search → List ℕ → LineState → List ℕ → Phase → ℕ → Type 0
 Costs search present line found (Unmuting more known) cost = CostsUnmuting search present found more known cost
 Costs search present line found (MutingKnown u tries known) cost = CostsKnown search present found tries known cost

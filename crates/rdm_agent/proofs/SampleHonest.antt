@@ -16,7 +16,7 @@ none_muted u = false
 abbrev pub one_muted : ℕ → Bool
 one_muted u = sample_uid == u
 
--- a line that lost so many branch replies and acknowledgements in succession, and was unmuted so often
+-- a line that lost this many branch replies and acknowledgements in succession, and was unmuted this often
 abbrev pub line : (ℕ → Bool) → ℕ → ℕ → ℕ → LineState
 line muted branches mutes unmutes = record { muted = muted; lost_branches = branches; lost_mutes = mutes; unmutes = unmutes }
 

@@ -13,7 +13,7 @@ use Rattle.rdm_agent.specs.declared.search.Search.TheVariants.{Steady, Quick}
 use Rattle.rdm_agent.specs.declared.op.Op.TheVariants.{End}
 use Rattle.rdm_agent.specs.declared.limits.TheConstants.{DEFAULT_BUDGET}
 
--- the exchanges that suffice for so many devices and so many known UIDs
+-- the exchanges that suffice for this many devices and this many known UIDs
 abbrev pub most_frames : ℕ → ℕ → ℕ
 most_frames devices known = 8 + 370 * devices + 5 * known
 

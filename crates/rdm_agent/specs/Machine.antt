@@ -126,7 +126,7 @@ counted sweep = record { made = sweep.made + 1; suspect = sweep.suspect }
 abbrev pub suspecting : ℕ → Sweep → Sweep
 suspecting u sweep = record { made = sweep.made; suspect = Some u }
 
--- where so many devices are found, a sweep goes on while it made fewer exchanges than 100 for each of them and 100
+-- where this many devices are found, a sweep goes on while it made fewer exchanges than 100 for each of them and 100
 -- more; then the steady search begins
 abbrev pub sweep_to : Sweep → ℕ → Span → List Span → Phase
 sweep_to sweep found top below =

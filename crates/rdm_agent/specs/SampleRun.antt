@@ -29,7 +29,7 @@ sample_run =
     ∷ exchange all_branch Silent ∷ exchange all_branch Silent ∷ exchange all_branch Silent
     ∷ exchange all_branch Silent ∷ exchange all_branch Silent ∷ []
 
--- the same, where so many branches and then so many mutes are lost
+-- the same, where this many branches and then this many mutes are lost
 abbrev pub lossy_run : ℕ → ℕ → List Seen
 lossy_run branches mutes =
     replicate 3 (exchange Unmute Silent) ++ (replicate branches (exchange all_branch Silent)

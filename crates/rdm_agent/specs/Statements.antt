@@ -15,8 +15,8 @@ use Rattle.rdm_agent.specs.declared.kind.Kind.{Kind}
 use Rattle.rdm_agent.specs.declared.search.Search.{Search}
 use Rattle.rdm_agent.specs.declared.limits.TheConstants.{MOST_RANGES, UNMUTES}
 
--- whatever the line replies: this holds of each agent b that a run of this search and kind, with this known set and
--- budget, comes to by the exchanges x
+-- whatever the line replies, this holds of each agent b that a run comes to by the exchanges x: a run of this search and
+-- kind, with this known set and budget
 abbrev pub OfEachRun : Search → (Kind → List ℕ → ℕ → List Seen → AgentState → Type 0) → Type 0
 OfEachRun search P =
     (kind : Kind) (known : List ℕ) (budget : ℕ) (x : List Seen) (b : AgentState) →
@@ -37,7 +37,7 @@ IsSearch (Mute u) = IsDevice u
 IsSearch Unmute = ⊥
 IsSearch Other = ⊥
 
--- what is asked after so many exchanges: UNMUTES unmutes first, then branches and mutes of devices
+-- what is asked after this many exchanges: UNMUTES unmutes first, then branches and mutes of devices
 abbrev pub IsInOrder : ℕ → Asked → Type 0
 IsInOrder before asked = (before < UNMUTES → asked ≡ Unmute) × (UNMUTES ≤ before → IsSearch asked)
 

@@ -83,10 +83,14 @@ pub fn no_phantom()
     ensures { (search : Search) → FindsNoPhantom search }
 {}
 
-/// On an honest line with `n` devices, at most 1,024, a run with `k` known UIDs (0 in a full one) makes at most
-/// `8 + 370 n + 5 k` exchanges. The premise is that no exchange failed and that its budget is no less. Once it made as
-/// many it has ended, and at its end it has no fault, whatever bytes colliding replies make. Of a quick search the same
-/// holds with `113 + 370 n + 5 k` exchanges.
+/// The bound: a run makes at most `8 + 370 n + 5 k` exchanges, where `n` devices are on the line and `k` UIDs are known
+/// (0 in a full run). Once it made as many it has ended, and at its end it has no fault, whatever bytes colliding
+/// replies make. The premises:
+/// - the line is honest, and has at most 1,024 devices;
+/// - no exchange failed;
+/// - the run's budget is no less than the bound.
+///
+/// Of a quick search the same holds with `113 + 370 n + 5 k` exchanges.
 pub fn honest_run_ends()
     ensures steady { EndsInBound }
     ensures quick { EndsInBoundBy Quick }

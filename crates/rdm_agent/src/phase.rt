@@ -12,26 +12,26 @@ use rdm_wire::{Uid, UidRange};
 /// Where a run stands. Contracts see it together with the known UIDs that are left and the ranges below the top one.
 #[derive(Clone, Copy, Debug, PartialEq, Eq)]
 pub(crate) enum Phase {
-    /// So many unmutes are still to be sent, this one among them.
+    /// This many unmutes are still to be sent, this one among them.
     Unmuting {
         /// 1 to [`UNMUTES`](crate::UNMUTES).
         more: u8,
     },
-    /// A known UID is being muted, and so many tries had no answer.
+    /// A known UID is being muted, and this many tries had no answer.
     MutingKnown {
         /// The UID.
         uid: Uid,
         /// Below [`TRIES`](crate::TRIES).
         tries: u8,
     },
-    /// The top range is being branched, and was silent so many times in succession.
+    /// The top range is being branched, and was silent this many times in succession.
     Searching {
         /// The range.
         top: UidRange,
         /// Below [`TRIES`](crate::TRIES).
         silences: u8,
     },
-    /// A UID that the top range's branch spelt is being muted, and so many tries had no answer.
+    /// A UID that the top range's branch spelt is being muted, and this many tries had no answer.
     MutingRead {
         /// The UID.
         uid: Uid,
@@ -47,7 +47,7 @@ pub(crate) enum Phase {
         /// What the sweep remembers.
         sweep: Sweep,
     },
-    /// A UID that the top range's branch spelt in a sweep is being muted, and so many tries had no answer.
+    /// A UID that the top range's branch spelt in a sweep is being muted, and this many tries had no answer.
     MutingSwept {
         /// The UID.
         uid: Uid,

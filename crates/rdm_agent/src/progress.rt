@@ -322,7 +322,7 @@ impl Progress {
         }
     }
 
-    // A sweep goes on with this range, where so many devices are found; at its limit the steady search begins.
+    // A sweep goes on with this range, where this many devices are found; at its limit the steady search begins.
     fn sweep_to(&mut self, sweep: Sweep, found: usize, top: UidRange) -> Phase
         requires found { found ≤ 1025 }
         requires ranges { IsStack top self.old.below }
@@ -462,7 +462,7 @@ impl Progress {
     }
 }
 
-// The whole range is searched, and was silent so many times.
+// The whole range is searched, and was silent this many times.
 fn searching_all(silences: u8) -> Phase
     requires { silences < TRIES }
     ensures phase { (known : List ℕ) → phase_of result known [] ≡ searching silences whole [] }

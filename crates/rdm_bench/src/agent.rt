@@ -39,7 +39,7 @@ const SCENES: [Scene; 3] = [
     },
 ];
 
-/// Times runs over so many devices.
+/// Times runs over this many devices.
 pub(crate) fn time<R: CpuClock + Print + Eprint>(
     bench: &Bench<'_, R>,
     count: usize,

@@ -236,7 +236,7 @@ fn uid_at(place: Place) -> Uid {
     }
 }
 
-// So many bytes of its reply to a branch.
+// This many bytes of its reply to a branch.
 fn text_of(place: Place, len: usize) -> Result<LineReply, Fault> {
     let text = write_branch_reply(uid_at(place), 7);
     let mut bytes = LineReply::new();

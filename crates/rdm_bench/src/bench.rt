@@ -94,7 +94,7 @@ struct Nanos {
 }
 
 impl Nanos {
-    // The time of one step, where so many took so long.
+    // The time of one step, where this many took this long.
     fn of_step(nanos: u64, steps: u64) -> Nanos {
         Nanos {
             tenths: nanos.saturating_mul(10) / steps.max(1),

@@ -12,7 +12,7 @@ use rdm_wire::{
 use std::alloc::Global;
 use std::time::CpuClock;
 
-/// Times calls on packets with so many bytes of data.
+/// Times calls on packets with this many bytes of data.
 pub(crate) fn time<R: CpuClock + Print + Eprint>(
     bench: &Bench<'_, R>,
     length: usize,

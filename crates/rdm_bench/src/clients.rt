@@ -40,14 +40,14 @@ const ENTRIES_EACH: usize = 5;
 // Those of the joins, and what has to be free for the last turn.
 const ENTRIES_BESIDE: usize = 32;
 
-/// How many entries have to be free in a log for so many requests.
+/// How many entries have to be free in a log for this many requests.
 pub(crate) fn entries_for(requests: usize) -> usize {
     requests
         .wrapping_mul(ENTRIES_EACH)
         .wrapping_add(ENTRIES_BESIDE)
 }
 
-/// A line that answers so many frames, each by its transaction number.
+/// A line that answers this many frames, each by its transaction number.
 pub(crate) fn answering(alloc: Global, frames: usize) -> Result<TapeLine, Fault> {
     let replies = Replies::new(alloc, Part::Last, LENGTH)?;
     let mut tn: u8 = 0;
@@ -64,7 +64,7 @@ pub(crate) fn is_answered(told: &Told) -> bool {
     told.done.bytes.len() == usize::from(LENGTH)
 }
 
-/// Of so many clients the one whose turn is after this one's.
+/// Of this many clients the one whose turn is after this one's.
 pub(crate) fn after(client: usize, count: usize) -> usize {
     let next = client.wrapping_add(1);
     if next < count { next } else { 0 }

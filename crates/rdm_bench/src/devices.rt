@@ -27,17 +27,17 @@ impl fmt::Display for Spread {
     }
 }
 
-// Of so many UIDs as are tried a few are broadcast UIDs, or there already.
+// Of the UIDs that are tried a few are broadcast UIDs, or there already.
 const MOST_TRIES: u64 = 10_000;
 
-/// So many devices.
+/// This many devices.
 pub(crate) fn devices(count: usize, spread: Spread) -> Result<UidSet, Fault>
     ensures { IfOk result (λ devices. length devices ≡ count) }
 {
     devices_of(count, spread, (count as u64).wrapping_add(42))
 }
 
-/// So many devices, others for each seed but where they are consecutive.
+/// This many devices, others for each seed but where they are consecutive.
 pub(crate) fn devices_of(count: usize, spread: Spread, seed: u64) -> Result<UidSet, Fault>
     ensures { IfOk result (λ devices. length devices ≡ count) }
 {

@@ -21,9 +21,9 @@ use std::fmt;
 #[derive(Clone, Copy, Debug)]
 struct Trouble {
     name: &'static str,
-    // One reply in so many is lost; 0: none is.
+    // One reply in this many is lost; 0: none is.
     lost: u64,
-    // One collision in so many spells a UID that isn't there; 0: none does.
+    // One collision in this many spells a UID that isn't there; 0: none does.
     spells: u64,
 }
 

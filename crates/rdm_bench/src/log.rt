@@ -14,7 +14,7 @@ const ENTRIES_EACH: usize = 5;
 // Those of the client's join, and what has to be free for the last take.
 const ENTRIES_BESIDE: usize = 4;
 
-/// Times logs of so many requests.
+/// Times logs of this many requests.
 pub(crate) fn time<R: CpuClock + Print + Eprint>(
     bench: &Bench<'_, R>,
     requests: usize,

@@ -30,7 +30,7 @@ pub(crate) enum Part {
     More,
 }
 
-/// The replies with each transaction number, each with so many bytes of data.
+/// The replies with each transaction number, each with this many bytes of data.
 #[derive(Debug, Drop)]
 pub(crate) struct Replies {
     replies: Vec<LineReply>,
@@ -41,7 +41,7 @@ const DATA: [u8; MOST_PARAMETER_BYTES] = [0x5a; MOST_PARAMETER_BYTES];
 // How many bytes a packet has before its data (E1.20, packet format).
 const HEADER_LENGTH: u8 = 24;
 
-/// A GET of DEVICE_INFO with so many bytes of data, 231 at most.
+/// A GET of DEVICE_INFO with this many bytes of data, 231 at most.
 pub(crate) fn request(size: u8) -> Result<Request, Fault>
     ensures { IfOk result (λ request. length request.param.items ≡ size) }
 {

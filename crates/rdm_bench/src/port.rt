@@ -1,4 +1,4 @@
-//! Requests through a port, while so many wait: clients take turns, and a worker serves the line between them. All of
+//! Requests through a port, while this many wait: clients take turns, and a worker serves the line between them. All of
 //! them are in one thread, so no lock is ever waited for.
 ghost use Rattle.std.specs.Prelude.{◌≡◌};
 
@@ -20,7 +20,7 @@ use std::time::CpuClock;
 
 type Client<'a, L> = LockedClient<'a, L, Note, AskNote>;
 
-/// Times requests while so many wait.
+/// Times requests while this many wait.
 pub(crate) fn time<R: CpuClock + Print + Eprint + Wait>(
     bench: &Bench<'_, R>,
     waiting: usize,
@@ -69,7 +69,7 @@ fn time_one<L: Ledger, R: CpuClock + Print + Eprint + Wait>(
     timed
 }
 
-// A port with room for so many requests in its log.
+// A port with room for this many requests in its log.
 fn new_port<L: Ledger>(alloc: Global, blank: Blank, requests: usize) -> Result<Port<L>, Fault>
     requires name { blank.name ≡ L.name }
     requires parts { (blank.parts ≡ L.parts) × (L.parts ≡ 17) }
@@ -81,7 +81,7 @@ fn new_port<L: Ledger>(alloc: Global, blank: Blank, requests: usize) -> Result<P
     }
 }
 
-// Lets so many clients join, with all the places that one may have.
+// Lets this many clients join, with all the places that one may have.
 fn join<'a, L: Ledger, R: Wait>(
     bench: &Bench<'_, R>,
     port: &'a Port<L>,

@@ -1,4 +1,4 @@
-//! The queue while so many requests wait: one is answered and collected, and another submitted. And its discoveries.
+//! The queue while this many requests wait: one is answered and collected, and another submitted. And its discoveries.
 use crate::bench::{Bench, Name, Sample};
 use crate::discoveries;
 use crate::fault::Fault;
@@ -61,7 +61,7 @@ const CLIENTS: u8 = 16;
 
 const ENTRIES_BESIDE: usize = 32;
 
-/// Times requests while so many wait.
+/// Times requests while this many wait.
 pub(crate) fn time<R: CpuClock + Print + Eprint>(
     bench: &Bench<'_, R>,
     waiting: usize,

@@ -1,4 +1,4 @@
-//! Requests over rings, while so many wait: clients take turns, and a worker serves the line between them. All of them
+//! Requests over rings, while this many wait: clients take turns, and a worker serves the line between them. All of them
 //! are in one thread.
 ghost use Rattle.std.specs.Prelude.{◌≡◌};
 ghost use Rattle.rdm_lanes.specs.Workers.{book_of};
@@ -29,7 +29,7 @@ const PLACES: [u8; 16] = [u8::MAX; 16];
 
 type Client<J> = RingClient<J, Note, AskNote>;
 
-/// Times requests while so many wait.
+/// Times requests while this many wait.
 pub(crate) fn time<R: CpuClock + Print + Eprint + Wait>(
     bench: &Bench<'_, R>,
     waiting: usize,
@@ -78,7 +78,7 @@ fn time_one<J: ViewHistory, R: CpuClock + Print + Eprint + Wait>(
     timed
 }
 
-// So many clients, with room for so many requests in the log.
+// This many clients, with room for this many requests in the log.
 fn opened<'a, J: ViewHistory, R: Wait>(
     rt: &'a R,
     alloc: Global,

@@ -14,7 +14,7 @@ use std::alloc::Global;
 
 /// What a controller does, with a log or without.
 pub(crate) trait Serving {
-    /// Lets a client join, with so many places.
+    /// Lets a client join, with this many places.
     fn join(&mut self, alloc: Global, places: u8) -> Result<ClientId, Fault>;
 
     /// Accepts a request.
@@ -122,7 +122,7 @@ pub(crate) fn new_controller(alloc: Global) -> Result<Controller, Fault> {
     }
 }
 
-/// The same with a log of so many free entries, 1,000,000 at most.
+/// The same with a log of this many free entries, 1,000,000 at most.
 pub(crate) fn new_session(alloc: Global, free: usize) -> Result<Session, Fault> {
     match Session::new(alloc, config(), new_log(alloc, free)?) {
         Ok(session) => Ok(session),
@@ -130,7 +130,7 @@ pub(crate) fn new_session(alloc: Global, free: usize) -> Result<Session, Fault> 
     }
 }
 
-/// A log of so many free entries, 1,000,000 at most.
+/// A log of this many free entries, 1,000,000 at most.
 pub(crate) fn new_log(alloc: Global, free: usize) -> Result<Log, Fault>
     ensures { IfOk result (λ log. log.entries ≡ []) }
 {

@@ -42,7 +42,7 @@ pub struct AskCallback {
 
 impl AskCallback {
     /// A callback with this tag. The closure may be called with any completion whose numbers are in the ranges of
-    /// their types, and then gives `AskTold { tag, done }` with that very tag and completion.
+    /// their types. It then gives `AskTold { tag, done }` with that very tag and completion.
     pub fn new(tag: u64, run: Box<dyn FnOnce(AskCompletion) -> AskTold + Send>) -> AskCallback
         requires callable { (c : AskCompletion) → AskFits c → pre run c }
         requires tells { (c : AskCompletion) (t : AskTold) → AskFits c → post run c t → t ≡ ask_told tag c }

@@ -61,7 +61,7 @@ pub struct Callback {
 
 impl Callback {
     /// A callback with this tag. The closure may be called with any completion whose numbers are in the ranges of
-    /// their types, and then gives `Told { tag, done }` with that very tag and completion.
+    /// their types. It then gives `Told { tag, done }` with that very tag and completion.
     pub fn new(tag: u64, run: Box<dyn FnOnce(Completion) -> Told + Send>) -> Callback
         requires callable { (c : Completion) → Fits c → pre run c }
         requires tells { (c : Completion) (t : Told) → Fits c → post run c t → t ≡ told tag c }

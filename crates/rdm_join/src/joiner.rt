@@ -68,7 +68,7 @@ pub enum Step {
 enum Stage {
     /// No part has come.
     Waiting,
-    /// So many parts have come, and the first had this head.
+    /// This many parts have come, and the first had this head.
     Joining { first: ReplyHead, parts: usize },
     /// It has ended. Where it is completed, its last reply had this head.
     Ended(Option<ReplyHead>),

@@ -1,4 +1,4 @@
-//! What a client leaves behind.
+//! What is left of a client.
 ghost use Rattle.std.specs.Prelude.{◌≡◌, ◌+◌, length};
 ghost use Rattle.rdm_lanes.specs.Counts.{IsCounted};
 ghost use Rattle.rdm_lanes.specs.Views.{last_view_run};

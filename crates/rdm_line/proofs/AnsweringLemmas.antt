@@ -9,7 +9,7 @@ use Rattle.rdm_line.specs.Overlays.{laid_over, all_laid_over}
 use Rattle.rdm_line.specs.Sim.{branch_reply_of}
 use Rattle.rdm_line.specs.declared.scene.SceneDevice.{SceneDevice}
 
--- so many of the first i devices answer, and so lie their replies
+-- this many of the first i devices answer, and their replies lie in this order
 pub record AreCounted (p : SceneDevice → Bool) (ds : List SceneDevice) (i count : ℕ) (over : List ℕ) : Type 0 where
   pub counts : count ≡ length (filter p (take i ds))
   pub lie : over ≡ all_laid_over (map branch_reply_of (filter p (take i ds)))

@@ -46,7 +46,7 @@ pub record Brings (calls clients : ℕ) (block : List Entry) : Type 0 where
   pub calls_are : count_calls block ≡ calls
   pub clients_are : length (joins block) ≡ clients
 
--- what old counts, and so many more, new counts
+-- what old counts, and this many more, new counts
 pub record Counts (old : LogState) (calls clients : ℕ) (new : LogState) : Type 0 where
   pub calls_are : count_calls new.entries ≡ count_calls old.entries + calls
   pub clients_are : next_client new.opening new.entries ≡ next_client old.opening old.entries + clients

@@ -28,7 +28,7 @@ pub struct LockedClient<'a, L: Ledger, C = Callback, A = AskCallback> {
     stranded: bool,
 }
 
-/// What a client leaves behind (profile of this project).
+/// What is left of a client (profile of this project).
 pub struct Left<L: Ledger, C = Callback, A = AskCallback> {
     /// The callbacks that were not spent.
     pub unspent: Unspent<C, A>,

@@ -44,7 +44,7 @@ pub record IsFourDigits (d : Data) (n : ℕ) : Type 0 where
   pub digits : decode_of text ≡ Ok (high ∷ low ∷ [])
   pub value : n ≡ high * 256 + low
 
--- a text of hexadecimal digits, so many bytes
+-- a text of hexadecimal digits, this many bytes
 pub record IsBytesText (least most : ℕ) (d : Data) (bytes : List ℕ) : Type 0 where
   pub text : List ℕ
   pub is_text : as_str d ≡ Some text
@@ -59,7 +59,7 @@ Each P no_items (x ∷ xs) = ⊥
 Each P (item d ds) [] = ⊥
 Each P (item d ds) (x ∷ xs) = P d x × Each P ds xs
 
--- a list of so many items
+-- a list of this many items
 pub record IsListOf (A : Type 0) (P : Data → A → Type 0) (least most : ℕ) (d : Data) (xs : List A) : Type 0 where
   pub items : Items
   pub is_list : as_array d ≡ Some items

@@ -184,8 +184,13 @@ impl Controller {
     /// Takes what the line answered to the last frame. A request is finished where that decides its result; where its
     /// joined data find no memory, with status NoMemory. A run that ends answers all its discoveries alike, in the
     /// order asked, and without fault its devices are those that `devices` gives. After a close, all else is then ended
-    /// too, as `close` does it. On an honest line with at most 1,024 devices that stay, and with a budget as the bound
-    /// on frames asks, a discovery that it answers has a fault only after a failure or a close.
+    /// too, as `close` does it.
+    ///
+    /// A discovery that it answers has a fault only after a failure or a close, if these hold:
+    /// - the line is honest, and its devices stay;
+    /// - they are at most 1,024;
+    /// - the budget is no less than the bound on frames.
+    ///
     /// Err: no reply is awaited; nothing has changed, and the event comes back.
     pub fn deliver(&mut self, alloc: Global, event: LineEvent) -> Result<(), (NotAsked, LineEvent)>
         ensures adds { AddsToEach self.old (λ o h. DeliverAdds self.old.search o h event result) self.new }
@@ -230,7 +235,7 @@ impl Controller {
         self.queue.next_completion(client)
     }
 
-    /// Collects a client's oldest outcome where that is a discovery's, and writes the devices that its run found into
+    /// Collects a client's oldest outcome where that is a discovery's. The devices that its run found are written into
     /// `set`, in place of what was there. None: there is no outcome, it is a request's, or there is no such client;
     /// nothing has changed, and `set` is as it was.
     pub fn next_discovery(&mut self, client: ClientId, set: &mut DeviceSet) -> Option<DiscoveryEnd>

@@ -239,9 +239,12 @@ impl Session {
     }
 
     /// Takes what the line answered, as [`Controller::deliver`] does; an entry, and after it those of the requests
-    /// that it finishes and the discoveries that it answers. There is always room for them. On an honest line with at
-    /// most 1,024 devices that stay, and with a budget as the bound on frames asks, an Answer that it adds has a fault
-    /// only after a failure or a close.
+    /// that it finishes and the discoveries that it answers. There is always room for them.
+    /// An Answer that it adds has a fault only after a failure or a close, if these hold:
+    /// - the line is honest, and its devices stay;
+    /// - they are at most 1,024;
+    /// - the budget is no less than the bound on frames.
+    ///
     /// Err: no reply is awaited; nothing has changed, and the event comes back.
     pub fn deliver(&mut self, alloc: Global, event: LineEvent) -> Result<(), (NotAsked, LineEvent)>
         ensures adds { GrowsBy self.old
@@ -307,9 +310,11 @@ impl Session {
         Some(end)
     }
 
-    /// How many entries are free: those that there is room for, less those that stand and those that are reserved. One
-    /// is reserved for a close, one for a reply that is awaited, two for each request that isn't finished and each
-    /// discovery that isn't answered, and one for each outcome that isn't collected.
+    /// How many entries are free: those that there is room for, less those that stand and those that are reserved.
+    /// Reserved are:
+    /// - one for a close, and one for a reply that is awaited;
+    /// - two for each request that isn't finished and each discovery that isn't answered;
+    /// - one for each outcome that isn't collected.
     pub fn free(&self) -> usize
         ensures free { result ≡ free_entries self.now }
         ensures kept { length self.now.entries + reserved self.now.opening self.now.entries + result ≡ self.now.room }
@@ -380,16 +385,16 @@ impl Session {
     }
 
     /// Goes on with a new log, and hands back the old one with its entries. A log has room for a fixed number of
-    /// entries, so a session that is to go on and on takes a new one from time to time. The log that is handed back
+    /// entries. So a session that is to go on takes a new one from time to time. The log that is handed back
     /// may be the next one, once it is [`cleared`](Log::cleared).
     ///
     /// An entry takes 296 bytes. A request takes 5 entries where one frame is enough for it, and 2 for each frame
-    /// more. A discovery takes 3, and its run 2 for each frame, of which a run with `n` devices and `k` known ones on
-    /// an honest line has at most `8 + 370 n + 5 k`, and 105 more where it searches quickly.
+    /// more. A discovery takes 3, and its run 2 for each frame. On an honest line a run with `n` devices and `k` known
+    /// ones has at most `8 + 370 n + 5 k` frames, and 105 more where it searches quickly.
     ///
-    /// The numbers of requests, discoveries, runs and frames go on, and so do the clients with their places, the
-    /// devices and their run, and whether it is paused or closed: they stand in the new log's opening. Its runs search
-    /// as before. The new log has no entries.
+    /// The numbers of requests, discoveries, runs and frames go on. So do the clients with their places, the devices
+    /// and their run, and whether it is paused or closed: all stand in the new log's opening. Its runs search as
+    /// before. The new log has no entries.
     /// Err: the session isn't idle. It comes back as it was, and so does the new log.
     pub fn rotate(mut self, log: Log) -> Result<(Session, Log), (NotIdle, Session, Log)>
         requires empty { log.entries ≡ [] }

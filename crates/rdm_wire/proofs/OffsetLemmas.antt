@@ -17,7 +17,7 @@ IsBytes-take (suc n) (x ∷ xs) bytes (suc i) = IsBytes-take n xs (λ j. bytes (
 abbrev pub one_byte : ℕ → List ℕ
 one_byte n = n ∷ []
 
--- at an offset of b stands a number of so many bytes
+-- at an offset of b stands a number of this many bytes
 pub record IsWrittenAt (at size : ℕ) (written : ℕ → List ℕ) (b : List ℕ) : Type 0 where
   pub bytes : drop at b ≡ written (number_of (take size (drop at b))) ++ drop (at + size) b
   pub below : number_of (take size (drop at b)) < 256 ^ size

@@ -144,7 +144,7 @@ impl Header {
         frame
     }
 
-    // The bytes before so many bytes of parameter data.
+    // The bytes before this many bytes of parameter data.
     fn to_bytes(self, pdl: u8) -> [u8; HEADER_LENGTH]
         requires { pdl ≤ MOST_PARAMETER_BYTES }
         ensures bytes { (param : List ℕ) → length param ≡ pdl → result ≡ header_of (header_fields self param) }

@@ -10,7 +10,7 @@ fn full(search: Search, budget: u64) -> Agent {
     Agent::start_by(search, Kind::Full, &UidSet::new(), budget)
 }
 
-// So many devices in sequence from UID 0 on, at most 256, and the frames of a quick run.
+// This many devices in sequence from UID 0 on, at most 256, and the frames of a quick run.
 fn in_sequence(rt: &impl Abort, count: usize, frames: u64) {
     let mut devices = [always(neighbour(0)); 256];
     for (number, found) in (0..).zip(&mut devices) {

@@ -7,7 +7,7 @@ use rdm_wire::{AckType, RespClass, Response, Uid};
 use std::process::Abort;
 use std::test::Fail;
 
-// A response to a GET of the parameter `0060`, with so many bytes of this value as data.
+// A response to a GET of the parameter `0060`, with this many bytes of this value as data.
 fn response(rt: &impl Abort, ack: AckType, length: usize, value: u8) -> Response {
     let mut param = ArrayVec::new();
     for _ in 0..length {
@@ -34,7 +34,7 @@ fn whole(rt: &impl Abort, length: usize, value: u8) -> Judged {
     Judged::Whole(response(rt, AckType::Ack, length, value))
 }
 
-// A joiner that was given so many parts of this length; the bytes of each are its number's low byte.
+// A joiner that was given this many parts of this length; the bytes of each are its number's low byte.
 fn with_parts(rt: &impl Abort, count: usize, length: usize) -> Joiner
     ensures { IsOpen result }
 {

@@ -25,8 +25,11 @@ pub struct SessionEnd {
 
 impl<L: Ledger> Inside<L> {
     /// Ends it, where the share of each client that joined is there, and the log's exchanges are those of the record.
-    /// Then the shares are one of each client, their sum is the number of calls in the log, and the log keeps all that
-    /// clients are promised.
+    /// Then these hold:
+    /// - the shares are one of each client;
+    /// - their sum is the number of calls in the log;
+    /// - the log keeps all that clients are promised.
+    ///
     /// Err: SharesMissing, or else ExchangesDiffer; all comes back as it was.
     pub fn finish(
         self,

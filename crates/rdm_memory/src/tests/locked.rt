@@ -69,7 +69,7 @@ fn client<'a, L: Ledger, R: Wait + Abort>(
     }
 }
 
-// How a request's callback with this tag was called, and whether that was with so many bytes.
+// How a request's callback with this tag was called, and whether that was with this many bytes.
 fn told(collected: &Option<Collected>, tag: u64, length: usize) -> Option<(Status, bool)> {
     match collected {
         Some(Collected::Request(told)) if told.tag == tag => {
@@ -111,7 +111,7 @@ fn shares<L: Ledger, R: Abort>(
     shares
 }
 
-// The port is ended with this many calls, and a log of so many entries. Before them stands one where the join was
+// The port is ended with this many calls, and a log of this many entries. Before them stands one where the join was
 // refused in the session.
 #[inline(never)]
 fn finishes<L: Ledger, R: Abort>(

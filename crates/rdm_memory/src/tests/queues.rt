@@ -59,7 +59,7 @@ fn controller_new_and_join_client(rt: HostRuntime) {
     assert_eq!(rt; controller.submit(CLIENT, get()).ok(), Some(2));
 }
 
-// What comes of a request that is answered by so many bytes. Then no reply is awaited.
+// What comes of a request that is answered by this many bytes. Then no reply is awaited.
 fn asks(
     rt: &impl Abort,
     alloc: Global,

@@ -9,7 +9,7 @@ use rdm_wire::{AckType, RespClass, Response, Uid};
 use std::alloc::Global;
 use std::process::Abort;
 
-// A response to a GET of the parameter `0060`, with so many bytes `5a` of data.
+// A response to a GET of the parameter `0060`, with this many bytes `5a` of data.
 fn response(rt: &impl Abort, ack: AckType, length: usize) -> Response {
     let mut param = ArrayVec::new();
     for _ in 0..length {
@@ -28,7 +28,7 @@ fn response(rt: &impl Abort, ack: AckType, length: usize) -> Response {
     }
 }
 
-// A joiner that was given so many parts of 231 bytes.
+// A joiner that was given this many parts of 231 bytes.
 fn with_parts(rt: &impl Abort, parts: usize) -> Joiner
     ensures { IsOpen result }
 {
@@ -40,7 +40,7 @@ fn with_parts(rt: &impl Abort, parts: usize) -> Joiner
     joiner
 }
 
-// The data of so many parts and of a last reply with this many bytes; where memory is refused they are taken again.
+// The data of this many parts and of a last reply with this many bytes; where memory is refused they are taken again.
 fn takes(rt: &impl Abort, alloc: Global, parts: usize, last: usize, length: usize) {
     let mut memory = Memory::new();
     let mut joiner = with_parts(rt, parts);

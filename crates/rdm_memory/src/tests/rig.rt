@@ -119,7 +119,7 @@ pub fn completion(outcome: Option<Outcome>) -> Option<(Option<u64>, Completion)>
     }
 }
 
-/// Whether these are so many bytes `5a`.
+/// Whether these are this many bytes `5a`.
 pub fn is_data(bytes: &[u8], length: usize) -> bool {
     bytes.len() == length && bytes.iter().all(|byte| *byte == 0x5a)
 }
@@ -188,7 +188,7 @@ pub fn session(
     session_in(rt, memory, alloc, places, log)
 }
 
-/// Room for so many items, made again where memory is refused.
+/// Room for this many items, made again where memory is refused.
 pub fn room_for<T>(rt: &impl Abort, memory: &mut Memory, alloc: Global, count: usize) -> Vec<T> {
     match Vec::with_capacity(alloc, count) {
         Ok(items) => items,

@@ -113,7 +113,7 @@ fn ends<J: ViewHistory>(alloc: Global, clients: Vec<Client<J>>) -> u64 {
     held
 }
 
-// How a request's callback with this tag was called, and whether that was with so many bytes.
+// How a request's callback with this tag was called, and whether that was with this many bytes.
 fn told(collected: &Option<Collected>, tag: u64, length: usize) -> Option<(Status, bool)> {
     match collected {
         Some(Collected::Request(told)) if told.tag == tag => {

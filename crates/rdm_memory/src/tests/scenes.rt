@@ -129,7 +129,7 @@ fn mute(rt: &impl Abort) -> Frame {
     encode_mute(uid, controller_uid(), 0)
 }
 
-// What comes of so many mutes of the device: the failures and the losses have their numbers, and else it answers.
+// What comes of this many mutes of the device: the failures and the losses have their numbers, and else it answers.
 fn has_faults(rt: &impl Abort, line: &mut SimLine, exchanges: u64, losses: &[u64], fails: &[u64]) {
     let frame = mute(rt);
     for number in 0..exchanges {

@@ -48,9 +48,9 @@ pub enum Found {
     Number,
     /// A text that isn't long.
     Text(Excerpt),
-    /// A text of so many bytes.
+    /// A text of this many bytes.
     LongText(usize),
-    /// A list of so many items.
+    /// A list of this many items.
     List(usize),
     /// An object.
     Object,

@@ -83,8 +83,8 @@ uncollected_count h = length (finishes h) + length (answers h) - length (collect
 abbrev pub is_idle : List Entry → Bool
 is_idle h = (length (unfinished h) == 0) && (length (unanswered h) == 0) && (uncollected_count h == 0)
 
--- the entries that are reserved: one for a close, one for a reply, two for each request that isn't finished and each
--- discovery that isn't answered, one for each that is and isn't collected
+-- the entries that are reserved: one for a close, one for a reply; two for each request that isn't finished and each
+-- discovery that isn't answered; one for each that is and isn't collected
 abbrev pub reserved : Opening → List Entry → ℕ
 reserved o h =
     (if is_closed o h then 0 else 1) + (if awaited h then 1 else 0)

@@ -49,11 +49,16 @@ pub fn legal_keeps_promises()
     ensures { (o : Opening) (h : List Entry) → Legal o h → Promised o h }
 {}
 
-/// The whole, for every list of events: where a log explains its answers and is legal, each event has one answer, each
-/// accepted request is finished with exactly one result, the joined answer of its own exchanges, first in, first out;
-/// a full queue refuses and changes nothing but the log; and nothing starts after a close. Where the exchanges of a run
-/// are those of an honest line, its discoveries that are collected without fault have exactly the devices present. With
-/// at most 1,024 devices, no failure and a budget that suffices, they are answered with a fault only after a close.
+/// The whole, for every list of events. Where a log explains its answers and is legal, these hold:
+/// - each event has one answer;
+/// - each accepted request is finished with exactly one result, the joined answer of its own exchanges, first in, first
+///   out;
+/// - a full queue refuses and changes nothing but the log;
+/// - nothing starts after a close.
+///
+/// Where the exchanges of a run are those of an honest line, its discoveries that are collected without fault have
+/// exactly the devices present. With at most 1,024 devices, no failure and a budget that suffices, they are answered
+/// with a fault only after a close.
 pub fn answers_keep_promises()
     ensures { (old : LogState) (es : List Event) (rs : List Answer) (new : LogState) → Explains old es rs new
         → Legal new.opening new.entries → EventsPromised old es rs new }

@@ -21,8 +21,8 @@ ghost use Rattle.rdm_queue.specs.promises.Outcomes.OutcomeValue.{RequestValue};
 ghost use Rattle.rdm_queue.specs.samples.Sample.{sample_opening, join_only, accepted_one, sent_one, finished_one};
 ghost use Rattle.rdm_queue.specs.samples.Sample.{closed_log};
 
-/// A log in which each entry may stand after those before it stays so where one more may stand after it,
-/// and at each of its fronts.
+/// In some logs each entry may stand after those before it. Such a log stays so where one more entry may stand after
+/// it, and at each of its fronts.
 pub fn log_grows()
     ensures pushed { (o : Opening) (h : List Entry) (e : Entry) → EachAfter (MayFollow o) h → MayFollow o h e
         → EachAfter (MayFollow o) (h ++ e ∷ []) }

@@ -106,8 +106,8 @@ pub fn wrong_discovery_answers()
     ensures done_in_vain { MayFollow sample_opening (run_log 10) (Answer 0 1 (Some Exhausted)) → ⊥ }
 {}
 
-/// At a close the discoveries of an aborted run are answered first, then all requests are finished, and then the
-/// discoveries are answered that no run has begun for.
+/// At a close the discoveries of an aborted run are answered first. Then all requests are finished. Last are answered
+/// the discoveries that no run has begun for.
 pub fn order_at_a_close()
     ensures first { MayFollow sample_opening closed_amid (Answer 0 1 (Some Aborted)) }
     ensures then { MayFollow sample_opening aborted_first (Finish 0 FailedToSend 0) }

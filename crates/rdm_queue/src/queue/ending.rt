@@ -81,8 +81,8 @@ impl Queue {
     }
 
     /// Ends what is due next, and gives the entry of its end; None where nothing is due. Due are: the discoveries of a
-    /// run that has ended, and a request that has. Where the queue is closed and awaits no reply, also a run that
-    /// hasn't ended, then the requests that wait, and last the discoveries that no run serves.
+    /// run that has ended, and a request that has. Where the queue is closed and awaits no reply, more is due: a run
+    /// that hasn't ended, then the requests that wait, and last the discoveries that no run serves.
     pub(crate) fn finish_next(&mut self) -> Option<Entry>
         ensures ended { IfSome result (λ entry. IsEnded self.old entry self.new) }
         ensures none { IfNone result (HasNothingDue self.old × (self.new ≡ self.old)) }

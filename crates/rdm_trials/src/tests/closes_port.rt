@@ -146,7 +146,7 @@ impl<L: Ledger, R: Wait + Abort> Bench<'_, L, R> {
         assert_eq!(self.rt; self.record.len(), frames);
     }
 
-    // The client sees the devices of the run that was made in so many exchanges.
+    // The client sees the devices of the run that was made in this many exchanges.
     #[inline(never)]
     fn sees(&self, exchanges: usize) {
         let view = self.client.devices(self.rt);

@@ -8,7 +8,7 @@ use std::alloc::Global;
 use std::process::Abort;
 use std::sync::ledger::{Blank, Ledger};
 
-/// A port with this many places, and a log with room for so many entries.
+/// A port with this many places, and a log with room for this many entries.
 #[inline(never)]
 pub fn port_of<L: Ledger, R: Abort>(
     rt: &R,

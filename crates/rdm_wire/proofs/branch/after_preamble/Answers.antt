@@ -6,7 +6,7 @@ use Rattle.rdm_wire.specs.Reading.{after_preamble}
 use Rattle.rdm_wire.proofs.BranchLemmas.{is_fe, after_separator, preamble_too_long, after_preamble-short}
 use Rattle.rdm_wire.proofs.branch.after_preamble.Goals as goal
 
--- what is read after a preamble of n bytes, where at most so many may stand
+-- what is read after a preamble of n bytes, where at most this many may stand
 after : (most : ℕ) (bytes : List ℕ) (n : ℕ) → n ≡ prefix_len is_fe bytes → n ≤ most
     → after_preamble most bytes ≡ after_separator (take (length bytes - n) (drop n bytes))
 after most bytes n is short = rw (take_rest bytes n, is) (after_preamble-short most bytes (omega arith))
