@@ -1,5 +1,5 @@
-//! Requests over rings, while this many wait: clients take turns, and a worker serves the line between them. All of them
-//! are in one thread.
+//! Requests over rings, while this many wait: clients take turns, and a worker serves the line between them. All of
+//! them are in one thread.
 ghost use Rattle.std.specs.Prelude.{◌≡◌};
 ghost use Rattle.rdm_lanes.specs.Workers.{book_of};
 

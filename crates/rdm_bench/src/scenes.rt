@@ -89,8 +89,8 @@ fn is_due(fault: AgentFault, moves: bool) -> bool {
     }
 }
 
-/// Tells how runs end with either search: on this many honest lines, none of which may end wrong, and on this many of each
-/// kind that aren't honest.
+/// Tells how runs end with either search: on this many honest lines, none of which may end wrong, and on this many of
+/// each kind that aren't honest.
 pub(crate) fn tell<R: Print>(
     rt: &R,
     alloc: Global,

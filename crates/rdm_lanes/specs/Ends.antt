@@ -35,9 +35,9 @@ module _ {J : Type 0} {h : Ghosts J} {C A : Type 0} where
   abbrev pub PairUp : List Lane → List (ClientEnd J C A h) → Type 0
   PairUp lanes ends = RingsPair lanes (map end_rings ends)
 
-  -- What client c sent is its calls in the log, in order, each once, and then the submits and discovers that are left
-  -- in its ring. What it got, then what is left in its ring of outcomes, and then what it hasn't collected, is all that
-  -- the log tells it.
+  -- What client c sent is its calls in the log, in order, each once. After those come the submits and discovers that
+  -- are left in its ring. What it got, then what is left in its ring of outcomes, and then what it hasn't collected, is
+  -- all that the log tells it.
   pub record Agrees (c : ℕ) (k : LogState) (e : ClientEnd J C A h) : Type 0 where
     pub sent_are : end_sent e ≡ calls_by c k.entries ++ work_in (left_in e.calls)
     pub got_are : TellsAll k.opening c k.entries (end_got e ++ values_in (known_items e.replies))

@@ -61,8 +61,8 @@ pub record OnlyCollects (old new : LogState) : Type 0 where
   pub each : AllByRecursion (λ e. is_collect e ≡ true) block
   pub grows : new ≡ grown old block
 
--- an Answer to a discovery has a fault only where the queue is closed, if its run's exchanges are those of an honest
--- line whose devices stay, without a failure, and its budget suffices
+-- An Answer to a discovery has a fault only where the queue is closed, if its run is calm: its exchanges are those of
+-- an honest line whose devices stay, without a failure, and its budget suffices.
 pub record InBound (k : LogState) : Type 0 where
   pub closed_first : (front back : List Entry) (n r : ℕ) (fault : AgentFault) (present : List ℕ)
       → k.entries ≡ front ++ Answer n r (Some fault) ∷ back → IsCalmRun k.search k.opening front r present

@@ -41,8 +41,8 @@ opened_with config search room places =
     record { opening = opened config; entries = join_entries 0 places; room = room; search = search }
 
 module _ {J : Type 0} {h : Ghosts J} {C A : Type 0} where
-  -- a client with this many places, and with rings of this many slots, that has neither sent nor got anything, nor left,
-  -- and has read the opening view alone
+  -- A client with this many places, and with rings of this many slots. It has neither sent nor got anything, nor left,
+  -- and it has read the opening view alone.
   pub record IsNew (ring places : ℕ) (client : RingClient J C A h) : Type 0 where
     pub nothing_sent : pushed client.calls ≡ []
     pub nothing_got : popped client.replies ≡ []

@@ -57,8 +57,8 @@ pub record IsPublished (all shown : List DeviceView) : Type 0 where
   pub begin : IsPrefix shown all
   pub lacks_one : length all ≤ length shown + 1
 
--- a discovery without fault whose outcome was put on a client's ring is of a run that isn't later than that of the last
--- published view
+-- Where a discovery's outcome without fault was put on a client's ring, its run isn't later than that of the last
+-- published view.
 pub record AreShownFirst (shown : List DeviceView) (lanes : List Lane) : Type 0 where
   pub each : (i j : ℕ) (lane : Lane) (number : Option ℕ) (done : Discovered) → slice_get lanes i ≡ Some lane
       → slice_get (values_in (pushed lane.replies)) j ≡ Some (DiscoveryValue number done) → done.fault ≡ None

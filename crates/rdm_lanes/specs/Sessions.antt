@@ -10,9 +10,9 @@ use Rattle.rdm_queue.specs.log.LogState.{LogState, opened}
 use Rattle.rdm_lanes.specs.Calls.{calls_by}
 use Rattle.rdm_lanes.specs.Lines.{InBound, NoCallLost, exchanges}
 
--- A session that was set up so, with a client for each of these places and with nobody else, neither paused nor closed,
--- over a line that went from one value to another. Its log is legal, and its exchanges are the line's steps: the line
--- was asked each frame once, and its own event was delivered.
+-- A session that was set up so, over a line that went from one value to another. It has a client for each of these
+-- places and nobody else, and is neither paused nor closed. Its log is legal, and its exchanges are the line's steps:
+-- the line was asked each frame once, and its own event was delivered.
 pub record SessionOver {L : Type 0} (step : L → Exchange → L → Type 0) (config : Config) (search : Search) (room : ℕ)
     (places : List ℕ) (before after : L) (k : LogState) : Type 0 where
   pub opening_is : k.opening ≡ opened config

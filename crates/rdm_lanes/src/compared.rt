@@ -39,9 +39,10 @@ impl<J: ViewHistory, R: Wait + Drop> ViewWorker<J, Shown<J>, R> {
     /// collected, is all that the log tells it. Nobody else has joined or called anything. The log is legal, and keeps
     /// what clients are promised.
     ///
-    /// The views that were published begin those of the log, and lack the last one at most. They and those that a client has read are beginnings of one list. A client whose run isn't later than
-    /// that of the last published view has read a beginning of the published ones. No client has got an outcome without
-    /// fault of a discovery whose run is later than that of the last published view.
+    /// The views that were published begin those of the log, and lack the last one at most. They and those that a
+    /// client has read are beginnings of one list. A client whose run isn't later than that of the last published view
+    /// has read a beginning of the published ones. No client has got an outcome without fault of a discovery whose run
+    /// is later than that of the last published view.
     ///
     /// The flag says whether all ends could be compared. It is always true, since the ends are the worker's own.
     pub fn end<C: Tells, A: TellsAsk>(self, ends: Vec<ClientEnd<J, C, A>>) -> Compared<J, C, A>

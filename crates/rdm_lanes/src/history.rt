@@ -170,6 +170,7 @@ impl<J: ViewHistory> Front<J> {
     pub fn longer(&self, other: &Front<J>) -> Front<J>
         ensures one { (result ≡ self.now) ⊎ (result ≡ other.now) }
         ensures length { length other.now ≤ length self.now → result ≡ self.now }
+        ensures longer { length self.now < length other.now → result ≡ other.now }
         ensures this { IsPrefix self.now result }
         ensures that { IsPrefix other.now result }
         ensures views { AreViews result }

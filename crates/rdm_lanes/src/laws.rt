@@ -11,8 +11,8 @@ ghost use Rattle.rdm_lanes.specs.OverThreads.{IsCalmScene, IsEnough, IsByDefault
 
 use crate::history::ViewHistory;
 
-/// Over a simulated line that loses no five exchanges with successive numbers, and whose devices stay, each discovery's
-/// outcome without fault that a client got has exactly that line's devices. A session of
+/// Each discovery's outcome without fault that a client got has exactly the simulated line's devices. The premises: the
+/// line loses no five exchanges with successive numbers, and its devices stay. A session of
 /// [`run_session`](crate::run_session) is such a session.
 pub fn clients_get_the_devices<J: ViewHistory, C, A>()
     ensures { (config : Config) (search : Search) (room : ℕ) (places : List ℕ) (s t : SimState) (k : LogState)
@@ -27,8 +27,8 @@ pub fn clients_get_no_fault<J: ViewHistory, C, A>()
         (c : ℕ) (e : ClientEnd J C A (record { book = J.book })) → IsEndOver config search room places s t k c e
         → IsCalmScene s → IsEnough config search s → TellsNoFault e }
     ensures by_default { (config : Config) (search : Search) (room : ℕ) (places : List ℕ) (s t : SimState)
-        (k : LogState) (c : ℕ) (e : ClientEnd J C A (record { book = J.book })) → IsEndOver config search room places s t k c e
-        → IsCalmScene s → IsByDefault config search → TellsNoFault e }
+        (k : LogState) (c : ℕ) (e : ClientEnd J C A (record { book = J.book }))
+        → IsEndOver config search room places s t k c e → IsCalmScene s → IsByDefault config search → TellsNoFault e }
 {}
 
 /// Where devices come and leave, each outcome without fault has each device that is always there; and none has a device

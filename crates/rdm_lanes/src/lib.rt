@@ -1,5 +1,5 @@
-//! Clients that never wait. Each has a ring for its calls and a ring for its outcomes, whose other ends a worker has,
-//! and reads the device views that the worker publishes.
+//! Clients that never wait. Each has a ring for its calls and a ring for its outcomes. A worker has their other ends,
+//! and publishes device views, which each client reads.
 #![tactic(auto)]
 
 mod body;

@@ -53,7 +53,8 @@ impl<J: ViewHistory> Shown<J> {
 
     /// The same view, if it comes after what was read. None: it doesn't, or it has as many owners as can be counted.
     pub fn after(&self, read: &Shown<J>) -> Option<Shown<J>>
-        ensures { IfSome result (λ s. IsPrefix read.now s) }
+        ensures same { IfSome result (λ s. s ≡ self.now) }
+        ensures goes_on { IfSome result (λ s. IsPrefix read.now s) }
     {
         if self.front.len() <= read.front.len() {
             return None;
@@ -82,8 +83,8 @@ impl<J: ViewHistory> Absorb<Shown<J>> for Shown<J> {
     }
 }
 
-/// Publishes views. Contracts see the views that were added, and those that readers may take: all that were added, unless
-/// the last one waits to be published.
+/// Publishes views. Contracts see the views that were added, and those that readers may take. These are all that were
+/// added, unless the last one waits to be published.
 #[derive(Drop)]
 pub struct Publisher<
     J: ViewHistory,
@@ -150,8 +151,8 @@ impl<J: ViewHistory, R: Wait + Drop> Publisher<J, Shown<J>, R> {
         self.latest.view.run
     }
 
-    /// Adds a view of a later run, and says whether it did. It isn't published yet. If it didn't, nothing changes: there
-    /// was no memory for it, the view before it isn't published, or 2^32 views were added.
+    /// Adds a view of a later run, and says whether it did. It isn't published yet. If it didn't, nothing changes:
+    /// there was no memory for it, the view before it isn't published, or 2^32 views were added.
     #[tactic(auto, using(crate::proofs::ViewFacts::last_added))]
     pub fn add(&mut self, alloc: Global, run: u64, devices: &DeviceSet) -> bool
         requires later { last_view_run self.old.added < run }

@@ -58,8 +58,8 @@ impl<J: ViewHistory> ViewReader<J> {
 }
 
 impl<J: ViewHistory, R: Wait + Drop> Publisher<J, Shown<J>, R> {
-    /// A reader that has read what is published. Err: each place for a reader is in use, or something has as many owners
-    /// as can be counted.
+    /// A reader that has read what is published. Err: each place for a reader is in use, or something has as many
+    /// owners as can be counted.
     pub fn reader(&self) -> Result<ViewReader<J>, AllocError>
         ensures { IfOk result (λ r. r ≡ self.now.shown) }
     {

@@ -35,8 +35,8 @@ pub type RunFault = OpenFault;
 
 /// Runs a session (profile of this project): opens a client for each of these places, and runs its body in a thread of
 /// its own, beside the worker with this many turns. There is no operator, so nobody pauses or closes. Where a thread
-/// can't be made its work is done in one that there is, after the other work there. `J` is the history of the views that
-/// the worker publishes. What was published, and what each client has read of it, is compared at the end too.
+/// can't be made its work is done in one that there is, after the other work there. `J` is the history of the views
+/// that the worker publishes. What was published, and what each client has read of it, is compared at the end too.
 ///
 /// The conditions are those of [`open_lanes`](crate::open_lanes), and there are as many bodies as places. Once the
 /// worker has stopped its clients' ends are compared, as at a [`ViewWorker::end`](crate::ViewWorker::end).

@@ -10,8 +10,9 @@ use rtrb::Consumer;
 use std::alloc::Global;
 
 /// What makes the calls of the clients and of the operator and the exchanges with the line, and moves outcomes.
-/// [`ViewWorker`](crate::ViewWorker) has it, and publishes views. It has the session. What it has received of each client is that client's calls in the session's log, and what it has
-/// sent each is what the log tells that client. Nobody else has joined or called anything.
+/// [`ViewWorker`](crate::ViewWorker) has it, and publishes views. It has the session. What it has received of each
+/// client is that client's calls in the session's log. What it has sent each is what the log tells that client. Nobody
+/// else has joined or called anything.
 #[derive(Drop)]
 pub struct Worker {
     pub(crate) session: Session,

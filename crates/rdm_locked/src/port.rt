@@ -134,9 +134,9 @@ impl<L: Ledger> Port<L> {
     }
 
     /// Serves the line for this many turns. It ends before that where each client that has joined has left and no frame
-    /// may be sent, or where the log is full. A turn makes room in the record; where memory for it is refused, the turn does no more. Then
-    /// it takes a frame under the lock, makes the exchange without it, delivers under it what came, and appends the
-    /// exchange to the record. It never stops between taking and delivering.
+    /// may be sent, or where the log is full. A turn makes room in the record; where memory for it is refused, the turn
+    /// does no more. Then it takes a frame under the lock, makes the exchange without it, delivers under it what came,
+    /// and appends the exchange to the record. It never stops between taking and delivering.
     pub fn work<X: Line, R: Wait>(
         &self,
         rt: &R,
