@@ -91,23 +91,45 @@ impl Ends {
     }
 }
 
-/// Tells how this many runs of each kind end, with either search.
+/// Tells how this many runs of each kind end, with either search. Where a device doesn't keep to the rules, the others
+/// lie at random, and then near each other.
 pub(crate) fn tell<R: Print>(rt: &R, alloc: Global, runs: usize) -> Result<(), Fault> {
     for wrong in Wrong::EACH {
-        for search in [Search::Steady, Search::Quick] {
-            let ends = ends_of(alloc, wrong, search, runs)?;
-            let name = name_of(search);
-            println!(rt; "scenes, {wrong}, {name}: {ends}")?;
+        tell_of(rt, alloc, wrong, Spread::Random, runs)?;
+        if wrong.odd().is_some() {
+            tell_of(rt, alloc, wrong, Spread::Near, runs)?;
         }
     }
     Ok(())
 }
 
+// The same of one kind, where the devices that keep to the rules lie so.
+fn tell_of<R: Print>(
+    rt: &R,
+    alloc: Global,
+    wrong: Wrong,
+    spread: Spread,
+    runs: usize,
+) -> Result<(), Fault> {
+    for search in [Search::Steady, Search::Quick] {
+        let ends = ends_of(alloc, wrong, spread, search, runs)?;
+        let name = name_of(search);
+        println!(rt; "scenes, {wrong}, {spread}, {name}: {ends}")?;
+    }
+    Ok(())
+}
+
 // The ends of runs over one set of devices for each seed.
-fn ends_of(alloc: Global, wrong: Wrong, search: Search, runs: usize) -> Result<Ends, Fault> {
+fn ends_of(
+    alloc: Global,
+    wrong: Wrong,
+    spread: Spread,
+    search: Search,
+    runs: usize,
+) -> Result<Ends, Fault> {
     let mut ends = Ends::NONE;
     for seed in 1..=runs as u64 {
-        let good = devices_of(GOOD, Spread::Random, seed)?;
+        let good = devices_of(GOOD, spread, seed)?;
         let mut line = Astray::new(alloc, wrong, &good, seed)?;
         let agent = line.searched(search)?;
         ends.adds(&agent, &good, wrong.odd())?;
