@@ -12,3 +12,4 @@ pub mod SessionForms
 pub mod SettledLemmas
 pub mod PlaceLemmas
 pub mod LoggedLemmas
+mod ComplaintLemmas

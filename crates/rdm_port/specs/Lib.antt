@@ -12,3 +12,4 @@ pub mod SessionReport
 pub mod Scripts
 pub mod LoggedOutcomes
 pub mod Commands
+pub mod Complaints

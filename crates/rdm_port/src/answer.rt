@@ -46,22 +46,22 @@ impl Answer {
 }
 
 /// Why a command line has no answer: its fault, and the reason for people; none where memory was refused.
-pub type Refused = (Fault, Option<Reason>);
+pub type Refused<'a> = (Fault, Option<Reason<'a>>);
 
 /// What answers a command line, with its status, and what people are told besides.
 #[derive(Debug, Drop)]
-pub struct Answered {
+pub struct Answered<'a> {
     /// What is printed.
     pub text: Answer,
     /// 0: done. 1: a run had a fault.
     pub status: u8,
     /// The reason of the fault, or what people should know of the answer.
-    pub reason: Option<Reason>,
+    pub reason: Option<Reason<'a>>,
 }
 
-impl Answered {
+impl<'a> Answered<'a> {
     /// Done, with nothing more to tell.
-    pub fn done(text: Answer) -> Answered
+    pub fn done(text: Answer) -> Answered<'a>
         ensures text { result.text ≡ text }
         ensures status { result.status ≡ 0 }
     {

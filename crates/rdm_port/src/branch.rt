@@ -15,7 +15,7 @@ use rdm_wire::{
 use std::alloc::Global;
 
 /// Tells what the bytes that answered a branch say.
-pub fn decode(alloc: Global, digits: &str) -> Result<Answered, Refused>
+pub fn decode<'a>(alloc: Global, digits: &'a str) -> Result<Answered<'a>, Refused<'a>>
     ensures ok { IfOk result (λ a. Decodes digits.now (answer_bytes a.text)) }
     ensures status { IfOk result (λ a. a.status ≡ 0) }
     ensures fault { IfErr result (λ e. IsDecodeFault digits.now e.0) }
@@ -23,12 +23,12 @@ pub fn decode(alloc: Global, digits: &str) -> Result<Answered, Refused>
     match hex::decode(alloc, digits) {
         Ok(bytes) => Ok(told(read_branch_reply(&bytes))),
         Err(FromHexError::OutOfMemory) => Err((Fault::Memory, None)),
-        Err(fault) => Err((Fault::Hex, Some(Reason::NoBytes(fault)))),
+        Err(_) => Err((Fault::Hex, Some(Reason::NoBytes(digits)))),
     }
 }
 
 // How a reply to a branch is told.
-fn told(reply: BranchReply) -> Answered
+fn told<'a>(reply: BranchReply) -> Answered<'a>
     ensures text { answer_bytes result.text ≡ line_of (reply_text reply) }
     ensures status { result.status ≡ 0 }
 {
@@ -44,7 +44,7 @@ fn told(reply: BranchReply) -> Answered
 }
 
 // Why no device sent a reply with this UID; none where one may have.
-fn broadcast(uid: Uid) -> Option<Reason> {
+fn broadcast<'a>(uid: Uid) -> Option<Reason<'a>> {
     if uid.is_broadcast() {
         Some(Reason::Broadcast)
     } else {
@@ -53,7 +53,7 @@ fn broadcast(uid: Uid) -> Option<Reason> {
 }
 
 /// Writes the reply of a device, with the longest preamble.
-pub fn encode(uid: &str) -> Result<Answered, Refused>
+pub fn encode<'a>(uid: &'a str) -> Result<Answered<'a>, Refused<'a>>
     ensures ok { IfOk result (λ a. Encodes uid.now (answer_bytes a.text)) }
     ensures status { IfOk result (λ a. a.status ≡ 0) }
     ensures fault { IfErr result (λ e. IsEncodeFault uid.now e.0) }
@@ -63,7 +63,7 @@ pub fn encode(uid: &str) -> Result<Answered, Refused>
             let reply = write_branch_reply(uid, LONGEST_PREAMBLE);
             Ok(Answered::done(digits_of(&reply)))
         }
-        Err(fault) => Err((Fault::Uid, Some(Reason::NoUid(fault)))),
+        Err(_) => Err((Fault::Uid, Some(Reason::NoUid(uid)))),
     }
 }
 

@@ -9,6 +9,7 @@ use crate::answer::{Answer, Answered, Refused};
 use crate::discovery::{Discovery, discover_in};
 use crate::fault::Fault;
 use crate::input::{FileFault, read_file};
+use crate::place::Place;
 use crate::reason::Reason;
 use crate::reporting::report;
 use crate::scene::{SceneFault, SceneFile, read_scene};
@@ -18,21 +19,22 @@ use serde_json::{Category, Value};
 use std::alloc::Global;
 use std::io::Read;
 
-/// What a run reports of the scene in the reader's file. It tells how far it is.
+/// What a run reports of the scene in the reader's file, which is the one at the path. It tells how far it is.
 // It isn't inlined: a run's values are large, and no other answer is to have places for them.
 #[inline(never)]
-pub fn answer_discover<R: Read, P: Progress>(
+pub fn answer_discover<'a, R: Read, P: Progress>(
     alloc: Global,
+    path: &'a str,
     incremental: bool,
     quick: bool,
     reader: &mut R,
     progress: &mut P,
-) -> Result<Answered, Refused>
+) -> Result<Answered<'a>, Refused<'a>>
     ensures ok { IfOk result (λ a.
         Discovers incremental quick (R.remaining reader.old) (answer_bytes a.text) a.status) }
     ensures fault { IfErr result (λ e. (e.0 ≡ Fault.Memory) ⊎ IsFileFault (R.remaining reader.old) e.0) }
 {
-    let file = match scene_file(alloc, reader) {
+    let file = match scene_file(alloc, path, reader) {
         Ok(file) => file,
         Err(refused) => return Err(refused),
     };
@@ -66,26 +68,30 @@ fn search_of(quick: bool) -> Search
 }
 
 // The scene in the reader's file.
-fn scene_file<R: Read>(alloc: Global, reader: &mut R) -> Result<SceneFile, Refused>
+fn scene_file<'a, R: Read>(
+    alloc: Global,
+    path: &'a str,
+    reader: &mut R,
+) -> Result<SceneFile, Refused<'a>>
     ensures ok { IfOk result (λ f. ReadsScene (R.remaining reader.old) f) }
     ensures fault { IfErr result (λ e. (e.0 ≡ Fault.Memory) ⊎ IsFileFault (R.remaining reader.old) e.0) }
 {
     let bytes = match read_file(alloc, reader) {
         Ok(bytes) => bytes,
         Err(FileFault::NoMemory) => return Err((Fault::Memory, None)),
-        Err(fault) => return Err((Fault::File, Reason::of_file(fault))),
+        Err(fault) => return Err((Fault::File, Reason::of_file(path, fault))),
     };
     scene_of(alloc, &bytes)
 }
 
 // The scene that the bytes of a file say.
-fn scene_of(alloc: Global, bytes: &[u8]) -> Result<SceneFile, Refused>
+fn scene_of<'a>(alloc: Global, bytes: &[u8]) -> Result<SceneFile, Refused<'a>>
     ensures ok { IfOk result (λ f. SaysScene bytes.now f) }
     ensures fault { IfErr result (λ e. IsTextFault bytes.now e.0) }
 {
     let value = match Value::from_slice(alloc, bytes) {
         Ok(value) => value,
-        Err(error) => return Err(no_json(&error)),
+        Err(error) => return Err(no_json(bytes, &error)),
     };
     match read_scene(alloc, &value) {
         Ok(file) => Ok(file),
@@ -97,20 +103,30 @@ fn scene_of(alloc: Global, bytes: &[u8]) -> Result<SceneFile, Refused>
 }
 
 /// Why bytes weren't read as JSON.
-pub(crate) fn no_json(error: &serde_json::Error) -> Refused
+pub(crate) fn no_json<'a>(bytes: &[u8], error: &serde_json::Error) -> Refused<'a>
     ensures memory { IsMemory error.now → result.0 ≡ Fault.Memory }
     ensures text { ¬ IsMemory error.now → result.0 ≡ Fault.Json }
 {
-    if error.classify() == Category::Memory {
-        (Fault::Memory, None)
-    } else {
-        let (line, column) = (error.line(), error.column());
-        (Fault::Json, Some(Reason::NoJson { line, column }))
+    match error.classify() {
+        Category::Memory => (Fault::Memory, None),
+        Category::Eof => (Fault::Json, Some(cut_short(bytes))),
+        _ => {
+            let place = Place::of_byte(bytes, error.line(), error.column());
+            (Fault::Json, Some(Reason::NoJson(place)))
+        }
+    }
+}
+
+// Why bytes that end before their JSON does weren't read.
+fn cut_short<'a>(bytes: &[u8]) -> Reason<'a> {
+    match Place::of_last(bytes) {
+        Some(place) => Reason::CutShort(place),
+        None => Reason::Empty,
     }
 }
 
 // What is printed of a run; with a fault, what it found until then is the reason.
-fn answered(alloc: Global, run: &Discovery) -> Result<Answered, Refused>
+fn answered<'a>(alloc: Global, run: &Discovery) -> Result<Answered<'a>, Refused<'a>>
     ensures text { IfOk result (λ a. answer_bytes a.text ≡ report_text run.now.found run.now.frames) }
     ensures status { IfOk result (λ a. a.status ≡ report_status run.now.found) }
     ensures memory { IfErr result (λ e. e.0 ≡ Fault.Memory) }

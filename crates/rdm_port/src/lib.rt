@@ -1,12 +1,14 @@
 //! What the program `wurstlinen` does: reads and writes the replies of RDM devices to a branch of the discovery tree,
 //! discovers simulated devices, and runs sessions of clients on a simulated line.
 //!
-//! [`parse_words`] finds the [`Job`] that a command line asks for, and [`perform`] prints its answer. A session file is
-//! read by [`read_session`] and served by [`serve`]; [`session_text`] says what is printed of it.
+//! [`parse_words`] finds the [`Job`] that a command line asks for, and [`perform`] prints its answer. A [`Reason`] says
+//! for people why something isn't done, and a [`Complaint`] what is wrong with words that ask for nothing. A session
+//! file is read by [`read_session`] and served by [`serve`]; [`session_text`] says what is printed of it.
 #![tactic(auto)]
 
 mod answer;
 mod branch;
+mod complaint;
 mod discovering;
 mod discovery;
 mod fault;
@@ -15,6 +17,7 @@ mod job;
 pub mod laws;
 mod outcomes;
 mod performing;
+mod place;
 mod reason;
 mod reporting;
 mod run;
@@ -24,19 +27,21 @@ mod session;
 mod telling;
 mod usage;
 
+pub use complaint::{Complaint, complaint_of};
 pub use discovery::{Discovery, discover, discover_in};
 pub use fault::Fault;
 pub use input::{FileFault, MOST_BYTES, read_file};
 pub use job::{Job, PortKind, WordsFault, parse_words};
 pub use outcomes::{Discovered, Outcomes, session_text};
 pub use performing::{Silent, carry_out, perform};
+pub use place::Place;
 pub use reason::Reason;
 pub use reporting::report;
 pub use scene::{Found, Mismatch, SceneFault, SceneFile, Step, read_scene};
 pub use serving::{Progress, ServeFault, serve};
 pub use session::{ClientCall, ClientFile, SessionFile, discovery_command, read_session};
-pub use telling::{Progressing, tell};
-pub use usage::USAGE;
+pub use telling::{Progressing, tell, tell_usage};
+pub use usage::{USAGE, VERSION};
 
 #[cfg(test)]
 mod tests;

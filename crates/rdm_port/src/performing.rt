@@ -38,14 +38,14 @@ pub fn perform<R: Read, W: Write, T: Threads + Wait + Sync>(
 }
 
 /// As [`perform`], and gives the reason too where it isn't done. A session or a discovery tells how far it is.
-pub fn carry_out<R: Read, W: Write, P: Progress + Send, T: Threads + Wait + Sync>(
+pub fn carry_out<'a, R: Read, W: Write, P: Progress + Send, T: Threads + Wait + Sync>(
     rt: &T,
     alloc: Global,
-    job: Result<Job<'_>, WordsFault>,
+    job: Result<Job<'a>, WordsFault>,
     reader: &mut R,
     writer: &mut W,
     progress: &mut P,
-) -> (u8, Option<Reason>)
+) -> (u8, Option<Reason<'a>>)
     ensures { (text : List ℕ) × (status : ℕ) × IsOutcome job.entry (R.remaining reader.old) text status
         × IsPrinted (W.contents writer.old) (W.contents writer.new) text status result.0 }
 {
@@ -70,19 +70,19 @@ impl Progress for Silent {
 
 // What is printed, the status, and the reason of what isn't done.
 #[derive(Drop)]
-struct Outcome {
+struct Outcome<'a> {
     text: Answer,
     status: u8,
-    reason: Option<Reason>,
+    reason: Option<Reason<'a>>,
 }
 
-fn outcome_of<R: Read, P: Progress + Send, T: Threads + Wait + Sync>(
+fn outcome_of<'a, R: Read, P: Progress + Send, T: Threads + Wait + Sync>(
     rt: &T,
     alloc: Global,
-    job: Result<Job<'_>, WordsFault>,
+    job: Result<Job<'a>, WordsFault>,
     reader: &mut R,
     progress: &mut P,
-) -> Outcome
+) -> Outcome<'a>
     ensures { IsOutcome job.entry (R.remaining reader.old) (answer_bytes result.text) result.status }
 {
     match answer(rt, alloc, job, reader, progress) {
@@ -106,13 +106,13 @@ fn outcome_of<R: Read, P: Progress + Send, T: Threads + Wait + Sync>(
 }
 
 // What answers a command line.
-fn answer<R: Read, P: Progress + Send, T: Threads + Wait + Sync>(
+fn answer<'a, R: Read, P: Progress + Send, T: Threads + Wait + Sync>(
     rt: &T,
     alloc: Global,
-    job: Result<Job<'_>, WordsFault>,
+    job: Result<Job<'a>, WordsFault>,
     reader: &mut R,
     progress: &mut P,
-) -> Result<Answered, Refused>
+) -> Result<Answered<'a>, Refused<'a>>
     ensures ok { IfOk result (λ a. (j : Job) × (job.entry ≡ Ok j)
         × Answers j (R.remaining reader.old) (answer_bytes a.text) a.status) }
     ensures fault { IfErr result (λ e. IsFaultOf job.entry (R.remaining reader.old) e.0) }
@@ -122,12 +122,12 @@ fn answer<R: Read, P: Progress + Send, T: Threads + Wait + Sync>(
         Ok(Job::Encode(uid)) => encode(uid),
         Ok(
             Job::Discover {
+                file,
                 incremental,
                 quick,
-                ..
             },
-        ) => answer_discover(alloc, incremental, quick, reader, progress),
-        Ok(Job::Run { port, .. }) => answer_run(rt, alloc, port, reader, progress),
+        ) => answer_discover(alloc, file, incremental, quick, reader, progress),
+        Ok(Job::Run { file, port }) => answer_run(rt, alloc, file, port, reader, progress),
         Err(WordsFault::Words) => Err((Fault::CommandLine, Some(Reason::Usage))),
         Err(WordsFault::NoMemory) => Err((Fault::Memory, None)),
     }

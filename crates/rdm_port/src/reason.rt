@@ -1,37 +1,42 @@
 //! Why something isn't done, for people.
-use crate::input::FileFault;
+use crate::input::{FileFault, MOST_BYTES};
+use crate::place::Place;
 use crate::reporting::device_lines;
 use crate::scene::{Mismatch, SceneFault};
 use crate::usage::USAGE;
-use hex::FromHexError;
 use rdm_agent::AgentFault;
-use rdm_wire::{DeviceSet, UidFault};
+use rdm_wire::DeviceSet;
 use std::alloc::Global;
 use std::io::ErrorKind;
 use std::{fmt, str};
 
-/// Why something isn't done, or what people should know of what is.
+// How many characters a UID has.
+const UID_LEN: usize = 13;
+
+// The place of a UID's colon.
+const COLON_AT: usize = 4;
+
+/// Why something isn't done, or what people should know of what is. It borrows the words of the command line.
 #[derive(Debug, Drop)]
-pub enum Reason {
+pub enum Reason<'a> {
     /// The words fit no command.
     Usage,
-    /// The digits spell no bytes.
-    NoBytes(FromHexError),
+    /// The text spells no bytes.
+    NoBytes(&'a str),
     /// The text is no UID.
-    NoUid(UidFault),
+    NoUid(&'a str),
     /// A reply spells a broadcast UID.
     Broadcast,
-    /// The file has too many bytes.
-    TooLong,
-    /// A read failed.
-    Unreadable(ErrorKind),
+    /// The file at this path has too many bytes.
+    TooLong(&'a str),
+    /// The file at this path can't be opened or read.
+    Unreadable(&'a str, ErrorKind),
+    /// The file is empty, or has nothing but white space.
+    Empty,
+    /// The file ends before its JSON does. This is its last character, white space at its end left out.
+    CutShort(Place),
     /// The file is no JSON; this is where.
-    NoJson {
-        /// The line, from 1.
-        line: usize,
-        /// The column, from 1.
-        column: usize,
-    },
+    NoJson(Place),
     /// The file's JSON is no scene, or no session.
     NoScene(Mismatch),
     /// What the file says under this key is too little for its session.
@@ -47,18 +52,18 @@ pub enum Reason {
     Unwritten(ErrorKind),
 }
 
-impl Reason {
-    /// The reason for which a file wasn't read; none where memory was refused.
-    pub fn of_file(fault: FileFault) -> Option<Reason> {
+impl<'a> Reason<'a> {
+    /// The reason for which the file at a path wasn't read; none where memory was refused.
+    pub fn of_file(path: &'a str, fault: FileFault) -> Option<Reason<'a>> {
         match fault {
-            FileFault::TooLong => Some(Reason::TooLong),
-            FileFault::Unreadable(kind) => Some(Reason::Unreadable(kind)),
+            FileFault::TooLong => Some(Reason::TooLong(path)),
+            FileFault::Unreadable(kind) => Some(Reason::Unreadable(path, kind)),
             FileFault::NoMemory => None,
         }
     }
 
     /// The reason for which a scene or a session wasn't read; none where memory was refused.
-    pub fn of_scene(fault: SceneFault) -> Option<Reason> {
+    pub fn of_scene(fault: SceneFault) -> Option<Reason<'a>> {
         match fault {
             SceneFault::Mismatch(mismatch) => Some(Reason::NoScene(mismatch)),
             SceneFault::NoMemory => None,
@@ -66,22 +71,26 @@ impl Reason {
     }
 
     /// The reason of a run's fault; none where memory is refused.
-    pub fn of_fault(alloc: Global, fault: AgentFault, found: &DeviceSet) -> Option<Reason> {
+    pub fn of_fault(alloc: Global, fault: AgentFault, found: &DeviceSet) -> Option<Reason<'a>> {
         let lines = device_lines(alloc, found).ok()?;
         Some(Reason::Fault(fault, lines))
     }
 }
 
-impl fmt::Display for Reason {
+impl fmt::Display for Reason<'_> {
     fn fmt<W: fmt::Write>(&self, f: &mut fmt::Formatter<W>) -> fmt::Result {
         match self {
             Reason::Usage => write!(f, "{USAGE}"),
-            Reason::NoBytes(fault) => write_no_bytes(f, fault),
-            Reason::NoUid(fault) => write!(f, "{fault}"),
+            Reason::NoBytes(text) => write_no_bytes(f, text),
+            Reason::NoUid(text) => write_no_uid(f, text),
             Reason::Broadcast => write!(f, "no device has a broadcast UID for its own"),
-            Reason::TooLong => write!(f, "the file has more than 1048576 bytes"),
-            Reason::Unreadable(kind) => write!(f, "the file can't be read: {kind}"),
-            Reason::NoJson { line, column } => write!(f, "no JSON at line {line}, column {column}"),
+            Reason::TooLong(path) => {
+                write!(f, "the file {path:?} has more than {MOST_BYTES} bytes")
+            }
+            Reason::Unreadable(path, kind) => write_unreadable(f, path, *kind),
+            Reason::Empty => write!(f, "the file is empty"),
+            Reason::CutShort(place) => write!(f, "the file ends before its JSON does, at {place}"),
+            Reason::NoJson(place) => write!(f, "the file's JSON is wrong at {place}"),
             Reason::NoScene(mismatch) => write!(f, "{mismatch}"),
             Reason::TooLittle { key, found } => {
                 write!(
@@ -95,14 +104,67 @@ impl fmt::Display for Reason {
     }
 }
 
-// Characters are counted from 1.
-fn write_no_bytes<W: fmt::Write>(f: &mut fmt::Formatter<W>, fault: &FromHexError) -> fmt::Result {
-    match fault {
-        FromHexError::InvalidHexCharacter { c, index } => {
-            let place = index.saturating_add(1);
-            write!(f, "character {place}, {c:?}, is no hexadecimal digit")
+// Where all characters are digits, their number is odd.
+fn write_no_bytes<W: fmt::Write>(f: &mut fmt::Formatter<W>, text: &str) -> fmt::Result {
+    match no_digit(text, None) {
+        Some(place) => write_no_digit(f, place),
+        None => write!(f, "the number of hexadecimal digits is odd"),
+    }
+}
+
+// What a text lacks of a UID, by its characters. One that lacks nothing is a UID.
+fn write_no_uid<W: fmt::Write>(f: &mut fmt::Formatter<W>, text: &str) -> fmt::Result {
+    let count = text.chars().count();
+    if count != UID_LEN {
+        return write!(
+            f,
+            "a UID has {UID_LEN} characters, such as 7a70:00000001; this text has {count}"
+        );
+    }
+    let colon = text.chars().nth(COLON_AT).unwrap_or(':');
+    if colon != ':' {
+        return write!(
+            f,
+            "a UID has a colon after its first four digits; character 5 is {colon:?}"
+        );
+    }
+    match no_digit(text, Some(COLON_AT)) {
+        Some(place) => write_no_digit(f, place),
+        None => write!(f, "a UID has hexadecimal digits"),
+    }
+}
+
+// The first character that is no hexadecimal digit, and its place; the one at the place of a colon doesn't count.
+fn no_digit(text: &str, colon_at: Option<usize>) -> Option<(usize, char)> {
+    text.chars()
+        .enumerate()
+        .find(|(at, c)| !c.is_ascii_hexdigit() && Some(*at) != colon_at)
+}
+
+// Characters are told from 1.
+fn write_no_digit<W: fmt::Write>(f: &mut fmt::Formatter<W>, (at, c): (usize, char)) -> fmt::Result {
+    let number = at.saturating_add(1);
+    write!(f, "character {number}, {c:?}, is no hexadecimal digit")
+}
+
+fn write_unreadable<W: fmt::Write>(
+    f: &mut fmt::Formatter<W>,
+    path: &str,
+    kind: ErrorKind,
+) -> fmt::Result {
+    match kind {
+        ErrorKind::NotFound => write!(f, "the file {path:?} can't be opened: no such file"),
+        ErrorKind::PermissionDenied => {
+            write!(f, "the file {path:?} can't be opened: permission denied")
         }
-        _ => write!(f, "the number of hexadecimal digits is odd"),
+        ErrorKind::NotADirectory => {
+            write!(
+                f,
+                "the file {path:?} can't be opened: a part of its path is no folder"
+            )
+        }
+        ErrorKind::IsADirectory => write!(f, "{path:?} can't be read: it is a folder"),
+        kind => write!(f, "the file {path:?} can't be read: {kind}"),
     }
 }
 

@@ -22,22 +22,23 @@ use std::sync::Wait;
 use std::sync::ledger::Blank;
 use std::thread::Threads;
 
-/// What is printed of the session in the reader's file: of each client its requests in order, and then its discoveries
-/// in order. Each client has a thread, and the worker another.
+/// What is printed of the session in the reader's file, which is the one at the path: of each client its requests in
+/// order, and then its discoveries in order. Each client has a thread, and the worker another.
 // It isn't inlined, as `answer_discover`.
 #[inline(never)]
-pub fn answer_run<R: Read, P: Progress + Send, T: Threads + Wait + Sync>(
+pub fn answer_run<'a, R: Read, P: Progress + Send, T: Threads + Wait + Sync>(
     rt: &T,
     alloc: Global,
+    path: &'a str,
     port: PortKind,
     reader: &mut R,
     progress: &mut P,
-) -> Result<Answered, Refused>
+) -> Result<Answered<'a>, Refused<'a>>
     ensures ok { IfOk result (λ a. Runs (R.remaining reader.old) (answer_bytes a.text) a.status) }
     ensures fault { IfErr result (λ e. IsServeFault (R.remaining reader.old) e.0
         ⊎ IsSessionFileFault (R.remaining reader.old) e.0) }
 {
-    let file = match session_file(alloc, reader) {
+    let file = match session_file(alloc, path, reader) {
         Ok(file) => file,
         Err(refused) => return Err(refused),
     };
@@ -54,7 +55,7 @@ pub fn answer_run<R: Read, P: Progress + Send, T: Threads + Wait + Sync>(
 }
 
 // Why a session with this log and these turns isn't answered.
-fn refused(fault: ServeFault, log: u64, turns: u64) -> Refused
+fn refused<'a>(fault: ServeFault, log: u64, turns: u64) -> Refused<'a>
     ensures { (result.0 ≡ Fault.Memory) ⊎ (result.0 ≡ Fault.Log) ⊎ (result.0 ≡ Fault.Turns) }
 {
     match fault {
@@ -64,12 +65,16 @@ fn refused(fault: ServeFault, log: u64, turns: u64) -> Refused
     }
 }
 
-fn too_little(key: &'static str, found: u64) -> Reason {
+fn too_little<'a>(key: &'static str, found: u64) -> Reason<'a> {
     Reason::TooLittle { key, found }
 }
 
 // The session in the reader's file.
-fn session_file<R: Read>(alloc: Global, reader: &mut R) -> Result<SessionFile, Refused>
+fn session_file<'a, R: Read>(
+    alloc: Global,
+    path: &'a str,
+    reader: &mut R,
+) -> Result<SessionFile, Refused<'a>>
     ensures ok { IfOk result (λ f. ReadsSession (R.remaining reader.old) f) }
     ensures source { IfOk result (λ f. IsDevice f.scene.scene.source) }
     ensures budget { IfOk result (λ f. 1 ≤ f.scene.budget) }
@@ -81,19 +86,19 @@ fn session_file<R: Read>(alloc: Global, reader: &mut R) -> Result<SessionFile, R
     let bytes = match read_file(alloc, reader) {
         Ok(bytes) => bytes,
         Err(FileFault::NoMemory) => return Err((Fault::Memory, None)),
-        Err(fault) => return Err((Fault::File, Reason::of_file(fault))),
+        Err(fault) => return Err((Fault::File, Reason::of_file(path, fault))),
     };
     session_of(alloc, &bytes)
 }
 
 // The session that the bytes of a file say.
-fn session_of(alloc: Global, bytes: &[u8]) -> Result<SessionFile, Refused>
+fn session_of<'a>(alloc: Global, bytes: &[u8]) -> Result<SessionFile, Refused<'a>>
     ensures ok { IfOk result (λ f. SaysSession bytes.now f) }
     ensures fault { IfErr result (λ e. IsSessionTextFault bytes.now e.0) }
 {
     let value = match Value::from_slice(alloc, bytes) {
         Ok(value) => value,
-        Err(error) => return Err(no_json(&error)),
+        Err(error) => return Err(no_json(bytes, &error)),
     };
     if let Some(command) = discovery_command(&value) {
         return Err((Fault::DiscoveryCommand, Reason::of_scene(command)));

@@ -1,4 +1,5 @@
 //! Tells people on standard error why something isn't done, and how far a session or a discovery is.
+use crate::complaint::Complaint;
 use crate::reason::Reason;
 use crate::serving::Progress;
 use std::io;
@@ -6,10 +7,19 @@ use std::rt::Clock;
 use std::time::Instant;
 
 /// Tells a reason.
-pub fn tell(rt: &impl Eprint, reason: &Reason) -> io::Result<()> {
+pub fn tell(rt: &impl Eprint, reason: &Reason<'_>) -> io::Result<()> {
     match reason {
         Reason::Usage => eprintln!(rt; "{reason}"),
         _ => eprintln!(rt; "wurstlinen: {reason}"),
+    }
+}
+
+/// Tells what is wrong with words that fit no command, and then how the program is used. To words that ask for that it
+/// tells nothing else.
+pub fn tell_usage(rt: &impl Eprint, complaint: &Complaint<'_>) -> io::Result<()> {
+    match complaint {
+        Complaint::Help | Complaint::Version => eprintln!(rt; "{complaint}"),
+        _ => eprintln!(rt; "wurstlinen: {complaint}"),
     }
 }
 

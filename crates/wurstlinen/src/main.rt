@@ -6,7 +6,10 @@
 ghost use Rattle.std.specs.Prelude.{◌≡◌, IfOk, map, string_bytes};
 ghost use Rattle.rdm_port.specs.Words.{texts_of};
 
-use rdm_port::{Job, Progressing, WordsFault, carry_out, parse_words, tell};
+use rdm_port::{
+    Complaint, Job, Progressing, Reason, WordsFault, carry_out, complaint_of, parse_words, tell,
+    tell_usage,
+};
 use std::alloc::{AllocError, Global};
 use std::io::Read;
 use std::process::ExitCode;
@@ -18,34 +21,36 @@ use std::{env, fs, io};
 fn main(rt: HostRuntime) -> ExitCode {
     let status = match args(&rt) {
         Ok(args) => obey(&rt, rt.alloc(), &args),
-        Err(fault) => print(&rt, rt.alloc(), Err(fault)),
+        Err(fault) => print(&rt, rt.alloc(), Err(fault), &Complaint::NoText),
     };
     ExitCode::from(status)
 }
 
 fn obey<T: Runtime + Threads + Wait + Sync>(rt: &T, alloc: Global, args: &[String]) -> u8 {
     match words(alloc, args) {
-        Ok(words) => print(rt, alloc, parse_words(alloc, &words)),
-        Err(_) => print(rt, alloc, Err(WordsFault::NoMemory)),
+        Ok(words) => print(rt, alloc, parse_words(alloc, &words), &complaint_of(&words)),
+        Err(_) => print(rt, alloc, Err(WordsFault::NoMemory), &Complaint::Words),
     }
 }
 
-// Prints the answer on standard output, and the reason of what isn't done on standard error.
+// Prints the answer on standard output, and the reason of what isn't done on standard error: the complaint, where the
+// words fit no command.
 fn print<T: Runtime + Threads + Wait + Sync>(
     rt: &T,
     alloc: Global,
     job: Result<Job<'_>, WordsFault>,
+    complaint: &Complaint<'_>,
 ) -> u8 {
     let file = match &job {
         Ok(job) => job.file(),
         Err(_) => None,
     };
     let Some(path) = file else {
-        return print_from(rt, alloc, job, &mut io::empty());
+        return print_from(rt, alloc, job, complaint, &mut io::empty());
     };
     match fs::open(rt, path) {
-        Ok(mut file) => print_from(rt, alloc, job, &mut file),
-        Err(error) => print_from(rt, alloc, job, &mut Unopened(error.kind())),
+        Ok(mut file) => print_from(rt, alloc, job, complaint, &mut file),
+        Err(error) => print_from(rt, alloc, job, complaint, &mut Unopened(error.kind())),
     }
 }
 
@@ -53,14 +58,17 @@ fn print_from<R: Read, T: Runtime + Threads + Wait + Sync>(
     rt: &T,
     alloc: Global,
     job: Result<Job<'_>, WordsFault>,
+    complaint: &Complaint<'_>,
     reader: &mut R,
 ) -> u8 {
     let mut progress = Progressing::new(rt);
     let (status, reason) = carry_out(rt, alloc, job, reader, &mut io::writer(rt), &mut progress);
-    if let Some(reason) = reason {
-        // Where standard error fails too, the status tells of it.
-        let _ = tell(rt, &reason);
-    }
+    // Where standard error fails too, the status tells of it.
+    let _ = match reason {
+        Some(Reason::Usage) => tell_usage(rt, complaint),
+        Some(reason) => tell(rt, &reason),
+        None => Ok(()),
+    };
     status
 }
 

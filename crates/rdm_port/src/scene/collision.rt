@@ -30,6 +30,10 @@ impl Form for CollisionForm {
 
     ghost says = { λ _. IsCollision };
 
+    fn expected(&self) -> &'static str {
+        EXPECTED
+    }
+
     fn read(&self, alloc: Global, value: &Value) -> Result<Collision, SceneFault> {
         if let Some(text) = value.as_str() {
             return match text {

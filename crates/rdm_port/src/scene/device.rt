@@ -49,6 +49,10 @@ impl Form for DeviceForm {
 
     ghost says = { λ _. IsDeviceOf };
 
+    fn expected(&self) -> &'static str {
+        "a device"
+    }
+
     fn read(&self, alloc: Global, value: &Value) -> Result<SceneDevice, SceneFault> {
         let uid = required(alloc, value, "uid", &OwnUid)?;
         let preamble = optional(alloc, value, "preamble", &PREAMBLE, 7)?;
@@ -94,6 +98,10 @@ impl Form for DevicesForm {
     type Out = SceneDevices;
 
     ghost says = { λ _. AreDevices };
+
+    fn expected(&self) -> &'static str {
+        EXPECTED
+    }
 
     fn read(&self, alloc: Global, value: &Value) -> Result<SceneDevices, SceneFault> {
         let Some(values) = value.as_array() else {

@@ -36,7 +36,7 @@ pub struct Step {
 /// What stands at a place.
 #[derive(Debug, Drop)]
 pub enum Found {
-    /// Nothing.
+    /// Nothing, since the key is missing.
     Nothing,
     /// `null`.
     Null,
@@ -72,7 +72,7 @@ impl SceneFault {
         SceneFault::expecting(Found::of(value), expected)
     }
 
-    /// Nothing is where something was expected.
+    /// A key is missing under which something was expected.
     pub(crate) fn missing(expected: &'static str) -> SceneFault
         ensures { is_memory result ≡ false }
     {
@@ -162,7 +162,10 @@ impl fmt::Display for Mismatch {
         if self.steps.is_empty() {
             write!(f, "the file")?;
         }
-        write!(f, ": expected {}, found {}", self.expected, self.found)
+        match &self.found {
+            Found::Nothing => write!(f, ": this key is missing; expected {}", self.expected),
+            found => write!(f, ": expected {}, found {found}", self.expected),
+        }
     }
 }
 

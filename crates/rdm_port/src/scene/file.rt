@@ -91,6 +91,10 @@ impl Form for KnownForm {
 
     ghost says = { λ _. AreKnown };
 
+    fn expected(&self) -> &'static str {
+        KNOWN
+    }
+
     fn read(&self, alloc: Global, value: &Value) -> Result<UidSet, SceneFault> {
         let Some(values) = value.as_array() else {
             return Err(SceneFault::at(value, KNOWN));

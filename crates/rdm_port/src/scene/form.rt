@@ -17,6 +17,9 @@ pub(crate) trait Form {
     /// The value says this.
     ghost says: { Self → Data → Self.Out → Type 0 };
 
+    /// What belongs where it is read, for people.
+    fn expected(&self) -> &'static str;
+
     /// Reads what a value says. A fault other than of memory means that it says nothing of this form.
     fn read(&self, alloc: Global, value: &Value) -> Result<Self::Out, SceneFault>
         ensures { Reads result (says self.now (view value.now)) };
@@ -68,6 +71,10 @@ impl<F: Form> Form for ListOf<F> {
 
     ghost says = { λ l d xs. IsListOf F.Out (F.says l.form) l.least l.most d xs };
 
+    fn expected(&self) -> &'static str {
+        self.expected
+    }
+
     fn read(&self, alloc: Global, value: &Value) -> Result<Listed<F::Out>, SceneFault> {
         let Some(values) = value.as_array() else {
             return Err(SceneFault::at(value, self.expected));
@@ -101,7 +108,7 @@ pub(crate) fn required<F: Form>(
 {
     match object.get(key) {
         Some(value) => read_under(alloc, value, key, form),
-        None if object.is_object() => Err(SceneFault::missing("a value").under(key)),
+        None if object.is_object() => Err(SceneFault::missing(form.expected()).under(key)),
         None => Err(SceneFault::at(object, "an object")),
     }
 }

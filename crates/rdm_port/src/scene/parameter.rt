@@ -29,6 +29,10 @@ impl Form for ParameterForm {
 
     ghost says = { λ _. IsParameter };
 
+    fn expected(&self) -> &'static str {
+        "a parameter"
+    }
+
     fn read(&self, alloc: Global, value: &Value) -> Result<Parameter, SceneFault> {
         let pid = required(alloc, value, "pid", &FourDigits)?;
         let parts = required(alloc, value, "parts", &PARTS)?;

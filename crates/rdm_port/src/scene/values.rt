@@ -24,6 +24,10 @@ impl Form for Whole {
 
     ghost says = { λ w d n. IsWhole w.least w.most d n };
 
+    fn expected(&self) -> &'static str {
+        self.expected
+    }
+
     fn read(&self, _alloc: Global, value: &Value) -> Result<u64, SceneFault> {
         match value.as_u64() {
             Some(n) if self.least <= n && n <= self.most => Ok(n),
@@ -31,6 +35,8 @@ impl Form for Whole {
         }
     }
 }
+
+const EXPECTED_UID: &str = "a UID, such as 7a70:00000001";
 
 /// A UID, which may be a broadcast one.
 #[derive(Clone, Copy, Drop)]
@@ -41,13 +47,17 @@ impl Form for AnyUid {
 
     ghost says = { λ _. IsUid };
 
+    fn expected(&self) -> &'static str {
+        EXPECTED_UID
+    }
+
     fn read(&self, _alloc: Global, value: &Value) -> Result<Uid, SceneFault> {
         let Some(text) = value.as_str() else {
-            return Err(SceneFault::at(value, "a UID, such as 7a70:00000001"));
+            return Err(SceneFault::at(value, EXPECTED_UID));
         };
         match Uid::parse(text) {
             Ok(uid) => Ok(uid),
-            Err(_) => Err(SceneFault::at(value, "a UID, such as 7a70:00000001")),
+            Err(_) => Err(SceneFault::at(value, EXPECTED_UID)),
         }
     }
 }
@@ -61,6 +71,10 @@ impl Form for OwnUid {
 
     ghost says = { λ _. IsOwnUid };
 
+    fn expected(&self) -> &'static str {
+        EXPECTED_UID
+    }
+
     fn read(&self, alloc: Global, value: &Value) -> Result<Uid, SceneFault> {
         match AnyUid.read(alloc, value) {
             Ok(uid) if uid.is_broadcast() => {
@@ -72,6 +86,8 @@ impl Form for OwnUid {
     }
 }
 
+const EXPECTED_DIGITS: &str = "four hexadecimal digits";
+
 /// Four hexadecimal digits.
 #[derive(Clone, Copy, Drop)]
 pub(crate) struct FourDigits;
@@ -81,12 +97,16 @@ impl Form for FourDigits {
 
     ghost says = { λ _. IsFourDigits };
 
+    fn expected(&self) -> &'static str {
+        EXPECTED_DIGITS
+    }
+
     fn read(&self, _alloc: Global, value: &Value) -> Result<u16, SceneFault> {
         let Some(text) = value.as_str() else {
-            return Err(SceneFault::at(value, "four hexadecimal digits"));
+            return Err(SceneFault::at(value, EXPECTED_DIGITS));
         };
         let Ok(bytes) = <[u8; 2]>::from_hex(text) else {
-            return Err(SceneFault::at(value, "four hexadecimal digits"));
+            return Err(SceneFault::at(value, EXPECTED_DIGITS));
         };
         let [high, low] = bytes;
         Ok(u16::from(high) << 8 | u16::from(low))
@@ -104,6 +124,10 @@ impl<const N: usize> Form for Bytes<N> {
     type Out = ArrayVec<u8, N>;
 
     ghost says = { λ b d bytes. IsBytesText b.least N d bytes.items };
+
+    fn expected(&self) -> &'static str {
+        self.expected
+    }
 
     fn read(&self, alloc: Global, value: &Value) -> Result<ArrayVec<u8, N>, SceneFault> {
         let Some(text) = value.as_str() else {

@@ -41,6 +41,10 @@ impl Form for CallForm {
 
     ghost says = { λ _. IsCall };
 
+    fn expected(&self) -> &'static str {
+        EXPECTED
+    }
+
     fn read(&self, alloc: Global, value: &Value) -> Result<ClientCall, SceneFault> {
         let gets = value.get("get").is_some();
         let sets = value.get("set").is_some();
@@ -84,6 +88,8 @@ fn discovery(alloc: Global, value: &Value) -> Result<ClientCall, SceneFault>
     Ok(ClientCall::Discover(kind))
 }
 
+const EXPECTED_KIND: &str = "\"full\" or \"incremental\"";
+
 // A kind of discovery.
 #[derive(Clone, Copy, Drop)]
 struct KindForm;
@@ -95,11 +101,15 @@ impl Form for KindForm {
 
     ghost says = { λ _. IsKind };
 
+    fn expected(&self) -> &'static str {
+        EXPECTED_KIND
+    }
+
     fn read(&self, _alloc: Global, value: &Value) -> Result<Kind, SceneFault> {
         match value.as_str() {
             Some("full") => Ok(Kind::Full),
             Some("incremental") => Ok(Kind::Incremental),
-            _ => Err(SceneFault::at(value, "\"full\" or \"incremental\"")),
+            _ => Err(SceneFault::at(value, EXPECTED_KIND)),
         }
     }
 }

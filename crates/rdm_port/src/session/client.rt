@@ -37,6 +37,10 @@ impl Form for ClientForm {
 
     ghost says = { λ _. IsClient };
 
+    fn expected(&self) -> &'static str {
+        "a client"
+    }
+
     fn read(&self, alloc: Global, value: &Value) -> Result<ClientFile, SceneFault> {
         let places = required(alloc, value, "places", &PLACES)?;
         let calls = required(alloc, value, "calls", &CALLS)?;

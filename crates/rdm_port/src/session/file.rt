@@ -83,10 +83,16 @@ impl Form for SceneForm {
 
     ghost says = { λ _. IsSceneFile };
 
+    fn expected(&self) -> &'static str {
+        "a scene, as a scene file has it"
+    }
+
     fn read(&self, alloc: Global, value: &Value) -> Result<SceneFile, SceneFault> {
         read_scene(alloc, value)
     }
 }
+
+const EXPECTED_SEARCH: &str = "\"steady\" or \"quick\"";
 
 // A search.
 #[derive(Clone, Copy, Drop)]
@@ -99,11 +105,15 @@ impl Form for SearchForm {
 
     ghost says = { λ _. IsSearch };
 
+    fn expected(&self) -> &'static str {
+        EXPECTED_SEARCH
+    }
+
     fn read(&self, _alloc: Global, value: &Value) -> Result<Search, SceneFault> {
         match value.as_str() {
             Some("steady") => Ok(Search::Steady),
             Some("quick") => Ok(Search::Quick),
-            _ => Err(SceneFault::at(value, "\"steady\" or \"quick\"")),
+            _ => Err(SceneFault::at(value, EXPECTED_SEARCH)),
         }
     }
 }

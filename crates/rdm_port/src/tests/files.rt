@@ -18,7 +18,11 @@ const FILE: Job<'static> = Job::Discover {
 };
 
 // The reason for which a file with these bytes isn't answered.
-fn refused<T: Threads + Wait + Sync>(rt: &T, alloc: Global, text: &[u8]) -> Option<Reason> {
+fn refused<T: Threads + Wait + Sync>(
+    rt: &T,
+    alloc: Global,
+    text: &[u8],
+) -> Option<Reason<'static>> {
     let mut reader = text;
     let mut written = Vec::new(alloc);
     let (_, reason) = carry_out(rt, alloc, Ok(FILE), &mut reader, &mut written, &mut Silent);
@@ -41,9 +45,12 @@ pub(super) fn tell(told: &mut Vec<u8>, mismatch: &Mismatch) {
 
 #[test]
 fn tells_what_is_no_scene(rt: HostRuntime) -> Result<(), Fail> {
-    let rows: [(&str, &str); 21] = [
+    let rows: [(&str, &str); 26] = [
         ("[]", "the file: expected an object, found a list of 0"),
-        ("{}", "source: expected a value, found nothing"),
+        (
+            "{}",
+            "source: this key is missing; expected a UID, such as 7a70:00000001",
+        ),
         (
             "{\"source\":null}",
             "source: expected a UID, such as 7a70:00000001, found null",
@@ -59,6 +66,26 @@ fn tells_what_is_no_scene(rt: HostRuntime) -> Result<(), Fail> {
         (
             "{\"source\":\"7a70:00000100\",\"devices\":[{\"uid\":\"1234:00000001\"},{\"uid\":\"1234-00000002\"}]}",
             "devices[1].uid: expected a UID, such as 7a70:00000001, found \"1234-00000002\"",
+        ),
+        (
+            "{\"source\":\"7a70:00000100\",\"devices\":[{}]}",
+            "devices[0].uid: this key is missing; expected a UID, such as 7a70:00000001",
+        ),
+        (
+            "{\"source\":\"7a70:00000100\",\"devices\":[{\"uid\":\"1234:00000001\",\"params\":[{}]}]}",
+            "devices[0].params[0].pid: this key is missing; expected four hexadecimal digits",
+        ),
+        (
+            "{\"source\":\"7a70:00000100\",\"devices\":[{\"uid\":\"1234:00000001\",\"params\":[{\"pid\":\"0060\"}]}]}",
+            "devices[0].params[0].parts: this key is missing; expected a list of 1 to 512 parts",
+        ),
+        (
+            "{\"source\":\"7a70:00000100\",\"devices\":[7]}",
+            "devices[0]: expected an object, found 7",
+        ),
+        (
+            "{\"source\":\"7a70:00000100\",\"collisions\":[{}]}",
+            "collisions[0]: expected \"or\", or an object with either a uid or bytes, found an object",
         ),
         (
             "{\"source\":\"7a70:00000100\",\"devices\":[{\"uid\":\"1234:00000001\"},{\"uid\":\"1234:00000001\"}]}",
@@ -136,16 +163,76 @@ fn tells_what_is_no_scene(rt: HostRuntime) -> Result<(), Fail> {
 
 #[test]
 fn tells_where_json_ends(rt: HostRuntime) -> Result<(), Fail> {
-    let text = b"{\"source\":\n  7a70}";
-    let (written, status) = printed(&rt, rt.alloc(), text, false);
-    assert_eq!(rt;
-        (written.as_slice(), status),
-        (b"fault: json\n".as_slice(), 1)
-    );
-    let Some(Reason::NoJson { line, .. }) = refused(&rt, rt.alloc(), text) else {
-        return Err(Fail::from("a reason"));
-    };
-    assert_eq!(rt; line, 2);
+    let rows: [(&str, &str); 24] = [
+        ("", "the file is empty"),
+        (" \n\t\r\n", "the file is empty"),
+        (
+            "{",
+            "the file ends before its JSON does, at line 1, column 1",
+        ),
+        (
+            "{\"source\":\"7a70:00000100\",\n \"devices\":[",
+            "the file ends before its JSON does, at line 2, column 12",
+        ),
+        (
+            "{\"source\":\n \"7a70:0000",
+            "the file ends before its JSON does, at line 2, column 11",
+        ),
+        (
+            "{\"source\":\n\n",
+            "the file ends before its JSON does, at line 1, column 10",
+        ),
+        (
+            "[\"\u{e4}\u{20ac}\",",
+            "the file ends before its JSON does, at line 1, column 6",
+        ),
+        (
+            "{\"source\":\n  7a70}",
+            "the file's JSON is wrong at line 2, column 3",
+        ),
+        ("7a70", "the file's JSON is wrong at line 1, column 1"),
+        ("{\"a\" 1}", "the file's JSON is wrong at line 1, column 6"),
+        (
+            "{\"a\":1 \"b\":2}",
+            "the file's JSON is wrong at line 1, column 8",
+        ),
+        ("{\"a\":}", "the file's JSON is wrong at line 1, column 6"),
+        ("[1,]", "the file's JSON is wrong at line 1, column 4"),
+        ("{\"a\":1,}", "the file's JSON is wrong at line 1, column 8"),
+        ("{a:1}", "the file's JSON is wrong at line 1, column 2"),
+        ("{'a':1}", "the file's JSON is wrong at line 1, column 2"),
+        ("{\"a\":1}}", "the file's JSON is wrong at line 1, column 8"),
+        (
+            "{\"a\":tru}",
+            "the file's JSON is wrong at line 1, column 6",
+        ),
+        (
+            "{\"\u{e4}\u{20ac}\":tru}",
+            "the file's JSON is wrong at line 1, column 7",
+        ),
+        ("[1 2]", "the file's JSON is wrong at line 1, column 4"),
+        ("[1,,2]", "the file's JSON is wrong at line 1, column 4"),
+        ("1 2", "the file's JSON is wrong at line 1, column 3"),
+        ("[01]", "the file's JSON is wrong at line 1, column 2"),
+        (
+            "// a scene\n{}",
+            "the file's JSON is wrong at line 1, column 1",
+        ),
+    ];
+    for (text, told) in rows {
+        let (written, status) = printed(&rt, rt.alloc(), text.as_bytes(), false);
+        assert_eq!(rt;
+            (written.as_slice(), status),
+            (b"fault: json\n".as_slice(), 1),
+            "{text}"
+        );
+        let reason = refused(&rt, rt.alloc(), text.as_bytes()).ok_or("a reason")?;
+        assert_eq!(rt;
+            format!(in rt.alloc(); "{reason}")?.as_str(),
+            told,
+            "{text}"
+        );
+    }
     Ok(())
 }
 
@@ -219,7 +306,7 @@ fn tells_a_reader_that_fails(rt: HostRuntime) {
         assert!(rt;
             matches!(
                 reason,
-                Some(Reason::Unreadable(io::ErrorKind::UnexpectedEof))
+                Some(Reason::Unreadable("scene.json", io::ErrorKind::UnexpectedEof))
             )
         );
     }

@@ -1,9 +1,12 @@
 //! What people are told on standard error.
+use crate::complaint::{Complaint, complaint_of};
 use crate::input::FileFault;
-use crate::job::parse_words;
+use crate::job::{WordsFault, parse_words};
 use crate::performing::{Silent, carry_out};
 use crate::reason::Reason;
+use crate::tests::files::Broken;
 use crate::tests::replies::Faltering;
+use crate::usage::USAGE;
 use std::alloc::Global;
 use std::io;
 use std::io::Write;
@@ -30,7 +33,7 @@ fn told<T: Threads + Wait + Sync>(
 
 #[test]
 fn tells_why_a_reply_or_a_uid_is_not_read(rt: HostRuntime) {
-    let rows: [(&[&str], &str, u8); 9] = [
+    let rows: [(&[&str], &str, u8); 18] = [
         (
             &["decode", "0g"],
             "character 2, 'g', is no hexadecimal digit",
@@ -41,15 +44,64 @@ fn tells_why_a_reply_or_a_uid_is_not_read(rt: HostRuntime) {
             "the number of hexadecimal digits is odd",
             1,
         ),
-        (&["encode", ""], "a UID has 13 characters", 1),
+        (
+            &["decode", "fe fe"],
+            "character 3, ' ', is no hexadecimal digit",
+            1,
+        ),
+        (
+            &["decode", "fe\u{e4}x"],
+            "character 3, '\u{e4}', is no hexadecimal digit",
+            1,
+        ),
+        (
+            &["encode", ""],
+            "a UID has 13 characters, such as 7a70:00000001; this text has 0",
+            1,
+        ),
+        (
+            &["encode", "7a70:0000001"],
+            "a UID has 13 characters, such as 7a70:00000001; this text has 12",
+            1,
+        ),
+        (
+            &["encode", "7a70:000000001"],
+            "a UID has 13 characters, such as 7a70:00000001; this text has 14",
+            1,
+        ),
+        (
+            &["encode", "7a70:000000\u{e4}"],
+            "a UID has 13 characters, such as 7a70:00000001; this text has 12",
+            1,
+        ),
         (
             &["encode", "7a70-00000001"],
-            "a UID has a colon after its first four digits",
+            "a UID has a colon after its first four digits; character 5 is '-'",
+            1,
+        ),
+        (
+            &["encode", "7a70\u{e4}0000000g"],
+            "a UID has a colon after its first four digits; character 5 is '\u{e4}'",
             1,
         ),
         (
             &["encode", "7a70:0000000g"],
-            "a UID has hexadecimal digits",
+            "character 13, 'g', is no hexadecimal digit",
+            1,
+        ),
+        (
+            &["encode", ":::::::::::::"],
+            "character 1, ':', is no hexadecimal digit",
+            1,
+        ),
+        (
+            &["encode", "7a70:0000000\u{e4}"],
+            "character 13, '\u{e4}', is no hexadecimal digit",
+            1,
+        ),
+        (
+            &["encode", "7a7 :0000000g"],
+            "character 4, ' ', is no hexadecimal digit",
             1,
         ),
         (
@@ -75,8 +127,23 @@ fn tells_why_a_reply_or_a_uid_is_not_read(rt: HostRuntime) {
 
 #[test]
 fn tells_why_a_file_is_not_answered(rt: HostRuntime) {
-    let rows: [(&str, &str, &str); 6] = [
-        ("discover", "{", "no JSON at line 1, column 1"),
+    let rows: [(&str, &str, &str); 9] = [
+        ("discover", "", "the file is empty"),
+        (
+            "discover",
+            "{",
+            "the file ends before its JSON does, at line 1, column 1",
+        ),
+        (
+            "run",
+            "{\n \"scene\": {,}",
+            "the file's JSON is wrong at line 2, column 12",
+        ),
+        (
+            "run",
+            "{\"scene\":{\"source\":\"7a70:00000100\"}}",
+            "clients: this key is missing; expected a list of 1 to 16 clients",
+        ),
         (
             "discover",
             "{\"source\":7}",
@@ -115,14 +182,33 @@ fn tells_why_a_file_is_not_answered(rt: HostRuntime) {
 #[test]
 fn tells_why_a_file_is_not_read(rt: HostRuntime) -> Result<(), Fail> {
     let rows = [
-        (FileFault::TooLong, "the file has more than 1048576 bytes"),
+        (
+            FileFault::TooLong,
+            "the file \"rigs/my rig.json\" has more than 1048576 bytes",
+        ),
         (
             FileFault::Unreadable(io::ErrorKind::NotFound),
-            "the file can't be read: entity not found",
+            "the file \"rigs/my rig.json\" can't be opened: no such file",
+        ),
+        (
+            FileFault::Unreadable(io::ErrorKind::PermissionDenied),
+            "the file \"rigs/my rig.json\" can't be opened: permission denied",
+        ),
+        (
+            FileFault::Unreadable(io::ErrorKind::NotADirectory),
+            "the file \"rigs/my rig.json\" can't be opened: a part of its path is no folder",
+        ),
+        (
+            FileFault::Unreadable(io::ErrorKind::IsADirectory),
+            "\"rigs/my rig.json\" can't be read: it is a folder",
+        ),
+        (
+            FileFault::Unreadable(io::ErrorKind::UnexpectedEof),
+            "the file \"rigs/my rig.json\" can't be read: unexpected end of file",
         ),
     ];
     for (fault, line) in rows {
-        let reason = Reason::of_file(fault).ok_or("a reason")?;
+        let reason = Reason::of_file("rigs/my rig.json", fault).ok_or("a reason")?;
         assert_eq!(rt; format!(in rt.alloc(); "{reason}")?.as_str(), line);
     }
     Ok(())
@@ -139,7 +225,165 @@ fn tells_that_an_answer_is_not_written(rt: HostRuntime) {
     assert_eq!(rt; status, 1);
 }
 
-// Words that are none, those for help and a version among them, are answered with each word and an example.
+// What is told of a file that can't be opened or read names it as the words do.
+#[test]
+fn tells_which_file_is_not_read(rt: HostRuntime) -> Result<(), Fail> {
+    for command in ["discover", "run"] {
+        let words = [command, "no_file.json"];
+        let job = parse_words(rt.alloc(), &words);
+        let mut written = Vec::new(rt.alloc());
+        let mut reader = Broken { front: b"" };
+        let (_, reason) = carry_out(&rt, rt.alloc(), job, &mut reader, &mut written, &mut Silent);
+        let reason = reason.ok_or("a reason")?;
+        assert_eq!(rt;
+            format!(in rt.alloc(); "{reason}")?.as_str(),
+            "the file \"no_file.json\" can't be read: unexpected end of file"
+        );
+    }
+    Ok(())
+}
+
+// The words are looked at from the first to the last, and how the program is used is told after what is wrong.
+#[test]
+fn tells_which_word_is_not_understood(rt: HostRuntime) -> Result<(), Fail> {
+    let rows: [(&[&str], &str); 32] = [
+        (&[], "the command is missing"),
+        (&["walk", "file"], "\"walk\" is no command"),
+        (&["Decode", "00"], "\"Decode\" is no command"),
+        (&["", "00"], "\"\" is no command"),
+        (
+            &["--quick", "discover", "file"],
+            "\"--quick\" is no command",
+        ),
+        (&["my\nword"], "\"my\\nword\" is no command"),
+        (&["decode"], "the HEX of decode is missing"),
+        (&["encode"], "the UID of encode is missing"),
+        (&["discover"], "the FILE of discover is missing"),
+        (&["discover", "--quick"], "the FILE of discover is missing"),
+        (&["run"], "the FILE of run is missing"),
+        (&["run", "--port", "rings"], "the FILE of run is missing"),
+        (&["decode", "00", "01"], "\"01\" is one word too many"),
+        (&["decode", "-", "-"], "\"-\" is one word too many"),
+        (&["decode", "--", "-0", "-1"], "\"-1\" is one word too many"),
+        (&["run", "a", "b", "c"], "\"b\" is one word too many"),
+        (&["decode", "-0"], "decode has no option \"-0\""),
+        (
+            &["encode", "--uid=7a70:00000001"],
+            "encode has no option \"--uid=7a70:00000001\"",
+        ),
+        (
+            &["discover", "file", "--quik"],
+            "discover has no option \"--quik\"",
+        ),
+        (&["discover", "-q", "file"], "discover has no option \"-q\""),
+        (
+            &["discover", "file", "--port", "rings"],
+            "discover has no option \"--port\"",
+        ),
+        (&["run", "file", "--quick"], "run has no option \"--quick\""),
+        (
+            &["discover", "file", "--quick", "--quick"],
+            "the option --quick stands twice",
+        ),
+        (
+            &["discover", "--incremental", "--quick", "--incremental"],
+            "the option --incremental stands twice",
+        ),
+        (
+            &["run", "--port=locked", "file", "--port", "rings"],
+            "the option --port stands twice",
+        ),
+        (
+            &["discover", "file", "--quick=yes"],
+            "the option --quick takes no value",
+        ),
+        (
+            &["run", "file", "--port"],
+            "the value of --port is missing: locked or rings",
+        ),
+        (
+            &["run", "--port", "--", "file"],
+            "the value of --port is missing: locked or rings",
+        ),
+        (
+            &["run", "file", "--port", "Rings"],
+            "--port is locked or rings, not \"Rings\"",
+        ),
+        (
+            &["run", "file", "--port", ""],
+            "--port is locked or rings, not \"\"",
+        ),
+        (
+            &["run", "--port=-x", "file"],
+            "--port is locked or rings, not \"-x\"",
+        ),
+        (
+            &["run", "--port", "file"],
+            "--port is locked or rings, not \"file\"",
+        ),
+    ];
+    for (words, line) in rows {
+        assert_eq!(rt;
+            parse_words(rt.alloc(), words),
+            Err(WordsFault::Words),
+            "{words:?}"
+        );
+        let complaint = complaint_of(words);
+        assert_eq!(rt;
+            format!(in rt.alloc(); "{complaint}")?.as_str(),
+            format!(in rt.alloc(); "{line}\n{USAGE}")?.as_str(),
+            "{words:?}"
+        );
+    }
+    Ok(())
+}
+
+// Words for help and for the version are no words of the program either, but they are understood.
+#[test]
+fn tells_what_words_for_help_ask(rt: HostRuntime) -> Result<(), Fail> {
+    let rows: [(&[&str], &str); 9] = [
+        (&["help"], ""),
+        (&["help", "decode"], ""),
+        (&["-h"], ""),
+        (&["--help"], ""),
+        (&["decode", "00", "-h"], ""),
+        (&["run", "file", "--port", "--help"], ""),
+        (&["-V"], "\nversion: 1.0.0"),
+        (&["--version"], "\nversion: 1.0.0"),
+        (&["discover", "--version"], "\nversion: 1.0.0"),
+    ];
+    for (words, line) in rows {
+        assert_eq!(rt;
+            parse_words(rt.alloc(), words),
+            Err(WordsFault::Words),
+            "{words:?}"
+        );
+        let complaint = complaint_of(words);
+        assert_eq!(rt;
+            format!(in rt.alloc(); "{complaint}")?.as_str(),
+            format!(in rt.alloc(); "{USAGE}{line}")?.as_str(),
+            "{words:?}"
+        );
+    }
+    Ok(())
+}
+
+#[test]
+fn tells_what_else_is_wrong_with_words(rt: HostRuntime) -> Result<(), Fail> {
+    let rows = [
+        (Complaint::NoText, "one of the words is no UTF-8 text"),
+        (Complaint::Words, "the words fit no command"),
+    ];
+    for (complaint, line) in rows {
+        assert_eq!(rt;
+            format!(in rt.alloc(); "{complaint}")?.as_str(),
+            format!(in rt.alloc(); "{line}\n{USAGE}")?.as_str()
+        );
+    }
+    Ok(())
+}
+
+// Whatever the words are, the usage has each command with an example.
 #[test]
 fn tells_how_it_is_used(rt: HostRuntime) {
     let asked: [&[&str]; 5] = [&[], &["help"], &["--help"], &["--version"], &["run"]];

@@ -10,7 +10,11 @@ use std::test::Fail;
 use std::thread::Threads;
 
 // The reason for which a session file with these bytes isn't answered.
-fn refused<T: Threads + Wait + Sync>(rt: &T, alloc: Global, text: &[u8]) -> Option<Reason> {
+fn refused<T: Threads + Wait + Sync>(
+    rt: &T,
+    alloc: Global,
+    text: &[u8],
+) -> Option<Reason<'static>> {
     let mut reader = text;
     let mut written = Vec::new(alloc);
     let job = Ok(Job::Run {
@@ -33,7 +37,7 @@ fn mismatch_of<T: Threads + Wait + Sync>(rt: &T, alloc: Global, text: &[u8]) -> 
 
 #[test]
 fn tells_what_is_no_session(rt: HostRuntime) -> Result<(), Fail> {
-    let rows: [(&str, &str, &str); 29] = [
+    let rows: [(&str, &str, &str); 31] = [
         (
             "[]",
             "fault: scene\n",
@@ -42,17 +46,27 @@ fn tells_what_is_no_session(rt: HostRuntime) -> Result<(), Fail> {
         (
             "{}",
             "fault: scene\n",
-            "scene: expected a value, found nothing",
+            "scene: this key is missing; expected a scene, as a scene file has it",
         ),
         (
             "{\"scene\":{}}",
             "fault: scene\n",
-            "scene.source: expected a value, found nothing",
+            "scene.source: this key is missing; expected a UID, such as 7a70:00000001",
         ),
         (
             "{\"scene\":{\"source\":\"7a70:00000100\",\"devices\":[{\"uid\":\"1234:00000001\",\"params\":[{\"pid\":\"0060\",\"parts\":[\"01\",\"0g\"]}]}]},\"clients\":[]}",
             "fault: scene\n",
             "scene.devices[0].params[0].parts[1]: expected hexadecimal digits of 0 to 231 bytes, found \"0g\"",
+        ),
+        (
+            "{\"scene\":{\"source\":\"7a70:00000100\"}}",
+            "fault: scene\n",
+            "clients: this key is missing; expected a list of 1 to 16 clients",
+        ),
+        (
+            "{\"scene\":{\"source\":\"7a70:00000100\"},\"clients\":[{\"places\":1,\"calls\":[{\"set\":\"1234:00000001\"}]}]}",
+            "fault: scene\n",
+            "clients[0].calls[0].pid: this key is missing; expected four hexadecimal digits",
         ),
         (
             "{\"scene\":{\"source\":\"7a70:00000100\"},\"clients\":[]}",
@@ -67,7 +81,7 @@ fn tells_what_is_no_session(rt: HostRuntime) -> Result<(), Fail> {
         (
             "{\"scene\":{\"source\":\"7a70:00000100\"},\"clients\":[{\"calls\":[]}]}",
             "fault: scene\n",
-            "clients[0].places: expected a value, found nothing",
+            "clients[0].places: this key is missing; expected a whole number from 1 to 255",
         ),
         (
             "{\"scene\":{\"source\":\"7a70:00000100\"},\"clients\":[{\"places\":0,\"calls\":[]}]}",
@@ -82,7 +96,7 @@ fn tells_what_is_no_session(rt: HostRuntime) -> Result<(), Fail> {
         (
             "{\"scene\":{\"source\":\"7a70:00000100\"},\"clients\":[{\"places\":1}]}",
             "fault: scene\n",
-            "clients[0].calls: expected a value, found nothing",
+            "clients[0].calls: this key is missing; expected a list of calls",
         ),
         (
             "{\"scene\":{\"source\":\"7a70:00000100\"},\"clients\":[{\"places\":1,\"calls\":{}}]}",
@@ -112,7 +126,7 @@ fn tells_what_is_no_session(rt: HostRuntime) -> Result<(), Fail> {
         (
             "{\"scene\":{\"source\":\"7a70:00000100\"},\"clients\":[{\"places\":1,\"calls\":[{\"get\":\"1234:00000001\"}]}]}",
             "fault: scene\n",
-            "clients[0].calls[0].pid: expected a value, found nothing",
+            "clients[0].calls[0].pid: this key is missing; expected four hexadecimal digits",
         ),
         (
             "{\"scene\":{\"source\":\"7a70:00000100\"},\"clients\":[{\"places\":1,\"calls\":[{\"get\":null,\"pid\":\"0060\"}]}]}",
