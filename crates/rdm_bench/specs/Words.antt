@@ -3,8 +3,10 @@ use Rattle.std.specs.Prelude.{◌≡◌, ◌≤◌, ◌<◌, ◌^◌, ℕ, List,
 use Rattle.std.specs.Str.Parse.{IsNumeral, digits_value, without_leading_plus}
 use Rattle.rdm_bench.specs.declared.job.Subject.{Subject}
 use Rattle.rdm_bench.specs.declared.job.Subject.TheVariants.{Agent, Calls, Queue, Log, Frames, Port, Rings, Scenes, All}
+use Rattle.rdm_bench.specs.declared.job.PortKind.{PortKind}
+use Rattle.rdm_bench.specs.declared.job.PortKind.TheVariants.{Locked, Rings as OverRings}
 use Rattle.rdm_bench.specs.declared.job.Job.{Job}
-use Rattle.rdm_bench.specs.declared.job.Job.TheVariants.{Sizes, Time}
+use Rattle.rdm_bench.specs.declared.job.Job.TheVariants.{Sizes, Time, Soak}
 
 -- the word that names a subject
 abbrev pub name_of : Subject → List ℕ
@@ -17,6 +19,11 @@ name_of Port = codes "port"
 name_of Rings = codes "rings"
 name_of Scenes = codes "scenes"
 name_of All = codes "all"
+
+-- the word that names a kind of port
+abbrev pub name_of_port : PortKind → List ℕ
+name_of_port Locked = codes "locked"
+name_of_port OverRings = codes "rings"
 
 -- a subject may have this size
 abbrev pub Takes : Subject → ℕ → Type 0
@@ -41,6 +48,10 @@ Asks words Sizes = words ≡ codes "sizes" ∷ []
 Asks words (Time subject size rounds) =
     (first second : List ℕ) × (words ≡ name_of subject ∷ first ∷ second ∷ []) × Spells first size × Spells second rounds
     × Takes subject size × (1 ≤ rounds) × (rounds ≤ 1000)
+Asks words (Soak kind ports requests) =
+    (first second : List ℕ) × (words ≡ codes "soak" ∷ name_of_port kind ∷ first ∷ second ∷ [])
+    × Spells first ports × Spells second requests
+    × (1 ≤ ports) × (ports ≤ 100) × (1 ≤ requests) × (requests ≤ 100000)
 
 -- the words ask for no job
 abbrev pub AsksNothing : List (List ℕ) → Type 0

@@ -24,8 +24,17 @@ pub(crate) enum Subject {
     Rings,
     /// Whole runs on lines that lose, lie and fail; nothing is timed.
     Scenes,
-    /// Each of these but scenes, and the sizes of the values.
+    /// Each of these but scenes, a small soak, and the sizes of the values.
     All,
+}
+
+/// How the clients of a soak reach their session.
+#[derive(Clone, Copy, Debug, PartialEq, Eq)]
+pub(crate) enum PortKind {
+    /// Behind a lock.
+    Locked,
+    /// Over rings.
+    Rings,
 }
 
 /// What the words ask for.
@@ -42,6 +51,15 @@ pub(crate) enum Job {
         /// How often each sample repeats its work, 1 to 1,000.
         rounds: usize,
     },
+    /// Count what the clients of ports are told.
+    Soak {
+        /// How they reach their session.
+        kind: PortKind,
+        /// How many ports there are, one after another: 1 to 100.
+        ports: usize,
+        /// How many requests each has, 1 to 100,000.
+        requests: usize,
+    },
 }
 
 /// How many requests a log is filled by at most.
@@ -56,6 +74,12 @@ const MOST_WAITING: usize = 255;
 /// How often a sample repeats its work at most.
 const MOST_ROUNDS: usize = 1_000;
 
+/// How many ports are soaked at most.
+const MOST_PORTS: usize = 100;
+
+/// How many requests each of them has at most.
+const MOST_SOAKED: usize = 100_000;
+
 /// What the words after the program's name ask for; None where they ask for nothing.
 pub(crate) fn parse_words(words: &[String]) -> Option<Job>
     ensures some { IfSome result (Asks (map string_bytes words.now)) }
@@ -64,6 +88,12 @@ pub(crate) fn parse_words(words: &[String]) -> Option<Job>
     match words {
         [word] if word.as_str() == "sizes" => Some(Job::Sizes),
         [subject, size, rounds] => timed(subject.as_str(), size.as_str(), rounds.as_str()),
+        [word, kind, ports, requests] => soaked(
+            word.as_str(),
+            kind.as_str(),
+            ports.as_str(),
+            requests.as_str(),
+        ),
         _ => None,
     }
 }
@@ -81,6 +111,28 @@ fn timed(subject: &str, size: &str, rounds: &str) -> Option<Job>
             subject,
             size,
             rounds,
+        })
+    } else {
+        None
+    }
+}
+
+fn soaked(word: &str, kind: &str, ports: &str, requests: &str) -> Option<Job>
+    ensures some { IfSome result (Asks (word.now ∷ kind.now ∷ ports.now ∷ requests.now ∷ [])) }
+    ensures none { IfNone result (AsksNothing (word.now ∷ kind.now ∷ ports.now ∷ requests.now ∷ [])) }
+{
+    if word != "soak" {
+        return None;
+    }
+    let kind = PortKind::named(kind)?;
+    let ports = number(ports)?;
+    let requests = number(requests)?;
+    let is_in_range = 1 <= ports && ports <= MOST_PORTS && 1 <= requests && requests <= MOST_SOAKED;
+    if is_in_range {
+        Some(Job::Soak {
+            kind,
+            ports,
+            requests,
         })
     } else {
         None
@@ -129,6 +181,22 @@ impl Subject {
             Subject::Rings => 1 <= size && size <= MOST_WAITING,
             Subject::Scenes => 1 <= size && size <= MOST_SCENES,
             Subject::All => 1 <= size && size <= MOST_PARAMETER_BYTES,
+        }
+    }
+}
+
+impl PortKind {
+    ghost use Rattle.rdm_bench.specs.declared.job.PortKind.{PortKind};
+    ghost use Rattle.rdm_bench.specs.Words.{name_of_port};
+
+    // The one that the word names.
+    fn named(word: &str) -> Option<PortKind>
+        ensures { MatchOption result ((k : PortKind) → word.now ≡ name_of_port k → ⊥) (λ k. word.now ≡ name_of_port k) }
+    {
+        match word {
+            "locked" => Some(PortKind::Locked),
+            "rings" => Some(PortKind::Rings),
+            _ => None,
         }
     }
 }

@@ -9,6 +9,7 @@ mod calls;
 mod clients;
 mod devices;
 mod discoveries;
+mod drive;
 mod fault;
 mod frames;
 mod job;
@@ -19,12 +20,17 @@ mod packets;
 mod port;
 mod queue;
 mod random;
+mod resident;
 mod rings;
 mod scenes;
 mod seeded;
 mod serving;
 mod sizes;
+mod soak;
+mod soak_line;
+mod soaked;
 mod strays;
+mod tally;
 mod tape;
 mod views;
 
@@ -33,12 +39,13 @@ use crate::fault::Fault;
 use crate::job::{Job, Subject, parse_words};
 use std::env::Env;
 use std::process::ExitCode;
+use std::rt::Files;
 use std::sync::Wait;
 use std::time::CpuClock;
 use std::{env, io};
 
 const USAGE: &str = "\
-usage: rdm_bench SUBJECT SIZE ROUNDS | rdm_bench sizes
+usage: rdm_bench SUBJECT SIZE ROUNDS | rdm_bench soak locked|rings PORTS REQUESTS | rdm_bench sizes
   agent   discovery runs; SIZE: devices on the line, 1 to 1024
   calls   single calls; SIZE: bytes of parameter data, 0 to 231
   queue   the queue of requests and discoveries; SIZE: requests that wait, 1 to 4080
@@ -48,7 +55,9 @@ usage: rdm_bench SUBJECT SIZE ROUNDS | rdm_bench sizes
   rings   clients over rings, and views that they read; SIZE: requests that wait, 1 to 255
   scenes  whole runs on lines that lose, lie and fail; SIZE: scenes of each kind, 1 to 10000; ROUNDS: on how many
           lines of each kind that aren't honest
-  all     each of these but scenes, and the sizes; SIZE: 1 to 231
+  all     each of these but scenes, a small soak, and the sizes; SIZE: 1 to 231
+  soak    what sixteen clients are told, behind a lock or over rings; PORTS: one after another, 1 to 100; REQUESTS: of
+          each port, 1 to 100000
   sizes   how many bytes the values take
 ROUNDS: how often each of the 21 samples repeats its work, 1 to 1000";
 
@@ -59,7 +68,9 @@ fn main(rt: HostRuntime) -> ExitCode {
     }
 }
 
-fn run<R: Env + AllocGlobal + CpuClock + Print + Eprint + Wait>(rt: &R) -> Result<(), Fault> {
+fn run<R: Env + Files + AllocGlobal + CpuClock + Print + Eprint + Wait>(
+    rt: &R,
+) -> Result<(), Fault> {
     let words = env::args(rt)?.skip(1).collect::<Vec<String>>(rt.alloc())?;
     match parse_words(&words).ok_or(Fault::Words)? {
         Job::Sizes => sizes::print(rt),
@@ -75,6 +86,11 @@ fn run<R: Env + AllocGlobal + CpuClock + Print + Eprint + Wait>(rt: &R) -> Resul
             };
             time(&bench, subject, size)
         }
+        Job::Soak {
+            kind,
+            ports,
+            requests,
+        } => soak::tell(rt, rt.alloc(), kind, ports, requests),
     }
 }
 
@@ -104,6 +120,7 @@ fn time<R: CpuClock + Print + Eprint + Wait>(
             port::time(bench, size)?;
             rings::time(bench, size)?;
             views::time(bench)?;
+            soak::tell_small(bench.rt, bench.alloc, size)?;
             sizes::print(bench.rt)
         }
     }

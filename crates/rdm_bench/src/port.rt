@@ -18,7 +18,8 @@ use std::sync::Wait;
 use std::sync::ledger::{Blank, Ledger};
 use std::time::CpuClock;
 
-type Client<'a, L> = LockedClient<'a, L, Note, AskNote>;
+/// A client of a port.
+pub(crate) type Client<'a, L> = LockedClient<'a, L, Note, AskNote>;
 
 /// Times requests while this many wait.
 pub(crate) fn time<R: CpuClock + Print + Eprint + Wait>(
@@ -42,7 +43,7 @@ fn time_one<L: Ledger, R: CpuClock + Print + Eprint + Wait>(
 {
     let turns = bench.rounds.wrapping_mul(SAMPLES);
     let requests = turns.wrapping_add(waiting);
-    let port = new_port::<L>(bench.alloc, blank, requests)?;
+    let port = new_port::<L>(bench.alloc, blank, entries_for(requests))?;
     let line = answering(bench.alloc, turns)?;
     let mut turns = Turns {
         rt: bench.rt,
@@ -69,30 +70,36 @@ fn time_one<L: Ledger, R: CpuClock + Print + Eprint + Wait>(
     timed
 }
 
-// A port with room for this many requests in its log.
-fn new_port<L: Ledger>(alloc: Global, blank: Blank, requests: usize) -> Result<Port<L>, Fault>
+/// A port with room for this many entries in its log.
+pub(crate) fn new_port<L: Ledger>(
+    alloc: Global,
+    blank: Blank,
+    free: usize,
+) -> Result<Port<L>, Fault>
     requires name { blank.name ≡ L.name }
     requires parts { (blank.parts ≡ L.parts) × (L.parts ≡ 17) }
 {
-    let log = new_log(alloc, entries_for(requests))?;
+    let log = new_log(alloc, free)?;
     match Port::new(alloc, blank, config(), log) {
         Ok(port) => Ok(port),
         Err(_) => Err(Fault::NoMemory),
     }
 }
 
-// Lets this many clients join, with all the places that one may have.
-fn join<'a, L: Ledger, R: Wait>(
-    bench: &Bench<'_, R>,
+/// Lets this many clients join, each with this many places.
+pub(crate) fn join<'a, L: Ledger, R: Wait>(
+    rt: &R,
+    alloc: Global,
     port: &'a Port<L>,
     count: u8,
+    places: u8,
     clients: &mut Vec<Client<'a, L>>,
 ) -> Result<(), Fault> {
     for _ in 0..count {
         if clients.reserve(1).is_err() {
             return Err(Fault::NoMemory);
         }
-        match port.client(bench.rt, bench.alloc, u8::MAX) {
+        match port.client(rt, alloc, places) {
             Ok(client) => clients.push_reserved(client),
             Err(_) => return Err(Fault::Unexpected("Port::client")),
         }
@@ -155,7 +162,14 @@ struct Turns<'a, L: Ledger, R> {
 impl<L: Ledger, R: CpuClock + Print + Eprint + Wait> Turns<'_, L, R> {
     // Lets the clients join and submit, and times the turns.
     fn time(&mut self, bench: &Bench<'_, R>, scene: &Scene, waiting: usize) -> Result<(), Fault> {
-        join(bench, self.port, scene.clients, &mut self.clients)?;
+        join(
+            bench.rt,
+            bench.alloc,
+            self.port,
+            scene.clients,
+            u8::MAX,
+            &mut self.clients,
+        )?;
         for _ in 0..waiting {
             self.submit()?;
         }
