@@ -15,8 +15,8 @@ use Rattle.rdm_agent.specs.declared.kind.Kind.{Kind}
 use Rattle.rdm_agent.specs.declared.search.Search.{Search}
 use Rattle.rdm_agent.specs.declared.limits.TheConstants.{MOST_RANGES, UNMUTES}
 
--- whatever the line replies, this holds of each agent b that a run comes to by the exchanges x: a run of this search and
--- kind, with this known set and budget
+-- whatever the line replies, this holds of each agent b that a run comes to by the exchanges x: a run of this search
+-- and kind, with this known set and budget
 abbrev pub OfEachRun : Search → (Kind → List ℕ → ℕ → List Seen → AgentState → Type 0) → Type 0
 OfEachRun search P =
     (kind : Kind) (known : List ℕ) (budget : ℕ) (x : List Seen) (b : AgentState) →
