@@ -12,8 +12,8 @@ use Rattle.rdm_agent.specs.declared.fault.AgentFault.{AgentFault}
 use Rattle.rdm_agent.specs.declared.op.Op.TheVariants.{End}
 use Rattle.rdm_line.specs.Events.{Exchange}
 
--- the agent a goes on: what it asks stands in a frame from this source with this transaction number, the line makes its
--- step with that frame, and a hears what came
+-- The agent a goes on. What it asks stands in a frame from this source with this transaction number. The line makes its
+-- step with that frame, and a hears what came.
 pub record GoesOn (L : Type 0) (step : L → Exchange → L → Type 0) (source tn : ℕ) (a : AgentState) (old : L)
     (b : AgentState) (new : L) : Type 0 where
   pub exchange : Exchange

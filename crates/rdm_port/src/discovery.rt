@@ -85,8 +85,8 @@ fn read(op: Op, source: Uid, tn: u8, answer: &Result<LineReply, LineFault>) -> O
 
 /// Makes a discovery run on a simulated line of this scene. [`NoMemory`]: memory was refused, and no run was made.
 ///
-/// As long as no five replies of a kind are lost in succession, it finds each device that is on the line throughout,
-/// and none that never is. Every thousandth exchange is told.
+/// It finds each device that is on the line throughout, and none that never is. The premise: no five replies of a kind
+/// are lost in succession. Every thousandth exchange is told.
 pub fn discover_in<P: Progress>(
     alloc: Global,
     scene: Scene,

@@ -27,8 +27,8 @@ pub fn what_words_ask()
     ensures help_of_command { AsksNothing (codes "decode" ∷ codes "--help" ∷ []) }
 {}
 
-/// A run on the line of a scene reports honestly, as long as no five replies of a kind were lost in succession in its
-/// steps: branches that a device was due to answer, and mutes of a present device.
+/// A run on the line of a scene reports honestly, as long as its steps lost no five replies of a kind in succession.
+/// Such a reply is that to a branch which a device was due to answer, or to a mute of a present device.
 pub fn few_losses_are_honest()
     ensures { (scene : Scene) (search : Search) (kind : Kind) (known : List ℕ) (budget : ℕ)
         (found : Result (List Device) (AgentFault × List Device)) (frames : ℕ)

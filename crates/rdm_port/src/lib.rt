@@ -1,5 +1,5 @@
-//! What the program `wurstlinen` does: reads and writes the replies of RDM devices to a branch of the discovery tree,
-//! discovers simulated devices, and runs sessions of clients on a simulated line.
+//! What the program `wurstlinen` does. It reads and writes the replies of RDM devices to a branch of the discovery
+//! tree. It discovers simulated devices, and runs sessions of clients on a simulated line.
 //!
 //! [`parse_words`] finds the [`Job`] that a command line asks for, and [`perform`] prints its answer. A [`Reason`] says
 //! for people why something isn't done, and a [`Complaint`] what is wrong with words that ask for nothing. A session

@@ -20,9 +20,12 @@ use std::thread::Threads;
 
 const NOT_WRITTEN: u8 = 1;
 
-/// Prints what answers a command line, and gives its status: 0 where it is done, 1 where there is a fault or the
-/// writer fails, 2 where the words fit no command (profile of this project). The reader is for a command that reads a
-/// file; one whose reads fail stands for a file that can't be opened.
+/// Prints what answers a command line, and gives its status (profile of this project):
+/// - 0 where it is done;
+/// - 1 where there is a fault, or the writer fails;
+/// - 2 where the words fit no command.
+///
+/// The reader is for a command that reads a file; one whose reads fail stands for a file that can't be opened.
 pub fn perform<R: Read, W: Write, T: Threads + Wait + Sync>(
     rt: &T,
     alloc: Global,

@@ -385,8 +385,8 @@ impl Session {
     }
 
     /// Goes on with a new log, and hands back the old one with its entries. A log has room for a fixed number of
-    /// entries. So a session that is to go on takes a new one from time to time. The log that is handed back
-    /// may be the next one, once it is [`cleared`](Log::cleared).
+    /// entries. So a session that is to go on takes a new one from time to time. The log that is handed back may be the
+    /// next one, once it is [`cleared`](Log::cleared).
     ///
     /// An entry takes 296 bytes. A request takes 5 entries where one frame is enough for it, and 2 for each frame
     /// more. A discovery takes 3, and its run 2 for each frame. On an honest line a run with `n` devices and `k` known

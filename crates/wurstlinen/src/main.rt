@@ -1,4 +1,4 @@
-//! Reads and writes the replies of RDM devices to a branch of the discovery tree, discovers simulated devices, and runs
+//! Reads and writes the replies of RDM devices to a branch of the discovery tree. Discovers simulated devices, and runs
 //! sessions of clients on a simulated line. What it prints is the work of `rdm_port`; here are the words of the
 //! process, its files and its streams.
 #![tactic(auto)]

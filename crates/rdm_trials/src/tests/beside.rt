@@ -14,8 +14,8 @@ use std::thread::{Threads, join_mut};
 /// More turns than a worker takes.
 const TURNS: u64 = 1_000_000_000;
 
-/// Lets the client do what its body says, beside the worker, which waits until it may begin, and the operator, which
-/// closes once it is asked to. Why the worker stopped.
+/// Lets the client do what its body says, beside the worker and the operator. The worker waits until it may begin, and
+/// the operator closes once it is asked to. Why the worker stopped.
 pub fn beside<
     J: ViewHistory + Send + Sync,
     B: Body<Note, AskNote> + Send,

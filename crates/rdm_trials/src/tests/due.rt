@@ -7,8 +7,8 @@ use rdm_join::Status;
 /// How many exchanges there are without a close: ten of the run, and one of the request.
 pub const EXCHANGES: usize = 11;
 
-/// What a client is told of its request and its discoveries, all with the tags or numbers 0 and 1, where this many
-/// exchanges were made before the close, and this many of the three calls were accepted, in this order.
+/// What a client is told of its request and its discoveries, in this order; all have the tags or numbers 0 and 1. This
+/// many exchanges were made before the close, and this many of the three calls were accepted.
 ///
 /// Before the first exchange the request comes first, since no run has begun. Later the run comes first. It is aborted
 /// unless all its ten exchanges were made; by the fifth it has found the device.

@@ -21,9 +21,9 @@ struct Bench {
 }
 
 impl Bench {
-    // How many entries are free, counted by hand: of the size and one for the close, all but the log's entries; one
-    // for the close, one for the reply that is awaited, two for each call that is accepted and not ended, and one for
-    // each that is ended and not collected.
+    // How many entries are free, counted by hand. Of the size and one for the close these are taken: the log's entries;
+    // one for the close, and one for the reply that is awaited; two for each call that is accepted and not ended; one
+    // for each that is ended and not collected.
     fn free(&self) -> usize {
         let Counts {
             calls: _,

@@ -16,7 +16,7 @@ pub fn frames(session: &Session) -> (usize, usize) {
     (before, after)
 }
 
-/// How many of the client's calls the log has, how many it accepted, how many of all accepted calls were finished or
+/// How many of the client's calls the log has, and how many it accepted. How many of all accepted calls were finished or
 /// answered, and how many were collected.
 #[derive(Clone, Copy, Debug, PartialEq, Eq)]
 pub struct Counts {
