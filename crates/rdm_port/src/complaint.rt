@@ -27,7 +27,7 @@ pub enum Complaint<'a> {
         /// The word.
         option: &'a str,
     },
-    /// This option stands twice.
+    /// This option is given twice.
     Repeated(&'static str),
     /// This option has a value, and takes none.
     HasValue(&'static str),
@@ -337,7 +337,7 @@ fn write_complaint<W: fmt::Write>(
         Complaint::UnknownOption { command, option } => {
             write!(f, "{command} has no option {option:?}")
         }
-        Complaint::Repeated(option) => write!(f, "the option {option} stands twice"),
+        Complaint::Repeated(option) => write!(f, "the option {option} is given twice"),
         Complaint::HasValue(option) => write!(f, "the option {option} takes no value"),
         Complaint::NoPort => write!(f, "the value of --port is missing: locked or rings"),
         Complaint::UnknownPort(name) => write!(f, "--port is locked or rings, not {name:?}"),

@@ -176,7 +176,7 @@ impl fmt::Display for Found {
             Found::Null => write!(f, "null"),
             Found::Boolean(truth) => write!(f, "{truth}"),
             Found::Whole(number) => write!(f, "{number}"),
-            Found::Number => write!(f, "a number that isn't whole or is too large"),
+            Found::Number => write!(f, "a number that is negative, not whole or too large"),
             Found::Text(excerpt) => match str::from_utf8(excerpt) {
                 Ok(text) => write!(f, "{text:?}"),
                 Err(_) => write!(f, "a text"),

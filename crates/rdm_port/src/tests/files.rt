@@ -109,7 +109,7 @@ fn tells_what_is_no_scene(rt: HostRuntime) -> Result<(), Fail> {
         ),
         (
             "{\"source\":\"7a70:00000100\",\"devices\":[{\"uid\":\"1234:00000001\",\"from\":-0}]}",
-            "devices[0].from: expected a whole number from 0 to 1000000000, found a number that isn't whole or is too large",
+            "devices[0].from: expected a whole number from 0 to 1000000000, found a number that is negative, not whole or too large",
         ),
         (
             "{\"source\":\"7a70:00000100\",\"devices\":[{\"uid\":\"1234:00000001\",\"params\":[{\"pid\":\"0060\",\"parts\":[\"01\",\"0g\"]}]}]}",
@@ -133,7 +133,7 @@ fn tells_what_is_no_scene(rt: HostRuntime) -> Result<(), Fail> {
         ),
         (
             "{\"source\":\"7a70:00000100\",\"losses\":[1,5.0]}",
-            "losses[1]: expected the number of an exchange, from 0, found a number that isn't whole or is too large",
+            "losses[1]: expected the number of an exchange, from 0, found a number that is negative, not whole or too large",
         ),
         (
             "{\"source\":\"7a70:00000100\",\"fails\":true}",

@@ -283,15 +283,15 @@ fn tells_which_word_is_not_understood(rt: HostRuntime) -> Result<(), Fail> {
         (&["run", "file", "--quick"], "run has no option \"--quick\""),
         (
             &["discover", "file", "--quick", "--quick"],
-            "the option --quick stands twice",
+            "the option --quick is given twice",
         ),
         (
             &["discover", "--incremental", "--quick", "--incremental"],
-            "the option --incremental stands twice",
+            "the option --incremental is given twice",
         ),
         (
             &["run", "--port=locked", "file", "--port", "rings"],
-            "the option --port stands twice",
+            "the option --port is given twice",
         ),
         (
             &["discover", "file", "--quick=yes"],

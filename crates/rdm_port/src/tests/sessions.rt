@@ -171,7 +171,7 @@ fn tells_what_is_no_session(rt: HostRuntime) -> Result<(), Fail> {
         (
             "{\"scene\":{\"source\":\"7a70:00000100\"},\"clients\":[{\"places\":1,\"calls\":[]}],\"log\":-0}",
             "fault: scene\n",
-            "log: expected a whole number from 0 to 1000000, found a number that isn't whole or is too large",
+            "log: expected a whole number from 0 to 1000000, found a number that is negative, not whole or too large",
         ),
         (
             "{\"scene\":{\"source\":\"7a70:00000100\"},\"clients\":[{\"places\":1,\"calls\":[]}],\"turns\":0}",
