@@ -16,15 +16,17 @@ use Rattle.rdm_queue.specs.log.MaySend.{NoSend}
 use Rattle.rdm_queue.specs.log.Legal.{Legal, MayFollow}
 use Rattle.rdm_queue.specs.promises.Blocks.{GrowsBy, TakeLogs, DeliverAdds, AllResults}
 use Rattle.rdm_queue.specs.promises.InBound.{AnswersInBound}
+use Rattle.rdm_queue.specs.promises.LogInBound.{InBound}
+use Rattle.rdm_queue.proofs.PromiseLemmas.LogInBoundLemmas.{in_bound_grows}
 use Rattle.rdm_queue.proofs.LogLemmas.Grows.{front}
 use Rattle.rdm_queue.proofs.LogLemmas.PushLemmas.{awaited-push}
 use Rattle.rdm_queue.proofs.LogLemmas.LegalFacts.{legal_facts, sent_evenly}
-use Rattle.rdm_lanes.specs.Lines.{exchanges, exchange_count, Exchanged, NoExchange, SameSwitches, InBound, NoCallLost, IsBetweenTurns}
+use Rattle.rdm_lanes.specs.Lines.{exchanges, exchange_count, Exchanged, NoExchange, SameSwitches, NoCallLost, IsBetweenTurns}
 use Rattle.rdm_lanes.specs.Serving.{IsOnlyTold}
 use Rattle.rdm_lanes.specs.Views.{views_found, GainOneAtMost}
 use Rattle.rdm_lanes.proofs.FoundLemmas.{exchange_views}
 use Rattle.rdm_lanes.proofs.LaneLemmas.{waits, waits_join}
-use Rattle.rdm_lanes.proofs.LineLemmas.{traded_one, exchanges_off, results_off, results_no_join, results_no_switch, joins_stay, switches_stay, awaited_off, in_bound_grows, none_lost_grows, rightly_without, results_no_refusal, grown_join}
+use Rattle.rdm_lanes.proofs.LineLemmas.{traded_one, exchanges_off, results_off, results_no_join, results_no_switch, joins_stay, switches_stay, awaited_off, none_lost_grows, rightly_without, results_no_refusal, grown_join}
 use Rattle.rdm_lanes.proofs.StepLemmas.{results_untouched}
 
 -- nothing was taken

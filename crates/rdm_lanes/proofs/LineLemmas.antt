@@ -19,7 +19,9 @@ use Rattle.rdm_queue.specs.promises.Blocks.{is_result, AllResults}
 use Rattle.rdm_queue.specs.promises.InBound.{FaultNeedsClose, AnswersInBound}
 use Rattle.rdm_queue.proofs.LogLemmas.PushLemmas.{awaited-push, is_closed-push, is_paused-push}
 use Rattle.rdm_queue.proofs.LogLemmas.Places.{zip_both_more}
-use Rattle.rdm_lanes.specs.Lines.{exchange_of, exchanges, NoExchange, SameSwitches, InBound, IsBetweenTurns, NoCallLost, may_refuse}
+use Rattle.rdm_queue.proofs.PromiseLemmas.EventsInBound.{closed_in_bound}
+use Rattle.rdm_queue.proofs.PromiseLemmas.LogInBoundLemmas.{in_bound_grows}
+use Rattle.rdm_lanes.specs.Lines.{exchange_of, exchanges, NoExchange, SameSwitches, IsBetweenTurns, NoCallLost, may_refuse}
 use Rattle.rdm_lanes.specs.Views.{views_found}
 use Rattle.rdm_lanes.proofs.ListLemmas.{filter_map_nothing, all_follow}
 
@@ -186,31 +188,6 @@ traded_one h owner frame event even =
     rw (sends_came (h ++ Send owner frame ∷ []) event, sends_one h owner frame, cames_one (h ++ Send owner frame ∷ []) event, cames_sent h owner frame, zip_both_more (sends h) (cames h) (record { owner = owner; frame = frame }) event even, map-append traded_of (zip (sends h) (cames h)) ((record { owner = owner; frame = frame }, event) ∷ []), map-append exchange_of (map traded_of (zip (sends h) (cames h))) (traded_of (record { owner = owner; frame = frame }, event) ∷ [])) refl
 
 -- faults within the bound
-each_of : (k : LogState) → InBound k → EachAfter (FaultNeedsClose k.search k.opening) k.entries
-each_of k is front back (Answer n r (Some fault)) at = λ present calm. is.closed_first front back n r fault present at calm
-each_of k is front back (Answer n r None) at = tt
-each_of k is front back (Join c n) at = tt
-each_of k is front back (Refuse c call cause) at = tt
-each_of k is front back (Accept c n request) at = tt
-each_of k is front back (Ask c n kind) at = tt
-each_of k is front back (Send owner frame) at = tt
-each_of k is front back (Came event) at = tt
-each_of k is front back (Finish n status len) at = tt
-each_of k is front back (Collect c) at = tt
-each_of k is front back Pause at = tt
-each_of k is front back Resume at = tt
-each_of k is front back Close at = tt
-
-of_each : (k : LogState) → EachAfter (FaultNeedsClose k.search k.opening) k.entries → InBound k
-of_each k each = record { closed_first = λ front back n r fault present at calm. each front back (Answer n r (Some fault)) at present calm }
-
-each_block : (search : Search) (o : Opening) (h block : List Entry) → EachAfter (FaultNeedsClose search o) h → AnswersInBound search o h block → EachAfter (FaultNeedsClose search o) (h ++ block)
-each_block search o h [] each all = subst (EachAfter (FaultNeedsClose search o)) (sym (append-nil h)) each
-each_block search o h (e ∷ block) each all = subst (EachAfter (FaultNeedsClose search o)) (append_assoc h (e ∷ []) block) (each_block search o (h ++ e ∷ []) block (EachAfter-push (FaultNeedsClose search o) h e each all.0) all.1)
-
-pub in_bound_grows : (k : LogState) (block : List Entry) → InBound k → AnswersInBound k.search k.opening k.entries block → InBound (grown k block)
-in_bound_grows k block is all = of_each (grown k block) (each_block k.search k.opening k.entries block (each_of k is) all)
-
 quiet_bound_one : (search : Search) (o : Opening) (h : List Entry) (e : Entry) → is_quiet e ≡ true → FaultNeedsClose search o h e
 quiet_bound_one search o h (Answer n r fault) is = absurd (true≢false (sym is))
 quiet_bound_one search o h (Join c n) is = tt
@@ -228,17 +205,6 @@ quiet_bound_one search o h Close is = tt
 pub quiet_bound : (search : Search) (o : Opening) (h block : List Entry) → AllQuiet block → AnswersInBound search o h block
 quiet_bound search o h [] all = tt
 quiet_bound search o h (e ∷ block) all = (quiet_bound_one search o h e all.0, quiet_bound search o (h ++ e ∷ []) block all.1)
-
--- where it is closed each fault has its cause
-closed_bound_one : (search : Search) (o : Opening) (h : List Entry) (e : Entry) → is_closed o h ≡ true → is_result e ≡ true → FaultNeedsClose search o h e
-closed_bound_one search o h (Finish n status len) closed is = tt
-closed_bound_one search o h (Answer n r None) closed is = tt
-closed_bound_one search o h (Answer n r (Some fault)) closed is = λ present calm. closed
-closed_bound_one search o h _ closed is = absurd (true≢false (sym is))
-
-pub closed_bound : (search : Search) (o : Opening) (h block : List Entry) → is_closed o h ≡ true → AllResults block → AnswersInBound search o h block
-closed_bound search o h [] closed all = tt
-closed_bound search o h (e ∷ block) closed all = (closed_bound_one search o h e closed all.0, closed_bound search o (h ++ e ∷ []) block (closed_stays o h (e ∷ []) (results_no_switch (e ∷ []) (all.0, tt)) ∙ closed) all.1)
 
 -- each refusal has its cause
 abbrev pub RefusedRightly : Opening → List Entry → Entry → Type 0
@@ -322,5 +288,5 @@ pub served_closed : (old new : LogState) (results : List Entry) → new ≡ grow
 served_closed old new results is all s = rw is (record {
   answered = awaited_off old.entries (Close ∷ results) (refl, results_off results all) ∙ s.answered;
   no_call_lost = none_lost_grows old (Close ∷ results) s.no_call_lost (rightly_without old.opening old.entries (Close ∷ results) (refl, results_no_refusal results all));
-  in_bound = in_bound_grows old (Close ∷ results) s.in_bound (tt, closed_bound old.search old.opening (old.entries ++ Close ∷ []) results (closed_after old.opening old.entries) all);
+  in_bound = in_bound_grows old (Close ∷ results) s.in_bound (tt, closed_in_bound old.search old.opening (old.entries ++ Close ∷ []) results (closed_after old.opening old.entries));
 })

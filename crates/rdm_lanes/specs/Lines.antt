@@ -2,17 +2,16 @@
 use Rattle.std.specs.Prelude.{◌≡◌, ℕ, Bool, true, false, ◌||◌, List, ◌∷◌, ◌++◌, length, map, Option, Some, nat_le}
 use Rattle.std.specs.List.{AllByRecursion}
 use Rattle.rdm_line.specs.Events.{Exchange, Makes}
-use Rattle.rdm_agent.specs.declared.fault.AgentFault.{AgentFault}
 use Rattle.rdm_queue.specs.declared.entry.Call.{Call}
 use Rattle.rdm_queue.specs.declared.entry.Cause.{Cause}
 use Rattle.rdm_queue.specs.declared.entry.ClientId.{ClientId}
 use Rattle.rdm_queue.specs.declared.entry.Opening.{Opening}
 use Rattle.rdm_queue.specs.declared.entry.Entry.{Entry}
-use Rattle.rdm_queue.specs.declared.entry.Entry.TheVariants.{Answer, Collect, Refuse}
+use Rattle.rdm_queue.specs.declared.entry.Entry.TheVariants.{Collect, Refuse}
 use Rattle.rdm_queue.specs.log.Entries.{Traded, traded, joins}
 use Rattle.rdm_queue.specs.log.History.{awaited, is_closed, is_paused, next_request, next_ask}
 use Rattle.rdm_queue.specs.log.LogState.{LogState, grown}
-use Rattle.rdm_queue.specs.promises.InBound.{IsCalmRun}
+use Rattle.rdm_queue.specs.promises.LogInBound.{InBound}
 use Rattle.rdm_lanes.specs.Views.{views_found}
 
 -- a frame and what came for it
@@ -60,13 +59,6 @@ pub record OnlyCollects (old new : LogState) : Type 0 where
   pub block : List Entry
   pub each : AllByRecursion (λ e. is_collect e ≡ true) block
   pub grows : new ≡ grown old block
-
--- An Answer to a discovery has a fault only where the queue is closed, if its run is calm: its exchanges are those of
--- an honest line whose devices stay, without a failure, and its budget suffices.
-pub record InBound (k : LogState) : Type 0 where
-  pub closed_first : (front back : List Entry) (n r : ℕ) (fault : AgentFault) (present : List ℕ)
-      → k.entries ≡ front ++ Answer n r (Some fault) ∷ back → IsCalmRun k.search k.opening front r present
-      → is_closed k.opening front ≡ true
 
 -- a call is refused only where the queue is closed, or the numbers of requests or of discoveries have run out
 abbrev pub may_refuse : Opening → List Entry → Bool

@@ -7,8 +7,9 @@ use Rattle.rdm_queue.specs.log.Entries.{joins}
 use Rattle.rdm_queue.specs.log.History.{awaited, is_closed, is_paused}
 use Rattle.rdm_queue.specs.log.Legal.{Legal}
 use Rattle.rdm_queue.specs.log.LogState.{LogState, opened}
+use Rattle.rdm_queue.specs.promises.LogInBound.{InBound}
 use Rattle.rdm_lanes.specs.Calls.{calls_by}
-use Rattle.rdm_lanes.specs.Lines.{InBound, NoCallLost, exchanges}
+use Rattle.rdm_lanes.specs.Lines.{NoCallLost, exchanges}
 
 -- A session that was set up so, over a line that went from one value to another. It has a client for each of these
 -- places and nobody else, and is neither paused nor closed. Its log is legal, and its exchanges are the line's steps:

@@ -1,5 +1,5 @@
 -- Comparing a log's exchanges with a record.
-use Rattle.std.proofs.Common.{◌≡◌, ℕ, ◌+◌, ◌<◌, ◌≤◌, List, [], ◌∷◌, ◌++◌, length, map, drop, get_or, refl, ap, sym, ◌∙◌, Some, None, arith, length-append}
+use Rattle.std.proofs.Common.{◌≡◌, ℕ, ◌+◌, ◌<◌, ◌≤◌, List, [], ◌∷◌, ◌++◌, length, map, drop, get_or, refl, ap, sym, ◌∙◌, None, arith, length-append}
 use Rattle.std.specs.Prelude.{◌↔◌, Bool, ◌==◌, zip}
 use Rattle.std.specs.Bool.{Decides}
 use Rattle.std.proofs.lemmas.Bool.{eqb-true}
@@ -11,7 +11,7 @@ use Rattle.rdm_queue.specs.declared.entry.Owner.{Owner}
 use Rattle.rdm_queue.specs.declared.entry.Entry.{Entry}
 use Rattle.rdm_queue.specs.declared.entry.Entry.TheVariants.{Join, Refuse, Accept, Ask, Send, Came, Finish, Answer, Collect, Pause, Resume, Close}
 use Rattle.rdm_queue.specs.declared.entry.Opening.{Opening}
-use Rattle.rdm_queue.specs.log.Entries.{Sending, Traded, came_of, sending_of, traded_of, cames, sends, traded}
+use Rattle.rdm_queue.specs.log.Entries.{Sending, came_of, sending_of, traded_of, cames, sends, traded}
 use Rattle.rdm_queue.specs.log.Legal.{Legal}
 use Rattle.rdm_queue.proofs.LogLemmas.LegalFacts.{legal_facts}
 use Rattle.rdm_queue.specs.promises.Headline.{Begins}

@@ -9,6 +9,7 @@ ghost use Rattle.rdm_queue.specs.log.LogState.{opened};
 ghost use Rattle.rdm_queue.specs.log.Runs.{known_devices, devices_run};
 ghost use Rattle.rdm_queue.specs.promises.Blocks.{JoinLogs, SubmitLogs, DiscoverLogs, PauseLogs, ResumeLogs, GrowsBy};
 ghost use Rattle.rdm_queue.specs.promises.Blocks.{CloseAdds, DeliverAdds, CollectAdds};
+ghost use Rattle.rdm_queue.specs.promises.LogInBound.{InBound};
 ghost use Rattle.rdm_queue.specs.promises.Outcomes.{oldest_kind, request_outcome, discovery_outcome};
 ghost use Rattle.rdm_queue.specs.declared.outcome.OutcomeKind.TheVariants as kinds;
 ghost use Rattle.rdm_locked.specs.Calls.{count_calls, submits_logged, discovers_logged};
@@ -33,9 +34,12 @@ use std::sync::ledger::{Blank, Book, Ledger, Share};
 /// A session with a book of its clients' calls: what lies under the lock of a [`Port`](crate::Port) (profile of this
 /// project). Each of its calls is made while the lock is held, and is one call of the session.
 ///
-/// Whenever the lock is free, the log is legal and the session stands after it, and the book has as many calls as the
-/// log: an Accept, an Ask, a Collect, and a Refuse of a client's call count one each. There are 17 parts of the
-/// book: each client that joined has one, and the rest lies here.
+/// Whenever the lock is free these hold:
+/// - The log is legal and in bound, and the session stands after it. In bound means: a run on an honest line that
+///   doesn't fail, with a budget that suffices, is answered without fault unless the queue is closed.
+/// - The book has as many calls as the log: an Accept, an Ask, a Collect, and a Refuse of a client's call count one
+///   each.
+/// - There are 17 parts of the book: each client that joined has one, and the rest lies here.
 #[derive(Drop)]
 pub struct Inside<L: Ledger> {
     session: Session,
@@ -49,6 +53,7 @@ pub struct Inside<L: Ledger> {
     ghost few: { joined ≤ 16 },
     ghost unused: { rest.amount ≡ 0 },
     ghost left_once: { left ≤ joined },
+    ghost in_bound: { InBound session },
 }
 
 impl<L: Ledger> Inside<L> {
@@ -304,11 +309,12 @@ impl<L: Ledger> Inside<L> {
         }
     }
 
-    /// The session. Whatever the calls were, its log is legal, its calls are those of the book, and its clients are
-    /// those that joined.
+    /// The session. Whatever the calls were, its log is legal and in bound, its calls are those of the book, and its
+    /// clients are those that joined.
     pub fn session(&self) -> &Session
         ensures session { result.now ≡ self.now.session }
         ensures legal { Legal self.now.session.opening self.now.session.entries }
+        ensures in_bound { InBound self.now.session }
         ensures counted { count_calls self.now.session.entries ≡ self.now.calls.total }
         ensures clients { next_client self.now.session.opening self.now.session.entries ≡ self.now.joined }
     {

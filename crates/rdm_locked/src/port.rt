@@ -4,6 +4,7 @@ ghost use Rattle.std.specs.List.{sum_by};
 ghost use Rattle.rdm_queue.specs.log.Config.{IsConfig};
 ghost use Rattle.rdm_queue.specs.log.History.{next_client};
 ghost use Rattle.rdm_queue.specs.log.Legal.{Legal};
+ghost use Rattle.rdm_queue.specs.promises.LogInBound.{InBound};
 ghost use Rattle.rdm_queue.specs.promises.Promised.{Promised};
 ghost use Rattle.rdm_locked.specs.Calls.{count_calls};
 ghost use Rattle.rdm_locked.specs.Exchanges.{exchanges_in, recorded, Records};
@@ -168,8 +169,13 @@ impl<L: Ledger> Port<L> {
     }
 
     /// Ends the port, where the share of each client that joined is there, and the log's exchanges are those of the
-    /// record. Then the shares' sum is the number of calls in the log, and the log keeps all that clients are promised,
-    /// whatever the threads did. A frame whose reply is awaited is no exchange yet.
+    /// record. Then these hold, whatever the threads did:
+    /// - The shares' sum is the number of calls in the log.
+    /// - The log keeps all that clients are promised.
+    /// - A run on an honest line that didn't fail, with a budget that suffices, is answered without fault unless the
+    ///   queue was closed before.
+    ///
+    /// A frame whose reply is awaited is no exchange yet.
     /// Err: SharesMissing, or else ExchangesDiffer, as [`Inside::finish`] answers; all comes back as it was.
     pub fn finish(
         self,
@@ -183,6 +189,7 @@ impl<L: Ledger> Port<L> {
         ensures exchanges { IfOk result (λ e. exchanges_in e.session.entries ≡ recorded exchanges.now) }
         ensures legal { IfOk result (λ e. Legal e.session.opening e.session.entries) }
         ensures promised { IfOk result (λ e. Promised e.session.opening e.session.entries) }
+        ensures in_bound { IfOk result (λ e. InBound e.session) }
         ensures back { IfErr result (λ e. e.2 ≡ shares) }
     {
         let Port { inside } = self;

@@ -22,6 +22,7 @@ pub mod QuietEvents
 pub mod RisingNumbers
 pub mod CollectedEvents
 pub mod EventsInBound
+pub mod LogInBoundLemmas
 pub mod OwnOutcomes
 pub mod DiscoverEvents
 pub mod EventsPromises

@@ -1,6 +1,7 @@
 -- What each call adds to a log, how a log explains answers, and what clients are promised.
 pub mod Outcomes
 pub mod InBound
+pub mod LogInBound
 pub mod Blocks
 pub mod EachLog
 pub mod Explains

@@ -3,6 +3,7 @@ ghost use Rattle.std.specs.Prelude.{◌≡◌, ◌≢◌, ◌≤◌, ◌<◌, �
 ghost use Rattle.std.specs.List.{sum_by};
 ghost use Rattle.rdm_queue.specs.log.History.{next_client};
 ghost use Rattle.rdm_queue.specs.log.Legal.{Legal};
+ghost use Rattle.rdm_queue.specs.promises.LogInBound.{InBound};
 ghost use Rattle.rdm_queue.specs.promises.Promised.{Promised};
 ghost use Rattle.rdm_locked.specs.Calls.{count_calls};
 ghost use Rattle.rdm_locked.specs.Exchanges.{exchanges_in, recorded};
@@ -28,7 +29,7 @@ impl<L: Ledger> Inside<L> {
     /// Then these hold:
     /// - the shares are one of each client;
     /// - their sum is the number of calls in the log;
-    /// - the log keeps all that clients are promised.
+    /// - the log keeps all that clients are promised, and is in bound.
     ///
     /// Err: SharesMissing, or else ExchangesDiffer; all comes back as it was.
     pub fn finish(
@@ -45,6 +46,7 @@ impl<L: Ledger> Inside<L> {
         ensures exchanges { IfOk result (λ e. exchanges_in e.session.entries ≡ recorded exchanges.now) }
         ensures legal { IfOk result (λ e. Legal e.session.opening e.session.entries) }
         ensures promised { IfOk result (λ e. Promised e.session.opening e.session.entries) }
+        ensures in_bound { IfOk result (λ e. InBound e.session) }
         ensures back { IfErr result (λ e. (e.1 ≡ self) × (e.2 ≡ shares)) }
         ensures missing { IfErr result (λ e. e.0 ≡ FinishFault.SharesMissing → length shares.items < self.joined) }
         ensures differ { IfErr result (λ e. e.0 ≡ FinishFault.ExchangesDiffer → (self.joined ≤ length shares.items)
@@ -84,6 +86,7 @@ impl<L: Ledger> Inside<L> {
         ensures counted { result.calls ≡ count_calls result.session.entries }
         ensures legal { Legal result.session.opening result.session.entries }
         ensures promised { Promised result.session.opening result.session.entries }
+        ensures in_bound { InBound result.session }
     {
         let most = self.session().log().entries().len();
         laws::legal_keeps_promises();

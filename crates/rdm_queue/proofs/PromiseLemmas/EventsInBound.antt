@@ -44,7 +44,7 @@ closed_entry search o h (discovery.Answer n r (Some fault)) closed = λ present 
 closed_entry search o h (discovery.Answer n r None) closed = tt
 closed_entry search o h _ closed = tt
 
-closed_in_bound : (search : Search) (o : Opening) (h block : List Entry) → is_closed o h ≡ true → AnswersInBound search o h block
+pub closed_in_bound : (search : Search) (o : Opening) (h block : List Entry) → is_closed o h ≡ true → AnswersInBound search o h block
 closed_in_bound search o h [] closed = tt
 closed_in_bound search o h (e ∷ block) closed = (closed_entry search o h e closed, closed_in_bound search o (h ++ e ∷ []) block (closed_more o h e closed))
 
@@ -53,7 +53,7 @@ close_in_bound search o h true block adds = rw adds tt
 close_in_bound search o h false block adds = rw adds.whole (tt, closed_in_bound search o (h ++ Close ∷ []) adds.results (is_closed-push o h Close))
 
 -- so it is with each event's block
-event_in_bound : (k : LogState) (e : Event) (r : Answer) (block : List Entry) → Adds k e r block → AnswersInBound k.search k.opening k.entries block
+pub event_in_bound : (k : LogState) (e : Event) (r : Answer) (block : List Entry) → Adds k e r block → AnswersInBound k.search k.opening k.entries block
 event_in_bound k (events.Join n) (answers.Join (Ok c)) block adds = rw (join_ok k n c block adds).2 (tt, tt)
 event_in_bound k (events.Join n) (answers.Join (Err fault)) block adds = none_or_one k.search k.opening k.entries (join_refused n fault) block tt (join_refusal k n fault block adds)
 event_in_bound k (events.Submit c request) (answers.Submit (Ok n)) block adds = rw (submit_ok k c request n block adds).2 (tt, tt)

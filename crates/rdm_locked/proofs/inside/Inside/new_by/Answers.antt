@@ -1,6 +1,7 @@
-use Rattle.std.proofs.Common.{arith, refl, ap, length, ◌∙◌, sym}
+use Rattle.std.proofs.Common.{arith, refl, ap, ◌∙◌}
 use Rattle.rdm_queue.specs.log.Entries.{joins, accepts, asks, finishes, answers, collectors}
 use Rattle.rdm_queue.specs.log.LogState.{LogState}
+use Rattle.rdm_queue.proofs.PromiseLemmas.LogInBoundLemmas.{empty_in_bound}
 use Rattle.rdm_locked.specs.Calls.{count_calls}
 use Rattle.rdm_locked.proofs.inside.Inside.new_by.Goals as goal
 
@@ -16,6 +17,7 @@ invariant_of-result g c =
       few = omega arith;
       unused = c.open-calls.ensures.amount;
       left_once = omega arith;
+      in_bound = empty_in_bound _ (ap (λ (k : LogState). k.entries) session ∙ c.requires.empty);
     }
 
 pub with_search-session-requires : goal.with_search-session-requires
