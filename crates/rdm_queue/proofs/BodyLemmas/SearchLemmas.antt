@@ -1,5 +1,5 @@
 -- No call changes how a queue's runs search, and where it is idle that may be changed.
-use Rattle.std.proofs.Common.{◌≡◌, ℕ, Bool, true, List, Option, Some, None, ap}
+use Rattle.std.proofs.Common.{◌≡◌, ℕ, true, List, Option, Some, None, ap}
 use Rattle.std.specs.Prelude.{IfSome, IfNone}
 use Rattle.arrayvec.specs.ArrayVec.{ArrayVec}
 use Rattle.rdm_agent.specs.declared.search.Search.{Search}
@@ -7,13 +7,12 @@ use Rattle.rdm_queue.specs.declared.entry.Owner.{Owner}
 use Rattle.rdm_queue.specs.declared.entry.Opening.{Opening}
 use Rattle.rdm_queue.specs.declared.entry.Entry.{Entry}
 use Rattle.rdm_queue.specs.log.History.{is_idle}
-use Rattle.rdm_queue.specs.promises.Outcomes.{OutcomeValue}
-use Rattle.rdm_queue.specs.body.State.{QueueState, TakesOldest}
+use Rattle.rdm_queue.specs.body.State.{QueueState}
 use Rattle.rdm_queue.specs.body.Sending.{IsGiven, WhichGives}
 use Rattle.rdm_queue.specs.body.Sending.WhichGives.{Opened, Turned, Began}
 use Rattle.rdm_queue.specs.body.Ending.{IsEnded}
 use Rattle.rdm_queue.specs.body.Ending.IsEnded.{ByRun, ByResult, ByClose}
-use Rattle.rdm_queue.specs.body.Agrees.{IsPending, Agrees, StandsAfter}
+use Rattle.rdm_queue.specs.body.Agrees.{Agrees, StandsAfter}
 use Rattle.rdm_queue.proofs.BodyLemmas.RotateLemmas.{IsAtRest, at_rest, no_run, none_awaited}
 
 -- two queues search alike

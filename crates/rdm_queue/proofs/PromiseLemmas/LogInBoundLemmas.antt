@@ -1,5 +1,5 @@
 -- A log stays in bound, whatever calls are made.
-use Rattle.std.proofs.Common.{◌≡◌, ℕ, List, [], ◌∷◌, ◌++◌, Some, None, sym, subst, append-nil, append_assoc, ◌∙◌}
+use Rattle.std.proofs.Common.{◌≡◌, List, [], ◌∷◌, ◌++◌, Some, None, sym, subst, append-nil, append_assoc, ◌∙◌}
 use Rattle.rdm_wire.specs.Lists.{EachAfter}
 use Rattle.rdm_wire.proofs.EachAfterLemmas.{EachAfter-push}
 use Rattle.rdm_agent.specs.declared.search.Search.{Search}
