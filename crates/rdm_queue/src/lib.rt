@@ -48,6 +48,3 @@ pub use fault::{AskFault, JoinFault, LogFull, NoMemory, NotAsked, NotIdle, Submi
 pub use log::{LEAST_FREE, Log, MOST_FREE_ENTRIES};
 pub use outcome::{AskCompletion, Completion, DiscoveryEnd, Outcome, OutcomeKind};
 pub use session::Session;
-
-#[cfg(test)]
-mod tests;

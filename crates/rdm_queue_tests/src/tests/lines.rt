@@ -1,13 +1,13 @@
 //! Lines that answer the frames of discovery runs, and sessions over them.
-use super::packets::{CLIENT, taken};
-use crate::{Config, Log, Outcome, Session};
+use super::checks::{check, check_eq};
+use super::packets::{CLIENT, config, delivers, holds, joins, session_of, taken};
 use arrayvec::ArrayVec;
 use rdm_agent::{AgentFault, DEFAULT_BUDGET};
 use rdm_join::{LineEvent, LineReply};
+use rdm_queue::{Controller, Outcome, Session};
 use rdm_wire::{AckType, RespClass, Response, Uid, encode_response, write_branch_reply};
 use std::alloc::Global;
 use std::process::Abort;
-use std::test::Fail;
 
 /// What the line answers to a frame.
 #[derive(Clone, Copy)]
@@ -31,50 +31,29 @@ pub fn first_device() -> Uid {
 
 /// A full run over a line with the first device alone: three unmutes, its reply, its acknowledgement, five silences.
 pub fn run_of_one() -> [Came; 10] {
-    [
-        Came::Nothing,
-        Came::Nothing,
-        Came::Nothing,
-        Came::Spelt(first_device()),
-        Came::Muted(first_device()),
-        Came::Nothing,
-        Came::Nothing,
-        Came::Nothing,
-        Came::Nothing,
-        Came::Nothing,
-    ]
+    let mut run = [Came::Nothing; 10];
+    run[3] = Came::Spelt(first_device());
+    run[4] = Came::Muted(first_device());
+    run
 }
 
 /// The exchanges of that run after the first.
 pub fn rest_of_run() -> [Came; 9] {
-    [
-        Came::Nothing,
-        Came::Nothing,
-        Came::Spelt(first_device()),
-        Came::Muted(first_device()),
-        Came::Nothing,
-        Came::Nothing,
-        Came::Nothing,
-        Came::Nothing,
-        Came::Nothing,
-    ]
+    let mut run = [Came::Nothing; 9];
+    run[2] = Came::Spelt(first_device());
+    run[3] = Came::Muted(first_device());
+    run
 }
 
 /// A session of `7a70:00000100` with this budget, and with one client that has four places.
-pub fn session_with_budget(rt: &impl Abort, alloc: Global, budget: u64) -> Result<Session, Fail> {
-    let config = Config {
-        source: Uid::new(0x7a70, 0x100),
-        places: 4,
-        budget: budget.max(1),
-    };
-    let log = Log::new(alloc, 5000)?;
-    let mut session = Session::new(alloc, config, log).map_err(|(fault, _)| fault)?;
-    assert_eq!(rt; session.join_client(alloc, 4), Ok(CLIENT));
-    Ok(session)
+pub fn session_with_budget(rt: &impl Abort, alloc: Global, budget: u64) -> Session {
+    let mut session = session_of(rt, alloc, config(4, budget), 5000);
+    joins(rt, alloc, &mut session, 4, Ok(CLIENT));
+    session
 }
 
 /// Such a session with the budget by default.
-pub fn session_for_runs(rt: &impl Abort, alloc: Global) -> Result<Session, Fail> {
+pub fn session_for_runs(rt: &impl Abort, alloc: Global) -> Session {
     session_with_budget(rt, alloc, DEFAULT_BUDGET)
 }
 
@@ -83,19 +62,11 @@ pub fn event(rt: &impl Abort, tn: u8, came: Came) -> LineEvent {
     let mut bytes: LineReply = ArrayVec::new();
     match came {
         Came::Nothing => {}
-        Came::Noise => {
-            assert!(rt; bytes.try_push(0xff).is_ok());
-        }
-        Came::Spelt(device) => {
-            assert!(rt;
-                bytes
-                    .try_extend_from_slice(&write_branch_reply(device, 7))
-                    .is_ok()
-            );
-        }
+        Came::Noise => check(rt, bytes.try_push(0xff).is_ok()),
+        Came::Spelt(device) => holds(rt, &mut bytes, &write_branch_reply(device, 7)),
         Came::Muted(device) => {
             let mut param = ArrayVec::new();
-            assert!(rt; param.try_extend_from_slice(&[0, 0]).is_ok());
+            check(rt, param.try_extend_from_slice(&[0, 0]).is_ok());
             let ack = encode_response(&Response {
                 source: device,
                 dest: Uid::new(0x7a70, 0x100),
@@ -107,7 +78,7 @@ pub fn event(rt: &impl Abort, tn: u8, came: Came) -> LineEvent {
                 pid: 0x0002,
                 param,
             });
-            assert!(rt; bytes.try_extend_from_slice(&ack).is_ok());
+            holds(rt, &mut bytes, &ack);
         }
         Came::Failure => return LineEvent::Failed,
     }
@@ -117,8 +88,8 @@ pub fn event(rt: &impl Abort, tn: u8, came: Came) -> LineEvent {
 /// Takes a frame, whose transaction number is this one, and delivers what came.
 pub fn exchanges(rt: &impl Abort, alloc: Global, session: &mut Session, tn: u8, came: Came) {
     let frame = taken(rt, session);
-    assert_eq!(rt; number_of(&frame), Some(tn));
-    assert!(rt; session.deliver(alloc, event(rt, tn, came)).is_ok());
+    check_eq(rt, number_of(&frame), Some(tn));
+    delivers(rt, alloc, session, event(rt, tn, came));
 }
 
 /// Makes these exchanges, the first with this transaction number.
@@ -126,6 +97,38 @@ pub fn serves(rt: &impl Abort, alloc: Global, session: &mut Session, first: u8, 
     let mut tn = first;
     for came in run {
         exchanges(rt, alloc, session, tn, *came);
+        tn = tn.wrapping_add(1);
+    }
+}
+
+/// Makes this many exchanges, the first with this transaction number, to all of which the line answers alike.
+pub fn repeats(
+    rt: &impl Abort,
+    alloc: Global,
+    session: &mut Session,
+    first: u8,
+    times: u8,
+    came: &Came,
+) {
+    let mut tn = first;
+    for _ in 0..times {
+        exchanges(rt, alloc, session, tn, *came);
+        tn = tn.wrapping_add(1);
+    }
+}
+
+/// Makes these exchanges of a controller, the first with number 0.
+pub fn controller_serves(
+    rt: &impl Abort,
+    alloc: Global,
+    controller: &mut Controller,
+    run: &[Came],
+) {
+    let mut tn = 0_u8;
+    for came in run {
+        let frame = controller.take().expect(rt, "a frame");
+        check_eq(rt, number_of(&frame), Some(tn));
+        check(rt, controller.deliver(alloc, event(rt, tn, *came)).is_ok());
         tn = tn.wrapping_add(1);
     }
 }
@@ -141,7 +144,13 @@ pub fn discovers(
     devices: &[Uid],
 ) {
     let outcome = session.next_outcome(CLIENT);
-    assert!(rt; is_discovery(&outcome, number, run, fault, devices));
+    check(rt, is_discovery(&outcome, number, run, fault, devices));
+}
+
+/// Collects the first client's next outcome: of the discovery with this number, answered by this run without fault,
+/// with the first device alone.
+pub fn discovers_one(rt: &impl Abort, session: &mut Session, number: u64, run: u64) {
+    discovers(rt, session, number, run, None, &[first_device()]);
 }
 
 /// Whether the outcome is that one.
@@ -164,12 +173,28 @@ pub fn is_discovery(
     }
 }
 
+/// The devices known are this many, of this run.
+pub fn knows(rt: &impl Abort, session: &Session, devices: usize, run: u64) {
+    check_eq(rt, session.devices().len(), devices);
+    check_eq(rt, session.devices_run(), run);
+}
+
 /// The frame's transaction number.
 pub fn number_of(frame: &[u8]) -> Option<u8> {
     frame.get(15).copied()
 }
 
-/// Whether the frame asks this PID.
-pub fn asks(frame: &[u8], pid: u16) -> bool {
-    frame.len() >= 23 && &frame[21..23] == pid.to_be_bytes().as_slice()
+/// The frame asks this PID, with this transaction number.
+pub fn asks(rt: &impl Abort, frame: &[u8], pid: u16, tn: u8) {
+    check(
+        rt,
+        frame.len() >= 23 && &frame[21..23] == pid.to_be_bytes().as_slice(),
+    );
+    check_eq(rt, number_of(frame), Some(tn));
+}
+
+/// The next frame asks this PID, with this transaction number.
+pub fn asks_next(rt: &impl Abort, session: &mut Session, pid: u16, tn: u8) {
+    let frame = taken(rt, session);
+    asks(rt, &frame, pid, tn);
 }

@@ -1,5 +1,6 @@
 //! What lies outside the proofs: whole exchanges with bytes and statuses from outside, and that calls succeed.
 
+mod checks;
 mod closed_runs;
 mod closing;
 mod collecting;
@@ -12,5 +13,7 @@ mod packets;
 mod parts;
 mod places;
 mod rotating;
+mod run_ends;
 mod running;
 mod searching;
+mod told;

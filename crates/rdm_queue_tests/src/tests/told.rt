@@ -1,0 +1,147 @@
+//! What lists of events are answered.
+use super::checks::check;
+use super::lines::is_discovery;
+use rdm_join::Status;
+use rdm_queue::{Answer, ClientId, Event, Outcome, Session};
+use rdm_wire::Uid;
+use std::alloc::Global;
+use std::process::Abort;
+
+/// What a session answers to these events.
+pub fn answered(
+    rt: &impl Abort,
+    alloc: Global,
+    session: &mut Session,
+    events: &[Event],
+) -> Vec<Answer> {
+    let made = session.run(alloc, events);
+    made.ok().expect(rt, "the memory of the answers")
+}
+
+/// Adds an event.
+pub fn adds(rt: &impl Abort, events: &mut Vec<Event>, event: Event) {
+    check(rt, events.push(event).is_ok());
+}
+
+/// What an answer tells, in short.
+#[derive(Clone, Copy, PartialEq, Eq)]
+pub enum Told {
+    /// This client joined.
+    Joined(ClientId),
+    /// The request with this number was accepted.
+    Accepted(u64),
+    /// The discovery with this number was accepted.
+    Asked(u64),
+    /// There was a frame.
+    Frame,
+    /// There was none.
+    NoFrame,
+    /// What the line answered was taken.
+    Heard,
+    /// The outcome of the request with this number.
+    Request(u64),
+    /// The outcome of the discovery with this number.
+    Discovery(u64),
+    /// Sending was paused, or had been.
+    Paused,
+    /// It was resumed, or had been.
+    Resumed,
+    /// The session was closed.
+    Closed,
+    /// Something else.
+    Other,
+}
+
+/// What this answer tells.
+pub fn told_by(answer: &Answer) -> Told {
+    match answer {
+        Answer::Join(Ok(client)) => Told::Joined(*client),
+        Answer::Submit(Ok(number)) => Told::Accepted(*number),
+        Answer::Discover(Ok(number)) => Told::Asked(*number),
+        Answer::Take(Ok(Some(_))) => Told::Frame,
+        Answer::Take(Ok(None)) => Told::NoFrame,
+        Answer::Deliver(Ok(())) => Told::Heard,
+        Answer::Collect(Some(outcome)) => told_of(outcome),
+        Answer::Pause(Ok(())) => Told::Paused,
+        Answer::Resume(Ok(())) => Told::Resumed,
+        Answer::Close => Told::Closed,
+        _ => Told::Other,
+    }
+}
+
+// Which outcome it is.
+fn told_of(outcome: &Outcome) -> Told {
+    match outcome {
+        Outcome::Request {
+            number: Some(own),
+            ..
+        } => Told::Request(*own),
+        Outcome::Discovery {
+            number: Some(own),
+            ..
+        } => Told::Discovery(*own),
+        _ => Told::Other,
+    }
+}
+
+/// The answer at this place tells that.
+pub fn tells(rt: &impl Abort, answers: &[Answer], place: usize, told: Told) {
+    let answer = answers.get(place).expect(rt, "an answer");
+    check(rt, told_by(answer) == told);
+}
+
+/// How many answers from this place on tell that.
+pub fn count(answers: &[Answer], from: usize, told: Told) -> usize {
+    let mut count = 0_usize;
+    let mut place = 0_usize;
+    for answer in answers {
+        if place >= from && told_by(answer) == told {
+            count = count.saturating_add(1);
+        }
+        place = place.saturating_add(1);
+    }
+    count
+}
+
+/// How many answers are an outcome.
+pub fn outcomes(answers: &[Answer]) -> usize {
+    let mut outcomes = 0_usize;
+    for answer in answers {
+        if matches!(answer, Answer::Collect(Some(_))) {
+            outcomes = outcomes.saturating_add(1);
+        }
+    }
+    outcomes
+}
+
+/// Whether the answer is this frame.
+pub fn is_frame(answer: &Answer, frame: &[u8]) -> bool {
+    match answer {
+        Answer::Take(Ok(Some(own))) => own.as_slice() == frame,
+        _ => false,
+    }
+}
+
+/// Whether the answer is the outcome of request 0, with this status and these bytes.
+pub fn is_request(answer: &Answer, status: Status, bytes: &[u8]) -> bool {
+    match answer {
+        Answer::Collect(
+            Some(
+                Outcome::Request {
+                    number: Some(0),
+                    done,
+                },
+            ),
+        ) => { done.status == status && done.bytes.as_slice() == bytes }
+        _ => false,
+    }
+}
+
+/// Whether the answer is the outcome of the discovery with this number, answered by run 1 without fault, with exactly
+/// these devices.
+pub fn is_found(answer: &Answer, number: u64, devices: &[Uid]) -> bool {
+    match answer {
+        Answer::Collect(outcome) => is_discovery(outcome, number, 1, None, devices),
+        _ => false,
+    }
+}
