@@ -50,6 +50,3 @@ pub use session_run::{RunFault, run_session, run_session_by};
 pub use together::LanesEnd;
 pub use view_worker::ViewWorker;
 pub use worker::WorkerEnd;
-
-#[cfg(test)]
-mod tests;

@@ -1,6 +1,0 @@
--- the history of this session's views
-use Rattle.rdm_lanes.specs.Workers.{book_of}
-use Rattle.rdm_lanes.proofs.tests.in_threads.a_session_without_clients_ends_at_once.Given as goal
-
-abbrev pub ghosts-begins : goal.ghosts-begins
-ghosts-begins g a = record { book = book_of a.history }
