@@ -10,6 +10,7 @@ mod nesting;
 mod objects;
 mod program;
 mod random;
+mod remarks;
 mod repeated_keys;
 mod tables;
 mod words;

@@ -12,4 +12,5 @@ pub mod SessionForms
 pub mod SettledLemmas
 pub mod PlaceLemmas
 pub mod LoggedLemmas
+pub mod FiveLemmas
 mod ComplaintLemmas

@@ -13,3 +13,5 @@ pub mod Scripts
 pub mod LoggedOutcomes
 pub mod Commands
 pub mod Complaints
+pub mod Losses
+pub mod FileKinds

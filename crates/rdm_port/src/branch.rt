@@ -43,7 +43,7 @@ fn told<'a>(reply: BranchReply) -> Answered<'a>
     }
 }
 
-// Why no device sent a reply with this UID; none where one may have.
+// Why no device sends a reply with this UID; none where one may.
 fn broadcast<'a>(uid: Uid) -> Option<Reason<'a>> {
     if uid.is_broadcast() {
         Some(Reason::Broadcast)
@@ -61,7 +61,11 @@ pub fn encode<'a>(uid: &'a str) -> Result<Answered<'a>, Refused<'a>>
     match Uid::parse(uid) {
         Ok(uid) => {
             let reply = write_branch_reply(uid, LONGEST_PREAMBLE);
-            Ok(Answered::done(digits_of(&reply)))
+            Ok(Answered {
+                text: digits_of(&reply),
+                status: 0,
+                reason: broadcast(uid),
+            })
         }
         Err(_) => Err((Fault::Uid, Some(Reason::NoUid(uid)))),
     }

@@ -9,17 +9,20 @@ use crate::answer::{Answer, Answered, Refused};
 use crate::discovery::{Discovery, discover_in};
 use crate::fault::Fault;
 use crate::input::{FileFault, read_file};
+use crate::kind::FileKind;
 use crate::place::Place;
 use crate::reason::Reason;
+use crate::remark::remark_on;
 use crate::reporting::report;
-use crate::scene::{SceneFault, SceneFile, read_scene};
+use crate::scene::{SceneFault, SceneFile, read_scene, unknown_in_scene};
 use crate::serving::Progress;
 use rdm_agent::{Kind, Search};
 use serde_json::{Category, Value};
 use std::alloc::Global;
 use std::io::Read;
 
-/// What a run reports of the scene in the reader's file, which is the one at the path. It tells how far it is.
+/// What a run reports of the scene in the reader's file, which is the one at the path. It tells what people should know
+/// of the scene, and then how far it is.
 // It isn't inlined: a run's values are large, and no other answer is to have places for them.
 #[inline(never)]
 pub fn answer_discover<'a, R: Read, P: Progress>(
@@ -34,7 +37,7 @@ pub fn answer_discover<'a, R: Read, P: Progress>(
         Discovers incremental quick (R.remaining reader.old) (answer_bytes a.text) a.status) }
     ensures fault { IfErr result (λ e. (e.0 ≡ Fault.Memory) ⊎ IsFileFault (R.remaining reader.old) e.0) }
 {
-    let file = match scene_file(alloc, path, reader) {
+    let file = match scene_file(alloc, path, reader, progress) {
         Ok(file) => file,
         Err(refused) => return Err(refused),
     };
@@ -67,11 +70,12 @@ fn search_of(quick: bool) -> Search
     if quick { Search::Quick } else { Search::Steady }
 }
 
-// The scene in the reader's file.
-fn scene_file<'a, R: Read>(
+// The scene in the reader's file, and remarks on it.
+fn scene_file<'a, R: Read, P: Progress>(
     alloc: Global,
     path: &'a str,
     reader: &mut R,
+    progress: &mut P,
 ) -> Result<SceneFile, Refused<'a>>
     ensures ok { IfOk result (λ f. ReadsScene (R.remaining reader.old) f) }
     ensures fault { IfErr result (λ e. (e.0 ≡ Fault.Memory) ⊎ IsFileFault (R.remaining reader.old) e.0) }
@@ -81,11 +85,15 @@ fn scene_file<'a, R: Read>(
         Err(FileFault::NoMemory) => return Err((Fault::Memory, None)),
         Err(fault) => return Err((Fault::File, Reason::of_file(path, fault))),
     };
-    scene_of(alloc, &bytes)
+    scene_of(alloc, &bytes, progress)
 }
 
-// The scene that the bytes of a file say.
-fn scene_of<'a>(alloc: Global, bytes: &[u8]) -> Result<SceneFile, Refused<'a>>
+// The scene that the bytes of a file say, and remarks on it.
+fn scene_of<'a, P: Progress>(
+    alloc: Global,
+    bytes: &[u8],
+    progress: &mut P,
+) -> Result<SceneFile, Refused<'a>>
     ensures ok { IfOk result (λ f. SaysScene bytes.now f) }
     ensures fault { IfErr result (λ e. IsTextFault bytes.now e.0) }
 {
@@ -94,9 +102,14 @@ fn scene_of<'a>(alloc: Global, bytes: &[u8]) -> Result<SceneFile, Refused<'a>>
         Err(error) => return Err(no_json(bytes, &error)),
     };
     match read_scene(alloc, &value) {
-        Ok(file) => Ok(file),
+        Ok(file) => {
+            let unknown = unknown_in_scene(&value);
+            remark_on(alloc, unknown, "losses", &file.scene.losses, progress);
+            Ok(file)
+        }
         Err(SceneFault::Mismatch(mismatch)) => {
-            Err((Fault::Scene, Some(Reason::NoScene(mismatch))))
+            let reason = Reason::of_mismatch(mismatch, &value, FileKind::Scene);
+            Err((Fault::Scene, Some(reason)))
         }
         Err(SceneFault::NoMemory) => Err((Fault::Memory, None)),
     }

@@ -2,8 +2,9 @@
 //! tree. It discovers simulated devices, and runs sessions of clients on a simulated line.
 //!
 //! [`parse_words`] finds the [`Job`] that a command line asks for, and [`perform`] prints its answer. A [`Reason`] says
-//! for people why something isn't done, and a [`Complaint`] what is wrong with words that ask for nothing. A session
-//! file is read by [`read_session`] and served by [`serve`]; [`session_text`] says what is printed of it.
+//! for people why something isn't done, a [`Remark`] what they should know of a file before, and a [`Complaint`] what is
+//! wrong with words that ask for nothing. A session file is read by [`read_session`] and served by [`serve`];
+//! [`session_text`] says what is printed of it.
 #![tactic(auto)]
 
 mod answer;
@@ -14,11 +15,14 @@ mod discovery;
 mod fault;
 mod input;
 mod job;
+mod kind;
 pub mod laws;
+mod losses;
 mod outcomes;
 mod performing;
 mod place;
 mod reason;
+mod remark;
 mod reporting;
 mod run;
 mod scene;
@@ -32,12 +36,15 @@ pub use discovery::{Discovery, discover, discover_in};
 pub use fault::Fault;
 pub use input::{FileFault, MOST_BYTES, read_file};
 pub use job::{Job, PortKind, WordsFault, parse_words};
+pub use kind::{FileKind, looks_like};
+pub use losses::five_losses;
 pub use outcomes::{Discovered, Outcomes, session_text};
 pub use performing::{Silent, carry_out, perform};
 pub use place::Place;
 pub use reason::Reason;
+pub use remark::Remark;
 pub use reporting::report;
-pub use scene::{Found, Mismatch, SceneFault, SceneFile, Step, read_scene};
+pub use scene::{Found, Mismatch, Path, SceneFault, SceneFile, Step, UnknownKey, read_scene};
 pub use serving::{Progress, ServeFault, serve};
 pub use session::{ClientCall, ClientFile, SessionFile, discovery_command, read_session};
 pub use telling::{Progressing, tell, tell_usage};

@@ -11,6 +11,7 @@ use crate::discovering::answer_discover;
 use crate::fault::Fault;
 use crate::job::{Job, WordsFault};
 use crate::reason::Reason;
+use crate::remark::Remark;
 use crate::run::answer_run;
 use crate::serving::Progress;
 use std::alloc::Global;
@@ -40,7 +41,8 @@ pub fn perform<R: Read, W: Write, T: Threads + Wait + Sync>(
     status
 }
 
-/// As [`perform`], and gives the reason too where it isn't done. A session or a discovery tells how far it is.
+/// As [`perform`], and gives the reason too where it isn't done. Of a file it tells first what people should know of it,
+/// and then how far its session or its discovery is.
 pub fn carry_out<'a, R: Read, W: Write, P: Progress + Send, T: Threads + Wait + Sync>(
     rt: &T,
     alloc: Global,
@@ -63,11 +65,13 @@ pub fn carry_out<'a, R: Read, W: Write, P: Progress + Send, T: Threads + Wait + 
     }
 }
 
-/// Tells nobody how far a command is.
+/// Tells nobody anything.
 #[derive(Clone, Copy, Drop)]
 pub struct Silent;
 
 impl Progress for Silent {
+    fn remark(&mut self, _remark: &Remark) {}
+
     fn tell(&mut self, _exchanges: usize) {}
 }
 

@@ -1,11 +1,13 @@
 //! Why something isn't done, for people.
 use crate::input::{FileFault, MOST_BYTES};
+use crate::kind::{FileKind, looks_like};
 use crate::place::Place;
 use crate::reporting::device_lines;
 use crate::scene::{Mismatch, SceneFault};
 use crate::usage::USAGE;
 use rdm_agent::AgentFault;
 use rdm_wire::DeviceSet;
+use serde_json::Value;
 use std::alloc::Global;
 use std::io::ErrorKind;
 use std::{fmt, str};
@@ -25,7 +27,7 @@ pub enum Reason<'a> {
     NoBytes(&'a str),
     /// The text is no UID.
     NoUid(&'a str),
-    /// A reply spells a broadcast UID.
+    /// A reply or the text spells a broadcast UID.
     Broadcast,
     /// The file at this path has too many bytes.
     TooLong(&'a str),
@@ -39,6 +41,8 @@ pub enum Reason<'a> {
     NoJson(Place),
     /// The file's JSON is no scene, or no session.
     NoScene(Mismatch),
+    /// The same, and the file looks like one of the other kind.
+    OtherKind(Mismatch, FileKind),
     /// What the file says under this key is too little for its session.
     TooLittle {
         /// The key.
@@ -70,6 +74,14 @@ impl<'a> Reason<'a> {
         }
     }
 
+    /// The reason for which a file wasn't read as one of this kind.
+    pub fn of_mismatch(mismatch: Mismatch, file: &Value, wanted: FileKind) -> Reason<'a> {
+        match looks_like(file) {
+            Some(kind) if kind != wanted => Reason::OtherKind(mismatch, kind),
+            _ => Reason::NoScene(mismatch),
+        }
+    }
+
     /// The reason of a run's fault; none where memory is refused.
     pub fn of_fault(alloc: Global, fault: AgentFault, found: &DeviceSet) -> Option<Reason<'a>> {
         let lines = device_lines(alloc, found).ok()?;
@@ -92,6 +104,7 @@ impl fmt::Display for Reason<'_> {
             Reason::CutShort(place) => write!(f, "the file ends before its JSON does, at {place}"),
             Reason::NoJson(place) => write!(f, "the file's JSON is wrong at {place}"),
             Reason::NoScene(mismatch) => write!(f, "{mismatch}"),
+            Reason::OtherKind(mismatch, kind) => write!(f, "{mismatch}\nthis looks like {kind}"),
             Reason::TooLittle { key, found } => {
                 write!(
                     f,

@@ -9,11 +9,13 @@ use crate::discovering::no_json;
 use crate::fault::Fault;
 use crate::input::{FileFault, read_file};
 use crate::job::PortKind;
+use crate::kind::FileKind;
 use crate::outcomes::session_text;
 use crate::reason::Reason;
+use crate::remark::remark_on;
 use crate::scene::SceneFault;
 use crate::serving::{Progress, ServeFault, serve};
-use crate::session::{SessionFile, discovery_command, read_session};
+use crate::session::{SessionFile, discovery_command, read_session, unknown_in_session};
 use serde_json::Value;
 use std::alloc::Global;
 use std::io::Read;
@@ -23,7 +25,8 @@ use std::sync::ledger::Blank;
 use std::thread::Threads;
 
 /// What is printed of the session in the reader's file, which is the one at the path: of each client its requests in
-/// order, and then its discoveries in order. Each client has a thread, and the worker another.
+/// order, and then its discoveries in order. Each client has a thread, and the worker another. It tells what people
+/// should know of the session, and then how far it is.
 // It isn't inlined, as `answer_discover`.
 #[inline(never)]
 pub fn answer_run<'a, R: Read, P: Progress + Send, T: Threads + Wait + Sync>(
@@ -38,7 +41,7 @@ pub fn answer_run<'a, R: Read, P: Progress + Send, T: Threads + Wait + Sync>(
     ensures fault { IfErr result (λ e. IsServeFault (R.remaining reader.old) e.0
         ⊎ IsSessionFileFault (R.remaining reader.old) e.0) }
 {
-    let file = match session_file(alloc, path, reader) {
+    let file = match session_file(alloc, path, reader, progress) {
         Ok(file) => file,
         Err(refused) => return Err(refused),
     };
@@ -69,11 +72,12 @@ fn too_little<'a>(key: &'static str, found: u64) -> Reason<'a> {
     Reason::TooLittle { key, found }
 }
 
-// The session in the reader's file.
-fn session_file<'a, R: Read>(
+// The session in the reader's file, and remarks on it.
+fn session_file<'a, R: Read, P: Progress>(
     alloc: Global,
     path: &'a str,
     reader: &mut R,
+    progress: &mut P,
 ) -> Result<SessionFile, Refused<'a>>
     ensures ok { IfOk result (λ f. ReadsSession (R.remaining reader.old) f) }
     ensures source { IfOk result (λ f. IsDevice f.scene.scene.source) }
@@ -88,11 +92,15 @@ fn session_file<'a, R: Read>(
         Err(FileFault::NoMemory) => return Err((Fault::Memory, None)),
         Err(fault) => return Err((Fault::File, Reason::of_file(path, fault))),
     };
-    session_of(alloc, &bytes)
+    session_of(alloc, &bytes, progress)
 }
 
-// The session that the bytes of a file say.
-fn session_of<'a>(alloc: Global, bytes: &[u8]) -> Result<SessionFile, Refused<'a>>
+// The session that the bytes of a file say, and remarks on it.
+fn session_of<'a, P: Progress>(
+    alloc: Global,
+    bytes: &[u8],
+    progress: &mut P,
+) -> Result<SessionFile, Refused<'a>>
     ensures ok { IfOk result (λ f. SaysSession bytes.now f) }
     ensures fault { IfErr result (λ e. IsSessionTextFault bytes.now e.0) }
 {
@@ -104,9 +112,15 @@ fn session_of<'a>(alloc: Global, bytes: &[u8]) -> Result<SessionFile, Refused<'a
         return Err((Fault::DiscoveryCommand, Reason::of_scene(command)));
     }
     match read_session(alloc, &value) {
-        Ok(file) => Ok(file),
+        Ok(file) => {
+            let unknown = unknown_in_session(&value);
+            let losses = &file.scene.scene.losses;
+            remark_on(alloc, unknown, "scene.losses", losses, progress);
+            Ok(file)
+        }
         Err(SceneFault::Mismatch(mismatch)) => {
-            Err((Fault::Scene, Some(Reason::NoScene(mismatch))))
+            let reason = Reason::of_mismatch(mismatch, &value, FileKind::Session);
+            Err((Fault::Scene, Some(reason)))
         }
         Err(SceneFault::NoMemory) => Err((Fault::Memory, None)),
     }

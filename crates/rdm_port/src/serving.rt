@@ -18,6 +18,7 @@ mod told_line;
 
 use crate::job::PortKind;
 use crate::outcomes::{Discovered, Outcomes};
+use crate::remark::Remark;
 use crate::scene::SceneFile;
 use crate::serving::locked::serve_locked;
 pub(crate) use crate::serving::logged::are_logged;
@@ -37,8 +38,11 @@ use std::thread::Threads;
 // How many exchanges are made before it is told again.
 const OFTEN: usize = 1000;
 
-/// Who is told how far a session or a discovery is.
+/// Who is told what people should know of a file, and how far its session or its discovery is.
 pub trait Progress {
+    /// People should know this of the file, whose work hasn't begun.
+    fn remark(&mut self, remark: &Remark);
+
     /// This many exchanges were made.
     fn tell(&mut self, exchanges: usize);
 }

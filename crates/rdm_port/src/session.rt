@@ -1,5 +1,5 @@
 //! Session files: a line to be simulated and the calls of the clients on it, as JSON (profile of this project). Unknown
-//! keys are ignored.
+//! keys are left out, and people are told of the first one.
 
 mod call;
 mod client;
@@ -9,4 +9,5 @@ mod file;
 pub use call::ClientCall;
 pub use client::ClientFile;
 pub use command::discovery_command;
+pub(crate) use file::unknown_in_session;
 pub use file::{SessionFile, read_session};

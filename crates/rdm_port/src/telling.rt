@@ -1,6 +1,8 @@
-//! Tells people on standard error why something isn't done, and how far a session or a discovery is.
+//! Tells people on standard error why something isn't done, what they should know of a file, and how far a session or a
+//! discovery is.
 use crate::complaint::Complaint;
 use crate::reason::Reason;
+use crate::remark::Remark;
 use crate::serving::Progress;
 use std::io;
 use std::rt::Clock;
@@ -26,7 +28,7 @@ pub fn tell_usage(rt: &impl Eprint, complaint: &Complaint<'_>) -> io::Result<()>
 // How often people are told how far a session or a discovery is.
 const SECONDS: u64 = 2;
 
-/// Tells every two seconds how far a session or a discovery is.
+/// Tells each remark at once, and every two seconds how far a session or a discovery is.
 #[derive(Drop)]
 pub struct Progressing<'a, R: Clock + Eprint> {
     rt: &'a R,
@@ -53,6 +55,10 @@ impl<'a, R: Clock + Eprint> Progressing<'a, R> {
 }
 
 impl<'a, R: Clock + Eprint> Progress for Progressing<'a, R> {
+    fn remark(&mut self, remark: &Remark) {
+        let _ = eprintln!(self.rt; "wurstlinen: {remark}");
+    }
+
     fn tell(&mut self, exchanges: usize) {
         let Some(seconds) = self.seconds() else {
             return;

@@ -3,6 +3,7 @@ mod discovering;
 mod files;
 mod logged;
 mod reasons;
+mod remarks;
 mod replies;
 mod running;
 mod runs;

@@ -1,7 +1,9 @@
 //! What the program reads and prints.
 use super::memory::Memory;
 use super::rig::room_for;
-use rdm_port::{Job, PortKind, WordsFault, parse_words, perform};
+use rdm_port::{
+    Job, PortKind, Progress, Remark, WordsFault, carry_out, parse_words, perform,
+};
 use std::alloc::Global;
 use std::process::Abort;
 use std::sync::Wait;
@@ -188,4 +190,63 @@ fn perform_of_run_over_rings(rt: HostRuntime) {
         &MEMORY_OR_TURNS,
         &without,
     );
+}
+
+// The same scene with a key that isn't known, and five losses in succession.
+const LOSSY: &str =
+    "{\"source\":\"7a70:00000100\",\"devices\":[{\"uid\":\"1234:00000001\"}],\"losses\":[94,93,92,91,90],\"loss\":[90]}";
+
+const FOUND: &[u8] = b"1234:00000001\nframes 10\n";
+
+// How many keys were told of, and how many losses.
+#[derive(Drop)]
+struct Told {
+    keys: usize,
+    losses: usize,
+}
+
+impl Progress for Told {
+    fn remark(&mut self, remark: &Remark) {
+        match remark {
+            Remark::UnknownKey(_) => self.keys = self.keys.saturating_add(1),
+            Remark::FiveLosses { .. } => self.losses = self.losses.saturating_add(1),
+        }
+    }
+
+    fn tell(&mut self, _exchanges: usize) {}
+}
+
+// What that scene prints, in room that is there, the status, and what was told.
+fn remarked<T: Threads + Wait + Sync>(rt: &T, alloc: Global, written: &mut Vec<u8>) -> (u8, Told) {
+    written.clear();
+    let job = Job::Discover {
+        file: "f",
+        incremental: false,
+        quick: false,
+    };
+    let mut told = Told { keys: 0, losses: 0 };
+    let mut reader = LOSSY.as_bytes();
+    let (status, _) = carry_out(rt, alloc, Ok(job), &mut reader, written, &mut told);
+    (status, told)
+}
+
+// The key is told of in any case, and the losses too, unless memory for them is refused. The answer is the same then.
+#[test]
+fn carry_out_of_discover_with_remarks(rt: HostRuntime) {
+    let mut memory = Memory::new();
+    let mut written = room_for(&rt, &mut memory, rt.alloc(), 4096);
+    let (status, told) = remarked(&rt, rt.alloc(), &mut written);
+    let is_answered = written.as_slice() == FOUND && status == 0;
+    if is_answered && told.keys == 1 && told.losses == 1 {
+        return;
+    }
+    memory.refuses(&rt);
+    if is_answered {
+        assert!(rt; told.keys == 1 && told.losses == 0);
+    } else {
+        assert!(rt; written.as_slice() == MEMORY[0].as_bytes() && status == 1);
+    }
+    let (again, told) = remarked(&rt, rt.alloc(), &mut written);
+    assert!(rt; written.as_slice() == FOUND && again == 0);
+    assert!(rt; told.keys == 1 && told.losses == 1);
 }

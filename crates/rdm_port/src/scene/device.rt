@@ -8,6 +8,7 @@ ghost use Rattle.rdm_port.specs.SceneFiles.{IsDeviceOf, AreDevices, IsAdded, lea
 
 use crate::scene::fault::SceneFault;
 use crate::scene::form::{Form, ListOf, Listed, given, optional, required};
+use crate::scene::key::{Keyed, UnknownKey, unknown_in_list, unknown_of};
 use crate::scene::parameter::ParameterForm;
 use crate::scene::values::{FourDigits, OwnUid, Whole};
 use rdm_line::{AddFault, Parameters, SceneDevice, SceneDevices};
@@ -40,6 +41,10 @@ const PARAMS: ListOf<ParameterForm> = ListOf {
     expected: "a list of parameters",
 };
 
+const KEYS: &[&str] = &[
+    "uid", "preamble", "params", "control", "binding", "from", "until",
+];
+
 /// A device, with what it says of itself and when it is on the line.
 #[derive(Clone, Copy, Drop)]
 pub(crate) struct DeviceForm;
@@ -62,7 +67,7 @@ impl Form for DeviceForm {
         let from = optional(alloc, value, "from", &FROM, 0)?;
         let until = given(alloc, value, "until", &UNTIL)?;
         if leaves_first(from, until) {
-            return Err(SceneFault::at(value, "a device that comes before it leaves"));
+            return Err(leaves_too_soon(value));
         }
         Ok(SceneDevice {
             device: Device {
@@ -75,6 +80,26 @@ impl Form for DeviceForm {
             from,
             until,
         })
+    }
+}
+
+impl Keyed for DeviceForm {
+    fn unknown(&self, value: &Value) -> Option<UnknownKey> {
+        match unknown_of(value, KEYS) {
+            Some(unknown) => Some(unknown),
+            None => unknown_in_list(value, "params", &ParameterForm),
+        }
+    }
+}
+
+// The device of this value leaves before it comes, or as it comes.
+fn leaves_too_soon(value: &Value) -> SceneFault
+    ensures { is_memory result ≡ false }
+{
+    let expected = "a number after from";
+    match value.get("until") {
+        Some(until) => SceneFault::at(until, expected).under("until"),
+        None => SceneFault::at(value, expected),
     }
 }
 

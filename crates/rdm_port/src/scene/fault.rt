@@ -2,6 +2,7 @@
 ghost use Rattle.std.specs.Prelude.{◌≡◌, false};
 ghost use Rattle.rdm_port.specs.Forms.{is_memory};
 
+use crate::scene::path::Path;
 use arrayvec::ArrayVec;
 use serde_json::Value;
 use std::{fmt, str};
@@ -18,19 +19,10 @@ pub enum SceneFault {
 /// A place of a file, what stands there and what was expected.
 #[derive(Debug, Drop)]
 pub struct Mismatch {
-    // The steps to the place, the last one first.
-    steps: ArrayVec<Step, MOST_STEPS>,
-    // The item of the list that the next step's key holds.
-    item: Option<usize>,
+    path: Path,
     found: Found,
+    // Why the key may not stand there, where it is unwanted.
     expected: &'static str,
-}
-
-/// A key, and an item of the list that it holds.
-#[derive(Clone, Copy, Debug, Default, Drop)]
-pub struct Step {
-    key: &'static str,
-    item: Option<usize>,
 }
 
 /// What stands at a place.
@@ -54,10 +46,11 @@ pub enum Found {
     List(usize),
     /// An object.
     Object,
+    /// An object that has these of the keys of which it should have one.
+    Keys(&'static str),
+    /// A value under a key that may not stand there.
+    Unwanted,
 }
-
-// How deep the keys of a file nest: four in a scene, and two more about it.
-const MOST_STEPS: usize = 6;
 
 // How many bytes of a text are told.
 const EXCERPT: usize = 40;
@@ -79,12 +72,25 @@ impl SceneFault {
         SceneFault::expecting(Found::Nothing, expected)
     }
 
+    /// An object has these of the keys of which it should have one.
+    pub(crate) fn with_keys(keys: &'static str, expected: &'static str) -> SceneFault
+        ensures { is_memory result ≡ false }
+    {
+        SceneFault::expecting(Found::Keys(keys), expected)
+    }
+
+    /// A key may not stand there, and why.
+    pub(crate) fn unwanted(why: &'static str) -> SceneFault
+        ensures { is_memory result ≡ false }
+    {
+        SceneFault::expecting(Found::Unwanted, why)
+    }
+
     fn expecting(found: Found, expected: &'static str) -> SceneFault
         ensures { is_memory result ≡ false }
     {
         SceneFault::Mismatch(Mismatch {
-            steps: ArrayVec::new(),
-            item: None,
+            path: Path::whole(),
             found,
             expected,
         })
@@ -95,10 +101,7 @@ impl SceneFault {
         ensures { is_memory result ≡ is_memory self }
     {
         match self {
-            SceneFault::Mismatch(mismatch) => SceneFault::Mismatch(Mismatch {
-                item: Some(item),
-                ..mismatch
-            }),
+            SceneFault::Mismatch(mismatch) => SceneFault::Mismatch(mismatch.in_item(item)),
             SceneFault::NoMemory => SceneFault::NoMemory,
         }
     }
@@ -115,12 +118,30 @@ impl SceneFault {
 }
 
 impl Mismatch {
-    fn under(mut self, key: &'static str) -> Mismatch {
-        let item = self.item;
-        // A file whose keys nest deeper is told without its outermost keys.
-        let _ = self.steps.try_push(Step { key, item });
-        self.item = None;
-        self
+    fn in_item(self, item: usize) -> Mismatch {
+        let Mismatch {
+            path,
+            found,
+            expected,
+        } = self;
+        Mismatch {
+            path: path.in_item(item),
+            found,
+            expected,
+        }
+    }
+
+    fn under(self, key: &'static str) -> Mismatch {
+        let Mismatch {
+            path,
+            found,
+            expected,
+        } = self;
+        Mismatch {
+            path: path.under(key),
+            found,
+            expected,
+        }
     }
 }
 
@@ -150,21 +171,11 @@ impl Found {
 
 impl fmt::Display for Mismatch {
     fn fmt<W: fmt::Write>(&self, f: &mut fmt::Formatter<W>) -> fmt::Result {
-        for (i, step) in self.steps.iter().rev().enumerate() {
-            if i > 0 {
-                write!(f, ".")?;
-            }
-            write!(f, "{}", step.key)?;
-            if let Some(item) = step.item {
-                write!(f, "[{item}]")?;
-            }
-        }
-        if self.steps.is_empty() {
-            write!(f, "the file")?;
-        }
+        write!(f, "{}: ", self.path)?;
         match &self.found {
-            Found::Nothing => write!(f, ": this key is missing; expected {}", self.expected),
-            found => write!(f, ": expected {}, found {found}", self.expected),
+            Found::Nothing => write!(f, "this key is missing; expected {}", self.expected),
+            Found::Unwanted => write!(f, "{}", self.expected),
+            found => write!(f, "expected {}, found {found}", self.expected),
         }
     }
 }
@@ -184,6 +195,8 @@ impl fmt::Display for Found {
             Found::LongText(len) => write!(f, "a text of {len} bytes"),
             Found::List(len) => write!(f, "a list of {len}"),
             Found::Object => write!(f, "an object"),
+            Found::Keys(keys) => write!(f, "an object with {keys}"),
+            Found::Unwanted => write!(f, "a key"),
         }
     }
 }

@@ -4,9 +4,10 @@ ghost use Rattle.rdm_port.specs.Forms.{Reads};
 ghost use Rattle.rdm_port.specs.SceneFiles.{IsSceneFile, AreKnown};
 
 use crate::scene::collision::CollisionForm;
-use crate::scene::device::DevicesForm;
+use crate::scene::device::{DeviceForm, DevicesForm};
 use crate::scene::fault::SceneFault;
 use crate::scene::form::{Form, ListOf, Listed, optional, required};
+use crate::scene::key::{UnknownKey, unknown_in_list, unknown_of};
 use crate::scene::values::{OwnUid, Whole};
 use rdm_agent::DEFAULT_BUDGET;
 use rdm_line::{Scene, SceneDevices};
@@ -24,6 +25,16 @@ pub struct SceneFile {
     /// How many exchanges a run may make: 1 to 1,000,000,000.
     pub budget: u64,
 }
+
+const KEYS: &[&str] = &[
+    "source",
+    "devices",
+    "collisions",
+    "losses",
+    "fails",
+    "known",
+    "budget",
+];
 
 const COLLISIONS: ListOf<CollisionForm> = ListOf {
     form: CollisionForm,
@@ -78,6 +89,17 @@ pub fn read_scene(alloc: Global, value: &Value) -> Result<SceneFile, SceneFault>
         known,
         budget,
     })
+}
+
+/// The first key of a scene that isn't known, if there is one: its own, else a device's, else a collision's.
+pub(crate) fn unknown_in_scene(value: &Value) -> Option<UnknownKey> {
+    if let Some(unknown) = unknown_of(value, KEYS) {
+        return Some(unknown);
+    }
+    match unknown_in_list(value, "devices", &DeviceForm) {
+        Some(unknown) => Some(unknown),
+        None => unknown_in_list(value, "collisions", &CollisionForm),
+    }
 }
 
 const KNOWN: &str = "a list of at most 1024 UIDs";

@@ -3,6 +3,7 @@ ghost use Rattle.rdm_port.specs.SceneFiles.{IsParameter};
 
 use crate::scene::fault::SceneFault;
 use crate::scene::form::{Form, ListOf, required};
+use crate::scene::key::{Keyed, UnknownKey, unknown_of};
 use crate::scene::values::{Bytes, FourDigits};
 use rdm_line::Parameter;
 use rdm_wire::MOST_PARAMETER_BYTES;
@@ -19,6 +20,8 @@ const PARTS: ListOf<Bytes<MOST_PARAMETER_BYTES>> = ListOf {
     most: 512,
     expected: "a list of 1 to 512 parts",
 };
+
+const KEYS: &[&str] = &["pid", "parts"];
 
 /// A parameter: its PID and the parts of its data.
 #[derive(Clone, Copy, Drop)]
@@ -37,5 +40,11 @@ impl Form for ParameterForm {
         let pid = required(alloc, value, "pid", &FourDigits)?;
         let parts = required(alloc, value, "parts", &PARTS)?;
         Ok(Parameter::new(pid, parts.into_vec()))
+    }
+}
+
+impl Keyed for ParameterForm {
+    fn unknown(&self, value: &Value) -> Option<UnknownKey> {
+        unknown_of(value, KEYS)
     }
 }

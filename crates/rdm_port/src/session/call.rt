@@ -1,9 +1,13 @@
 //! The calls of a session file's clients.
+ghost use Rattle.std.specs.Prelude.{◌≡◌, false};
 ghost use Rattle.serde_json.specs.View.{view};
-ghost use Rattle.rdm_port.specs.Forms.{Reads};
+ghost use Rattle.rdm_port.specs.Forms.{Reads, is_memory};
 ghost use Rattle.rdm_port.specs.SessionFiles.{IsCall, IsRequest, IsAsk};
 
-use crate::scene::{AnyUid, Bytes, Form, FourDigits, SceneFault, Whole, optional, required};
+use crate::scene::{
+    AnyUid, Bytes, Form, FourDigits, Keyed, SceneFault, UnknownKey, Whole, optional, required,
+    unknown_of,
+};
 use arrayvec::ArrayVec;
 use rdm_agent::Kind;
 use rdm_wire::{MOST_PARAMETER_BYTES, ReqClass, Request};
@@ -32,6 +36,12 @@ const PARAM: Bytes<MOST_PARAMETER_BYTES> = Bytes {
 
 const EXPECTED: &str = "a call with one of get, set and discover";
 
+const GET_KEYS: &[&str] = &["get", "pid", "sub", "param"];
+
+const SET_KEYS: &[&str] = &["set", "pid", "sub", "param"];
+
+const DISCOVER_KEYS: &[&str] = &["discover"];
+
 /// A call: a request with the key `get` or `set`, or a discovery with the key `discover`, and no two of them.
 #[derive(Clone, Copy, Drop)]
 pub(crate) struct CallForm;
@@ -53,9 +63,39 @@ impl Form for CallForm {
             (true, false, false) => request(alloc, value, "get", ReqClass::Get),
             (false, true, false) => request(alloc, value, "set", ReqClass::Set),
             (false, false, true) => discovery(alloc, value),
-            _ => Err(SceneFault::at(value, EXPECTED)),
+            _ => Err(no_call(value, gets, sets, discovers)),
         }
     }
+}
+
+impl Keyed for CallForm {
+    fn unknown(&self, value: &Value) -> Option<UnknownKey> {
+        let known = if value.get("get").is_some() {
+            GET_KEYS
+        } else if value.get("set").is_some() {
+            SET_KEYS
+        } else {
+            DISCOVER_KEYS
+        };
+        unknown_of(value, known)
+    }
+}
+
+// Why a value is no call that has these of the keys, not one alone.
+fn no_call(value: &Value, gets: bool, sets: bool, discovers: bool) -> SceneFault
+    ensures { is_memory result ≡ false }
+{
+    if !value.is_object() {
+        return SceneFault::at(value, EXPECTED);
+    }
+    let keys = match (gets, sets, discovers) {
+        (true, true, true) => "all three",
+        (true, true, false) => "get and set",
+        (true, false, _) => "get and discover",
+        (false, true, _) => "set and discover",
+        (false, false, _) => "none of them",
+    };
+    SceneFault::with_keys(keys, EXPECTED)
 }
 
 // A request of this class to the UID under this key.

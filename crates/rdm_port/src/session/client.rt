@@ -1,7 +1,9 @@
 //! The clients of a session file.
 ghost use Rattle.rdm_port.specs.SessionFiles.{IsClient};
 
-use crate::scene::{Form, ListOf, SceneFault, Whole, required};
+use crate::scene::{
+    Form, Keyed, ListOf, SceneFault, UnknownKey, Whole, required, unknown_in_list, unknown_of,
+};
 use crate::session::call::{CallForm, ClientCall};
 use serde_json::Value;
 use std::alloc::Global;
@@ -28,6 +30,8 @@ const CALLS: ListOf<CallForm> = ListOf {
     expected: "a list of calls",
 };
 
+const KEYS: &[&str] = &["places", "calls"];
+
 /// A client.
 #[derive(Clone, Copy, Drop)]
 pub(crate) struct ClientForm;
@@ -48,5 +52,14 @@ impl Form for ClientForm {
             places: places as u8,
             calls: calls.into_vec(),
         })
+    }
+}
+
+impl Keyed for ClientForm {
+    fn unknown(&self, value: &Value) -> Option<UnknownKey> {
+        match unknown_of(value, KEYS) {
+            Some(unknown) => Some(unknown),
+            None => unknown_in_list(value, "calls", &CallForm),
+        }
     }
 }

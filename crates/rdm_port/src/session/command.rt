@@ -6,7 +6,8 @@ ghost use Rattle.rdm_port.specs.Commands.{has_discovery_command, has_command};
 use crate::scene::SceneFault;
 use serde_json::Value;
 
-const EXPECTED: &str = "no such key, since clients send no discovery commands";
+const WHY: &str =
+    "clients send no discovery commands; a discovery is asked for by the key discover";
 
 /// The first discovery command among the clients' calls: a call that has the key `discovery`, whatever its value and
 /// whatever else is wrong in the file.
@@ -30,8 +31,8 @@ fn command_of(client: &Value) -> Option<SceneFault>
 {
     let calls = client.get("calls")?.as_array()?;
     'calls: for i in 0..calls.len() {
-        if let Some(value) = calls[i].get("discovery") {
-            let fault = SceneFault::at(value, EXPECTED).under("discovery");
+        if calls[i].get("discovery").is_some() {
+            let fault = SceneFault::unwanted(WHY).under("discovery");
             return Some(fault.in_item(i).under("calls"));
         }
     }

@@ -4,7 +4,10 @@ ghost use Rattle.rdm_port.specs.Forms.{Reads};
 ghost use Rattle.rdm_port.specs.SceneFiles.{IsSceneFile};
 ghost use Rattle.rdm_port.specs.SessionFiles.{IsSessionFile};
 
-use crate::scene::{Form, ListOf, SceneFault, SceneFile, Whole, optional, read_scene, required};
+use crate::scene::{
+    Form, Keyed, ListOf, SceneFault, SceneFile, UnknownKey, Whole, optional, read_scene, required,
+    unknown_in_list, unknown_in_scene, unknown_of, unknown_under,
+};
 use crate::session::client::{ClientFile, ClientForm};
 use rdm_agent::Search;
 use rdm_queue::MOST_CLIENTS;
@@ -27,6 +30,8 @@ pub struct SessionFile {
     /// How many turns the worker and each client may make: 1 to 1,000,000,000.
     pub turns: u64,
 }
+
+const KEYS: &[&str] = &["scene", "clients", "ring", "search", "log", "turns"];
 
 const CLIENTS: ListOf<ClientForm> = ListOf {
     form: ClientForm,
@@ -74,6 +79,17 @@ pub fn read_session(alloc: Global, value: &Value) -> Result<SessionFile, SceneFa
     })
 }
 
+/// The first key of a session that isn't known, if there is one: its own, else one in the scene, else in a client.
+pub(crate) fn unknown_in_session(value: &Value) -> Option<UnknownKey> {
+    if let Some(unknown) = unknown_of(value, KEYS) {
+        return Some(unknown);
+    }
+    match unknown_under(value, "scene", &SceneForm) {
+        Some(unknown) => Some(unknown),
+        None => unknown_in_list(value, "clients", &ClientForm),
+    }
+}
+
 // A scene.
 #[derive(Clone, Copy, Drop)]
 struct SceneForm;
@@ -89,6 +105,12 @@ impl Form for SceneForm {
 
     fn read(&self, alloc: Global, value: &Value) -> Result<SceneFile, SceneFault> {
         read_scene(alloc, value)
+    }
+}
+
+impl Keyed for SceneForm {
+    fn unknown(&self, value: &Value) -> Option<UnknownKey> {
+        unknown_in_scene(value)
     }
 }
 

@@ -85,7 +85,7 @@ fn tells_what_is_no_scene(rt: HostRuntime) -> Result<(), Fail> {
         ),
         (
             "{\"source\":\"7a70:00000100\",\"collisions\":[{}]}",
-            "collisions[0]: expected \"or\", or an object with either a uid or bytes, found an object",
+            "collisions[0]: expected \"or\", or an object with either a uid or bytes, found an object with neither",
         ),
         (
             "{\"source\":\"7a70:00000100\",\"devices\":[{\"uid\":\"1234:00000001\"},{\"uid\":\"1234:00000001\"}]}",
@@ -105,7 +105,7 @@ fn tells_what_is_no_scene(rt: HostRuntime) -> Result<(), Fail> {
         ),
         (
             "{\"source\":\"7a70:00000100\",\"devices\":[{\"uid\":\"1234:00000001\",\"from\":5,\"until\":5}]}",
-            "devices[0]: expected a device that comes before it leaves, found an object",
+            "devices[0].until: expected a number after from, found 5",
         ),
         (
             "{\"source\":\"7a70:00000100\",\"devices\":[{\"uid\":\"1234:00000001\",\"from\":-0}]}",
@@ -129,7 +129,7 @@ fn tells_what_is_no_scene(rt: HostRuntime) -> Result<(), Fail> {
         ),
         (
             "{\"source\":\"7a70:00000100\",\"collisions\":[{\"uid\":\"1234:00000001\",\"bytes\":\"ff\"}]}",
-            "collisions[0]: expected \"or\", or an object with either a uid or bytes, found an object",
+            "collisions[0]: expected \"or\", or an object with either a uid or bytes, found an object with both",
         ),
         (
             "{\"source\":\"7a70:00000100\",\"losses\":[1,5.0]}",

@@ -33,7 +33,7 @@ fn told<T: Threads + Wait + Sync>(
 
 #[test]
 fn tells_why_a_reply_or_a_uid_is_not_read(rt: HostRuntime) {
-    let rows: [(&[&str], &str, u8); 18] = [
+    let rows: [(&[&str], &str, u8); 19] = [
         (
             &["decode", "0g"],
             "character 2, 'g', is no hexadecimal digit",
@@ -115,7 +115,12 @@ fn tells_why_a_reply_or_a_uid_is_not_read(rt: HostRuntime) {
             0,
         ),
         (&["decode", "fe"], "", 0),
-        (&["encode", "7a70:ffffffff"], "", 0),
+        (
+            &["encode", "7a70:ffffffff"],
+            "no device has a broadcast UID for its own",
+            0,
+        ),
+        (&["encode", "7a70:00000001"], "", 0),
     ];
     for (words, line, status) in rows {
         let mut written = Vec::new(rt.alloc());
@@ -127,7 +132,7 @@ fn tells_why_a_reply_or_a_uid_is_not_read(rt: HostRuntime) {
 
 #[test]
 fn tells_why_a_file_is_not_answered(rt: HostRuntime) {
-    let rows: [(&str, &str, &str); 9] = [
+    let rows: [(&str, &str, &str); 14] = [
         ("discover", "", "the file is empty"),
         (
             "discover",
@@ -167,7 +172,32 @@ fn tells_why_a_file_is_not_answered(rt: HostRuntime) {
         (
             "run",
             "{\"clients\":[{\"calls\":[{\"discovery\":1}]}]}",
-            "clients[0].calls[0].discovery: expected no such key, since clients send no discovery commands, found 1",
+            "clients[0].calls[0].discovery: clients send no discovery commands; a discovery is asked for by the key discover",
+        ),
+        (
+            "discover",
+            "{\"scene\":{\"source\":\"7a70:00000100\"}}",
+            "source: this key is missing; expected a UID, such as 7a70:00000001\nthis looks like a session file; try ./wurstlinen run FILE",
+        ),
+        (
+            "discover",
+            "{\"clients\":[]}",
+            "source: this key is missing; expected a UID, such as 7a70:00000001\nthis looks like a session file; try ./wurstlinen run FILE",
+        ),
+        (
+            "discover",
+            "{\"sorce\":\"7a70:00000100\"}",
+            "source: this key is missing; expected a UID, such as 7a70:00000001",
+        ),
+        (
+            "run",
+            "{\"source\":\"7a70:00000100\",\"devices\":[]}",
+            "scene: this key is missing; expected a scene, as a scene file has it\nthis looks like a scene file; try ./wurstlinen discover FILE",
+        ),
+        (
+            "run",
+            "{\"clients\":[]}",
+            "scene: this key is missing; expected a scene, as a scene file has it",
         ),
     ];
     for (command, file, line) in rows {

@@ -106,7 +106,7 @@ fn tells_what_is_no_session(rt: HostRuntime) -> Result<(), Fail> {
         (
             "{\"scene\":{\"source\":\"7a70:00000100\"},\"clients\":[{\"places\":1,\"calls\":[{}]}]}",
             "fault: scene\n",
-            "clients[0].calls[0]: expected a call with one of get, set and discover, found an object",
+            "clients[0].calls[0]: expected a call with one of get, set and discover, found an object with none of them",
         ),
         (
             "{\"scene\":{\"source\":\"7a70:00000100\"},\"clients\":[{\"places\":1,\"calls\":[\"get\"]}]}",
@@ -116,12 +116,12 @@ fn tells_what_is_no_session(rt: HostRuntime) -> Result<(), Fail> {
         (
             "{\"scene\":{\"source\":\"7a70:00000100\"},\"clients\":[{\"places\":1,\"calls\":[{\"get\":\"1234:00000001\",\"set\":\"1234:00000001\",\"pid\":\"0060\"}]}]}",
             "fault: scene\n",
-            "clients[0].calls[0]: expected a call with one of get, set and discover, found an object",
+            "clients[0].calls[0]: expected a call with one of get, set and discover, found an object with get and set",
         ),
         (
             "{\"scene\":{\"source\":\"7a70:00000100\"},\"clients\":[{\"places\":1,\"calls\":[{\"set\":\"1234:00000001\",\"discover\":\"full\",\"pid\":\"0060\"}]}]}",
             "fault: scene\n",
-            "clients[0].calls[0]: expected a call with one of get, set and discover, found an object",
+            "clients[0].calls[0]: expected a call with one of get, set and discover, found an object with set and discover",
         ),
         (
             "{\"scene\":{\"source\":\"7a70:00000100\"},\"clients\":[{\"places\":1,\"calls\":[{\"get\":\"1234:00000001\"}]}]}",

@@ -1,6 +1,7 @@
 //! Runs on a tape.
 use crate::discovery::discover;
 use crate::performing::Silent;
+use crate::remark::Remark;
 use crate::reporting::report;
 use crate::serving::Progress;
 use rdm_agent::{DEFAULT_BUDGET, Kind, Search};
@@ -63,6 +64,8 @@ fn a_tape_that_ends_fails(rt: HostRuntime) -> Result<(), Fail> {
 struct Told(Vec<usize>);
 
 impl Progress for Told {
+    fn remark(&mut self, _remark: &Remark) {}
+
     fn tell(&mut self, exchanges: usize) {
         let _ = self.0.push(exchanges);
     }

@@ -4,7 +4,7 @@ use Rattle.serde_json.specs.View.{view}
 use Rattle.rdm_port.proofs.discovering.scene_of.Goals as goal
 
 pub returns-in-Err-Mismatch-clause-fault : goal.returns-in-Err-Mismatch-clause-fault
-returns-in-Err-Mismatch-clause-fault c = record {
+returns-in-Err-Mismatch-clause-fault g c = record {
   value = view c.in-Ok.value;
   json = c.in-Ok.ensures.ok.1;
   none = c.in-Err-Mismatch.ensures (ap is_memory c.in-Err-Mismatch.field-0-is);

@@ -4,7 +4,7 @@ use Rattle.serde_json.specs.View.{view}
 use Rattle.rdm_port.proofs.run.session_of.Goals as goal
 
 pub returns-in-Err-Mismatch-clause-fault : goal.returns-in-Err-Mismatch-clause-fault
-returns-in-Err-Mismatch-clause-fault c = record {
+returns-in-Err-Mismatch-clause-fault g c = record {
   value = view c.in-Ok.value;
   json = c.in-Ok.ensures.ok.1;
   no_command = search rules;

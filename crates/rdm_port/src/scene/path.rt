@@ -1,0 +1,72 @@
+//! Places of values in a file, for people.
+use arrayvec::ArrayVec;
+use std::fmt;
+
+/// The place of a value in a file: the keys and items that lead to it.
+#[derive(Debug, Drop)]
+pub struct Path {
+    // The steps to the place, the last one first.
+    steps: ArrayVec<Step, MOST_STEPS>,
+    // The item of the list that the next step's key holds.
+    item: Option<usize>,
+}
+
+/// A key, and an item of the list that it holds.
+#[derive(Clone, Copy, Debug, Default, Drop)]
+pub struct Step {
+    key: &'static str,
+    item: Option<usize>,
+}
+
+// How deep the keys of a file nest: four in a scene, and two more about it.
+const MOST_STEPS: usize = 6;
+
+impl Path {
+    /// The place of the whole file.
+    pub(crate) fn whole() -> Path {
+        Path {
+            steps: ArrayVec::new(),
+            item: None,
+        }
+    }
+
+    /// Whether it is the place of the whole file.
+    pub(crate) fn is_whole(&self) -> bool {
+        self.steps.is_empty()
+    }
+
+    /// The same place, in an item of a list.
+    pub(crate) fn in_item(self, item: usize) -> Path {
+        Path {
+            item: Some(item),
+            ..self
+        }
+    }
+
+    /// The same place, under a key of an object.
+    pub(crate) fn under(mut self, key: &'static str) -> Path {
+        let item = self.item;
+        // A file whose keys nest deeper is told without its outermost keys.
+        let _ = self.steps.try_push(Step { key, item });
+        self.item = None;
+        self
+    }
+}
+
+impl fmt::Display for Path {
+    fn fmt<W: fmt::Write>(&self, f: &mut fmt::Formatter<W>) -> fmt::Result {
+        for (i, step) in self.steps.iter().rev().enumerate() {
+            if i > 0 {
+                write!(f, ".")?;
+            }
+            write!(f, "{}", step.key)?;
+            if let Some(item) = step.item {
+                write!(f, "[{item}]")?;
+            }
+        }
+        if self.is_whole() {
+            write!(f, "the file")?;
+        }
+        Ok(())
+    }
+}
