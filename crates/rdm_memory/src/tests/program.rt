@@ -1,9 +1,7 @@
 //! What the program reads and prints.
 use super::memory::Memory;
 use super::rig::room_for;
-use rdm_port::{
-    Job, PortKind, Progress, Remark, WordsFault, carry_out, parse_words, perform,
-};
+use rdm_port::{Job, PortKind, Progress, Remark, WordsFault, carry_out, parse_words, perform};
 use std::alloc::Global;
 use std::process::Abort;
 use std::sync::Wait;

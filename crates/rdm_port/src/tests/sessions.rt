@@ -186,12 +186,12 @@ fn tells_what_is_no_session(rt: HostRuntime) -> Result<(), Fail> {
         (
             "{\"scene\":{\"source\":\"7a70:00000100\"},\"clients\":[{\"places\":1,\"calls\":[{\"discovery\":\"full\"}]}]}",
             "fault: discovery command\n",
-            "clients[0].calls[0].discovery: expected no such key, since clients send no discovery commands, found \"full\"",
+            "clients[0].calls[0].discovery: clients send no discovery commands; a discovery is asked for by the key discover",
         ),
         (
             "{\"clients\":[7,{\"calls\":[{},{\"discovery\":null}]}]}",
             "fault: discovery command\n",
-            "clients[1].calls[1].discovery: expected no such key, since clients send no discovery commands, found null",
+            "clients[1].calls[1].discovery: clients send no discovery commands; a discovery is asked for by the key discover",
         ),
     ];
     for (text, line, told) in rows {
