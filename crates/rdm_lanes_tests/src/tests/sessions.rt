@@ -58,37 +58,17 @@ fn ended<
     requires { book_of history ≡ J.book }
 {
     let gate = Points::new();
-    check(rt, bodies.len() == setup.places.len());
+    let places = setup.places;
+    check(rt, bodies.len() == places.len());
     let log = log(rt, alloc, setup.free);
-    let config = config(setup.greatest);
+    let set = config(setup.greatest);
     let ring = setup.ring.max(1);
     match search {
-        None => run_session::<J, B, Note, AskNote, Points, X, R>(
-            rt,
-            alloc,
-            history,
-            config,
-            log,
-            ring,
-            setup.places,
-            bodies,
-            &gate,
-            line,
-            TURNS,
+        None => run_session(
+            rt, alloc, history, set, log, ring, places, bodies, &gate, line, TURNS,
         ),
-        Some(search) => run_session_by::<J, B, Note, AskNote, Points, X, R>(
-            rt,
-            alloc,
-            history,
-            search,
-            config,
-            log,
-            ring,
-            setup.places,
-            bodies,
-            &gate,
-            line,
-            TURNS,
+        Some(by) => run_session_by(
+            rt, alloc, history, by, set, log, ring, places, bodies, &gate, line, TURNS,
         ),
     }
 }
@@ -115,25 +95,32 @@ fn runs<
             check(rt, log.entries().is_empty());
             Err((fault, bodies))
         }
-        Ok(end) => {
-            let LanesEnd {
-                session,
-                line: _,
-                bodies,
-                worker,
-                ends,
-                matched,
-                published,
-            } = end;
-            check(rt, matched);
-            Ok(Over {
-                session,
-                bodies,
-                worker,
-                left: all_left(rt, alloc, ends),
-                published: published.len(),
-            })
-        }
+        Ok(end) => Ok(over_of(rt, alloc, end)),
+    }
+}
+
+// What is left of a session.
+fn over_of<J: ViewHistory, B, X: Drop>(
+    rt: &impl Abort,
+    alloc: Global,
+    end: LanesEnd<J, B, X, Note, AskNote>,
+) -> Over<B> {
+    let LanesEnd {
+        session,
+        line: _,
+        bodies,
+        worker,
+        ends,
+        matched,
+        published,
+    } = end;
+    check(rt, matched);
+    Over {
+        session,
+        bodies,
+        worker,
+        left: all_left(rt, alloc, ends),
+        published: published.len(),
     }
 }
 
