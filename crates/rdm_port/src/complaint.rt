@@ -333,6 +333,9 @@ fn write_complaint<W: fmt::Write>(
 ) -> fmt::Result {
     match complaint {
         Complaint::NoCommand => write!(f, "the command is missing"),
+        Complaint::UnknownCommand(word) if word.starts_with('-') => {
+            write!(f, "{word:?} is no command; options come after the command")
+        }
         Complaint::UnknownCommand(word) => write!(f, "{word:?} is no command"),
         Complaint::UnknownOption { command, option } => {
             write!(f, "{command} has no option {option:?}")

@@ -115,6 +115,9 @@ fn scene_of<'a, P: Progress>(
     }
 }
 
+// Some editors put it before a text. No person sees it.
+const BYTE_ORDER_MARK: &[u8] = b"\xef\xbb\xbf";
+
 /// Why bytes weren't read as JSON.
 pub(crate) fn no_json<'a>(bytes: &[u8], error: &serde_json::Error) -> Refused<'a>
     ensures memory { IsMemory error.now → result.0 ≡ Fault.Memory }
@@ -123,6 +126,7 @@ pub(crate) fn no_json<'a>(bytes: &[u8], error: &serde_json::Error) -> Refused<'a
     match error.classify() {
         Category::Memory => (Fault::Memory, None),
         Category::Eof => (Fault::Json, Some(cut_short(bytes))),
+        _ if bytes.starts_with(BYTE_ORDER_MARK) => (Fault::Json, Some(Reason::ByteOrderMark)),
         _ => {
             let place = Place::of_byte(bytes, error.line(), error.column());
             (Fault::Json, Some(Reason::NoJson(place)))

@@ -39,6 +39,8 @@ pub enum Reason<'a> {
     CutShort(Place),
     /// The file is no JSON; this is where.
     NoJson(Place),
+    /// The file is no JSON, since it begins with a byte order mark.
+    ByteOrderMark,
     /// The file's JSON is no scene, or no session.
     NoScene(Mismatch),
     /// The same, and the file looks like one of the other kind.
@@ -49,6 +51,8 @@ pub enum Reason<'a> {
         key: &'static str,
         /// What stands there.
         found: u64,
+        /// How much may be enough.
+        hint: &'static str,
     },
     /// A run had this fault; these lines tell the devices that it found until then.
     Fault(AgentFault, Vec<u8>),
@@ -103,12 +107,18 @@ impl fmt::Display for Reason<'_> {
             Reason::Empty => write!(f, "the file is empty"),
             Reason::CutShort(place) => write!(f, "the file ends before its JSON does, at {place}"),
             Reason::NoJson(place) => write!(f, "the file's JSON is wrong at {place}"),
-            Reason::NoScene(mismatch) => write!(f, "{mismatch}"),
-            Reason::OtherKind(mismatch, kind) => write!(f, "{mismatch}\nthis looks like {kind}"),
-            Reason::TooLittle { key, found } => {
+            Reason::ByteOrderMark => {
                 write!(
                     f,
-                    "{key}: expected enough for the whole session, found {found}"
+                    "the file begins with a byte order mark, which JSON doesn't allow"
+                )
+            }
+            Reason::NoScene(mismatch) => write!(f, "{mismatch}"),
+            Reason::OtherKind(mismatch, kind) => write!(f, "{mismatch}\nthis looks like {kind}"),
+            Reason::TooLittle { key, found, hint } => {
+                write!(
+                    f,
+                    "{key}: expected enough for the whole session, found {found}; {hint}"
                 )
             }
             Reason::Fault(fault, found) => write_fault(f, *fault, found),

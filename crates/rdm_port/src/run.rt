@@ -63,13 +63,17 @@ fn refused<'a>(fault: ServeFault, log: u64, turns: u64) -> Refused<'a>
 {
     match fault {
         ServeFault::Memory => (Fault::Memory, None),
-        ServeFault::Log => (Fault::Log, Some(too_little("log", log))),
-        ServeFault::Turns => (Fault::Turns, Some(too_little("turns", turns))),
+        ServeFault::Log => (Fault::Log, Some(too_little("log", log, LOG_HINT))),
+        ServeFault::Turns => (Fault::Turns, Some(too_little("turns", turns, TURNS_HINT))),
     }
 }
 
-fn too_little<'a>(key: &'static str, found: u64) -> Reason<'a> {
-    Reason::TooLittle { key, found }
+const LOG_HINT: &str = "a request takes 5 entries or more, and without this key there are 10000";
+
+const TURNS_HINT: &str = "waiting takes turns too, and without this key there are 100000000";
+
+fn too_little<'a>(key: &'static str, found: u64, hint: &'static str) -> Reason<'a> {
+    Reason::TooLittle { key, found, hint }
 }
 
 // The session in the reader's file, and remarks on it.

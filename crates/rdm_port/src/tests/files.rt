@@ -163,7 +163,7 @@ fn tells_what_is_no_scene(rt: HostRuntime) -> Result<(), Fail> {
 
 #[test]
 fn tells_where_json_ends(rt: HostRuntime) -> Result<(), Fail> {
-    let rows: [(&str, &str); 24] = [
+    let rows: [(&str, &str); 25] = [
         ("", "the file is empty"),
         (" \n\t\r\n", "the file is empty"),
         (
@@ -201,6 +201,10 @@ fn tells_where_json_ends(rt: HostRuntime) -> Result<(), Fail> {
         ("{\"a\":1,}", "the file's JSON is wrong at line 1, column 8"),
         ("{a:1}", "the file's JSON is wrong at line 1, column 2"),
         ("{'a':1}", "the file's JSON is wrong at line 1, column 2"),
+        (
+            "\u{feff}{}",
+            "the file begins with a byte order mark, which JSON doesn't allow",
+        ),
         ("{\"a\":1}}", "the file's JSON is wrong at line 1, column 8"),
         (
             "{\"a\":tru}",

@@ -167,7 +167,7 @@ fn tells_why_a_file_is_not_answered(rt: HostRuntime) {
         (
             "run",
             "{\"scene\":{\"source\":\"7a70:00000100\"},\"clients\":[{\"places\":1,\"calls\":[]}],\"log\":3}",
-            "log: expected enough for the whole session, found 3",
+            "log: expected enough for the whole session, found 3; a request takes 5 entries or more, and without this key there are 10000",
         ),
         (
             "run",
@@ -283,7 +283,7 @@ fn tells_which_word_is_not_understood(rt: HostRuntime) -> Result<(), Fail> {
         (&["", "00"], "\"\" is no command"),
         (
             &["--quick", "discover", "file"],
-            "\"--quick\" is no command",
+            "\"--quick\" is no command; options come after the command",
         ),
         (&["my\nword"], "\"my\\nword\" is no command"),
         (&["decode"], "the HEX of decode is missing"),

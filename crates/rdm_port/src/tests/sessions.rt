@@ -246,7 +246,7 @@ fn tells_which_key_is_too_little(rt: HostRuntime) {
     for (text, due, value) in rows {
         let reason = refused(&rt, rt.alloc(), text.as_bytes());
         assert!(rt;
-            matches!(reason, Some(Reason::TooLittle { key, found }) if key == due && found == value),
+            matches!(reason, Some(Reason::TooLittle { key, found, .. }) if key == due && found == value),
             "{text}"
         );
     }
