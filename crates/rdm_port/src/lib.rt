@@ -1,10 +1,12 @@
 //! What the program `wurstlinen` does. It reads and writes the replies of RDM devices to a branch of the discovery
 //! tree. It discovers simulated devices, and runs sessions of clients on a simulated line.
 //!
-//! [`parse_words`] finds the [`Job`] that a command line asks for, and [`perform`] prints its answer. A [`Reason`] says
-//! for people why something isn't done, a [`Remark`] what they should know of a file before, and a [`Complaint`] what is
-//! wrong with words that ask for nothing. A session file is read by [`read_session`] and served by [`serve`];
-//! [`session_text`] says what is printed of it.
+//! [`parse_words`] finds the [`Job`] that a command line asks for, and [`perform`] prints its answer. A session file is
+//! read by [`read_session`] and served by [`serve`]; [`session_text`] says what is printed of it. For people there are
+//! these:
+//! - a [`Reason`] says why something isn't done;
+//! - a [`Remark`] says what they should know of a file before its work begins;
+//! - a [`Complaint`] says what is wrong with words that ask for nothing.
 #![tactic(auto)]
 
 mod answer;
