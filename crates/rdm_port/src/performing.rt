@@ -41,8 +41,8 @@ pub fn perform<R: Read, W: Write, T: Threads + Wait + Sync>(
     status
 }
 
-/// As [`perform`], and gives the reason too where it isn't done. Of a file it tells first what people should know of it,
-/// and then how far its session or its discovery is.
+/// As [`perform`], and gives the reason too where it isn't done. Of a file it tells first what people should know of
+/// it, and then how far its session or its discovery is.
 pub fn carry_out<'a, R: Read, W: Write, P: Progress + Send, T: Threads + Wait + Sync>(
     rt: &T,
     alloc: Global,
