@@ -24,6 +24,7 @@ op_of (Some (Branch lo hi)) = ops.Branch (record { lo = lo; hi = hi })
 op_of (Some (Mute u)) = ops.Mute u
 op_of (Some Other) = ops.End
 
+-- the operation that an agent asks next; `End` if it has ended
 abbrev pub next_op : AgentState → Op
 next_op a = op_of (next_of a)
 

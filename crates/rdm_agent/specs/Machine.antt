@@ -36,6 +36,7 @@ pub data Phase : Type 0 where
   Doubting : (sweep : Sweep) (top : Span) (below : List Span) → Phase
   Ended : (fault : Option AgentFault) → Phase
 
+-- an agent: how many exchanges it may make and has made, how it searches, the devices found, and its phase
 pub record AgentState : Type 0 where
   pub budget : ℕ
   pub frames : ℕ
@@ -47,6 +48,7 @@ pub record AgentState : Type 0 where
 abbrev pub found_uids : AgentState → List ℕ
 found_uids a = uids_of a.found
 
+-- an agent at its start, with this search, kind, known UIDs and budget
 abbrev pub start_by : Search → Kind → List ℕ → ℕ → AgentState
 start_by search kind known budget = record {
   budget = budget;
@@ -65,6 +67,7 @@ abbrev pub is_suspect : Option ℕ → ℕ → Bool
 is_suspect None u = false
 is_suspect (Some v) u = v == u
 
+-- whether a range is of one UID
 abbrev pub is_one : Span → Bool
 is_one r = r.lo == r.hi
 
@@ -97,14 +100,17 @@ next_of a = if nat_lt a.frames a.budget then wanted a.phase else None
 abbrev pub first_sweep : Sweep
 first_sweep = record { made = 0; suspect = None }
 
+-- the phase in which a search begins, on the whole range: a quick one sweeps first
 abbrev pub first_phase : Search → Phase
 first_phase Steady = Searching 0 whole []
 first_phase Quick = Sweeping first_sweep whole []
 
+-- the phase after the unmutes: the known UIDs are muted first, and then the search begins
 abbrev pub search_from : Search → List ℕ → Phase
 search_from search [] = first_phase search
 search_from search (u ∷ us) = MutingKnown u 0 us
 
+-- the phase after the top range is done: the next range, or the end without fault
 abbrev pub search_below : List Span → Phase
 search_below [] = Ended None
 search_below (r ∷ rs) = Searching 0 r rs
@@ -119,10 +125,11 @@ split r below =
 abbrev pub is_new : List ℕ → Span → ℕ → Bool
 is_new found r u = not (is_broadcast u) && is_within r.lo r.hi u && not (has found u)
 
--- a sweep after one exchange more, and one that gives up a UID
+-- a sweep after one more exchange
 abbrev pub counted : Sweep → Sweep
 counted sweep = record { made = sweep.made + 1; suspect = sweep.suspect }
 
+-- a sweep that gives up this UID
 abbrev pub suspecting : ℕ → Sweep → Sweep
 suspecting u sweep = record { made = sweep.made; suspect = Some u }
 
@@ -132,6 +139,7 @@ abbrev pub sweep_to : Sweep → ℕ → Span → List Span → Phase
 sweep_to sweep found top below =
     if nat_lt sweep.made (100 * (found + 1)) then Sweeping sweep top below else Searching 0 whole []
 
+-- a sweep after its top range is done: the next range, or the steady search if none is left
 abbrev pub sweep_below : Sweep → ℕ → List Span → Phase
 sweep_below sweep found [] = Searching 0 whole []
 sweep_below sweep found (r ∷ rs) = sweep_to sweep found r rs
@@ -170,6 +178,7 @@ sweep_apart asked sweep found top below =
     else (if is_one top then sweep_doubt sweep found top below
     else sweep_halves sweep found top below)
 
+-- the agent after one more exchange, in this phase
 abbrev pub to_phase : AgentState → Phase → AgentState
 to_phase a phase = record {
   budget = a.budget;
@@ -192,6 +201,7 @@ to_found a d phase =
     }
     else to_phase a (Ended (Some TooMany)))
 
+-- the agent after a branch. Five silences end the range. A new UID is muted, and anything else splits the range
 abbrev pub branch_heard : AgentState → ℕ → Span → List Span → Heard → AgentState
 branch_heard a silences top below Silent =
     to_phase a (if (silences + 1) == TRIES then search_below below else Searching (silences + 1) top below)
@@ -199,11 +209,13 @@ branch_heard a silences top below (One u) =
     to_phase a (if is_new (found_uids a) top u then MutingRead u 0 top below else split top below)
 branch_heard a silences top below _ = to_phase a (split top below)
 
+-- the agent after the mute of a known UID: found if acknowledged, and given up after five tries
 abbrev pub known_heard : AgentState → ℕ → ℕ → List ℕ → Heard → AgentState
 known_heard a u tries known (Acked ack) = to_found a (device_from u ack) (search_from a.search known)
 known_heard a u tries known _ =
     to_phase a (if (tries + 1) == TRIES then search_from a.search known else MutingKnown u (tries + 1) known)
 
+-- the agent after the mute of a UID that was read. It is found if acknowledged. After five tries the range is split
 abbrev pub mute_heard : AgentState → ℕ → ℕ → Span → List Span → Heard → AgentState
 mute_heard a u tries top below (Acked ack) = to_found a (device_from u ack) (Searching 0 top below)
 mute_heard a u tries top below _ =
@@ -214,6 +226,7 @@ abbrev pub is_wanted : List ℕ → Sweep → Span → ℕ → Bool
 is_wanted found sweep top u =
     is_new found top u && not (is_suspect sweep.suspect u && not (is_one (probe sweep.suspect top)))
 
+-- the agent after a branch of a sweep: silence, a UID that is muted, or a collision
 abbrev pub sweep_heard : AgentState → Sweep → Span → List Span → Heard → AgentState
 sweep_heard a sweep top below Silent = to_phase a (sweep_silent (counted sweep) (length a.found) top below)
 sweep_heard a sweep top below (One u) =
@@ -237,6 +250,7 @@ swept_heard a u tries sweep top below _ =
     then sweep_apart (probe sweep.suspect top) (suspecting u (counted sweep)) (length a.found) top below
     else MutingSwept u (tries + 1) (counted sweep) top below)
 
+-- the agent after what it heard in this phase, if the line didn't fail
 abbrev pub heard_by_phase : AgentState → Phase → Heard → AgentState
 heard_by_phase a (Unmuting more known) heard =
     to_phase a (if nat_lt 1 more then Unmuting (more - 1) known else search_from a.search known)

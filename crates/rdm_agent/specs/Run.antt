@@ -25,11 +25,13 @@ asked_by (ops.Mute u) = Mute u
 asked_by (ops.Branch r) = Branch r.lo r.hi
 asked_by ops.End = Other
 
+-- how the reply to a branch is heard
 abbrev pub heard_of_branch : BranchReply → Heard
 heard_of_branch replies.Silent = Silent
 heard_of_branch (replies.One u) = One u
 heard_of_branch replies.Collision = Noise
 
+-- how the reply to a mute is heard: its acknowledgement, or silence
 abbrev pub heard_of_mute : Option MuteAck → Heard
 heard_of_mute None = Silent
 heard_of_mute (Some ack) = Acked ack
@@ -45,42 +47,51 @@ heard_by came.Failed = Failed
 abbrev pub seen_op : Op × OpReply → Seen
 seen_op e = record { asked = asked_by e.0; heard = heard_by e.1 }
 
--- the UID that an exchange mutes, whose mute it finds acknowledged, and that it reads
+-- the UID that is muted by what was asked
 abbrev pub muted_uid : Asked → Option ℕ
 muted_uid (Mute u) = Some u
 muted_uid _ = None
 
+-- the UID whose mute was acknowledged
 abbrev pub acked_uid : Asked → Heard → Option ℕ
 acked_uid (Mute u) (Acked ack) = Some u
 acked_uid _ _ = None
 
+-- the UID that the reply to a branch spelt
 abbrev pub spelt_uid : Asked → Heard → Option ℕ
 spelt_uid (Branch lo hi) (One u) = Some u
 spelt_uid _ _ = None
 
+-- whether a branch was asked
 abbrev pub asks_range : Asked → Bool
 asks_range (Branch lo hi) = true
 asks_range _ = false
 
+-- the UID that an exchange mutes
 abbrev pub muted_by : Seen → Option ℕ
 muted_by x = muted_uid x.asked
 
+-- the UID whose mute an exchange finds acknowledged
 abbrev pub acked_by : Seen → Option ℕ
 acked_by x = acked_uid x.asked x.heard
 
+-- the UID that an exchange reads from the reply to a branch
 abbrev pub read_by : Seen → Option ℕ
 read_by x = spelt_uid x.asked x.heard
 
+-- whether an exchange is a branch
 abbrev pub is_branch : Seen → Bool
 is_branch x = asks_range x.asked
 
--- in order, the UIDs that were muted, whose mute was acknowledged, and that were read
+-- the UIDs that were muted, in order
 abbrev pub muted_in : List Seen → List ℕ
 muted_in x = filter_map muted_by x
 
+-- the UIDs whose mute was acknowledged, in order
 abbrev pub acked_in : List Seen → List ℕ
 acked_in x = filter_map acked_by x
 
+-- the UIDs that were read, in order
 abbrev pub read_in : List Seen → List ℕ
 read_in x = filter_map read_by x
 
@@ -93,6 +104,7 @@ abbrev pub acked_device : Asked → Heard → Option Device
 acked_device (Mute u) (Acked ack) = Some (device_from u ack)
 acked_device _ _ = None
 
+-- the device whose mute an exchange finds acknowledged, as its reply describes it
 abbrev pub device_by : Seen → Option Device
 device_by x = acked_device x.asked x.heard
 
@@ -127,9 +139,10 @@ pub record InSuccession (n : ℕ) (P : Seen → Type 0) (x : List Seen) : Type 0
   pub many : length run ≡ n
   pub each : AllByRecursion P run
 
--- a branch of this range without a byte, and a mute of u without an acknowledgement
+-- a branch of this range without a byte
 abbrev pub IsSilentBranch : ℕ → ℕ → Seen → Type 0
 IsSilentBranch lo hi x = (x.asked ≡ Branch lo hi) × (x.heard ≡ Silent)
 
+-- a mute of u without an acknowledgement
 abbrev pub IsLostMute : ℕ → Seen → Type 0
 IsLostMute u x = (x.asked ≡ Mute u) × (is_acked x.heard ≡ false)

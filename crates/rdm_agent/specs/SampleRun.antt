@@ -6,18 +6,23 @@ use Rattle.rdm_wire.specs.Honest.Heard.{Failed, Silent, One, Acked, Noise}
 use Rattle.rdm_wire.specs.declared.device.Device.{Device}
 use Rattle.rdm_wire.specs.declared.mute_ack.MuteAck.{MuteAck}
 
+-- an exchange that asked this and heard this
 abbrev pub exchange : Asked → Heard → Seen
 exchange asked heard = record { asked = asked; heard = heard }
 
+-- the UID of the first device
 abbrev pub sample_uid : ℕ
 sample_uid = 0x123400000001
 
+-- its acknowledgement: control field 0002, binding UID 1234:00000005
 abbrev pub sample_ack : MuteAck
 sample_ack = record { control = 0x0002; binding = Some 0x123400000005 }
 
+-- the first device, as its acknowledgement describes it
 abbrev pub sample_device : Device
 sample_device = record { uid = 0x123400000001; control = 0x0002; binding = Some 0x123400000005 }
 
+-- a branch of all UIDs
 abbrev pub all_branch : Asked
 all_branch = Branch 0 0xffffffffffff
 
@@ -36,19 +41,23 @@ lossy_run branches mutes =
     ++ (exchange all_branch (One sample_uid) ∷ (replicate mutes (exchange (Mute sample_uid) Silent)
     ++ (exchange (Mute sample_uid) (Acked sample_ack) ∷ replicate 5 (exchange all_branch Silent)))))
 
--- a line with another device too, and all branches of the whole range collide
+-- the UID of another device
 abbrev pub other_uid : ℕ
 other_uid = 0x9abc00000002
 
+-- the other device, as its acknowledgement describes it
 abbrev pub other_device : Device
 other_device = record { uid = other_uid; control = 0; binding = None }
 
+-- a branch of the lower half of all UIDs
 abbrev pub lower_branch : Asked
 lower_branch = Branch 0 0x7fffffffffff
 
+-- a branch of the upper half of all UIDs
 abbrev pub upper_branch : Asked
 upper_branch = Branch 0x800000000000 0xffffffffffff
 
+-- a run on a line with both devices, on which all branches of the whole range collide
 abbrev pub colliding_run : List Seen
 colliding_run =
     replicate 3 (exchange Unmute Silent) ++ (exchange all_branch Noise ∷ exchange lower_branch (One sample_uid)
@@ -73,11 +82,12 @@ failed_run = replicate 3 (exchange Unmute Silent) ++ exchange all_branch Failed 
 abbrev pub garbled_run : List Seen
 garbled_run = exchange (Mute other_uid) Noise ∷ []
 
--- a run that knows the first device and a UID that isn't there. The first mute's acknowledgement is lost, five mutes of
--- the absent UID are silent, and the other device is found
+-- a UID that isn't there
 abbrev pub absent_uid : ℕ
 absent_uid = 0x567800000009
 
+-- a run that knows the first device and the absent UID. The first mute's acknowledgement is lost, five mutes of the
+-- absent UID are silent, and the other device is found
 abbrev pub incremental_run : List Seen
 incremental_run =
     replicate 3 (exchange Unmute Silent) ++ (exchange (Mute sample_uid) Silent

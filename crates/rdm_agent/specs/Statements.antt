@@ -22,10 +22,11 @@ OfEachRun search P =
     (kind : Kind) (known : List ℕ) (budget : ℕ) (x : List Seen) (b : AgentState) →
     IsDeviceSet known → Runs (start_by search kind known budget) x b → P kind known budget x b
 
--- u is in each of these sets, and in one of them
+-- u is in each of these sets
 abbrev pub IsInEach : ℕ → List (List ℕ) → Type 0
 IsInEach u sets = AllByRecursion (λ present. has present u ≡ true) sets
 
+-- u is in one of these sets
 abbrev pub IsInOne : ℕ → List (List ℕ) → Type 0
 IsInOne u [] = ⊥
 IsInOne u (present ∷ sets) = (has present u ≡ true) ⊎ IsInOne u sets

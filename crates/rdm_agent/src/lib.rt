@@ -13,8 +13,6 @@ mod progress;
 mod ranges;
 mod search;
 mod sweep;
-#[cfg(test)]
-mod tests;
 
 pub use agent::Agent;
 pub use fault::AgentFault;

@@ -1,6 +1,6 @@
 //! The queue of requests, with a log or without.
 ghost use Rattle.std.specs.Prelude.{◌≡◌, [], IfOk};
-ghost use Rattle.rdm_queue.specs.log.Config.{IsConfig};
+ghost use Rattle.rdm_log.specs.log.Config.{IsConfig};
 
 use crate::fault::Fault;
 use crate::packets::controller;

@@ -6,8 +6,8 @@ use Rattle.rdm_join.specs.declared.joiner.ReplyHead.{ReplyHead}
 use Rattle.rdm_join.specs.declared.status.Status.TheVariants.{FailedToSend}
 use Rattle.rdm_agent.specs.declared.fault.AgentFault.{AgentFault}
 use Rattle.rdm_agent.specs.declared.fault.AgentFault.TheVariants.{Corrupt, Aborted}
-use Rattle.rdm_queue.specs.declared.outcome.Completion.{Completion}
-use Rattle.rdm_queue.specs.declared.outcome.AskCompletion.{AskCompletion}
+use Rattle.rdm_log.specs.declared.outcome.Completion.{Completion}
+use Rattle.rdm_log.specs.declared.outcome.AskCompletion.{AskCompletion}
 use Rattle.rdm_client.specs.declared.told.Told.{Told}
 use Rattle.rdm_client.specs.declared.told.AskTold.{AskTold}
 

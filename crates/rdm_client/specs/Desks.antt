@@ -1,9 +1,9 @@
 -- What a desk holds, which callback an outcome spends, and what is left at the end.
 use Rattle.std.specs.Prelude.{ℕ, ◌+◌, List, [], ◌∷◌, length, drop, slice_get, Option, Some, None, option_map}
-use Rattle.rdm_queue.specs.declared.outcome.Completion.{Completion}
-use Rattle.rdm_queue.specs.declared.outcome.AskCompletion.{AskCompletion}
-use Rattle.rdm_queue.specs.declared.outcome.Outcome.{Outcome}
-use Rattle.rdm_queue.specs.declared.outcome.Outcome.TheVariants as outcomes
+use Rattle.rdm_log.specs.declared.outcome.Completion.{Completion}
+use Rattle.rdm_log.specs.declared.outcome.AskCompletion.{AskCompletion}
+use Rattle.rdm_log.specs.declared.outcome.Outcome.{Outcome}
+use Rattle.rdm_log.specs.declared.outcome.Outcome.TheVariants as outcomes
 use Rattle.rdm_client.specs.declared.told.Told.{Told}
 use Rattle.rdm_client.specs.declared.told.AskTold.{AskTold}
 use Rattle.rdm_client.specs.declared.told.Collected.{Collected}
@@ -58,9 +58,11 @@ module _ {C A : Type 0} where
   without_oldest held (outcomes.Request number done) = record held { requests = drop 1 held.requests }
   without_oldest held (outcomes.Discovery number done) = record held { asks = drop 1 held.asks }
 
+  -- no callback is left
   abbrev pub nothing_left : Left C A
   nothing_left = record { requests = []; asks = [] }
 
+  -- how many callbacks are left
   abbrev pub count_left : Left C A → ℕ
   count_left left = length left.requests + length left.asks
 

@@ -1,6 +1,6 @@
 //! A discovery's callback.
 ghost use Rattle.std.specs.Prelude.{◌≡◌, ℕ};
-ghost use Rattle.rdm_queue.specs.declared.outcome.AskCompletion.{AskCompletion};
+ghost use Rattle.rdm_log.specs.declared.outcome.AskCompletion.{AskCompletion};
 ghost use Rattle.rdm_client.specs.declared.told.AskTold.{AskTold};
 ghost use Rattle.rdm_client.specs.Callbacks.{ask_told, ask_cancelled, AskFits};
 

@@ -1,6 +1,6 @@
 //! A request's callback.
 ghost use Rattle.std.specs.Prelude.{◌≡◌, ℕ};
-ghost use Rattle.rdm_queue.specs.declared.outcome.Completion.{Completion};
+ghost use Rattle.rdm_log.specs.declared.outcome.Completion.{Completion};
 ghost use Rattle.rdm_client.specs.declared.told.Told.{Told};
 ghost use Rattle.rdm_client.specs.Callbacks.{told, Fits, IsCancelled};
 

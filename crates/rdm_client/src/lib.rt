@@ -23,6 +23,3 @@ pub use fault::{Full, Misdelivered};
 pub use told::{AskTold, Collected, Told};
 pub use unspent::{Unfinished, Unspent};
 pub use view::DeviceView;
-
-#[cfg(test)]
-mod tests;

@@ -16,12 +16,13 @@ pub record JoinerStanding : Type 0 where
   pub stage : Stage
   pub data_ : List ℕ
 
--- the request has not ended
+-- the request at this stage has not ended
 abbrev pub IsOpenStage : Stage → Type 0
 IsOpenStage Waiting = Unit {0}
 IsOpenStage (Joining first parts) = Unit {0}
 IsOpenStage (Ended head) = ⊥
 
+-- the request of this joiner has not ended
 abbrev pub IsOpen : JoinerStanding → Type 0
 IsOpen s = IsOpenStage s.stage
 
@@ -46,12 +47,13 @@ abbrev pub step_of : Option Joined → Step
 step_of None = More
 step_of (Some j) = Done j.status
 
--- the head of a completed request
+-- the head of a completed request at this stage
 abbrev pub head_of_stage : Stage → Option ReplyHead
 head_of_stage Waiting = None
 head_of_stage (Joining first parts) = None
 head_of_stage (Ended head) = head
 
+-- the head of this joiner's request, if it is completed
 abbrev pub head_of_standing : JoinerStanding → Option ReplyHead
 head_of_standing s = head_of_stage s.stage
 

@@ -25,6 +25,7 @@ data_of (Ended s) = []
 abbrev pub joined_data : List Judged → List ℕ
 joined_data vs = flat_map data_of vs
 
+-- the head of a response: its type, class, PID and sub-device
 abbrev pub head_of : Response → ReplyHead
 head_of r = record { ack = r.ack; class = r.class; pid = r.pid; sub_device = r.sub_device }
 
@@ -44,6 +45,7 @@ differs_from_first (Ended s ∷ vs) r = false
 abbrev pub is_too_long : List Judged → Response → Bool
 is_too_long before r = nat_lt 65535 (length (joined_data before) + length r.param.items)
 
+-- a result without data: this status alone
 abbrev pub ended : Status → Joined
 ended s = record { status = s; data_ = []; head = None }
 
@@ -60,6 +62,7 @@ decides before (Part r) =
     then Some (ended InvalidResponse)
     else None
 
+-- what the verdict at a position decides after those before it; nothing if there is no such position
 abbrev pub decides_option : List Judged → Option Judged → Option Joined
 decides_option before None = None
 decides_option before (Some v) = decides before v

@@ -5,8 +5,6 @@ mod event;
 mod joiner;
 pub mod laws;
 mod status;
-#[cfg(test)]
-mod tests;
 mod verdict;
 
 pub use event::{LineEvent, LineReply};

@@ -23,31 +23,31 @@ use Rattle.rdm_line.specs.Scenes.{uids_of_scene}
 use Rattle.rdm_line.specs.declared.scene.SceneDevice.{SceneDevice}
 use Rattle.rdm_line.specs.Sim.{SimState, SimStep}
 use Rattle.rdm_line.specs.SimRuns.{Step, seen_in}
-use Rattle.rdm_queue.specs.declared.config.Config.{Config}
-use Rattle.rdm_queue.specs.declared.entry.Call.{Call}
-use Rattle.rdm_queue.specs.declared.entry.Call.TheVariants as calls
-use Rattle.rdm_queue.specs.declared.entry.Cause.{Cause}
-use Rattle.rdm_queue.specs.declared.entry.ClientId.{ClientId}
-use Rattle.rdm_queue.specs.declared.entry.Opening.{Opening}
-use Rattle.rdm_queue.specs.declared.entry.Entry.{Entry}
-use Rattle.rdm_queue.specs.declared.entry.Entry.TheVariants.{Refuse, Send, Answer}
-use Rattle.rdm_queue.specs.declared.fault.AskFault.TheVariants as ask_faults
-use Rattle.rdm_queue.specs.log.Clients.{outstanding_discoveries}
-use Rattle.rdm_queue.specs.log.History.{is_closed, places, next_ask}
-use Rattle.rdm_queue.specs.log.Refusals.{ask_fault_at, number_of_ask_fault, IsRefused}
-use Rattle.rdm_queue.specs.log.Runs.{has_begun, sends_run, entries_before_run, last_run_without_fault, run_exchanges, run_kind, known_devices, known_at_run}
-use Rattle.rdm_queue.specs.log.LogState.{LogState}
-use Rattle.rdm_queue.specs.log.Legal.{Legal, MayFollow}
-use Rattle.rdm_queue.specs.log.Due.{NothingDue}
-use Rattle.rdm_queue.specs.log.MayAnswer.{MayAnswer}
-use Rattle.rdm_queue.specs.promises.InBound.{IsCalmRun}
-use Rattle.rdm_queue.specs.promises.Discoveries.{TellsTheLine}
-use Rattle.rdm_queue.specs.promises.Outcomes.{Discovered, is_closed_refusal, is_client, refused_outcome, outcome_of}
-use Rattle.rdm_queue.specs.promises.Outcomes.OutcomeValue.{DiscoveryValue}
-use Rattle.rdm_queue.proofs.LogLemmas.RunLemmas.{before_first-cons, entries_before_run_stays, served_stays}
-use Rattle.rdm_queue.proofs.PromiseLemmas.NothingAfterClose.{closed_more}
-use Rattle.rdm_queue.proofs.PromiseLemmas.RunsAnswer.{named_begun, ended}
-use Rattle.rdm_queue.proofs.PromiseLemmas.TellsTheLine.{tells_the_line}
+use Rattle.rdm_log.specs.declared.config.Config.{Config}
+use Rattle.rdm_log.specs.declared.entry.Call.{Call}
+use Rattle.rdm_log.specs.declared.entry.Call.TheVariants as calls
+use Rattle.rdm_log.specs.declared.entry.Cause.{Cause}
+use Rattle.rdm_log.specs.declared.entry.ClientId.{ClientId}
+use Rattle.rdm_log.specs.declared.entry.Opening.{Opening}
+use Rattle.rdm_log.specs.declared.entry.Entry.{Entry}
+use Rattle.rdm_log.specs.declared.entry.Entry.TheVariants.{Refuse, Send, Answer}
+use Rattle.rdm_log.specs.declared.fault.AskFault.TheVariants as ask_faults
+use Rattle.rdm_log.specs.log.Clients.{outstanding_discoveries}
+use Rattle.rdm_log.specs.log.History.{is_closed, places, next_ask}
+use Rattle.rdm_log.specs.log.Refusals.{ask_fault_at, number_of_ask_fault, IsRefused}
+use Rattle.rdm_log.specs.log.Runs.{has_begun, sends_run, entries_before_run, last_run_without_fault, run_exchanges, run_kind, known_devices, known_at_run}
+use Rattle.rdm_log.specs.log.LogState.{LogState}
+use Rattle.rdm_log.specs.log.Legal.{Legal, MayFollow}
+use Rattle.rdm_log.specs.log.Due.{NothingDue}
+use Rattle.rdm_log.specs.log.MayAnswer.{MayAnswer}
+use Rattle.rdm_log.specs.promises.InBound.{IsCalmRun}
+use Rattle.rdm_log.specs.promises.Discoveries.{TellsTheLine}
+use Rattle.rdm_log.specs.promises.Outcomes.{Discovered, is_closed_refusal, is_client, refused_outcome, outcome_of}
+use Rattle.rdm_log.specs.promises.Outcomes.OutcomeValue.{DiscoveryValue}
+use Rattle.rdm_log.proofs.LogLemmas.RunLemmas.{before_first-cons, entries_before_run_stays, served_stays}
+use Rattle.rdm_log.proofs.PromiseLemmas.NothingAfterClose.{closed_more}
+use Rattle.rdm_log.proofs.PromiseLemmas.RunsAnswer.{named_begun, ended}
+use Rattle.rdm_log.proofs.PromiseLemmas.TellsTheLine.{tells_the_line}
 use Rattle.rdm_lanes.specs.declared.history.ViewHistory.{Ghosts}
 use Rattle.rdm_lanes.specs.declared.ends.ClientEnd.{ClientEnd}
 use Rattle.rdm_lanes.specs.Lines.{exchanges}

@@ -5,18 +5,18 @@ use Rattle.std.specs.List.{AllByRecursion}
 use Rattle.arrayvec.specs.ArrayVec.{ArrayVec}
 use Rattle.rdm_agent.specs.declared.search.Search.{Search}
 use Rattle.rdm_wire.specs.Lists.{EachAfter}
-use Rattle.rdm_queue.specs.declared.entry.ClientId.{ClientId}
-use Rattle.rdm_queue.specs.declared.entry.Opening.{Opening}
-use Rattle.rdm_queue.specs.declared.entry.Owner.TheVariants as owners
-use Rattle.rdm_queue.specs.declared.entry.Entry.{Entry}
-use Rattle.rdm_queue.specs.declared.entry.Entry.TheVariants.{Join, Send, Came, Finish, Answer, Collect, Pause, Resume, Close}
-use Rattle.rdm_queue.specs.log.Entries.{join_of, answered_of}
-use Rattle.rdm_queue.specs.log.MaySend.{NoSend, MaySendRequest, MayBegin, MaySendRun}
-use Rattle.rdm_queue.specs.log.Legal.{Legal, MayFollow}
-use Rattle.rdm_queue.specs.log.LogState.{LogState, is_full_log, free_entries}
-use Rattle.rdm_queue.proofs.LogLemmas.PushLemmas.{accepts_same, asks_same, sends_same, finishes_same, answered_same, awaited-push, is_closed-push, is_paused-push}
-use Rattle.rdm_queue.proofs.LogLemmas.RunLemmas.{open_run_same, last_run_same, asked_before_same}
-use Rattle.rdm_queue.proofs.LogLemmas.RoomLemmas.{added, added_by, taken_block}
+use Rattle.rdm_log.specs.declared.entry.ClientId.{ClientId}
+use Rattle.rdm_log.specs.declared.entry.Opening.{Opening}
+use Rattle.rdm_log.specs.declared.entry.Owner.TheVariants as owners
+use Rattle.rdm_log.specs.declared.entry.Entry.{Entry}
+use Rattle.rdm_log.specs.declared.entry.Entry.TheVariants.{Join, Send, Came, Finish, Answer, Collect, Pause, Resume, Close}
+use Rattle.rdm_log.specs.log.Entries.{join_of, answered_of}
+use Rattle.rdm_log.specs.log.MaySend.{NoSend, MaySendRequest, MayBegin, MaySendRun}
+use Rattle.rdm_log.specs.log.Legal.{Legal, MayFollow}
+use Rattle.rdm_log.specs.log.LogState.{LogState, is_full_log, free_entries}
+use Rattle.rdm_log.proofs.LogLemmas.PushLemmas.{accepts_same, asks_same, sends_same, finishes_same, answered_same, awaited-push, is_closed-push, is_paused-push}
+use Rattle.rdm_log.proofs.LogLemmas.RunLemmas.{open_run_same, last_run_same, asked_before_same}
+use Rattle.rdm_log.proofs.LogLemmas.RoomLemmas.{added, added_by, taken_block}
 use Rattle.rdm_lanes.specs.Lines.{NoExchange, SameSwitches, OnlyCollects, is_collect}
 use Rattle.rdm_lanes.proofs.ListLemmas.{all_follow}
 use Rattle.rdm_lanes.proofs.FoundLemmas.{quiet_views}

@@ -7,25 +7,25 @@ use Rattle.std.proofs.lemmas.List.{map-append, take_more}
 use Rattle.rtrb.specs.Ring.{sent as pushed}
 use Rattle.rdm_agent.specs.declared.search.Search.{Search}
 use Rattle.rdm_wire.specs.Lists.{EachAfter}
-use Rattle.rdm_queue.specs.declared.entry.ClientId.{ClientId}
-use Rattle.rdm_queue.specs.declared.entry.Call.{Call}
-use Rattle.rdm_queue.specs.declared.entry.Call.TheVariants as calls
-use Rattle.rdm_queue.specs.declared.entry.Opening.{Opening}
-use Rattle.rdm_queue.specs.declared.entry.Entry.{Entry}
-use Rattle.rdm_queue.specs.declared.entry.Entry.TheVariants.{Join, Refuse, Accept, Ask, Send, Came, Finish, Answer, Collect, Pause, Resume, Close}
-use Rattle.rdm_queue.specs.declared.outcome.Completion.{Completion}
-use Rattle.rdm_queue.specs.declared.outcome.AskCompletion.{AskCompletion}
-use Rattle.rdm_queue.specs.declared.outcome.Outcome.TheVariants as outcomes
+use Rattle.rdm_log.specs.declared.entry.ClientId.{ClientId}
+use Rattle.rdm_log.specs.declared.entry.Call.{Call}
+use Rattle.rdm_log.specs.declared.entry.Call.TheVariants as calls
+use Rattle.rdm_log.specs.declared.entry.Opening.{Opening}
+use Rattle.rdm_log.specs.declared.entry.Entry.{Entry}
+use Rattle.rdm_log.specs.declared.entry.Entry.TheVariants.{Join, Refuse, Accept, Ask, Send, Came, Finish, Answer, Collect, Pause, Resume, Close}
+use Rattle.rdm_log.specs.declared.outcome.Completion.{Completion}
+use Rattle.rdm_log.specs.declared.outcome.AskCompletion.{AskCompletion}
+use Rattle.rdm_log.specs.declared.outcome.Outcome.TheVariants as outcomes
 use Rattle.rdm_join.specs.Result.{Joined}
-use Rattle.rdm_queue.specs.log.Entries.{asks, finishes, answers, collectors}
-use Rattle.rdm_queue.specs.log.Clients.{accepts_by, asks_by, answers_to, collects_by, collected, uncollected, outstanding_requests, outstanding_discoveries}
-use Rattle.rdm_queue.specs.log.LogState.{LogState, grown}
-use Rattle.rdm_queue.specs.log.Legal.{Legal, MayFollow}
-use Rattle.rdm_queue.specs.promises.Blocks.{GrowsBy, CollectAdds}
-use Rattle.rdm_queue.specs.promises.Outcomes.{OutcomeValue, Discovered, completion_value, discovered, outcome_of, outcome_value, refused_outcome}
-use Rattle.rdm_queue.specs.promises.Outcomes.OutcomeValue.{RequestValue, DiscoveryValue}
-use Rattle.rdm_queue.proofs.LogLemmas.PushLemmas.{finishes-append, answered-append}
-use Rattle.rdm_queue.proofs.LogLemmas.Places.{slice_get-drop}
+use Rattle.rdm_log.specs.log.Entries.{asks, finishes, answers, collectors}
+use Rattle.rdm_log.specs.log.Clients.{accepts_by, asks_by, answers_to, collects_by, collected, uncollected, outstanding_requests, outstanding_discoveries}
+use Rattle.rdm_log.specs.log.LogState.{LogState, grown}
+use Rattle.rdm_log.specs.log.Legal.{Legal, MayFollow}
+use Rattle.rdm_log.specs.promises.Blocks.{GrowsBy, CollectAdds}
+use Rattle.rdm_log.specs.promises.Outcomes.{OutcomeValue, Discovered, completion_value, discovered, outcome_of, outcome_value, refused_outcome}
+use Rattle.rdm_log.specs.promises.Outcomes.OutcomeValue.{RequestValue, DiscoveryValue}
+use Rattle.rdm_log.proofs.LogLemmas.PushLemmas.{finishes-append, answered-append}
+use Rattle.rdm_log.proofs.LogLemmas.Places.{slice_get-drop}
 use Rattle.rdm_lanes.specs.declared.call.ClientCall.{ClientCall}
 use Rattle.rdm_lanes.specs.declared.ring_outcome.RingOutcome.{RingOutcome}
 use Rattle.rdm_lanes.specs.declared.lane.Lane.{Lane}

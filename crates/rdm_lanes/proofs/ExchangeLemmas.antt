@@ -4,23 +4,23 @@ use Rattle.arrayvec.specs.ArrayVec.{ArrayVec}
 use Rattle.rdm_wire.specs.Lists.{EachAfter}
 use Rattle.rdm_join.specs.declared.event.LineEvent.{LineEvent}
 use Rattle.rdm_line.specs.Events.{Exchange, Makes}
-use Rattle.rdm_queue.specs.declared.entry.Owner.{Owner}
-use Rattle.rdm_queue.specs.declared.entry.Entry.{Entry}
-use Rattle.rdm_queue.specs.declared.entry.Entry.TheVariants.{Send, Came}
-use Rattle.rdm_queue.specs.declared.fault.LogFull.{LogFull}
-use Rattle.rdm_queue.specs.declared.fault.NotAsked.{NotAsked}
-use Rattle.rdm_queue.specs.log.Entries.{sends, cames, joins}
-use Rattle.rdm_queue.specs.log.History.{awaited}
-use Rattle.rdm_queue.specs.log.LogState.{LogState, grown, is_full_log}
-use Rattle.rdm_queue.specs.log.MaySend.{NoSend}
-use Rattle.rdm_queue.specs.log.Legal.{Legal, MayFollow}
-use Rattle.rdm_queue.specs.promises.Blocks.{GrowsBy, TakeLogs, DeliverAdds, AllResults}
-use Rattle.rdm_queue.specs.promises.InBound.{AnswersInBound}
-use Rattle.rdm_queue.specs.promises.LogInBound.{InBound}
-use Rattle.rdm_queue.proofs.PromiseLemmas.LogInBoundLemmas.{in_bound_grows}
-use Rattle.rdm_queue.proofs.LogLemmas.Grows.{front}
-use Rattle.rdm_queue.proofs.LogLemmas.PushLemmas.{awaited-push}
-use Rattle.rdm_queue.proofs.LogLemmas.LegalFacts.{legal_facts, sent_evenly}
+use Rattle.rdm_log.specs.declared.entry.Owner.{Owner}
+use Rattle.rdm_log.specs.declared.entry.Entry.{Entry}
+use Rattle.rdm_log.specs.declared.entry.Entry.TheVariants.{Send, Came}
+use Rattle.rdm_log.specs.declared.fault.LogFull.{LogFull}
+use Rattle.rdm_log.specs.declared.fault.NotAsked.{NotAsked}
+use Rattle.rdm_log.specs.log.Entries.{sends, cames, joins}
+use Rattle.rdm_log.specs.log.History.{awaited}
+use Rattle.rdm_log.specs.log.LogState.{LogState, grown, is_full_log}
+use Rattle.rdm_log.specs.log.MaySend.{NoSend}
+use Rattle.rdm_log.specs.log.Legal.{Legal, MayFollow}
+use Rattle.rdm_log.specs.promises.Blocks.{GrowsBy, TakeLogs, DeliverAdds, AllResults}
+use Rattle.rdm_log.specs.promises.InBound.{AnswersInBound}
+use Rattle.rdm_log.specs.promises.LogInBound.{InBound}
+use Rattle.rdm_log.proofs.PromiseLemmas.LogInBoundLemmas.{in_bound_grows}
+use Rattle.rdm_log.proofs.LogLemmas.Grows.{front}
+use Rattle.rdm_log.proofs.LogLemmas.PushLemmas.{awaited-push}
+use Rattle.rdm_log.proofs.LogLemmas.LegalFacts.{legal_facts, sent_evenly}
 use Rattle.rdm_lanes.specs.Lines.{exchanges, exchange_count, Exchanged, NoExchange, SameSwitches, NoCallLost, IsBetweenTurns}
 use Rattle.rdm_lanes.specs.Serving.{IsOnlyTold}
 use Rattle.rdm_lanes.specs.Views.{views_found, GainOneAtMost}

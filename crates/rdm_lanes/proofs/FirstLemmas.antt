@@ -6,14 +6,14 @@ use Rattle.std.proofs.lemmas.Option.{none-some, slice_get_within}
 use Rattle.rtrb.specs.Ring.{sent as pushed, known_items}
 use Rattle.rdm_agent.specs.declared.fault.AgentFault.{AgentFault}
 use Rattle.rdm_client.specs.declared.view.DeviceView.{DeviceView}
-use Rattle.rdm_queue.specs.declared.entry.Entry.{Entry}
-use Rattle.rdm_queue.specs.declared.entry.Entry.TheVariants.{Answer}
-use Rattle.rdm_queue.specs.log.Entries.{Answered, answers}
-use Rattle.rdm_queue.specs.log.LogState.{LogState}
-use Rattle.rdm_queue.specs.promises.Outcomes.{OutcomeValue, Discovered, never_begun}
-use Rattle.rdm_queue.specs.promises.Outcomes.OutcomeValue.{DiscoveryValue}
-use Rattle.rdm_queue.proofs.LogLemmas.Places.{slice_get-append_left}
-use Rattle.rdm_queue.proofs.LogLemmas.PushLemmas.{answered-append, answered_more}
+use Rattle.rdm_log.specs.declared.entry.Entry.{Entry}
+use Rattle.rdm_log.specs.declared.entry.Entry.TheVariants.{Answer}
+use Rattle.rdm_log.specs.log.Entries.{Answered, answers}
+use Rattle.rdm_log.specs.log.LogState.{LogState}
+use Rattle.rdm_log.specs.promises.Outcomes.{OutcomeValue, Discovered, never_begun}
+use Rattle.rdm_log.specs.promises.Outcomes.OutcomeValue.{DiscoveryValue}
+use Rattle.rdm_log.proofs.LogLemmas.Places.{slice_get-append_left}
+use Rattle.rdm_log.proofs.LogLemmas.PushLemmas.{answered-append, answered_more}
 use Rattle.rdm_lanes.specs.declared.history.ViewHistory.{Ghosts}
 use Rattle.rdm_lanes.specs.declared.client.RingClient.{RingClient}
 use Rattle.rdm_lanes.specs.declared.ends.ClientEnd.{ClientEnd}

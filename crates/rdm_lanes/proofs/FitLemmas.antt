@@ -10,28 +10,28 @@ use Rattle.rdm_agent.specs.declared.search.Search.{Search}
 use Rattle.rdm_wire.specs.Lists.{EachAfter}
 use Rattle.rdm_wire.specs.declared.request.Request.{Request}
 use Rattle.rdm_agent.specs.declared.kind.Kind.{Kind}
-use Rattle.rdm_queue.specs.declared.entry.ClientId.{ClientId}
-use Rattle.rdm_queue.specs.declared.entry.Call.{Call}
-use Rattle.rdm_queue.specs.declared.entry.Call.TheVariants as calls
-use Rattle.rdm_queue.specs.declared.entry.Cause.{Cause}
-use Rattle.rdm_queue.specs.declared.entry.Opening.{Opening}
-use Rattle.rdm_queue.specs.declared.entry.Entry.{Entry}
-use Rattle.rdm_queue.specs.declared.entry.Entry.TheVariants.{Refuse, Accept, Ask, Finish, Answer}
-use Rattle.rdm_queue.specs.log.Entries.{accepted_of, asked_of, accepts, asks, finishes, answers, collectors, collector_of}
-use Rattle.rdm_queue.specs.log.Clients.{accepts_by, asks_by, is_answer_to, answers_to, collects_by, collected, uncollected, outstanding_requests, outstanding_discoveries}
-use Rattle.rdm_queue.specs.declared.fault.SubmitFault.{SubmitFault}
-use Rattle.rdm_queue.specs.declared.fault.SubmitFault.TheVariants as submit_faults
-use Rattle.rdm_queue.specs.declared.fault.AskFault.{AskFault}
-use Rattle.rdm_queue.specs.declared.fault.AskFault.TheVariants as ask_faults
-use Rattle.rdm_queue.specs.log.History.{is_closed, places, next_request, next_ask}
-use Rattle.rdm_queue.specs.log.Refusals.{submit_fault_at, ask_fault_at}
-use Rattle.rdm_queue.specs.log.LogState.{LogState, grown, is_full_log}
-use Rattle.rdm_queue.specs.log.Legal.{Legal, MayFollow}
-use Rattle.rdm_queue.specs.promises.Blocks.{GrowsBy, UnlessFull, SubmitLogs, SubmitAdds, DiscoverLogs, DiscoverAdds, submit_refused, ask_refused}
-use Rattle.rdm_queue.specs.promises.Outcomes.{OutcomeValue, outcome_of, is_closed_refusal, refused_outcome, closed_number}
-use Rattle.rdm_queue.proofs.LogLemmas.Grows.{front}
-use Rattle.rdm_queue.proofs.LogLemmas.PushLemmas.{finishes-append, answered-append}
-use Rattle.rdm_queue.proofs.LogLemmas.ClientFacts.{client_facts}
+use Rattle.rdm_log.specs.declared.entry.ClientId.{ClientId}
+use Rattle.rdm_log.specs.declared.entry.Call.{Call}
+use Rattle.rdm_log.specs.declared.entry.Call.TheVariants as calls
+use Rattle.rdm_log.specs.declared.entry.Cause.{Cause}
+use Rattle.rdm_log.specs.declared.entry.Opening.{Opening}
+use Rattle.rdm_log.specs.declared.entry.Entry.{Entry}
+use Rattle.rdm_log.specs.declared.entry.Entry.TheVariants.{Refuse, Accept, Ask, Finish, Answer}
+use Rattle.rdm_log.specs.log.Entries.{accepted_of, asked_of, accepts, asks, finishes, answers, collectors, collector_of}
+use Rattle.rdm_log.specs.log.Clients.{accepts_by, asks_by, is_answer_to, answers_to, collects_by, collected, uncollected, outstanding_requests, outstanding_discoveries}
+use Rattle.rdm_log.specs.declared.fault.SubmitFault.{SubmitFault}
+use Rattle.rdm_log.specs.declared.fault.SubmitFault.TheVariants as submit_faults
+use Rattle.rdm_log.specs.declared.fault.AskFault.{AskFault}
+use Rattle.rdm_log.specs.declared.fault.AskFault.TheVariants as ask_faults
+use Rattle.rdm_log.specs.log.History.{is_closed, places, next_request, next_ask}
+use Rattle.rdm_log.specs.log.Refusals.{submit_fault_at, ask_fault_at}
+use Rattle.rdm_log.specs.log.LogState.{LogState, grown, is_full_log}
+use Rattle.rdm_log.specs.log.Legal.{Legal, MayFollow}
+use Rattle.rdm_log.specs.promises.Blocks.{GrowsBy, UnlessFull, SubmitLogs, SubmitAdds, DiscoverLogs, DiscoverAdds, submit_refused, ask_refused}
+use Rattle.rdm_log.specs.promises.Outcomes.{OutcomeValue, outcome_of, is_closed_refusal, refused_outcome, closed_number}
+use Rattle.rdm_log.proofs.LogLemmas.Grows.{front}
+use Rattle.rdm_log.proofs.LogLemmas.PushLemmas.{finishes-append, answered-append}
+use Rattle.rdm_log.proofs.LogLemmas.ClientFacts.{client_facts}
 use Rattle.rdm_lanes.specs.declared.call.ClientCall.{ClientCall}
 use Rattle.rdm_lanes.specs.declared.call.ClientCall.TheVariants.{Submit, Discover}
 use Rattle.rdm_lanes.specs.declared.ring_outcome.RingOutcome.{RingOutcome}

@@ -17,26 +17,26 @@ use Rattle.rdm_agent.specs.declared.fault.AgentFault.{AgentFault}
 use Rattle.rdm_agent.specs.declared.fault.AgentFault.TheVariants.{Aborted}
 use Rattle.rdm_client.specs.declared.view.DeviceView.{DeviceView}
 use Rattle.rdm_join.specs.declared.event.LineEvent.{LineEvent}
-use Rattle.rdm_queue.specs.declared.entry.Opening.{Opening}
-use Rattle.rdm_queue.specs.declared.entry.Owner.{Owner}
-use Rattle.rdm_queue.specs.declared.entry.Owner.TheVariants as owners
-use Rattle.rdm_queue.specs.declared.entry.Entry.{Entry}
-use Rattle.rdm_queue.specs.declared.entry.Entry.TheVariants.{Send, Came, Finish, Answer, Close}
-use Rattle.rdm_queue.specs.log.Entries.{AskedDiscovery, Answered, answered_of, answers}
-use Rattle.rdm_queue.specs.log.Runs.{has_begun, is_answered, last_run, number_after, next_run, open_run, served, run_exchanges, run_devices, reported_devices, run_kind, is_full_kind, known_at_run, known_devices, devices_run, devices_of, run_or, last_run_without_fault, if_without_fault}
-use Rattle.rdm_queue.specs.log.Due.{has_answer, AllAnswered, IsDone, GoesOn, NothingDue}
-use Rattle.rdm_queue.specs.log.MaySend.{MayBegin}
-use Rattle.rdm_queue.specs.log.MayAnswer.{MayAnswer, MayAnswerByRun}
-use Rattle.rdm_queue.specs.log.Legal.{MayFollow}
-use Rattle.rdm_queue.specs.promises.Blocks.{is_result, AllResults}
-use Rattle.rdm_queue.proofs.LogLemmas.Grows.{front}
-use Rattle.rdm_queue.proofs.LogLemmas.Places.{all_at, all_from_places, place_within}
-use Rattle.rdm_queue.proofs.LogLemmas.PushLemmas.{answered-append, answered_same, answered_more, sends_same}
-use Rattle.rdm_queue.proofs.LogLemmas.LegalFacts.{along}
-use Rattle.rdm_queue.proofs.LogLemmas.AskFacts.{AskFacts, ask_facts, unanswered_number}
-use Rattle.rdm_queue.proofs.LogLemmas.RunLemmas.{not_sent, last_begun, last_run_same, last_run_sent, begun_same, served_stays, entries_before_run_stays, run_exchanges_same}
-use Rattle.rdm_queue.proofs.LogLemmas.RunFacts.{open_is, is_open, run_facts, any_from_place}
-use Rattle.rdm_queue.proofs.BodyLemmas.OutcomeLemmas.{exchanges_kept, last_is_answered}
+use Rattle.rdm_log.specs.declared.entry.Opening.{Opening}
+use Rattle.rdm_log.specs.declared.entry.Owner.{Owner}
+use Rattle.rdm_log.specs.declared.entry.Owner.TheVariants as owners
+use Rattle.rdm_log.specs.declared.entry.Entry.{Entry}
+use Rattle.rdm_log.specs.declared.entry.Entry.TheVariants.{Send, Came, Finish, Answer, Close}
+use Rattle.rdm_log.specs.log.Entries.{AskedDiscovery, Answered, answered_of, answers}
+use Rattle.rdm_log.specs.log.Runs.{has_begun, is_answered, last_run, number_after, next_run, open_run, served, run_exchanges, run_devices, reported_devices, run_kind, is_full_kind, known_at_run, known_devices, devices_run, devices_of, run_or, last_run_without_fault, if_without_fault}
+use Rattle.rdm_log.specs.log.Due.{has_answer, AllAnswered, IsDone, GoesOn, NothingDue}
+use Rattle.rdm_log.specs.log.MaySend.{MayBegin}
+use Rattle.rdm_log.specs.log.MayAnswer.{MayAnswer, MayAnswerByRun}
+use Rattle.rdm_log.specs.log.Legal.{MayFollow}
+use Rattle.rdm_log.specs.promises.Blocks.{is_result, AllResults}
+use Rattle.rdm_log.proofs.LogLemmas.Grows.{front}
+use Rattle.rdm_log.proofs.LogLemmas.Places.{all_at, all_from_places, place_within}
+use Rattle.rdm_log.proofs.LogLemmas.PushLemmas.{answered-append, answered_same, answered_more, sends_same}
+use Rattle.rdm_log.proofs.LogLemmas.LegalFacts.{along}
+use Rattle.rdm_log.proofs.LogLemmas.AskFacts.{AskFacts, ask_facts, unanswered_number}
+use Rattle.rdm_log.proofs.LogLemmas.RunLemmas.{not_sent, last_begun, last_run_same, last_run_sent, begun_same, served_stays, entries_before_run_stays, run_exchanges_same}
+use Rattle.rdm_log.proofs.LogLemmas.RunFacts.{open_is, is_open, run_facts, any_from_place}
+use Rattle.rdm_log.proofs.PromiseLemmas.OutcomeLemmas.{exchanges_kept, last_is_answered}
 use Rattle.rdm_lanes.specs.Views.{opening_view, last_view, last_view_run, last_number, is_last, with_run, with_found, runs_found, view_of, views_found, all_views, GainOneAtMost}
 use Rattle.rdm_lanes.proofs.ListLemmas.{all_follow, map_agree}
 use Rattle.rdm_lanes.proofs.LineLemmas.{is_off_line, AllOffLine, results_off, sends_off, cames_off}

@@ -6,23 +6,23 @@ use Rattle.std.proofs.lemmas.Option.{slice_get_within}
 use Rattle.std.proofs.lemmas.List.{drop-append-le, take-append-le, map-append}
 use Rattle.std.proofs.lemmas.List.Elements.{filter-append, filter_map-append}
 use Rattle.rdm_wire.specs.Lists.{EachAfter}
-use Rattle.rdm_queue.specs.declared.entry.Opening.{Opening}
-use Rattle.rdm_queue.specs.declared.entry.Entry.{Entry}
-use Rattle.rdm_queue.specs.declared.entry.Entry.TheVariants.{Refuse, Accept, Ask, Finish, Answer, Collect}
-use Rattle.rdm_queue.specs.log.Entries.{Accepted, AskedDiscovery, finished_of, collector_of, accepts, asks, finishes, collectors}
-use Rattle.rdm_queue.specs.log.Clients.{accepts_by, asks_by, is_client_of, is_answer_to, answers_to, collects_by, collected, uncollected, outstanding_requests, outstanding_discoveries}
-use Rattle.rdm_queue.specs.log.Legal.{MayFollow}
-use Rattle.rdm_queue.specs.promises.Outcomes.{OutcomeValue, outcome_of, told, is_client, is_closed_refusal, closed_number}
-use Rattle.rdm_queue.proofs.LogLemmas.Grows.{front}
-use Rattle.rdm_queue.proofs.LogLemmas.Places.{filter_map_has, filter_agree_on}
-use Rattle.rdm_queue.proofs.LogLemmas.LegalFacts.{LogFacts, legal_facts}
-use Rattle.rdm_queue.proofs.LogLemmas.AskFacts.{ask_facts}
-use Rattle.rdm_queue.proofs.LogLemmas.ClientLemmas.{client_stays, asker_stays, answer_asked}
-use Rattle.rdm_queue.proofs.LogLemmas.ClientFacts.{client_facts}
-use Rattle.rdm_queue.proofs.LogLemmas.PushLemmas.{accepts-append, asks-append}
-use Rattle.rdm_queue.proofs.PromiseLemmas.StableResults.{filter_has}
-use Rattle.rdm_queue.proofs.PromiseLemmas.OwnDiscoveries.{outcome_stays}
-use Rattle.rdm_queue.proofs.PromiseLemmas.StableOutcomes.{outcome_stays as uncollected_stays}
+use Rattle.rdm_log.specs.declared.entry.Opening.{Opening}
+use Rattle.rdm_log.specs.declared.entry.Entry.{Entry}
+use Rattle.rdm_log.specs.declared.entry.Entry.TheVariants.{Refuse, Accept, Ask, Finish, Answer, Collect}
+use Rattle.rdm_log.specs.log.Entries.{Accepted, AskedDiscovery, finished_of, collector_of, accepts, asks, finishes, collectors}
+use Rattle.rdm_log.specs.log.Clients.{accepts_by, asks_by, is_client_of, is_answer_to, answers_to, collects_by, collected, uncollected, outstanding_requests, outstanding_discoveries}
+use Rattle.rdm_log.specs.log.Legal.{MayFollow}
+use Rattle.rdm_log.specs.promises.Outcomes.{OutcomeValue, outcome_of, told, is_client, is_closed_refusal, closed_number}
+use Rattle.rdm_log.proofs.LogLemmas.Grows.{front}
+use Rattle.rdm_log.proofs.LogLemmas.Places.{filter_map_has, filter_agree_on}
+use Rattle.rdm_log.proofs.LogLemmas.LegalFacts.{LogFacts, legal_facts}
+use Rattle.rdm_log.proofs.LogLemmas.AskFacts.{ask_facts}
+use Rattle.rdm_log.proofs.LogLemmas.ClientLemmas.{client_stays, asker_stays, answer_asked}
+use Rattle.rdm_log.proofs.LogLemmas.ClientFacts.{client_facts}
+use Rattle.rdm_log.proofs.LogLemmas.PushLemmas.{accepts-append, asks-append}
+use Rattle.rdm_log.proofs.PromiseLemmas.StableResults.{filter_has}
+use Rattle.rdm_log.proofs.PromiseLemmas.OwnDiscoveries.{outcome_stays}
+use Rattle.rdm_log.proofs.PromiseLemmas.StableOutcomes.{outcome_stays as uncollected_stays}
 use Rattle.rdm_lanes.specs.Calls.{call_by, calls_by}
 use Rattle.rdm_lanes.specs.Told.{told_values, uncollected_values}
 use Rattle.rdm_lanes.proofs.ListLemmas.{filter_map_nothing, all_follow, filter_keeps, map_agree}

@@ -5,14 +5,14 @@ use Rattle.rtrb.specs.Ring.{sent as pushed}
 use Rattle.std.proofs.lemmas.List.{length-set}
 use Rattle.std.proofs.lemmas.Option.{slice_get_within, get_or_from_slice_get, slice_get-get_or}
 use Rattle.rdm_wire.specs.Lists.{EachAfter}
-use Rattle.rdm_queue.specs.declared.entry.Opening.{Opening}
-use Rattle.rdm_queue.specs.declared.entry.Entry.{Entry}
-use Rattle.rdm_queue.specs.log.Entries.{joins}
-use Rattle.rdm_queue.specs.log.History.{places}
-use Rattle.rdm_queue.specs.log.LogState.{LogState, grown}
-use Rattle.rdm_queue.specs.log.Legal.{Legal, MayFollow}
-use Rattle.rdm_queue.specs.log.Clients.{is_answer_to}
-use Rattle.rdm_queue.specs.promises.Outcomes.{OutcomeValue, outcome_of}
+use Rattle.rdm_log.specs.declared.entry.Opening.{Opening}
+use Rattle.rdm_log.specs.declared.entry.Entry.{Entry}
+use Rattle.rdm_log.specs.log.Entries.{joins}
+use Rattle.rdm_log.specs.log.History.{places}
+use Rattle.rdm_log.specs.log.LogState.{LogState, grown}
+use Rattle.rdm_log.specs.log.Legal.{Legal, MayFollow}
+use Rattle.rdm_log.specs.log.Clients.{is_answer_to}
+use Rattle.rdm_log.specs.promises.Outcomes.{OutcomeValue, outcome_of}
 use Rattle.rdm_lanes.specs.declared.call.ClientCall.{ClientCall}
 use Rattle.rdm_lanes.specs.declared.lane.Lane.{Lane}
 use Rattle.rdm_lanes.specs.Told.{told_values, uncollected_values, values_in}

@@ -8,19 +8,19 @@ use Rattle.rdm_agent.specs.declared.search.Search.{Search}
 use Rattle.rdm_wire.specs.Lists.{EachAfter}
 use Rattle.rdm_wire.proofs.EachAfterLemmas.{EachAfter-push}
 use Rattle.rdm_join.specs.declared.event.LineEvent.{LineEvent}
-use Rattle.rdm_queue.specs.declared.entry.Opening.{Opening}
-use Rattle.rdm_queue.specs.declared.entry.Owner.{Owner}
-use Rattle.rdm_queue.specs.declared.entry.Entry.{Entry}
-use Rattle.rdm_queue.specs.declared.entry.Entry.TheVariants.{Join, Refuse, Accept, Ask, Send, Came, Finish, Answer, Collect, Pause, Resume, Close}
-use Rattle.rdm_queue.specs.log.Entries.{sending_of, came_of, join_of, sends, cames, traded, traded_of, joins}
-use Rattle.rdm_queue.specs.log.History.{awaited, is_closed, is_paused, closed_after as closed_by, paused_after as paused_by}
-use Rattle.rdm_queue.specs.log.LogState.{LogState, grown}
-use Rattle.rdm_queue.specs.promises.Blocks.{is_result, AllResults}
-use Rattle.rdm_queue.specs.promises.InBound.{FaultNeedsClose, AnswersInBound}
-use Rattle.rdm_queue.proofs.LogLemmas.PushLemmas.{awaited-push, is_closed-push, is_paused-push}
-use Rattle.rdm_queue.proofs.LogLemmas.Places.{zip_both_more}
-use Rattle.rdm_queue.proofs.PromiseLemmas.EventsInBound.{closed_in_bound}
-use Rattle.rdm_queue.proofs.PromiseLemmas.LogInBoundLemmas.{in_bound_grows}
+use Rattle.rdm_log.specs.declared.entry.Opening.{Opening}
+use Rattle.rdm_log.specs.declared.entry.Owner.{Owner}
+use Rattle.rdm_log.specs.declared.entry.Entry.{Entry}
+use Rattle.rdm_log.specs.declared.entry.Entry.TheVariants.{Join, Refuse, Accept, Ask, Send, Came, Finish, Answer, Collect, Pause, Resume, Close}
+use Rattle.rdm_log.specs.log.Entries.{sending_of, came_of, join_of, sends, cames, traded, traded_of, joins}
+use Rattle.rdm_log.specs.log.History.{awaited, is_closed, is_paused, closed_after as closed_by, paused_after as paused_by}
+use Rattle.rdm_log.specs.log.LogState.{LogState, grown}
+use Rattle.rdm_log.specs.promises.Blocks.{is_result, AllResults}
+use Rattle.rdm_log.specs.promises.InBound.{FaultNeedsClose, AnswersInBound}
+use Rattle.rdm_log.proofs.LogLemmas.PushLemmas.{awaited-push, is_closed-push, is_paused-push}
+use Rattle.rdm_log.proofs.LogLemmas.Places.{zip_both_more}
+use Rattle.rdm_log.proofs.PromiseLemmas.EventsInBound.{closed_in_bound}
+use Rattle.rdm_log.proofs.PromiseLemmas.LogInBoundLemmas.{in_bound_grows}
 use Rattle.rdm_lanes.specs.Lines.{exchange_of, exchanges, NoExchange, SameSwitches, IsBetweenTurns, NoCallLost, may_refuse}
 use Rattle.rdm_lanes.specs.Views.{views_found}
 use Rattle.rdm_lanes.proofs.ListLemmas.{filter_map_nothing, all_follow}

@@ -1,6 +1,6 @@
 -- What a client's outcomes leave, while they are moved.
 use Rattle.std.proofs.Common.{◌≢◌, ℕ}
-use Rattle.rdm_queue.specs.log.LogState.{LogState}
+use Rattle.rdm_log.specs.log.LogState.{LogState}
 use Rattle.rdm_lanes.specs.declared.lane.Lane.{Lane}
 use Rattle.rdm_lanes.specs.Lines.{OnlyCollects, IsBetweenTurns}
 use Rattle.rdm_lanes.specs.Lanes.{Fits, SameLane}

@@ -10,21 +10,21 @@ use Rattle.rtrb.specs.declared.producer.Producer.{Producer}
 use Rattle.rtrb.specs.declared.consumer.Consumer.{Consumer}
 use Rattle.rtrb.specs.Ring.{sent as pushed, received as popped}
 use Rattle.rdm_agent.specs.declared.search.Search.{Search}
-use Rattle.rdm_queue.specs.declared.config.Config.{Config}
-use Rattle.rdm_queue.specs.declared.entry.ClientId.{ClientId}
-use Rattle.rdm_queue.specs.declared.entry.Opening.{Opening}
-use Rattle.rdm_queue.specs.declared.entry.Entry.{Entry}
-use Rattle.rdm_queue.specs.declared.entry.Entry.TheVariants.{Join, Answer, Refuse}
-use Rattle.rdm_queue.specs.declared.fault.JoinFault.{JoinFault}
-use Rattle.rdm_queue.specs.declared.fault.JoinFault.TheVariants as join_faults
-use Rattle.rdm_queue.specs.log.Entries.{joins, accepts, asks, finishes, answers, sends, cames, traded, collectors}
-use Rattle.rdm_queue.specs.log.Clients.{answers_to}
-use Rattle.rdm_queue.specs.log.History.{awaited, is_closed, is_paused, places, reserved}
-use Rattle.rdm_queue.specs.log.Refusals.{join_fault_at}
-use Rattle.rdm_queue.specs.log.LogState.{LogState, grown, opened, is_full_log, free_entries}
-use Rattle.rdm_queue.specs.log.Legal.{Legal}
-use Rattle.rdm_queue.specs.promises.Blocks.{GrowsBy, JoinLogs, JoinAdds, UnlessFull}
-use Rattle.rdm_queue.proofs.LogLemmas.Places.{slice_get-push}
+use Rattle.rdm_log.specs.declared.config.Config.{Config}
+use Rattle.rdm_log.specs.declared.entry.ClientId.{ClientId}
+use Rattle.rdm_log.specs.declared.entry.Opening.{Opening}
+use Rattle.rdm_log.specs.declared.entry.Entry.{Entry}
+use Rattle.rdm_log.specs.declared.entry.Entry.TheVariants.{Join, Answer, Refuse}
+use Rattle.rdm_log.specs.declared.fault.JoinFault.{JoinFault}
+use Rattle.rdm_log.specs.declared.fault.JoinFault.TheVariants as join_faults
+use Rattle.rdm_log.specs.log.Entries.{joins, accepts, asks, finishes, answers, sends, cames, traded, collectors}
+use Rattle.rdm_log.specs.log.Clients.{answers_to}
+use Rattle.rdm_log.specs.log.History.{awaited, is_closed, is_paused, places, reserved}
+use Rattle.rdm_log.specs.log.Refusals.{join_fault_at}
+use Rattle.rdm_log.specs.log.LogState.{LogState, grown, opened, is_full_log, free_entries}
+use Rattle.rdm_log.specs.log.Legal.{Legal}
+use Rattle.rdm_log.specs.promises.Blocks.{GrowsBy, JoinLogs, JoinAdds, UnlessFull}
+use Rattle.rdm_log.proofs.LogLemmas.Places.{slice_get-push}
 use Rattle.rdm_lanes.specs.declared.history.ViewHistory.{Ghosts}
 use Rattle.rdm_lanes.specs.declared.call.ClientCall.{ClientCall}
 use Rattle.rdm_lanes.specs.declared.ring_outcome.RingOutcome.{RingOutcome}
@@ -41,7 +41,7 @@ use Rattle.rdm_lanes.specs.Opened.{places_fault, IsFullFor, join_entries, opened
 use Rattle.rdm_lanes.proofs.LaneLemmas.{waits, fits_waits}
 use Rattle.rdm_lanes.proofs.LineLemmas.{AllQuiet, NoSwitch, quiet_all_off, served_quiet, exchanges_off, awaited_off, closed_stays, paused_stays, is_refusal, rightly_without}
 use Rattle.rdm_lanes.proofs.GrowthLemmas.{Untouched, calls_untouched}
-use Rattle.rdm_queue.specs.log.Entries.{answered_of}
+use Rattle.rdm_log.specs.log.Entries.{answered_of}
 use Rattle.rdm_lanes.specs.Views.{opening_view, runs_found, views_found, all_views}
 use Rattle.rdm_lanes.specs.Publishing.{Publishing, NoneLater, Publishes}
 use Rattle.rdm_lanes.proofs.FoundLemmas.{quiet_views}

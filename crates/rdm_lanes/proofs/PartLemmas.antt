@@ -11,19 +11,19 @@ use Rattle.rdm_wire.specs.Honest.{Seen}
 use Rattle.rdm_join.specs.Exchange.{seen_event}
 use Rattle.rdm_join.specs.declared.event.LineEvent.{LineEvent}
 use Rattle.rdm_line.specs.Events.{Exchange}
-use Rattle.rdm_queue.specs.declared.entry.Owner.{Owner}
-use Rattle.rdm_queue.specs.declared.entry.Owner.TheVariants as owners
-use Rattle.rdm_queue.specs.declared.entry.Opening.{Opening}
-use Rattle.rdm_queue.specs.declared.entry.Entry.{Entry}
-use Rattle.rdm_queue.specs.declared.entry.Entry.TheVariants.{Join, Refuse, Accept, Ask, Send, Came, Finish, Answer, Collect, Pause, Resume, Close}
-use Rattle.rdm_queue.specs.log.Entries.{Sending, Traded, traded_of, Answered, sending_of, answered_of, sends, cames, traded, answers, is_run}
-use Rattle.rdm_queue.specs.log.Runs.{has_begun, open_run, next_run, run_exchanges, seen_of}
-use Rattle.rdm_queue.specs.log.MaySend.{MaySendRun}
-use Rattle.rdm_queue.specs.log.Legal.{MayFollow}
-use Rattle.rdm_queue.proofs.LogLemmas.LegalFacts.{along, legal_facts, sent_evenly}
-use Rattle.rdm_queue.proofs.LogLemmas.PushLemmas.{sends_same, sends_more, answered_same, answered_more}
-use Rattle.rdm_queue.proofs.LogLemmas.RunLemmas.{sent_begins, open_run_same, last_run_same, same_runs_sent}
-use Rattle.rdm_queue.proofs.LogLemmas.RunFacts.{open_is, is_open, run_facts, opened_by}
+use Rattle.rdm_log.specs.declared.entry.Owner.{Owner}
+use Rattle.rdm_log.specs.declared.entry.Owner.TheVariants as owners
+use Rattle.rdm_log.specs.declared.entry.Opening.{Opening}
+use Rattle.rdm_log.specs.declared.entry.Entry.{Entry}
+use Rattle.rdm_log.specs.declared.entry.Entry.TheVariants.{Join, Refuse, Accept, Ask, Send, Came, Finish, Answer, Collect, Pause, Resume, Close}
+use Rattle.rdm_log.specs.log.Entries.{Sending, Traded, traded_of, Answered, sending_of, answered_of, sends, cames, traded, answers, is_run}
+use Rattle.rdm_log.specs.log.Runs.{has_begun, open_run, next_run, run_exchanges, seen_of}
+use Rattle.rdm_log.specs.log.MaySend.{MaySendRun}
+use Rattle.rdm_log.specs.log.Legal.{MayFollow}
+use Rattle.rdm_log.proofs.LogLemmas.LegalFacts.{along, legal_facts, sent_evenly}
+use Rattle.rdm_log.proofs.LogLemmas.PushLemmas.{sends_same, sends_more, answered_same, answered_more}
+use Rattle.rdm_log.proofs.LogLemmas.RunLemmas.{sent_begins, open_run_same, last_run_same, same_runs_sent}
+use Rattle.rdm_log.proofs.LogLemmas.RunFacts.{open_is, is_open, run_facts, opened_by}
 use Rattle.rdm_lanes.specs.Lines.{exchange_of, exchanges}
 
 abbrev pub NoneOf : ℕ → List Sending → Type 0

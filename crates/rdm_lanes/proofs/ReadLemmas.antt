@@ -7,8 +7,8 @@ use Rattle.std.proofs.lemmas.List.{map-append}
 use Rattle.std.proofs.lemmas.Option.{slice_get_within, get_or_from_slice_get}
 use mathlib.Core.List.{IsPrefix}
 use Rattle.rdm_client.specs.declared.view.DeviceView.{DeviceView}
-use Rattle.rdm_queue.specs.log.LogState.{LogState}
-use Rattle.rdm_queue.specs.promises.Outcomes.{OutcomeValue}
+use Rattle.rdm_log.specs.log.LogState.{LogState}
+use Rattle.rdm_log.specs.promises.Outcomes.{OutcomeValue}
 use Rattle.rdm_lanes.specs.declared.history.ViewHistory.{Ghosts}
 use Rattle.rdm_lanes.specs.declared.ring_outcome.RingOutcome.{RingOutcome}
 use Rattle.rdm_lanes.specs.declared.ends.ClientEnd.{ClientEnd}

@@ -5,18 +5,18 @@ use Rattle.std.proofs.lemmas.Bool.Decides.{nat_tests}
 use Rattle.std.proofs.lemmas.Option.{slice_get_within, get_or_from_slice_get}
 use Rattle.rdm_wire.specs.declared.request.Request.{Request}
 use Rattle.rdm_agent.specs.declared.kind.Kind.{Kind}
-use Rattle.rdm_queue.specs.declared.entry.ClientId.{ClientId}
-use Rattle.rdm_queue.specs.declared.entry.Opening.{Opening}
-use Rattle.rdm_queue.specs.declared.entry.Entry.{Entry}
-use Rattle.rdm_queue.specs.log.Clients.{outstanding_requests, outstanding_discoveries}
-use Rattle.rdm_queue.specs.declared.fault.SubmitFault.{SubmitFault}
-use Rattle.rdm_queue.specs.declared.fault.SubmitFault.TheVariants as submit_faults
-use Rattle.rdm_queue.specs.declared.fault.AskFault.{AskFault}
-use Rattle.rdm_queue.specs.declared.fault.AskFault.TheVariants as ask_faults
-use Rattle.rdm_queue.specs.log.History.{is_closed, places, next_request, next_ask}
-use Rattle.rdm_queue.specs.log.Refusals.{submit_fault_at, ask_fault_at}
-use Rattle.rdm_queue.specs.log.LogState.{LogState, is_full_log}
-use Rattle.rdm_queue.specs.promises.Blocks.{GrowsBy, SubmitLogs, SubmitAdds, DiscoverLogs, DiscoverAdds}
+use Rattle.rdm_log.specs.declared.entry.ClientId.{ClientId}
+use Rattle.rdm_log.specs.declared.entry.Opening.{Opening}
+use Rattle.rdm_log.specs.declared.entry.Entry.{Entry}
+use Rattle.rdm_log.specs.log.Clients.{outstanding_requests, outstanding_discoveries}
+use Rattle.rdm_log.specs.declared.fault.SubmitFault.{SubmitFault}
+use Rattle.rdm_log.specs.declared.fault.SubmitFault.TheVariants as submit_faults
+use Rattle.rdm_log.specs.declared.fault.AskFault.{AskFault}
+use Rattle.rdm_log.specs.declared.fault.AskFault.TheVariants as ask_faults
+use Rattle.rdm_log.specs.log.History.{is_closed, places, next_request, next_ask}
+use Rattle.rdm_log.specs.log.Refusals.{submit_fault_at, ask_fault_at}
+use Rattle.rdm_log.specs.log.LogState.{LogState, is_full_log}
+use Rattle.rdm_log.specs.promises.Blocks.{GrowsBy, SubmitLogs, SubmitAdds, DiscoverLogs, DiscoverAdds}
 use Rattle.rdm_lanes.specs.declared.call.ClientCall.TheVariants.{Submit, Discover}
 use Rattle.rdm_lanes.specs.declared.lane.Lane.{Lane}
 use Rattle.rdm_lanes.specs.Lanes.{FitsBut}

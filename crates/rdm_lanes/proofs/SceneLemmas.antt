@@ -23,23 +23,23 @@ use Rattle.rdm_line.proofs.KeepsLemmas.{run_keeps, each_keeps, made_run, run_sou
 use Rattle.rdm_line.proofs.HonestRuns.{honest_run}
 use Rattle.rdm_line.proofs.LossLemmas.{few_losses}
 use Rattle.rdm_line.proofs.PresenceLemmas.{all_present}
-use Rattle.rdm_queue.specs.declared.config.Config.{Config}
-use Rattle.rdm_queue.specs.declared.entry.Call.{Call}
-use Rattle.rdm_queue.specs.declared.entry.Call.TheVariants as calls
-use Rattle.rdm_queue.specs.declared.entry.Cause.{Cause}
-use Rattle.rdm_queue.specs.declared.entry.ClientId.{ClientId}
-use Rattle.rdm_queue.specs.declared.entry.Opening.{Opening}
-use Rattle.rdm_queue.specs.declared.entry.Entry.{Entry}
-use Rattle.rdm_queue.specs.declared.entry.Entry.TheVariants.{Join, Refuse, Accept, Ask, Send, Came, Finish, Answer, Collect, Pause, Resume, Close}
-use Rattle.rdm_queue.specs.log.Runs.{run_exchanges, answer_devices}
-use Rattle.rdm_queue.specs.log.LogState.{LogState}
-use Rattle.rdm_queue.specs.log.Legal.{MayFollow}
-use Rattle.rdm_queue.specs.promises.Discoveries.{TellsTheLine}
-use Rattle.rdm_queue.specs.promises.Outcomes.{OutcomeValue, Discovered, discovered_by, never_begun, refused_outcome, outcome_of, told}
-use Rattle.rdm_queue.specs.promises.Outcomes.OutcomeValue.{DiscoveryValue}
-use Rattle.rdm_queue.proofs.LogLemmas.Places.{slice_get-append_left}
-use Rattle.rdm_queue.proofs.PromiseLemmas.StableResults.{filter_has}
-use Rattle.rdm_queue.proofs.PromiseLemmas.OwnDiscoveries.{discoveries_promised}
+use Rattle.rdm_log.specs.declared.config.Config.{Config}
+use Rattle.rdm_log.specs.declared.entry.Call.{Call}
+use Rattle.rdm_log.specs.declared.entry.Call.TheVariants as calls
+use Rattle.rdm_log.specs.declared.entry.Cause.{Cause}
+use Rattle.rdm_log.specs.declared.entry.ClientId.{ClientId}
+use Rattle.rdm_log.specs.declared.entry.Opening.{Opening}
+use Rattle.rdm_log.specs.declared.entry.Entry.{Entry}
+use Rattle.rdm_log.specs.declared.entry.Entry.TheVariants.{Join, Refuse, Accept, Ask, Send, Came, Finish, Answer, Collect, Pause, Resume, Close}
+use Rattle.rdm_log.specs.log.Runs.{run_exchanges, answer_devices}
+use Rattle.rdm_log.specs.log.LogState.{LogState}
+use Rattle.rdm_log.specs.log.Legal.{MayFollow}
+use Rattle.rdm_log.specs.promises.Discoveries.{TellsTheLine}
+use Rattle.rdm_log.specs.promises.Outcomes.{OutcomeValue, Discovered, discovered_by, never_begun, refused_outcome, outcome_of, told}
+use Rattle.rdm_log.specs.promises.Outcomes.OutcomeValue.{DiscoveryValue}
+use Rattle.rdm_log.proofs.LogLemmas.Places.{slice_get-append_left}
+use Rattle.rdm_log.proofs.PromiseLemmas.StableResults.{filter_has}
+use Rattle.rdm_log.proofs.PromiseLemmas.OwnDiscoveries.{discoveries_promised}
 use Rattle.rdm_lanes.specs.declared.history.ViewHistory.{Ghosts}
 use Rattle.rdm_lanes.specs.declared.ends.ClientEnd.{ClientEnd}
 use Rattle.rdm_lanes.specs.Lines.{exchanges}

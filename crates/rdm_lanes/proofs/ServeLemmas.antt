@@ -3,14 +3,14 @@ use Rattle.std.proofs.Common.{◌≡◌, ℕ, Bool, true, false, List, [], ◌�
 use Rattle.std.specs.Prelude.{⊤, ◌||◌}
 use Rattle.std.specs.List.{list_any}
 use Rattle.rtrb.specs.Ring.{sent as pushed, received as popped}
-use Rattle.rdm_queue.specs.declared.entry.Opening.{Opening}
-use Rattle.rdm_queue.specs.declared.entry.Entry.{Entry}
-use Rattle.rdm_queue.specs.declared.entry.Entry.TheVariants.{Finish, Answer}
-use Rattle.rdm_queue.specs.log.Clients.{is_answer_to, answers_to, uncollected, collects_by}
-use Rattle.rdm_queue.specs.log.LogState.{LogState}
-use Rattle.rdm_queue.specs.promises.Outcomes.{kind_of_answer, oldest_kind}
-use Rattle.rdm_queue.proofs.LogLemmas.Places.{slice_get-drop}
-use Rattle.rdm_queue.proofs.PromiseLemmas.StableResults.{filter_has}
+use Rattle.rdm_log.specs.declared.entry.Opening.{Opening}
+use Rattle.rdm_log.specs.declared.entry.Entry.{Entry}
+use Rattle.rdm_log.specs.declared.entry.Entry.TheVariants.{Finish, Answer}
+use Rattle.rdm_log.specs.log.Clients.{is_answer_to, answers_to, uncollected, collects_by}
+use Rattle.rdm_log.specs.log.LogState.{LogState}
+use Rattle.rdm_log.specs.promises.Outcomes.{kind_of_answer, oldest_kind}
+use Rattle.rdm_log.proofs.LogLemmas.Places.{slice_get-drop}
+use Rattle.rdm_log.proofs.PromiseLemmas.StableResults.{filter_has}
 use Rattle.rdm_lanes.specs.declared.call.ClientCall.{ClientCall}
 use Rattle.rdm_lanes.specs.declared.call.ClientCall.TheVariants.{Submit, Discover, Leave}
 use Rattle.rdm_lanes.specs.declared.lane.Lane.{Lane}

@@ -2,11 +2,11 @@
 use Rattle.std.proofs.Common.{◌≡◌, ℕ, List, ◌++◌, length, sym, ap, ◌∙◌, subst, arith}
 use Rattle.rdm_agent.specs.declared.search.Search.{Search}
 use Rattle.rdm_line.specs.Events.{Exchange, Makes}
-use Rattle.rdm_queue.specs.declared.config.Config.{Config}
-use Rattle.rdm_queue.specs.log.Entries.{joins}
-use Rattle.rdm_queue.specs.log.History.{is_closed, is_paused}
-use Rattle.rdm_queue.specs.log.LogState.{LogState}
-use Rattle.rdm_queue.specs.log.Legal.{Legal}
+use Rattle.rdm_log.specs.declared.config.Config.{Config}
+use Rattle.rdm_log.specs.log.Entries.{joins}
+use Rattle.rdm_log.specs.log.History.{is_closed, is_paused}
+use Rattle.rdm_log.specs.log.LogState.{LogState}
+use Rattle.rdm_log.specs.log.Legal.{Legal}
 use Rattle.rdm_lanes.specs.declared.lane.Lane.{Lane}
 use Rattle.rdm_lanes.specs.Lines.{exchanges, exchange_count, Exchanged, SameSwitches, IsBetweenTurns}
 use Rattle.rdm_lanes.specs.Lanes.{AllFit}

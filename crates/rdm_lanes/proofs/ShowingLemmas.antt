@@ -3,9 +3,9 @@ use Rattle.std.proofs.Common.{◌≡◌, ◌+◌, ◌<◌, ◌≤◌, ℕ, List,
 use Rattle.std.specs.Prelude.{◌⊎◌}
 use Rattle.rdm_wire.specs.declared.device.Device.{Device}
 use Rattle.rdm_client.specs.declared.view.DeviceView.{DeviceView}
-use Rattle.rdm_queue.specs.declared.entry.Entry.{Entry}
-use Rattle.rdm_queue.specs.log.LogState.{LogState, grown}
-use Rattle.rdm_queue.specs.log.Runs.{known_devices, devices_run}
+use Rattle.rdm_log.specs.declared.entry.Entry.{Entry}
+use Rattle.rdm_log.specs.log.LogState.{LogState, grown}
+use Rattle.rdm_log.specs.log.Runs.{known_devices, devices_run}
 use Rattle.rdm_lanes.specs.Lines.{NoExchange}
 use Rattle.rdm_lanes.specs.Views.{opening_view, last_view, last_view_run, views_found, all_views, GainOneAtMost}
 use Rattle.rdm_lanes.specs.Publishing.{Publishing, NoneLater, IsShowing, Publishes, AllPublished}

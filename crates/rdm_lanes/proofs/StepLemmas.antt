@@ -5,22 +5,22 @@ use Rattle.std.specs.List.{AllByRecursion}
 use Rattle.std.proofs.lemmas.Bool.{ne_eqb}
 use Rattle.rdm_wire.specs.declared.request.Request.{Request}
 use Rattle.rdm_agent.specs.declared.kind.Kind.{Kind}
-use Rattle.rdm_queue.specs.declared.entry.ClientId.{ClientId}
-use Rattle.rdm_queue.specs.declared.entry.Opening.{Opening}
-use Rattle.rdm_queue.specs.declared.entry.Entry.{Entry}
-use Rattle.rdm_queue.specs.declared.entry.Entry.TheVariants.{Join, Refuse, Accept, Ask, Finish, Answer, Collect, Pause, Resume, Close}
-use Rattle.rdm_queue.specs.declared.fault.SubmitFault.{SubmitFault}
-use Rattle.rdm_queue.specs.declared.fault.AskFault.{AskFault}
-use Rattle.rdm_queue.specs.declared.fault.SubmitFault.TheVariants as submit_faults
-use Rattle.rdm_queue.specs.declared.fault.AskFault.TheVariants as ask_faults
-use Rattle.rdm_queue.specs.declared.fault.LogFull.{LogFull}
-use Rattle.rdm_queue.specs.declared.outcome.Outcome.{Outcome}
+use Rattle.rdm_log.specs.declared.entry.ClientId.{ClientId}
+use Rattle.rdm_log.specs.declared.entry.Opening.{Opening}
+use Rattle.rdm_log.specs.declared.entry.Entry.{Entry}
+use Rattle.rdm_log.specs.declared.entry.Entry.TheVariants.{Join, Refuse, Accept, Ask, Finish, Answer, Collect, Pause, Resume, Close}
+use Rattle.rdm_log.specs.declared.fault.SubmitFault.{SubmitFault}
+use Rattle.rdm_log.specs.declared.fault.AskFault.{AskFault}
+use Rattle.rdm_log.specs.declared.fault.SubmitFault.TheVariants as submit_faults
+use Rattle.rdm_log.specs.declared.fault.AskFault.TheVariants as ask_faults
+use Rattle.rdm_log.specs.declared.fault.LogFull.{LogFull}
+use Rattle.rdm_log.specs.declared.outcome.Outcome.{Outcome}
 use Rattle.rdm_wire.specs.Lists.{EachAfter}
-use Rattle.rdm_queue.specs.log.Entries.{join_of, answered_of}
-use Rattle.rdm_queue.specs.log.History.{is_closed, can_pause, can_resume}
-use Rattle.rdm_queue.specs.log.LogState.{LogState, grown, is_full_log}
-use Rattle.rdm_queue.specs.log.Legal.{Legal, MayFollow}
-use Rattle.rdm_queue.specs.promises.Blocks.{GrowsBy, UnlessFull, SubmitLogs, SubmitAdds, DiscoverLogs, DiscoverAdds, PauseLogs, ResumeLogs, CloseAdds, CloseAddsWhere, CollectAdds, is_result, AllResults}
+use Rattle.rdm_log.specs.log.Entries.{join_of, answered_of}
+use Rattle.rdm_log.specs.log.History.{is_closed, can_pause, can_resume}
+use Rattle.rdm_log.specs.log.LogState.{LogState, grown, is_full_log}
+use Rattle.rdm_log.specs.log.Legal.{Legal, MayFollow}
+use Rattle.rdm_log.specs.promises.Blocks.{GrowsBy, UnlessFull, SubmitLogs, SubmitAdds, DiscoverLogs, DiscoverAdds, PauseLogs, ResumeLogs, CloseAdds, CloseAddsWhere, CollectAdds, is_result, AllResults}
 use Rattle.rdm_lanes.specs.Lines.{NoExchange, SameSwitches, IsBetweenTurns, OnlyCollects}
 use Rattle.rdm_lanes.specs.Serving.{IsOnlyTold}
 use Rattle.rdm_lanes.proofs.ListLemmas.{all_follow}

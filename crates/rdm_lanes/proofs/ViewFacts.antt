@@ -3,7 +3,7 @@ use Rattle.std.proofs.Common.{◌≡◌, ◌<◌, ◌≤◌, ℕ, zero, suc, Lis
 use Rattle.std.specs.Prelude.{◌⊎◌}
 use Rattle.std.proofs.lemmas.Grind.{fold-append}
 use Rattle.rdm_client.specs.declared.view.DeviceView.{DeviceView}
-use Rattle.rdm_queue.proofs.LogLemmas.Places.{IsPushed, slice_get-push}
+use Rattle.rdm_log.proofs.LogLemmas.Places.{IsPushed, slice_get-push}
 use Rattle.rdm_lanes.specs.Views.{opening_view, last_view, last_view_run, RisesAbove, AreViews}
 use Rattle.rdm_lanes.specs.Publishing.{NoneLater}
 

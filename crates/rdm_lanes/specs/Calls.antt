@@ -1,11 +1,11 @@
 -- What a client sends, and what a log says of its calls.
 use Rattle.std.specs.Prelude.{ℕ, Bool, true, false, List, [], ◌∷◌, filter, filter_map, Option, Some, None, ◌==◌}
 use Rattle.std.specs.Prelude.{if◌then◌else◌}
-use Rattle.rdm_queue.specs.declared.entry.Call.{Call}
-use Rattle.rdm_queue.specs.declared.entry.Call.TheVariants as calls
-use Rattle.rdm_queue.specs.declared.entry.Entry.{Entry}
-use Rattle.rdm_queue.specs.declared.entry.Entry.TheVariants.{Refuse, Accept, Ask}
-use Rattle.rdm_queue.specs.promises.Outcomes.{is_client}
+use Rattle.rdm_log.specs.declared.entry.Call.{Call}
+use Rattle.rdm_log.specs.declared.entry.Call.TheVariants as calls
+use Rattle.rdm_log.specs.declared.entry.Entry.{Entry}
+use Rattle.rdm_log.specs.declared.entry.Entry.TheVariants.{Refuse, Accept, Ask}
+use Rattle.rdm_log.specs.promises.Outcomes.{is_client}
 use Rattle.rdm_lanes.specs.declared.call.ClientCall.{ClientCall}
 use Rattle.rdm_lanes.specs.declared.call.ClientCall.TheVariants.{Submit, Discover, Leave}
 use Rattle.rdm_lanes.specs.declared.call.OperatorCall.{OperatorCall}

@@ -1,7 +1,7 @@
 -- A client of the rings: what it sent, what it got, and its rings.
 use Rattle.std.specs.Prelude.{ℕ, Bool, ◌||◌, List, length, Option, Some, None, nat_le, if◌then◌else◌}
 use Rattle.rtrb.specs.Ring.{sent as pushed, received as popped, SameProducer, SameConsumer}
-use Rattle.rdm_queue.specs.promises.Outcomes.{OutcomeValue}
+use Rattle.rdm_log.specs.promises.Outcomes.{OutcomeValue}
 use Rattle.rdm_lanes.specs.declared.history.ViewHistory.{Ghosts}
 use Rattle.rdm_lanes.specs.declared.call.ClientCall.{ClientCall}
 use Rattle.rdm_lanes.specs.declared.fault.RingFault.{RingFault}
@@ -18,17 +18,20 @@ call_fault left places held sent =
     else (if nat_le places held || nat_le 18446744073709551615 sent then Some Full else None)
 
 module _ {J : Type 0} {h : Ghosts J} {C A : Type 0} where
-  -- the submits and discovers that a client sent, and the outcomes that it got, in order
+  -- the submits and discovers that a client sent, in order
   abbrev pub sent_by : RingClient J C A h → List ClientCall
   sent_by client = work_in (pushed client.calls)
 
+  -- the outcomes that a client got, in order
   abbrev pub got_by : RingClient J C A h → List OutcomeValue
   got_by client = values_in (popped client.replies)
 
+  -- the first fault of a submit that a client shows: Left, else Full
   abbrev pub submit_fault : RingClient J C A h → Option RingFault
   submit_fault client =
       call_fault client.left client.desk.places (length client.desk.requests) client.sent
 
+  -- the first fault of a discover that a client shows: Left, else Full
   abbrev pub discover_fault : RingClient J C A h → Option RingFault
   discover_fault client = call_fault client.left 4 (length client.desk.asks) client.sent
 

@@ -4,8 +4,8 @@ use Rattle.std.specs.declared.alloc.Global.{Global}
 use Rattle.rtrb.specs.declared.AnyItems.{AnyItems}
 use Rattle.rtrb.specs.declared.producer.Producer.{Producer}
 use Rattle.rtrb.specs.Ring.{sent as pushed, received as popped, known_free, known_items, producer_capacity}
-use Rattle.rdm_queue.specs.promises.Outcomes.{OutcomeValue}
-use Rattle.rdm_queue.specs.log.LogState.{LogState}
+use Rattle.rdm_log.specs.promises.Outcomes.{OutcomeValue}
+use Rattle.rdm_log.specs.log.LogState.{LogState}
 use Rattle.rdm_lanes.specs.declared.history.ViewHistory.{Ghosts}
 use Rattle.rdm_lanes.specs.declared.call.ClientCall.{ClientCall}
 use Rattle.rdm_lanes.specs.declared.lane.Lane.{Lane}
@@ -20,10 +20,11 @@ abbrev pub left_in : Producer ClientCall Global AnyItems → List ClientCall
 left_in calls = drop (length (pushed calls) - (producer_capacity calls - known_free calls)) (pushed calls)
 
 module _ {J : Type 0} {h : Ghosts J} {C A : Type 0} where
-  -- the submits and discovers that a client had sent at its end, and the outcomes that it had got, in order
+  -- the submits and discovers that a client had sent at its end, in order
   abbrev pub end_sent : ClientEnd J C A h → List ClientCall
   end_sent e = work_in (pushed e.calls)
 
+  -- the outcomes that a client had got at its end, in order
   abbrev pub end_got : ClientEnd J C A h → List OutcomeValue
   end_got e = values_in (popped e.replies)
 
@@ -42,6 +43,7 @@ module _ {J : Type 0} {h : Ghosts J} {C A : Type 0} where
     pub sent_are : end_sent e ≡ calls_by c k.entries ++ work_in (left_in e.calls)
     pub got_are : TellsAll k.opening c k.entries (end_got e ++ values_in (known_items e.replies))
 
+  -- the end of each client agrees with the log
   pub record AllAgree (k : LogState) (ends : List (ClientEnd J C A h)) : Type 0 where
     pub each : (i : ℕ) (e : ClientEnd J C A h) → slice_get ends i ≡ Some e → Agrees i k e
 
@@ -56,6 +58,7 @@ module _ {J : Type 0} {h : Ghosts J} {C A : Type 0} where
     pub unspent_is : b.unspent ≡ a.unspent
     pub views_are : b.views ≡ a.views
 
+  -- each end after has what the same end before had
   pub record AllTold (before after : List (ClientEnd J C A h)) : Type 0 where
     pub long : length after ≡ length before
     pub each : (i : ℕ) (a b : ClientEnd J C A h) → slice_get before i ≡ Some a → slice_get after i ≡ Some b

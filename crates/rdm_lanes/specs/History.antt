@@ -9,6 +9,7 @@ pub record IsKept (cells : List Cell) (views : List DeviceView) : Type 0 where
   pub words : cells ≡ (length views, true) ∷ (0, true) ∷ []
   pub are : AreViews views
 
+-- the word of a history that holds its length
 abbrev pub head_of : Book → Named
 head_of b = record { tracked = true; key = 0; book = b }
 

@@ -2,9 +2,9 @@
 use Rattle.std.specs.Prelude.{◌≡◌, ℕ, ◌≤◌, Bool, true, false, List, [], ◌++◌, length, map, Some, slice_get}
 use Rattle.std.specs.List.{list_any}
 use Rattle.rtrb.specs.Ring.{sent as pushed, received as popped, SameProducer, SameConsumer}
-use Rattle.rdm_queue.specs.log.LogState.{LogState}
-use Rattle.rdm_queue.specs.log.History.{places}
-use Rattle.rdm_queue.specs.log.Clients.{outstanding_requests, outstanding_discoveries}
+use Rattle.rdm_log.specs.log.LogState.{LogState}
+use Rattle.rdm_log.specs.log.History.{places}
+use Rattle.rdm_log.specs.log.Clients.{outstanding_requests, outstanding_discoveries}
 use Rattle.rdm_lanes.specs.declared.call.ClientCall.{ClientCall}
 use Rattle.rdm_lanes.specs.declared.call.ClientCall.TheVariants.{Leave}
 use Rattle.rdm_lanes.specs.declared.lane.Lane.{Lane}
@@ -28,9 +28,11 @@ pub record FitsBut (pending : List ClientCall) (c : ℕ) (k : LogState) (lane : 
   -- whether its leave was received
   pub left_is : lane.left ≡ list_any is_leave (popped lane.calls)
 
+-- the lane of client c fits the log
 abbrev pub Fits : ℕ → LogState → Lane → Type 0
 Fits c k lane = FitsBut [] c k lane
 
+-- the places of a lane's client
 abbrev pub lane_places : Lane → ℕ
 lane_places lane = lane.places
 

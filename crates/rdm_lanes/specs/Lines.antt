@@ -2,16 +2,16 @@
 use Rattle.std.specs.Prelude.{◌≡◌, ℕ, Bool, true, false, ◌||◌, List, ◌∷◌, ◌++◌, length, map, Option, Some, nat_le}
 use Rattle.std.specs.List.{AllByRecursion}
 use Rattle.rdm_line.specs.Events.{Exchange, Makes}
-use Rattle.rdm_queue.specs.declared.entry.Call.{Call}
-use Rattle.rdm_queue.specs.declared.entry.Cause.{Cause}
-use Rattle.rdm_queue.specs.declared.entry.ClientId.{ClientId}
-use Rattle.rdm_queue.specs.declared.entry.Opening.{Opening}
-use Rattle.rdm_queue.specs.declared.entry.Entry.{Entry}
-use Rattle.rdm_queue.specs.declared.entry.Entry.TheVariants.{Collect, Refuse}
-use Rattle.rdm_queue.specs.log.Entries.{Traded, traded, joins}
-use Rattle.rdm_queue.specs.log.History.{awaited, is_closed, is_paused, next_request, next_ask}
-use Rattle.rdm_queue.specs.log.LogState.{LogState, grown}
-use Rattle.rdm_queue.specs.promises.LogInBound.{InBound}
+use Rattle.rdm_log.specs.declared.entry.Call.{Call}
+use Rattle.rdm_log.specs.declared.entry.Cause.{Cause}
+use Rattle.rdm_log.specs.declared.entry.ClientId.{ClientId}
+use Rattle.rdm_log.specs.declared.entry.Opening.{Opening}
+use Rattle.rdm_log.specs.declared.entry.Entry.{Entry}
+use Rattle.rdm_log.specs.declared.entry.Entry.TheVariants.{Collect, Refuse}
+use Rattle.rdm_log.specs.log.Entries.{Traded, traded, joins}
+use Rattle.rdm_log.specs.log.History.{awaited, is_closed, is_paused, next_request, next_ask}
+use Rattle.rdm_log.specs.log.LogState.{LogState, grown}
+use Rattle.rdm_log.specs.promises.LogInBound.{InBound}
 use Rattle.rdm_lanes.specs.Views.{views_found}
 
 -- a frame and what came for it
@@ -22,6 +22,7 @@ exchange_of t = (t.frame, t.event)
 unfoldable pub exchanges : List Entry → List Exchange
 exchanges h = map exchange_of (traded h)
 
+-- how many exchanges a log has
 abbrev pub exchange_count : LogState → ℕ
 exchange_count k = length (exchanges k.entries)
 

@@ -11,10 +11,10 @@ use Rattle.rdm_wire.specs.Devices.{uids_of}
 use Rattle.rdm_line.specs.Scenes.{IsScene, Stays, present_at, uids_of_scene}
 use Rattle.rdm_line.specs.Sim.{SimState, SimStep}
 use Rattle.rdm_line.specs.SimRuns.{NoFiveSuccessive}
-use Rattle.rdm_queue.specs.declared.config.Config.{Config}
-use Rattle.rdm_queue.specs.log.LogState.{LogState}
-use Rattle.rdm_queue.specs.promises.Outcomes.{Discovered}
-use Rattle.rdm_queue.specs.promises.Outcomes.OutcomeValue.{DiscoveryValue}
+use Rattle.rdm_log.specs.declared.config.Config.{Config}
+use Rattle.rdm_log.specs.log.LogState.{LogState}
+use Rattle.rdm_log.specs.promises.Outcomes.{Discovered}
+use Rattle.rdm_log.specs.promises.Outcomes.OutcomeValue.{DiscoveryValue}
 use Rattle.rdm_lanes.specs.declared.history.ViewHistory.{Ghosts}
 use Rattle.rdm_lanes.specs.declared.ends.ClientEnd.{ClientEnd}
 use Rattle.rdm_lanes.specs.Ends.{end_got, Agrees}

@@ -34,6 +34,7 @@ pub record SameRings (old new : List Rings) : Type 0 where
       → SameProducer a.0 b.0 × SameConsumer a.1 b.1
 
 module _ {J : Type 0} {h : Ghosts J} {C A : Type 0} where
+  -- the rings of a client: for its calls, and for its outcomes
   abbrev pub client_rings : RingClient J C A h → Rings
   client_rings client = (client.calls, client.replies)
 

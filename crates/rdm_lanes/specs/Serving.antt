@@ -3,15 +3,15 @@ use Rattle.std.specs.Prelude.{◌≡◌, ℕ, ◌+◌, ◌<◌, List, [], ◌∷
 use Rattle.rtrb.specs.Ring.{sent as pushed, known_free, SameProducer, ProducerLooked}
 use Rattle.rdm_wire.specs.declared.request.Request.{Request}
 use Rattle.rdm_join.specs.declared.status.Status.TheVariants.{FailedToSend}
-use Rattle.rdm_queue.specs.declared.fault.SubmitFault.{SubmitFault}
-use Rattle.rdm_queue.specs.declared.fault.SubmitFault.TheVariants as submit_faults
-use Rattle.rdm_queue.specs.declared.fault.AskFault.{AskFault}
-use Rattle.rdm_queue.specs.declared.fault.AskFault.TheVariants as ask_faults
-use Rattle.rdm_queue.specs.promises.Outcomes.{OutcomeValue, completion_of, never_begun}
-use Rattle.rdm_queue.specs.promises.Outcomes.OutcomeValue.{RequestValue, DiscoveryValue}
-use Rattle.rdm_queue.specs.log.LogState.{LogState}
-use Rattle.rdm_queue.specs.log.History.{is_closed}
-use Rattle.rdm_queue.specs.log.Clients.{uncollected, outstanding_requests, outstanding_discoveries}
+use Rattle.rdm_log.specs.declared.fault.SubmitFault.{SubmitFault}
+use Rattle.rdm_log.specs.declared.fault.SubmitFault.TheVariants as submit_faults
+use Rattle.rdm_log.specs.declared.fault.AskFault.{AskFault}
+use Rattle.rdm_log.specs.declared.fault.AskFault.TheVariants as ask_faults
+use Rattle.rdm_log.specs.promises.Outcomes.{OutcomeValue, completion_of, never_begun}
+use Rattle.rdm_log.specs.promises.Outcomes.OutcomeValue.{RequestValue, DiscoveryValue}
+use Rattle.rdm_log.specs.log.LogState.{LogState}
+use Rattle.rdm_log.specs.log.History.{is_closed}
+use Rattle.rdm_log.specs.log.Clients.{uncollected, outstanding_requests, outstanding_discoveries}
 use Rattle.rdm_lanes.specs.declared.call.ClientCall.{ClientCall}
 use Rattle.rdm_lanes.specs.declared.call.ClientCall.TheVariants.{Submit, Discover, Leave}
 use Rattle.rdm_lanes.specs.declared.ring_outcome.RingOutcome.{RingOutcome}

@@ -2,12 +2,12 @@
 use Rattle.std.specs.Prelude.{◌≡◌, ℕ, ◌≤◌, false, List, [], length}
 use Rattle.rdm_agent.specs.declared.search.Search.{Search}
 use Rattle.rdm_line.specs.Events.{Exchange, Makes}
-use Rattle.rdm_queue.specs.declared.config.Config.{Config}
-use Rattle.rdm_queue.specs.log.Entries.{joins}
-use Rattle.rdm_queue.specs.log.History.{awaited, is_closed, is_paused}
-use Rattle.rdm_queue.specs.log.Legal.{Legal}
-use Rattle.rdm_queue.specs.log.LogState.{LogState, opened}
-use Rattle.rdm_queue.specs.promises.LogInBound.{InBound}
+use Rattle.rdm_log.specs.declared.config.Config.{Config}
+use Rattle.rdm_log.specs.log.Entries.{joins}
+use Rattle.rdm_log.specs.log.History.{awaited, is_closed, is_paused}
+use Rattle.rdm_log.specs.log.Legal.{Legal}
+use Rattle.rdm_log.specs.log.LogState.{LogState, opened}
+use Rattle.rdm_log.specs.promises.LogInBound.{InBound}
 use Rattle.rdm_lanes.specs.Calls.{calls_by}
 use Rattle.rdm_lanes.specs.Lines.{NoCallLost, exchanges}
 

@@ -1,13 +1,13 @@
 -- Outcomes on their way to a client, and what a log tells it.
 use Rattle.std.specs.Prelude.{◌≡◌, ℕ, ◌<◌, List, [], ◌++◌, length, map, Option, Some, None, Box}
 use Rattle.rdm_wire.specs.declared.device.Device.{Device}
-use Rattle.rdm_queue.specs.declared.entry.Opening.{Opening}
-use Rattle.rdm_queue.specs.declared.entry.Entry.{Entry}
-use Rattle.rdm_queue.specs.declared.outcome.Outcome.{Outcome}
-use Rattle.rdm_queue.specs.declared.outcome.Outcome.TheVariants as outcomes
-use Rattle.rdm_queue.specs.log.Clients.{uncollected}
+use Rattle.rdm_log.specs.declared.entry.Opening.{Opening}
+use Rattle.rdm_log.specs.declared.entry.Entry.{Entry}
+use Rattle.rdm_log.specs.declared.outcome.Outcome.{Outcome}
+use Rattle.rdm_log.specs.declared.outcome.Outcome.TheVariants as outcomes
+use Rattle.rdm_log.specs.log.Clients.{uncollected}
 use Rattle.rdm_client.specs.Desks.{Held}
-use Rattle.rdm_queue.specs.promises.Outcomes.{OutcomeValue, outcome_value, outcome_of, told}
+use Rattle.rdm_log.specs.promises.Outcomes.{OutcomeValue, outcome_value, outcome_of, told}
 use Rattle.rdm_lanes.specs.declared.ring_outcome.RingOutcome.{RingOutcome}
 use Rattle.rdm_lanes.specs.declared.ring_outcome.RingOutcome.TheVariants.{Request, Discovery}
 
@@ -26,6 +26,7 @@ outcome_in (Discovery number run fault set) =
 abbrev pub value_in : RingOutcome → OutcomeValue
 value_in item = outcome_value (outcome_in item)
 
+-- the outcomes in these items of a ring, as their client sees them
 unfoldable pub values_in : List RingOutcome → List OutcomeValue
 values_in items = map value_in items
 

@@ -3,21 +3,22 @@ use Rattle.std.specs.Prelude.{◌≡◌, ◌⊎◌, ℕ, ◌<◌, ◌==◌, Bool
 use Rattle.std.specs.Prelude.{nat_lt, if◌then◌else◌}
 use Rattle.rdm_wire.specs.declared.device.Device.{Device}
 use Rattle.rdm_agent.specs.declared.fault.AgentFault.{AgentFault}
-use Rattle.rdm_queue.specs.declared.entry.Entry.{Entry}
-use Rattle.rdm_queue.specs.log.Entries.{answers}
-use Rattle.rdm_queue.specs.log.Runs.{run_devices}
-use Rattle.rdm_queue.specs.promises.Outcomes.{OutcomeValue}
-use Rattle.rdm_queue.specs.promises.Outcomes.OutcomeValue.{RequestValue, DiscoveryValue}
+use Rattle.rdm_log.specs.declared.entry.Entry.{Entry}
+use Rattle.rdm_log.specs.log.Entries.{answers}
+use Rattle.rdm_log.specs.log.Runs.{run_devices}
+use Rattle.rdm_log.specs.promises.Outcomes.{OutcomeValue}
+use Rattle.rdm_log.specs.promises.Outcomes.OutcomeValue.{RequestValue, DiscoveryValue}
 use Rattle.rdm_client.specs.declared.view.DeviceView.{DeviceView}
 
 -- what is seen before any run has ended without fault
 abbrev pub opening_view : DeviceView
 opening_view = record { run = 0; set = [] }
 
--- the last of these views, the opening one where there are none; and its run
+-- the last of these views; the opening one if there are none
 unfoldable pub last_view : List DeviceView → DeviceView
 last_view views = fold (λ before v. v) opening_view views
 
+-- the run of the last of these views
 abbrev pub last_view_run : List DeviceView → ℕ
 last_view_run views = (last_view views).run
 
@@ -32,10 +33,11 @@ pub record AreViews (views : List DeviceView) : Type 0 where
   pub begin : views ≡ opening_view ∷ later
   pub rise : RisesAbove 0 later
 
--- the last of these runs, and whether it is this one
+-- the last of these runs
 abbrev pub last_number : List ℕ → Option ℕ
 last_number runs = fold (λ before r. Some r) None runs
 
+-- whether the last run is r
 abbrev pub is_last : Option ℕ → ℕ → Bool
 is_last None r = false
 is_last (Some q) r = q == r
@@ -53,6 +55,7 @@ with_found runs (Some fault) r = runs
 unfoldable pub runs_found : List Entry → List ℕ
 runs_found h = fold (λ runs b. with_found runs b.fault b.run) [] (answers h)
 
+-- the view of a run: its number, and the devices that it found
 abbrev pub view_of : List Entry → ℕ → DeviceView
 view_of h r = record { run = r; set = run_devices r h }
 

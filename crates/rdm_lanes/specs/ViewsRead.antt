@@ -4,7 +4,7 @@ use mathlib.Core.List.{IsPrefix}
 use Rattle.rdm_client.specs.declared.view.DeviceView.{DeviceView}
 use Rattle.rdm_lanes.specs.declared.history.ViewHistory.{Ghosts}
 use Rattle.rdm_lanes.specs.declared.ends.ClientEnd.{ClientEnd}
-use Rattle.rdm_queue.specs.promises.Outcomes.{Discovered}
+use Rattle.rdm_log.specs.promises.Outcomes.{Discovered}
 use Rattle.rdm_lanes.specs.OverThreads.{HasGot}
 use Rattle.rdm_lanes.specs.Views.{last_view_run}
 use Rattle.rdm_lanes.specs.Publishing.{BeginOne}

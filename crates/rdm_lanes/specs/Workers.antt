@@ -2,7 +2,7 @@
 use Rattle.std.specs.Prelude.{◌≡◌, Bool, List}
 use Rattle.logbook.specs.Pages.{Book}
 use Rattle.rtrb.specs.Ring.{sent as pushed}
-use Rattle.rdm_queue.specs.log.LogState.{LogState}
+use Rattle.rdm_log.specs.log.LogState.{LogState}
 use Rattle.rdm_lanes.specs.declared.call.OperatorCall.{OperatorCall}
 use Rattle.rdm_lanes.specs.declared.lane.Lane.{Lane}
 use Rattle.rdm_lanes.specs.declared.operator.Operator.{Operator}

@@ -16,7 +16,7 @@ pub trait Gate {
     fn passed(&self, point: u8) -> bool;
 }
 
-/// What a client does in a session (profile of this project). At its end it has the same client that it was lent.
+/// What a client does in a session (profile of this project). It owes that it ends with the client that it was lent.
 pub trait Body<C, A> {
     /// Runs once, in a thread of its own where one can be made. A body that waits for another one gives up after a
     /// stated number of tries, since without threads they run one after the other.

@@ -116,7 +116,8 @@ impl<J: ViewHistory, C: Tells, A: TellsAsk> RingClient<J, C, A> {
     }
 
     /// Reads what the worker has published, for [`RingClient::devices`]. What had been read begins what is read then.
-    /// It copies no set. Where nothing can be read, as when the worker is gone, the last view that was read stands.
+    /// It copies no set. Where nothing can be read, as when the worker is gone or the view has as many owners as can be
+    /// counted, the last view that was read stands.
     pub fn read(&mut self)
         ensures views { IsPrefix self.old.views self.new.views }
         ensures sent { sent_by self.new ≡ sent_by self.old }
@@ -129,7 +130,8 @@ impl<J: ViewHistory, C: Tells, A: TellsAsk> RingClient<J, C, A> {
     }
 
     /// The devices: the later, by run, of the last view that was read and of what the client found itself. It found
-    /// what its last discovery without fault tells, of those whose outcomes it collected. It copies no set.
+    /// what its last discovery without fault tells, of those whose outcomes it collected. Before any run ended without
+    /// fault that is the view of run 0, without devices. It copies no set.
     pub fn devices(&self) -> &DeviceView
         ensures { result.now ≡ later_view (last_view self.now.views) (last_found (got_by self.now)) }
     {

@@ -1,7 +1,7 @@
 //! How a worker ends, and what its clients have read.
 ghost use Rattle.std.specs.Prelude.{◌≡◌, true};
-ghost use Rattle.rdm_queue.specs.log.Legal.{Legal};
-ghost use Rattle.rdm_queue.specs.promises.Promised.{Promised};
+ghost use Rattle.rdm_log.specs.log.Legal.{Legal};
+ghost use Rattle.rdm_log.specs.promises.Promised.{Promised};
 ghost use Rattle.rdm_lanes.specs.Lines.{IsBetweenTurns};
 ghost use Rattle.rdm_lanes.specs.Lanes.{AllFit, AllHaveLeft};
 ghost use Rattle.rdm_lanes.specs.Workers.{session_of, lanes_of, published_by};
@@ -44,7 +44,8 @@ impl<J: ViewHistory, R: Wait + Drop> ViewWorker<J, Shown<J>, R> {
     /// has read a beginning of the published ones. No client has got an outcome without fault of a discovery whose run
     /// is later than that of the last published view.
     ///
-    /// The flag says whether all ends could be compared. It is always true, since the ends are the worker's own.
+    /// The flag says whether all ends could be compared. It is always true, since the ends are the worker's own. The
+    /// call waits for reads that are under way.
     pub fn end<C: Tells, A: TellsAsk>(self, ends: Vec<ClientEnd<J, C, A>>) -> Compared<J, C, A>
         requires pairs { PairUp (lanes_of self) ends.items }
         ensures log { result.session ≡ session_of self }

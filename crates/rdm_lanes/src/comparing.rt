@@ -1,8 +1,8 @@
 //! How both ends of each client's rings are compared.
 ghost use Rattle.std.specs.Prelude.{◌≡◌, ◌++◌, true};
 ghost use Rattle.rtrb.specs.Ring.{sent as pushed, received as popped, known_items};
-ghost use Rattle.rdm_queue.specs.log.Legal.{Legal};
-ghost use Rattle.rdm_queue.specs.promises.Promised.{Promised};
+ghost use Rattle.rdm_log.specs.log.Legal.{Legal};
+ghost use Rattle.rdm_log.specs.promises.Promised.{Promised};
 ghost use Rattle.rdm_lanes.specs.Lines.{IsBetweenTurns};
 ghost use Rattle.rdm_lanes.specs.Lanes.{AllFit, AllHaveLeft};
 ghost use Rattle.rdm_lanes.specs.Pairs.{ArePair};

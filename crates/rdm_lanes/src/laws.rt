@@ -2,8 +2,8 @@
 ghost use Rattle.std.specs.Prelude.{ℕ, List};
 ghost use Rattle.rdm_line.specs.Sim.{SimState};
 ghost use Rattle.rdm_agent.specs.declared.search.Search.{Search};
-ghost use Rattle.rdm_queue.specs.declared.config.Config.{Config};
-ghost use Rattle.rdm_queue.specs.log.LogState.{LogState};
+ghost use Rattle.rdm_log.specs.declared.config.Config.{Config};
+ghost use Rattle.rdm_log.specs.log.LogState.{LogState};
 ghost use Rattle.rdm_lanes.specs.declared.ends.ClientEnd.{ClientEnd};
 ghost use Rattle.rdm_lanes.specs.OverThreads.{IsLossyScene, IsStayingScene, IsEndOver};
 ghost use Rattle.rdm_lanes.specs.OverThreads.{TellsTheDevices, TellsTheChanging};

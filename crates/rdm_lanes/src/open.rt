@@ -1,9 +1,9 @@
 //! How clients, an operator and a worker are opened.
 ghost use Rattle.std.specs.Prelude.{◌≡◌, ◌≤◌, ◌∷◌, [], false, IfOk, IfErr, IsErr, MatchOption};
 ghost use Rattle.rtrb.specs.Ring.{producer_capacity};
-ghost use Rattle.rdm_queue.specs.log.Config.{IsConfig};
+ghost use Rattle.rdm_log.specs.log.Config.{IsConfig};
 ghost use Rattle.rdm_lanes.specs.Opened.{places_fault, opened_with, AreNew, IsFullFor, IsLaterFault};
-ghost use Rattle.rdm_queue.specs.log.LogState.{blank_log};
+ghost use Rattle.rdm_log.specs.log.LogState.{blank_log};
 ghost use Rattle.rdm_agent.specs.declared.search.Search.TheVariants.{Steady};
 ghost use Rattle.rdm_lanes.specs.Pairs.{ClientsPair};
 ghost use Rattle.rdm_lanes.specs.Views.{opening_view};
@@ -45,7 +45,8 @@ pub struct Lanes<
 /// A session with a client for each of these places, an operator and a worker (profile of this project). Its runs
 /// search steadily. Each client has a ring of this many slots for its calls and one for its outcomes, and the operator
 /// one for its calls. The memory of the rings is taken here, with that of what each client finds. A view takes its own
-/// when it is published. `J` is the history of the views that the worker publishes.
+/// when it is published. `J` is the history of the views that the worker publishes. The worker keeps the runtime, to
+/// wait for readers when it publishes; this call waits for nobody.
 ///
 /// The conditions are these:
 /// - the controller's UID isn't broadcast;
@@ -54,7 +55,8 @@ pub struct Lanes<
 /// - the log has no entries;
 /// - a ring has at least one slot.
 ///
-/// Err: the first fault that stands; the log comes back without entries, as a new one with the same room.
+/// Err: the first fault that stands; the log comes back without entries, as a new one with the same room. The blank
+/// history doesn't come back: a new one takes no memory.
 pub fn open_lanes<J: ViewHistory, C: Tells, A: TellsAsk, R: Wait + Drop>(
     rt: R,
     alloc: Global,

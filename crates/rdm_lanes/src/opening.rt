@@ -1,8 +1,8 @@
 //! The steps by which clients, an operator and a worker are opened.
 ghost use Rattle.std.specs.Prelude.{◌≡◌, [], ◌∷◌, length, OnOk, IfOk, IfErr, IfSome, ◌≤◌, sum, false};
-ghost use Rattle.rdm_queue.specs.log.Config.{IsConfig};
-ghost use Rattle.rdm_queue.specs.log.Legal.{Legal};
-ghost use Rattle.rdm_queue.specs.log.LogState.{blank_log};
+ghost use Rattle.rdm_log.specs.log.Config.{IsConfig};
+ghost use Rattle.rdm_log.specs.log.Legal.{Legal};
+ghost use Rattle.rdm_log.specs.log.LogState.{blank_log};
 ghost use Rattle.rdm_lanes.specs.Opened.{opened_with, join_entries, IsNewWith, AreNewWith, HoldNothing};
 ghost use Rattle.rdm_lanes.specs.Opened.{IsFullFor, IsLaterFault};
 ghost use Rattle.rdm_lanes.specs.Views.{opening_view};

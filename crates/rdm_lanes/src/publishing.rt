@@ -84,7 +84,7 @@ impl<J: ViewHistory> Absorb<Shown<J>> for Shown<J> {
 }
 
 /// Publishes views. Contracts see the views that were added, and those that readers may take. These are all that were
-/// added, unless the last one waits to be published.
+/// added, unless the last one waits to be published. One that is dropped waits for the reads that are under way.
 #[derive(Drop)]
 pub struct Publisher<
     J: ViewHistory,
@@ -152,7 +152,8 @@ impl<J: ViewHistory, R: Wait + Drop> Publisher<J, Shown<J>, R> {
     }
 
     /// Adds a view of a later run, and says whether it did. It isn't published yet. If it didn't, nothing changes:
-    /// there was no memory for it, the view before it isn't published, or 2^32 views were added.
+    /// there was no memory for it, the view before it isn't published, or 2^32 views were added. Nor does it if the
+    /// history is longer than its views, which no other than its publisher could make it.
     #[tactic(auto, using(crate::proofs::ViewFacts::last_added))]
     pub fn add(&mut self, alloc: Global, run: u64, devices: &DeviceSet) -> bool
         requires later { last_view_run self.old.added < run }
@@ -177,8 +178,9 @@ impl<J: ViewHistory, R: Wait + Drop> Publisher<J, Shown<J>, R> {
         true
     }
 
-    /// Publishes the view that was added last, unless that is done, and says whether it is. If it was refused, readers
-    /// see what they saw. It waits for those that still read the view before the last one.
+    /// Publishes the view that was added last, unless that is done, and says whether it is. It isn't if there was no
+    /// memory, or if the view has as many owners as can be counted; readers then see what they saw. It waits for those
+    /// that still read the view before the last one.
     pub fn show(&mut self) -> bool
         ensures added { self.new.added ≡ self.old.added }
         ensures shown { MatchBool result (self.new.shown ≡ self.new.added) (self.new.shown ≡ self.old.shown) }
@@ -201,7 +203,8 @@ impl<J: ViewHistory, R: Wait + Drop> Publisher<J, Shown<J>, R> {
         self.shown.published().again()
     }
 
-    /// A handle for a reader.
+    /// A handle for a reader. Err: there is no memory, each place for a reader is in use, or something has as many
+    /// owners as can be counted.
     pub fn handle(&self) -> Result<ReadHandle<Shown<J>>, AllocError> {
         self.shown.handle()
     }

@@ -1,8 +1,8 @@
 //! How the worker makes a client's calls.
 ghost use Rattle.std.specs.Prelude.{◌≡◌, ◌≢◌, ℕ, [], ◌∷◌, MatchOption, slice_get, ⊤, true, false, length, ◌<◌, Some};
 ghost use Rattle.rtrb.specs.Ring.{known_items};
-ghost use Rattle.rdm_queue.specs.log.History.{places};
-ghost use Rattle.rdm_queue.specs.log.LogState.{is_full_log};
+ghost use Rattle.rdm_log.specs.log.History.{places};
+ghost use Rattle.rdm_log.specs.log.LogState.{is_full_log};
 ghost use Rattle.rdm_lanes.specs.declared.call.ClientCall.TheVariants.{Submit, Discover};
 ghost use Rattle.rdm_lanes.specs.Lines.{NoExchange, SameSwitches, IsBetweenTurns};
 ghost use Rattle.rdm_lanes.specs.Lanes.{Fits, FitsBut, SameLane};

@@ -1,12 +1,12 @@
 //! A whole session: clients, each with what it does, and a worker over a line, in threads.
 ghost use Rattle.std.specs.Prelude.{◌≡◌, ◌≢◌, ◌≤◌, [], length, true, false, IfOk, IfErr, IsErr, MatchOption};
-ghost use Rattle.rdm_queue.specs.log.Config.{IsConfig};
-ghost use Rattle.rdm_queue.specs.log.LogState.{is_full_log};
-ghost use Rattle.rdm_queue.specs.log.MaySend.{NoSend};
-ghost use Rattle.rdm_queue.specs.promises.Promised.{Promised};
+ghost use Rattle.rdm_log.specs.log.Config.{IsConfig};
+ghost use Rattle.rdm_log.specs.log.LogState.{is_full_log};
+ghost use Rattle.rdm_log.specs.log.MaySend.{NoSend};
+ghost use Rattle.rdm_log.specs.promises.Promised.{Promised};
 ghost use Rattle.rdm_lanes.specs.declared.worker.WorkerEnd.TheVariants.{AllLeft, Turns, LogFull as FullLog};
 ghost use Rattle.rdm_lanes.specs.Opened.{places_fault, IsFullFor, IsLaterFault};
-ghost use Rattle.rdm_queue.specs.log.LogState.{blank_log};
+ghost use Rattle.rdm_log.specs.log.LogState.{blank_log};
 ghost use Rattle.rdm_agent.specs.declared.search.Search.TheVariants.{Steady};
 ghost use Rattle.rdm_lanes.specs.Lines.{exchange_count};
 ghost use Rattle.rdm_lanes.specs.Ends.{AllAgree, AllRead};
@@ -41,7 +41,8 @@ pub type RunFault = OpenFault;
 /// The conditions are those of [`open_lanes`](crate::open_lanes), and there are as many bodies as places. Once the
 /// worker has stopped its clients' ends are compared, as at a [`ViewWorker::end`](crate::ViewWorker::end).
 /// Err: the first of the faults of `open_lanes` that stands, before any body ran; the log comes back as a new one with
-/// the same room, and the bodies and the line as they were.
+/// the same room, and the bodies and the line as they were. The blank history doesn't come back: a new one takes no
+/// memory. It waits for its threads.
 pub fn run_session<
     J: ViewHistory + Send + Sync,
     B: Body<C, A> + Send,

@@ -1,7 +1,7 @@
 //! The worker and the bodies in threads.
 ghost use Rattle.std.specs.Prelude.{◌≡◌, ◌≢◌, ◌≤◌, ◌+◌, true, false};
-ghost use Rattle.rdm_queue.specs.log.LogState.{is_full_log};
-ghost use Rattle.rdm_queue.specs.log.MaySend.{NoSend};
+ghost use Rattle.rdm_log.specs.log.LogState.{is_full_log};
+ghost use Rattle.rdm_log.specs.log.MaySend.{NoSend};
 ghost use Rattle.rdm_lanes.specs.declared.worker.WorkerEnd.TheVariants.{AllLeft, Turns, LogFull as FullLog};
 ghost use Rattle.rdm_lanes.specs.Lines.{Exchanged, SameSwitches, exchange_count};
 ghost use Rattle.rdm_lanes.specs.Lanes.{SameLanes, AllHaveLeft};

@@ -1,9 +1,9 @@
 //! A session over open lanes: the bodies in their seats, the worker beside them, and the comparison at the end.
 ghost use Rattle.std.specs.Prelude.{◌≡◌, ◌≢◌, ◌≤◌, ◌+◌, List, length, true, false};
-ghost use Rattle.rdm_queue.specs.log.Legal.{Legal};
-ghost use Rattle.rdm_queue.specs.log.LogState.{is_full_log};
-ghost use Rattle.rdm_queue.specs.log.MaySend.{NoSend};
-ghost use Rattle.rdm_queue.specs.promises.Promised.{Promised};
+ghost use Rattle.rdm_log.specs.log.Legal.{Legal};
+ghost use Rattle.rdm_log.specs.log.LogState.{is_full_log};
+ghost use Rattle.rdm_log.specs.log.MaySend.{NoSend};
+ghost use Rattle.rdm_log.specs.promises.Promised.{Promised};
 ghost use Rattle.rdm_lanes.specs.declared.worker.WorkerEnd.TheVariants.{AllLeft, Turns, LogFull as FullLog};
 ghost use Rattle.rdm_lanes.specs.declared.lane.Lane.{Lane};
 ghost use Rattle.rdm_lanes.specs.Lines.{Exchanged, SameSwitches, IsBetweenTurns, exchange_count};

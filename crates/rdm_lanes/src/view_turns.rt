@@ -2,8 +2,8 @@
 //! fault, and before it moves that run's answers out.
 ghost use Rattle.std.specs.Prelude.{◌≡◌, ◌≢◌, ◌≤◌, ◌+◌, true, false, Some, None, IfSome};
 ghost use mathlib.Core.List.{IsPrefix};
-ghost use Rattle.rdm_queue.specs.log.LogState.{is_full_log};
-ghost use Rattle.rdm_queue.specs.log.MaySend.{NoSend};
+ghost use Rattle.rdm_log.specs.log.LogState.{is_full_log};
+ghost use Rattle.rdm_log.specs.log.MaySend.{NoSend};
 ghost use Rattle.rdm_lanes.specs.Lines.{Exchanged, NoExchange, SameSwitches, OnlyCollects, exchange_count};
 ghost use Rattle.rdm_lanes.specs.Lanes.{SameLanes, AllHaveLeft};
 ghost use Rattle.rdm_lanes.specs.Views.{all_views};
@@ -41,6 +41,8 @@ impl<J: ViewHistory, R: Wait + Drop> ViewWorker<J, Shown<J>, R> {
     /// - joined data;
     /// - the set of each discovery's outcome, which waits where memory is refused;
     /// - each view.
+    ///
+    /// It waits for reads that are under way when it publishes.
     ///
     /// A publication that is refused changes nothing, and is tried again in the next turn. Until it is made, no call is
     /// taken, no exchange is made, no outcome is moved, and the work doesn't end because all have left.

@@ -1,21 +1,9 @@
 //! What no clause says: that the calls succeed, the rows by hand, and sessions in threads.
 mod by_hand;
-mod checks;
-mod driven;
 mod faults;
-mod heard;
 mod in_threads;
-mod moves;
-mod notes;
 mod openings;
 mod operated;
-mod players;
-mod rig;
-mod said;
 mod scenes;
-mod searchers;
-mod sessions;
 mod tape_runs;
-mod tapes;
-mod views;
 mod waiting;

@@ -11,3 +11,4 @@ pub mod HonestSteps
 pub mod HonestRuns
 pub mod LossLemmas
 pub mod KeepsLemmas
+pub mod StreamLemmas

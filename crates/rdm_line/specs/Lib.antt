@@ -7,3 +7,5 @@ pub mod Tape
 pub mod Sim
 pub mod SimSound
 pub mod SimRuns
+pub mod Streams
+pub mod body

@@ -32,6 +32,7 @@ use Rattle.rdm_line.specs.declared.scene.SceneDevice.{SceneDevice}
 use Rattle.rdm_line.specs.declared.collision.Collision.{Collision}
 use Rattle.rdm_line.specs.declared.collision.Collision.TheVariants as collisions
 
+-- the state of the simulated line: its devices, what is to come, and how many exchanges there were
 pub record SimState : Type 0 where
   -- the devices, each parameter with the part to be sent next
   pub devices : List SceneDevice
@@ -50,6 +51,7 @@ pub record SimState : Type 0 where
 abbrev pub last_exchange : ℕ
 last_exchange = 0xffffffffffffffff
 
+-- the count after one more exchange
 abbrev pub next_exchange : ℕ → ℕ
 next_exchange i = if nat_lt i last_exchange then i + 1 else i
 
@@ -57,14 +59,16 @@ next_exchange i = if nat_lt i last_exchange then i + 1 else i
 abbrev pub is_among : ℕ → List ℕ → Bool
 is_among i numbers = nat_lt i last_exchange && has numbers i
 
--- the devices that answer a branch: present, in its range, and not muted
+-- whether a device answers a branch: it is present, in its range, and not muted
 abbrev pub answers_branch : ℕ → List ℕ → Span → SceneDevice → Bool
 answers_branch i muted range d =
     is_present i d && is_within range.lo range.hi d.device.uid && not (has muted d.device.uid)
 
+-- the devices that answer a branch
 abbrev pub answering : ℕ → SimState → Span → List SceneDevice
 answering i s range = filter (answers_branch i s.muted range) s.devices
 
+-- the reply of a device to a branch, with its own number of preamble bytes
 abbrev pub branch_reply_of : SceneDevice → List ℕ
 branch_reply_of d = branch_text d.device.uid d.preamble
 
@@ -151,10 +155,12 @@ pub record Refuses (s : SimState) (r : Request) (source tn : ℕ) (class : RespC
   pub bytes : reply ≡ packet (fields_of (response_to r source tn class Nack (two_bytes 0)))
   pub same : new ≡ s
 
+-- a request for a parameter that the device has is answered by the rule of its class
 abbrev pub AnswersOf : SimState → Request → ℕ → ℕ → ParameterState → ReqClass → List ℕ → SimState → Type 0
 AnswersOf s r source tn p Get reply new = AnswersGet s r source tn p reply new
 AnswersOf s r source tn p Set reply new = AnswersSet s r source tn reply new
 
+-- a request is answered by the rule of its class, or refused if the device doesn't have the parameter
 abbrev pub AnswersRequest : SimState → Request → ℕ → ℕ → SceneDevice → List ℕ → SimState → Type 0
 AnswersRequest s r source tn d reply new =
     MatchOption (parameter_of r.pid d.params)

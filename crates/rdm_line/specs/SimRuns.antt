@@ -22,13 +22,15 @@ abbrev pub IsRun : SimState → List Step → SimState → Type 0
 IsRun s [] new = new ≡ s
 IsRun s (x ∷ xs) new = (x.before ≡ s) × (next : SimState) × SimStep x.before x.exchange next × IsRun next xs new
 
--- the devices that are present at an exchange, and how it is seen
+-- the devices that are present at an exchange
 abbrev pub present_in : Step → List ℕ
 present_in x = present_at x.before.devices x.before.exchanges
 
+-- how an exchange is seen
 abbrev pub seen_in : Step → Seen
 seen_in x = seen_event x.exchange
 
+-- the scene loses the reply of this exchange
 abbrev pub is_lost : Step → Type 0
 is_lost x = is_among x.before.exchanges x.before.losses ≡ true
 

@@ -9,6 +9,7 @@ use Rattle.rdm_line.specs.declared.scene.SceneDevice.{SceneDevice}
 abbrev pub from_of : List SceneDevice → ℕ → Option ℕ
 from_of devices u = option_map (λ (d : SceneDevice). d.from) (find_device devices u)
 
+-- what always holds of a simulated line's devices, lists and counts
 pub record IsSound (devices : List SceneDevice) (muted losses fails : List ℕ) (exchanges failures : ℕ) : Type 0 where
   pub scene : IsScene devices
   pub muted_set : IsDeviceSet muted

@@ -14,6 +14,7 @@ abbrev pub front_event : List LineEvent → LineEvent
 front_event [] = Failed
 front_event (event ∷ events) = event
 
+-- the events after the next one
 abbrev pub later_events : List LineEvent → List LineEvent
 later_events [] = []
 later_events (event ∷ events) = events

@@ -1,4 +1,5 @@
-//! A line of devices: what it owes, a tape that replays events, and a simulation of devices from a description.
+//! A line of devices: what it owes, a tape that replays events, a line over streams of text, and a simulation of devices
+//! from a description.
 #![tactic(auto)]
 
 mod collision;
@@ -9,9 +10,8 @@ mod parameter;
 mod scene;
 mod scene_devices;
 mod sim;
+mod stream;
 mod tape;
-#[cfg(test)]
-mod tests;
 
 pub use collision::{Collision, CollisionBytes};
 pub use line::{Line, LineFault};
@@ -19,4 +19,5 @@ pub use parameter::{Parameter, ParameterPart, Parameters};
 pub use scene::{NoMemory, Scene, SceneDevice};
 pub use scene_devices::{AddFault, SceneDevices};
 pub use sim::SimLine;
+pub use stream::StreamLine;
 pub use tape::TapeLine;

@@ -9,26 +9,26 @@ use Rattle.rdm_wire.specs.declared.request.Request.{Request}
 use Rattle.rdm_join.specs.declared.event.LineEvent.{LineEvent}
 use Rattle.rdm_agent.specs.declared.kind.Kind.{Kind}
 use Rattle.rdm_agent.specs.declared.search.Search.{Search}
-use Rattle.rdm_queue.specs.declared.entry.ClientId.{ClientId}
-use Rattle.rdm_queue.specs.declared.entry.Opening.{Opening}
-use Rattle.rdm_queue.specs.declared.entry.Entry.{Entry}
-use Rattle.rdm_queue.specs.log.Entries.{join_of, joins}
-use Rattle.rdm_queue.specs.log.History.{next_client}
-use Rattle.rdm_queue.specs.log.LogState.{LogState}
-use Rattle.rdm_queue.specs.declared.entry.Entry.TheVariants.{Join, Refuse, Accept, Ask, Send, Came, Finish, Answer, Collect, Pause, Resume, Close}
-use Rattle.rdm_queue.specs.declared.fault.JoinFault.{JoinFault}
-use Rattle.rdm_queue.specs.declared.fault.SubmitFault.{SubmitFault}
-use Rattle.rdm_queue.specs.declared.fault.SubmitFault.TheVariants as submit_faults
-use Rattle.rdm_queue.specs.declared.fault.AskFault.{AskFault}
-use Rattle.rdm_queue.specs.declared.fault.AskFault.TheVariants as ask_faults
-use Rattle.rdm_queue.specs.declared.fault.LogFull.{LogFull}
-use Rattle.rdm_queue.specs.declared.fault.NotAsked.{NotAsked}
-use Rattle.rdm_queue.specs.declared.outcome.Outcome.{Outcome}
-use Rattle.rdm_queue.specs.log.LogState.{is_full_log}
-use Rattle.rdm_queue.specs.promises.Blocks.{GrowsBy, is_result, AllResults, IsWithResults, UnlessFull, SwitchAdds, submit_refused, ask_refused}
-use Rattle.rdm_queue.specs.promises.Blocks.{JoinLogs, SubmitLogs, DiscoverLogs, PauseLogs, ResumeLogs, TakeLogs, CloseAdds, CloseAddsWhere, DeliverAdds, CollectAdds, SubmitAdds, DiscoverAdds}
-use Rattle.rdm_queue.proofs.PromiseLemmas.BlockLemmas.{join_ok, join_refusal, submit_ok, discover_ok}
-use Rattle.rdm_queue.proofs.LogLemmas.PushLemmas.{joins-append}
+use Rattle.rdm_log.specs.declared.entry.ClientId.{ClientId}
+use Rattle.rdm_log.specs.declared.entry.Opening.{Opening}
+use Rattle.rdm_log.specs.declared.entry.Entry.{Entry}
+use Rattle.rdm_log.specs.log.Entries.{join_of, joins}
+use Rattle.rdm_log.specs.log.History.{next_client}
+use Rattle.rdm_log.specs.log.LogState.{LogState}
+use Rattle.rdm_log.specs.declared.entry.Entry.TheVariants.{Join, Refuse, Accept, Ask, Send, Came, Finish, Answer, Collect, Pause, Resume, Close}
+use Rattle.rdm_log.specs.declared.fault.JoinFault.{JoinFault}
+use Rattle.rdm_log.specs.declared.fault.SubmitFault.{SubmitFault}
+use Rattle.rdm_log.specs.declared.fault.SubmitFault.TheVariants as submit_faults
+use Rattle.rdm_log.specs.declared.fault.AskFault.{AskFault}
+use Rattle.rdm_log.specs.declared.fault.AskFault.TheVariants as ask_faults
+use Rattle.rdm_log.specs.declared.fault.LogFull.{LogFull}
+use Rattle.rdm_log.specs.declared.fault.NotAsked.{NotAsked}
+use Rattle.rdm_log.specs.declared.outcome.Outcome.{Outcome}
+use Rattle.rdm_log.specs.log.LogState.{is_full_log}
+use Rattle.rdm_log.specs.promises.Blocks.{GrowsBy, is_result, AllResults, IsWithResults, UnlessFull, SwitchAdds, submit_refused, ask_refused}
+use Rattle.rdm_log.specs.promises.Blocks.{JoinLogs, SubmitLogs, DiscoverLogs, PauseLogs, ResumeLogs, TakeLogs, CloseAdds, CloseAddsWhere, DeliverAdds, CollectAdds, SubmitAdds, DiscoverAdds}
+use Rattle.rdm_log.proofs.PromiseLemmas.BlockLemmas.{join_ok, join_refusal, submit_ok, discover_ok}
+use Rattle.rdm_log.proofs.LogLemmas.PushLemmas.{joins-append}
 use Rattle.rdm_locked.specs.Calls.{is_call, count_calls, refused_submits, refused_discovers, submits_logged, discovers_logged}
 
 -- there are no more calls than entries

@@ -7,14 +7,14 @@ use Rattle.std.proofs.lemmas.List.{at_drop_more, append_assoc, map-append}
 use Rattle.std.proofs.Math.ListN.{drop_of_length-le}
 use Rattle.arrayvec.specs.ArrayVec.{ArrayVec}
 use Rattle.rdm_join.specs.declared.event.LineEvent.{LineEvent}
-use Rattle.rdm_queue.specs.declared.entry.Owner.{Owner}
-use Rattle.rdm_queue.specs.declared.entry.Entry.{Entry}
-use Rattle.rdm_queue.specs.declared.entry.Entry.TheVariants.{Join, Refuse, Accept, Ask, Send, Came, Finish, Answer, Collect, Pause, Resume, Close}
-use Rattle.rdm_queue.specs.declared.entry.Opening.{Opening}
-use Rattle.rdm_queue.specs.log.Entries.{Sending, came_of, sending_of, traded_of, cames, sends, traded}
-use Rattle.rdm_queue.specs.log.Legal.{Legal}
-use Rattle.rdm_queue.proofs.LogLemmas.LegalFacts.{legal_facts}
-use Rattle.rdm_queue.specs.promises.Headline.{Begins}
+use Rattle.rdm_log.specs.declared.entry.Owner.{Owner}
+use Rattle.rdm_log.specs.declared.entry.Entry.{Entry}
+use Rattle.rdm_log.specs.declared.entry.Entry.TheVariants.{Join, Refuse, Accept, Ask, Send, Came, Finish, Answer, Collect, Pause, Resume, Close}
+use Rattle.rdm_log.specs.declared.entry.Opening.{Opening}
+use Rattle.rdm_log.specs.log.Entries.{Sending, came_of, sending_of, traded_of, cames, sends, traded}
+use Rattle.rdm_log.specs.log.Legal.{Legal}
+use Rattle.rdm_log.proofs.LogLemmas.LegalFacts.{legal_facts}
+use Rattle.rdm_log.specs.promises.Headline.{Begins}
 use Rattle.rdm_locked.specs.Exchanges.{frames_in, in_log, in_record, exchanges_in, recorded, Records}
 use Rattle.rdm_line.specs.Events.{Makes, Exchange as LineExchange}
 use Rattle.rdm_locked.specs.declared.exchange.Exchange.{Exchange}

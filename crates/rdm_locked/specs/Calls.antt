@@ -1,12 +1,12 @@
 -- Which entries of a log are clients' calls, and which refusals a client counts.
 use Rattle.std.specs.Prelude.{ℕ, Bool, true, false, List, length, filter, Some, Result, Ok, Err}
 use Rattle.rdm_wire.specs.declared.request.Request.{Request}
-use Rattle.rdm_queue.specs.declared.entry.Entry.{Entry}
-use Rattle.rdm_queue.specs.declared.entry.Entry.TheVariants.{Refuse, Accept, Ask, Collect}
-use Rattle.rdm_queue.specs.declared.fault.SubmitFault.{SubmitFault}
-use Rattle.rdm_queue.specs.declared.fault.SubmitFault.TheVariants as submit_faults
-use Rattle.rdm_queue.specs.declared.fault.AskFault.{AskFault}
-use Rattle.rdm_queue.specs.declared.fault.AskFault.TheVariants as ask_faults
+use Rattle.rdm_log.specs.declared.entry.Entry.{Entry}
+use Rattle.rdm_log.specs.declared.entry.Entry.TheVariants.{Refuse, Accept, Ask, Collect}
+use Rattle.rdm_log.specs.declared.fault.SubmitFault.{SubmitFault}
+use Rattle.rdm_log.specs.declared.fault.SubmitFault.TheVariants as submit_faults
+use Rattle.rdm_log.specs.declared.fault.AskFault.{AskFault}
+use Rattle.rdm_log.specs.declared.fault.AskFault.TheVariants as ask_faults
 
 -- an accepted request, an accepted discovery, a collected outcome, or a refusal of a client's call; the refusal of a
 -- join has no client
@@ -21,20 +21,22 @@ is_call _ = false
 unfoldable pub count_calls : List Entry → ℕ
 count_calls h = length (filter is_call h)
 
--- a refusal is one call, unless the log was full: then there is no entry
+-- how many calls in the log a refused submit is: one, or none if the log was full
 abbrev pub refused_submits : SubmitFault → ℕ
 refused_submits submit_faults.LogFull = 0
 refused_submits _ = 1
 
+-- how many calls in the log a refused discover is: one, or none if the log was full
 abbrev pub refused_discovers : AskFault → ℕ
 refused_discovers ask_faults.LogFull = 0
 refused_discovers _ = 1
 
--- how many calls a submit, or a discover, that was answered so has in the log
+-- how many calls in the log a submit with this answer is
 abbrev pub submits_logged : Result ℕ (SubmitFault × Request) → ℕ
 submits_logged (Ok n) = 1
 submits_logged (Err e) = refused_submits e.0
 
+-- how many calls in the log a discover with this answer is
 abbrev pub discovers_logged : Result ℕ AskFault → ℕ
 discovers_logged (Ok n) = 1
 discovers_logged (Err fault) = refused_discovers fault

@@ -1,7 +1,7 @@
 -- What a client's collect makes of its desk.
 use Rattle.std.specs.Prelude.{◌≡◌, ℕ, drop, Some}
-use Rattle.rdm_queue.specs.declared.outcome.Completion.{Completion}
-use Rattle.rdm_queue.specs.declared.outcome.AskCompletion.{AskCompletion}
+use Rattle.rdm_log.specs.declared.outcome.Completion.{Completion}
+use Rattle.rdm_log.specs.declared.outcome.AskCompletion.{AskCompletion}
 use Rattle.rdm_client.specs.declared.told.Told.{Told}
 use Rattle.rdm_client.specs.declared.told.AskTold.{AskTold}
 use Rattle.rdm_client.specs.declared.told.Collected.{Collected}

@@ -1,15 +1,16 @@
 -- The exchanges of a log, and the record that a worker writes of them.
 use Rattle.std.specs.Prelude.{◌≡◌, ℕ, ◌≤◌, List, ◌++◌, length, map}
 use Rattle.rdm_line.specs.Events.{Makes, Exchange as LineExchange}
-use Rattle.rdm_queue.specs.declared.entry.Entry.{Entry}
+use Rattle.rdm_log.specs.declared.entry.Entry.{Entry}
 use Rattle.arrayvec.specs.ArrayVec.{ArrayVec}
-use Rattle.rdm_queue.specs.log.Entries.{Traded, traded, sends}
+use Rattle.rdm_log.specs.log.Entries.{Traded, traded, sends}
 use Rattle.rdm_locked.specs.declared.exchange.Exchange.{Exchange}
 
--- a frame with what came for it
+-- a frame of a log with what came for it, as an exchange of the line
 abbrev pub in_log : Traded → LineExchange
 in_log t = (t.frame, t.event)
 
+-- an exchange of a record, as an exchange of the line
 abbrev pub in_record : Exchange → LineExchange
 in_record x = (x.frame, x.event)
 

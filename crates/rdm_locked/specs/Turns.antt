@@ -1,8 +1,8 @@
 -- What a worker's turn finds under the lock.
 use Rattle.std.specs.Prelude.{◌≡◌, ◌≢◌, ℕ, true, List, [], Some, None, Ok}
-use Rattle.rdm_queue.specs.declared.entry.Entry.{Entry}
-use Rattle.rdm_queue.specs.log.LogState.{LogState, is_full_log}
-use Rattle.rdm_queue.specs.promises.Blocks.{TakeLogs}
+use Rattle.rdm_log.specs.declared.entry.Entry.{Entry}
+use Rattle.rdm_log.specs.log.LogState.{LogState, is_full_log}
+use Rattle.rdm_log.specs.promises.Blocks.{TakeLogs}
 use Rattle.rdm_locked.specs.declared.turn.Turn.{Turn}
 use Rattle.rdm_locked.specs.declared.turn.Turn.TheVariants as turns
 

@@ -166,6 +166,7 @@ impl<'a, L: Ledger, C: Tells, A: TellsAsk> LockedClient<'a, L, C, A> {
         ensures counted { OnSome result (self.new.calls.count ≡ self.old.calls.count + 1) }
         ensures none { IfNone result ((self.new.desk ≡ self.old.desk) × (self.new.calls.count ≡ self.old.calls.count)) }
         ensures strands { self.old.stranded ≡ false → self.new.stranded ≡ true → length self.old.desk.requests ≡ 0 }
+        ensures nobody { length self.old.desk.requests ≡ 0 → IsNone result × (self.new.stranded ≡ true) }
         ensures client { self.new.number ≡ self.old.number }
     {
         let LockedClient {
@@ -196,6 +197,7 @@ impl<'a, L: Ledger, C: Tells, A: TellsAsk> LockedClient<'a, L, C, A> {
         ensures counted { OnSome result (self.new.calls.count ≡ self.old.calls.count + 1) }
         ensures none { IfNone result ((self.new.desk ≡ self.old.desk) × (self.new.calls.count ≡ self.old.calls.count)) }
         ensures strands { self.old.stranded ≡ false → self.new.stranded ≡ true → length self.old.desk.asks ≡ 0 }
+        ensures nobody { length self.old.desk.asks ≡ 0 → IsNone result × (self.new.stranded ≡ true) }
         ensures client { self.new.number ≡ self.old.number }
     {
         let LockedClient {

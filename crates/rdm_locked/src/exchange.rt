@@ -1,9 +1,9 @@
 //! Exchanges, as a worker records them.
 ghost use Rattle.std.specs.Prelude.{◌≡◌, ◌+◌, map};
 ghost use Rattle.std.specs.Bool.{Decides};
-ghost use Rattle.rdm_queue.specs.log.Entries.{cames};
-ghost use Rattle.rdm_queue.specs.log.Legal.{Legal};
-ghost use Rattle.rdm_queue.specs.promises.Headline.{Begins};
+ghost use Rattle.rdm_log.specs.log.Entries.{cames};
+ghost use Rattle.rdm_log.specs.log.Legal.{Legal};
+ghost use Rattle.rdm_log.specs.promises.Headline.{Begins};
 ghost use Rattle.rdm_locked.specs.Exchanges.{exchanges_in, frames_in, recorded};
 
 use rdm_join::LineEvent;

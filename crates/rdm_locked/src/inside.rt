@@ -2,16 +2,16 @@
 ghost use Rattle.std.specs.Prelude.{◌≡◌, ◌≢◌, ◌≤◌, ◌+◌, [], Ok, Err, Some, OnOk, OnErr, IfOk, IfErr, IfSome, IfNone};
 ghost use Rattle.std.specs.Prelude.{OnSome, nat_lt, if◌then◌else◌};
 ghost use Rattle.rdm_agent.specs.declared.search.Search.TheVariants.{Steady};
-ghost use Rattle.rdm_queue.specs.log.Config.{IsConfig};
-ghost use Rattle.rdm_queue.specs.log.History.{next_client};
-ghost use Rattle.rdm_queue.specs.log.Legal.{Legal};
-ghost use Rattle.rdm_queue.specs.log.LogState.{opened};
-ghost use Rattle.rdm_queue.specs.log.Runs.{known_devices, devices_run};
-ghost use Rattle.rdm_queue.specs.promises.Blocks.{JoinLogs, SubmitLogs, DiscoverLogs, PauseLogs, ResumeLogs, GrowsBy};
-ghost use Rattle.rdm_queue.specs.promises.Blocks.{CloseAdds, DeliverAdds, CollectAdds};
-ghost use Rattle.rdm_queue.specs.promises.LogInBound.{InBound};
-ghost use Rattle.rdm_queue.specs.promises.Outcomes.{oldest_kind, request_outcome, discovery_outcome};
-ghost use Rattle.rdm_queue.specs.declared.outcome.OutcomeKind.TheVariants as kinds;
+ghost use Rattle.rdm_log.specs.log.Config.{IsConfig};
+ghost use Rattle.rdm_log.specs.log.History.{next_client};
+ghost use Rattle.rdm_log.specs.log.Legal.{Legal};
+ghost use Rattle.rdm_log.specs.log.LogState.{opened};
+ghost use Rattle.rdm_log.specs.log.Runs.{known_devices, devices_run};
+ghost use Rattle.rdm_log.specs.promises.Blocks.{JoinLogs, SubmitLogs, DiscoverLogs, PauseLogs, ResumeLogs, GrowsBy};
+ghost use Rattle.rdm_log.specs.promises.Blocks.{CloseAdds, DeliverAdds, CollectAdds};
+ghost use Rattle.rdm_log.specs.promises.LogInBound.{InBound};
+ghost use Rattle.rdm_log.specs.promises.Outcomes.{oldest_kind, request_outcome, discovery_outcome};
+ghost use Rattle.rdm_log.specs.declared.outcome.OutcomeKind.TheVariants as kinds;
 ghost use Rattle.rdm_locked.specs.Calls.{count_calls, submits_logged, discovers_logged};
 ghost use Rattle.rdm_locked.specs.Turns.{TurnLogs};
 

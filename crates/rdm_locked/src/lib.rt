@@ -21,6 +21,3 @@ pub use inside::{Inside, SessionEnd};
 pub use port::{Port, WorkerEnd};
 pub use share::CallShare;
 pub use turn::Turn;
-
-#[cfg(test)]
-mod tests;

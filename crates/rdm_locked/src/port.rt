@@ -1,11 +1,11 @@
 //! A session behind a lock.
 ghost use Rattle.std.specs.Prelude.{◌≡◌, [], length, false, IfOk, IfErr};
 ghost use Rattle.std.specs.List.{sum_by};
-ghost use Rattle.rdm_queue.specs.log.Config.{IsConfig};
-ghost use Rattle.rdm_queue.specs.log.History.{next_client};
-ghost use Rattle.rdm_queue.specs.log.Legal.{Legal};
-ghost use Rattle.rdm_queue.specs.promises.LogInBound.{InBound};
-ghost use Rattle.rdm_queue.specs.promises.Promised.{Promised};
+ghost use Rattle.rdm_log.specs.log.Config.{IsConfig};
+ghost use Rattle.rdm_log.specs.log.History.{next_client};
+ghost use Rattle.rdm_log.specs.log.Legal.{Legal};
+ghost use Rattle.rdm_log.specs.promises.LogInBound.{InBound};
+ghost use Rattle.rdm_log.specs.promises.Promised.{Promised};
 ghost use Rattle.rdm_locked.specs.Calls.{count_calls};
 ghost use Rattle.rdm_locked.specs.Exchanges.{exchanges_in, recorded, Records};
 
@@ -27,7 +27,8 @@ use std::sync::{Mutex, Wait};
 use std::thread;
 
 /// A session behind a lock, for clients and a worker in threads of their own (profile of this project). The lock is
-/// held for one call of the session at a time, and never during an exchange with the line.
+/// held for one call of the session at a time, and never during an exchange with the line. `client`, `pause`, `resume`,
+/// `close` and `work` wait for it. `finish` doesn't, since whoever owns the port has it alone.
 ///
 /// `L` names the book of the clients' calls. The program's call that begins the session picks it, as `Brand`.
 #[derive(Drop)]

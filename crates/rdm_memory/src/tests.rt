@@ -1,11 +1,10 @@
-//! One growth at most is refused in a test, whichever it is.
+//! One allocation at most fails in a test, whichever it is.
 mod desks;
 mod events;
 mod locked;
 mod memory;
 mod notes;
 mod players;
-mod program;
 mod queues;
 mod replies;
 mod rig;

@@ -5,17 +5,17 @@ use Rattle.hex.specs.Hex.{decode_of}
 use Rattle.serde_json.specs.Data.{Data}
 use Rattle.serde_json.specs.Read.{read}
 use Rattle.rdm_wire.specs.UidText.{UidText}
-use Rattle.rdm_port.specs.Input.{IsContent}
-use Rattle.rdm_port.specs.SceneFiles.{IsSceneFile}
-use Rattle.rdm_port.specs.Commands.{has_discovery_command}
-use Rattle.rdm_port.specs.declared.scene.file.SceneFile.{SceneFile}
+use Rattle.rdm_files.specs.Input.{IsContent}
+use Rattle.rdm_files.specs.SceneFiles.{IsSceneFile}
+use Rattle.rdm_files.specs.Commands.{has_discovery_command}
+use Rattle.rdm_files.specs.declared.scene.file.SceneFile.{SceneFile}
 use Rattle.rdm_port.specs.declared.fault.Fault.{Fault}
 use Rattle.rdm_port.specs.declared.fault.Fault.TheVariants.{CommandLine, Hex, Uid, File, Json, Memory}
 use Rattle.rdm_port.specs.declared.fault.Fault.TheVariants.{DiscoveryCommand, Scene, Log, Turns}
 use Rattle.rdm_port.specs.declared.job.Job.{Job}
 use Rattle.rdm_port.specs.declared.job.Job.TheVariants.{Decode, Encode, Discover, Run}
-use Rattle.rdm_port.specs.SessionFiles.{IsSessionFile}
-use Rattle.rdm_port.specs.declared.session.file.SessionFile.{SessionFile}
+use Rattle.rdm_files.specs.SessionFiles.{IsSessionFile}
+use Rattle.rdm_files.specs.declared.session.file.SessionFile.{SessionFile}
 use Rattle.rdm_port.specs.declared.job.WordsFault.{WordsFault}
 use Rattle.rdm_port.specs.declared.job.WordsFault.TheVariants.{Words, NoMemory}
 

@@ -1,17 +1,4 @@
 pub mod Fault
 pub mod Words
 pub mod Outcome
-pub mod Discovery
-pub mod SceneDiscovery
-pub mod Forms
-pub mod SceneFiles
-pub mod Report
-pub mod Input
-pub mod SessionFiles
-pub mod SessionReport
-pub mod Scripts
-pub mod LoggedOutcomes
-pub mod Commands
 pub mod Complaints
-pub mod Losses
-pub mod FileKinds

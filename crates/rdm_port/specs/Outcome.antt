@@ -18,15 +18,15 @@ use Rattle.rdm_port.specs.declared.job.Job.TheVariants.{Decode, Encode, Discover
 use Rattle.rdm_port.specs.declared.job.WordsFault.{WordsFault}
 use Rattle.rdm_port.specs.declared.answer.Answer.{Answer}
 use Rattle.rdm_port.specs.declared.answer.Answer.TheVariants.{Line, Lines}
-use Rattle.rdm_port.specs.declared.scene.file.SceneFile.{SceneFile}
-use Rattle.rdm_port.specs.declared.session.file.SessionFile.{SessionFile}
+use Rattle.rdm_files.specs.declared.scene.file.SceneFile.{SceneFile}
+use Rattle.rdm_files.specs.declared.session.file.SessionFile.{SessionFile}
 use Rattle.rdm_port.specs.declared.fault.Fault.{Fault}
 use Rattle.rdm_port.specs.Fault.{ReadsScene, ReadsSession, IsFaultOf, fault_line, fault_status}
-use Rattle.rdm_port.specs.Report.{line_of, report_text, report_status}
-use Rattle.rdm_port.specs.SessionReport.{AllSettled, session_text}
-use Rattle.rdm_port.specs.LoggedOutcomes.{HasLog}
-use Rattle.rdm_port.specs.declared.outcomes.Outcomes.{Outcomes}
-use Rattle.rdm_port.specs.SceneDiscovery.{IsSceneDiscovery, IsHonestReport}
+use Rattle.rdm_serving.specs.Report.{line_of, report_text, report_status}
+use Rattle.rdm_serving.specs.SessionReport.{AllSettled, session_text}
+use Rattle.rdm_serving.specs.LoggedOutcomes.{HasLog}
+use Rattle.rdm_serving.specs.declared.outcomes.Outcomes.{Outcomes}
+use Rattle.rdm_serving.specs.SceneDiscovery.{IsSceneDiscovery, IsHonestReport}
 
 -- the bytes of an answer
 abbrev pub answer_bytes : Answer → List ℕ
@@ -49,10 +49,12 @@ Decodes digits text =
 abbrev pub Encodes : List ℕ → List ℕ → Type 0
 Encodes uid text = (u : ℕ) × UidText uid u × (text ≡ line_of (encode_lower (branch_text u 7)))
 
+-- the kind of a discovery: incremental with `--incremental`, else full
 abbrev pub kind_of : Bool → Kind
 kind_of false = Full
 kind_of true = Incremental
 
+-- the search of a discovery: quick with `--quick`, else steady
 abbrev pub search_of : Bool → Search
 search_of false = Steady
 search_of true = Quick

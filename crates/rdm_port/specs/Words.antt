@@ -8,8 +8,8 @@ use Rattle.clap.specs.Words.{fault_of}
 use Rattle.clap.specs.declared.builder.action.ArgAction.TheVariants.{SetTrue}
 use Rattle.rdm_port.specs.declared.job.Job.{Job}
 use Rattle.rdm_port.specs.declared.job.Job.TheVariants.{Decode, Encode, Discover, Run}
-use Rattle.rdm_port.specs.declared.job.PortKind.{PortKind}
-use Rattle.rdm_port.specs.declared.job.PortKind.TheVariants.{Locked, Rings}
+use Rattle.rdm_serving.specs.declared.port_kind.PortKind.{PortKind}
+use Rattle.rdm_serving.specs.declared.port_kind.PortKind.TheVariants.{Locked, Rings}
 
 -- a command with one argument
 abbrev pub one_argument : Text → Text → App
@@ -101,6 +101,7 @@ file_of (Encode uid) = None
 file_of (Discover file incremental quick) = Some file.now
 file_of (Run file port) = Some file.now
 
+-- the texts of the arguments
 abbrev pub texts_of : List (Bor Text) → List Text
 texts_of words = map (λ word. word.now) words
 

@@ -3,20 +3,18 @@ ghost use Rattle.std.specs.Prelude.{◌≡◌, ◌⊎◌, IfOk, IfErr};
 ghost use Rattle.serde_json.specs.Errors.{IsMemory};
 ghost use Rattle.rdm_port.specs.Fault.{ReadsScene, SaysScene, IsFileFault, IsTextFault};
 ghost use Rattle.rdm_port.specs.Outcome.{Discovers, answer_bytes, kind_of, search_of};
-ghost use Rattle.rdm_port.specs.Report.{report_text, report_status};
+ghost use Rattle.rdm_serving.specs.Report.{report_text, report_status};
 
 use crate::answer::{Answer, Answered, Refused};
-use crate::discovery::{Discovery, discover_in};
 use crate::fault::Fault;
-use crate::input::{FileFault, read_file};
-use crate::kind::FileKind;
 use crate::place::Place;
 use crate::reason::Reason;
 use crate::remark::remark_on;
-use crate::reporting::report;
-use crate::scene::{SceneFault, SceneFile, read_scene, unknown_in_scene};
-use crate::serving::Progress;
 use rdm_agent::{Kind, Search};
+use rdm_files::{
+    FileFault, FileKind, SceneFault, SceneFile, read_file, read_scene, unknown_in_scene,
+};
+use rdm_serving::{Discovery, Progress, discover_in, report};
 use serde_json::{Category, Value};
 use std::alloc::Global;
 use std::io::Read;

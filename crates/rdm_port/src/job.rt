@@ -8,6 +8,7 @@ ghost use Rattle.rdm_port.specs.Words.{is_set, file_of, texts_of};
 
 use clap::error::ErrorKind;
 use clap::{Arg, ArgAction, ArgMatches, Command, Error};
+use rdm_serving::PortKind;
 use std::alloc::{AllocError, Global};
 
 /// What a command line asks for.
@@ -35,15 +36,6 @@ pub enum Job<'a> {
     },
 }
 
-/// What stands between the clients of a session and its worker.
-#[derive(Clone, Copy, Debug, PartialEq, Eq)]
-pub enum PortKind {
-    /// A lock.
-    Locked,
-    /// Two rings for each client.
-    Rings,
-}
-
 impl<'a> Job<'a> {
     /// The path of the file that it reads, if it reads one.
     pub fn file(&self) -> Option<&'a str>
@@ -69,7 +61,8 @@ pub enum WordsFault {
 }
 
 /// What the words after the program's name ask for, as `clap` reads them: a command's name and its argument. A word
-/// that begins with `-` and isn't `-` alone is an argument only after a word `--` (profile of this project).
+/// that begins with `-` and isn't `-` alone is an argument only after a word `--` (profile of this project). Err: the
+/// words fit no command, or there was no memory, whichever is met first.
 pub fn parse_words<'a>(alloc: Global, words: &'a [&'a str]) -> Result<Job<'a>, WordsFault>
     ensures job { IfOk result (λ job. Asks (texts_of words.now) job) }
     ensures words { result ≡ Err WordsFault.Words → AsksNothing (texts_of words.now) }

@@ -1,16 +1,10 @@
 //! Laws of words and of runs, each the contract of a function that does nothing. The definitions stand in `specs`.
-ghost use Rattle.std.specs.Prelude.{◌≡◌, ℕ, List, [], ◌∷◌, true, codes, Result};
+ghost use Rattle.std.specs.Prelude.{◌≡◌, ℕ, List, [], ◌∷◌, true, codes};
 ghost use Rattle.std.specs.Borrow.{Bor};
-ghost use Rattle.rdm_wire.specs.declared.device.Device.{Device};
-ghost use Rattle.rdm_agent.specs.declared.fault.AgentFault.{AgentFault};
-ghost use Rattle.rdm_agent.specs.declared.kind.Kind.{Kind};
-ghost use Rattle.rdm_agent.specs.declared.search.Search.{Search};
-ghost use Rattle.rdm_line.specs.SimRuns.{LosesFew};
-ghost use Rattle.rdm_line.specs.declared.scene.Scene.{Scene};
-ghost use Rattle.rdm_port.specs.SceneDiscovery.{IsSceneDiscovery, IsHonestReport};
 ghost use Rattle.rdm_port.specs.Words.{Asks, AsksNothing, is_plain};
 
 use crate::job::Job;
+pub use rdm_serving::laws::few_losses_are_honest;
 
 /// A command's name and a word that doesn't begin with a hyphen ask for that command, and after `--` any word may
 /// stand. No words, a command's name alone, and words for help ask for nothing.
@@ -25,13 +19,4 @@ pub fn what_words_ask()
     ensures no_argument { AsksNothing (codes "decode" ∷ []) }
     ensures help { AsksNothing (codes "--help" ∷ []) }
     ensures help_of_command { AsksNothing (codes "decode" ∷ codes "--help" ∷ []) }
-{}
-
-/// A run on the line of a scene reports honestly, as long as its steps lost no five replies of a kind in succession.
-/// Such a reply is that to a branch which a device was due to answer, or to a mute of a present device.
-pub fn few_losses_are_honest()
-    ensures { (scene : Scene) (search : Search) (kind : Kind) (known : List ℕ) (budget : ℕ)
-        (found : Result (List Device) (AgentFault × List Device)) (frames : ℕ)
-        (run : IsSceneDiscovery scene search kind known budget found frames)
-        → LosesFew run.steps → IsHonestReport scene search kind known budget found frames }
 {}

@@ -13,44 +13,31 @@ mod answer;
 mod branch;
 mod complaint;
 mod discovering;
-mod discovery;
 mod fault;
-mod input;
 mod job;
-mod kind;
 pub mod laws;
-mod losses;
-mod outcomes;
 mod performing;
 mod place;
 mod reason;
 mod remark;
-mod reporting;
 mod run;
-mod scene;
-mod serving;
-mod session;
 mod telling;
 mod usage;
 
 pub use complaint::{Complaint, complaint_of};
-pub use discovery::{Discovery, discover, discover_in};
 pub use fault::Fault;
-pub use input::{FileFault, MOST_BYTES, read_file};
-pub use job::{Job, PortKind, WordsFault, parse_words};
-pub use kind::{FileKind, looks_like};
-pub use losses::five_losses;
-pub use outcomes::{Discovered, Outcomes, session_text};
+pub use job::{Job, WordsFault, parse_words};
 pub use performing::{Silent, carry_out, perform};
 pub use place::Place;
+pub use rdm_files::{
+    ClientCall, ClientFile, FileFault, FileKind, Found, MOST_BYTES, Mismatch, Path, Remark,
+    SceneFault, SceneFile, SessionFile, Step, UnknownKey, discovery_command, five_losses,
+    looks_like, read_file, read_scene, read_session,
+};
+pub use rdm_serving::{
+    Discovered, Discovery, Outcomes, PortKind, Progress, ServeFault, discover, discover_in, report,
+    serve, session_text,
+};
 pub use reason::Reason;
-pub use remark::Remark;
-pub use reporting::report;
-pub use scene::{Found, Mismatch, Path, SceneFault, SceneFile, Step, UnknownKey, read_scene};
-pub use serving::{Progress, ServeFault, serve};
-pub use session::{ClientCall, ClientFile, SessionFile, discovery_command, read_session};
 pub use telling::{Progressing, tell, tell_usage};
 pub use usage::{USAGE, VERSION};
-
-#[cfg(test)]
-mod tests;

@@ -2,7 +2,7 @@
 ghost use Rattle.std.specs.Prelude.{◌≡◌, ℕ, List, IfOk, IfErr, OnOk, OnErr};
 ghost use Rattle.std.specs.Io.KnownBytes.{Appends};
 ghost use Rattle.rdm_port.specs.Fault.{IsFaultOf, fault_line, fault_status};
-ghost use Rattle.rdm_port.specs.Report.{line_of};
+ghost use Rattle.rdm_serving.specs.Report.{line_of};
 ghost use Rattle.rdm_port.specs.Outcome.{Answers, IsOutcome, IsPrinted, IsCutShort, answer_bytes};
 
 use crate::answer::{Answer, Answered, Refused};
@@ -11,9 +11,9 @@ use crate::discovering::answer_discover;
 use crate::fault::Fault;
 use crate::job::{Job, WordsFault};
 use crate::reason::Reason;
-use crate::remark::Remark;
 use crate::run::answer_run;
-use crate::serving::Progress;
+use rdm_files::Remark;
+use rdm_serving::Progress;
 use std::alloc::Global;
 use std::io::{ErrorKind, Read, Write};
 use std::sync::Wait;
@@ -25,6 +25,10 @@ const NOT_WRITTEN: u8 = 1;
 /// - 0 where it is done;
 /// - 1 where there is a fault, or the writer fails;
 /// - 2 where the words fit no command.
+///
+/// Of several faults the first in this order is printed: the words; `fault: hex` or `fault: uid`; `fault: file`;
+/// `fault: json`; `fault: discovery command`; `fault: scene`; then those of the run, with `fault: log` before
+/// `fault: turns`. `fault: memory` is printed where it is met. If the writer fails, it has a front of the text.
 ///
 /// The reader is for a command that reads a file; one whose reads fail stands for a file that can't be opened.
 pub fn perform<R: Read, W: Write, T: Threads + Wait + Sync>(
@@ -41,8 +45,8 @@ pub fn perform<R: Read, W: Write, T: Threads + Wait + Sync>(
     status
 }
 
-/// As [`perform`], and gives the reason too where it isn't done. Of a file it tells first what people should know of
-/// it, and then how far its session or its discovery is.
+/// As [`perform`], and gives the reason too where it isn't done; a writer that fails is one. Of a file it tells first
+/// what people should know of it, and then how far its session or its discovery is.
 pub fn carry_out<'a, R: Read, W: Write, P: Progress + Send, T: Threads + Wait + Sync>(
     rt: &T,
     alloc: Global,

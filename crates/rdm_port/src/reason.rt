@@ -1,11 +1,9 @@
 //! Why something isn't done, for people.
-use crate::input::{FileFault, MOST_BYTES};
-use crate::kind::{FileKind, looks_like};
 use crate::place::Place;
-use crate::reporting::device_lines;
-use crate::scene::{Mismatch, SceneFault};
 use crate::usage::USAGE;
 use rdm_agent::AgentFault;
+use rdm_files::{FileFault, FileKind, MOST_BYTES, Mismatch, SceneFault, looks_like};
+use rdm_serving::device_lines;
 use rdm_wire::DeviceSet;
 use serde_json::Value;
 use std::alloc::Global;

@@ -1,23 +1,7 @@
-//! What people should know of a file before its work begins.
-use crate::losses::five_losses;
-use crate::scene::UnknownKey;
-use crate::serving::Progress;
+//! Tells people what they should know of a file before its work begins.
+use rdm_files::{Remark, UnknownKey, five_losses};
+use rdm_serving::Progress;
 use std::alloc::Global;
-use std::fmt;
-
-/// What people should know of a file that is read all the same.
-#[derive(Debug, Drop)]
-pub enum Remark {
-    /// A key isn't known, and is left out.
-    UnknownKey(UnknownKey),
-    /// The scene loses five exchanges in succession. Then a report may leave a device out, though it tells no fault.
-    FiveLosses {
-        /// The path of the key that has their numbers.
-        path: &'static str,
-        /// The first one's number.
-        first: u64,
-    },
-}
 
 /// Tells of the first unknown key, if there is one, and then of five losses in succession, if this key has them. Where
 /// memory is refused, nothing is told of losses.
@@ -33,20 +17,5 @@ pub(crate) fn remark_on<P: Progress>(
     }
     if let Ok(Some(first)) = five_losses(alloc, losses) {
         progress.remark(&Remark::FiveLosses { path, first });
-    }
-}
-
-impl fmt::Display for Remark {
-    fn fmt<W: fmt::Write>(&self, f: &mut fmt::Formatter<W>) -> fmt::Result {
-        match self {
-            Remark::UnknownKey(key) => write!(f, "{key}"),
-            Remark::FiveLosses { path, first } => {
-                let last = first.saturating_add(4);
-                write!(
-                    f,
-                    "{path}: exchanges {first} to {last} are all lost; with five lost in succession a device may be missed"
-                )
-            }
-        }
     }
 }

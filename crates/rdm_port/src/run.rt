@@ -7,15 +7,13 @@ ghost use Rattle.rdm_port.specs.Outcome.{Runs, answer_bytes};
 use crate::answer::{Answer, Answered, Refused};
 use crate::discovering::no_json;
 use crate::fault::Fault;
-use crate::input::{FileFault, read_file};
-use crate::job::PortKind;
-use crate::kind::FileKind;
-use crate::outcomes::session_text;
 use crate::reason::Reason;
 use crate::remark::remark_on;
-use crate::scene::SceneFault;
-use crate::serving::{Progress, ServeFault, serve};
-use crate::session::{SessionFile, discovery_command, read_session, unknown_in_session};
+use rdm_files::{
+    FileFault, FileKind, SceneFault, SessionFile, discovery_command, read_file, read_session,
+    unknown_in_session,
+};
+use rdm_serving::{PortKind, Progress, ServeFault, serve, session_text};
 use serde_json::Value;
 use std::alloc::Global;
 use std::io::Read;

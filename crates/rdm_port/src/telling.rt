@@ -2,13 +2,13 @@
 //! discovery is.
 use crate::complaint::Complaint;
 use crate::reason::Reason;
-use crate::remark::Remark;
-use crate::serving::Progress;
+use rdm_files::Remark;
+use rdm_serving::Progress;
 use std::io;
 use std::rt::Clock;
 use std::time::Instant;
 
-/// Tells a reason.
+/// Tells a reason. Err: the error of standard error, which may have got a front of the line.
 pub fn tell(rt: &impl Eprint, reason: &Reason<'_>) -> io::Result<()> {
     match reason {
         Reason::Usage => eprintln!(rt; "{reason}"),
@@ -17,7 +17,7 @@ pub fn tell(rt: &impl Eprint, reason: &Reason<'_>) -> io::Result<()> {
 }
 
 /// Tells what is wrong with words that fit no command, and then how the program is used. To words that ask for that it
-/// tells nothing else.
+/// tells nothing else. Err: the error of standard error, which may have got a front of the text.
 pub fn tell_usage(rt: &impl Eprint, complaint: &Complaint<'_>) -> io::Result<()> {
     match complaint {
         Complaint::Help | Complaint::Version => eprintln!(rt; "{complaint}"),
@@ -39,7 +39,7 @@ pub struct Progressing<'a, R: Clock + Eprint> {
 }
 
 impl<'a, R: Clock + Eprint> Progressing<'a, R> {
-    /// From now on.
+    /// From now on. Without a clock nothing is told.
     pub fn new(rt: &'a R) -> Progressing<'a, R> {
         Progressing {
             rt,

@@ -1,7 +1,7 @@
 //! How the program is used, for people.
 
 /// The program's version.
-pub const VERSION: &str = "1.0.0";
+pub const VERSION: &str = "0.1.0";
 
 /// Each word that the program knows, with examples.
 pub const USAGE: &str = "\

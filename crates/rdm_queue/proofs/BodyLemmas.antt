@@ -7,11 +7,9 @@ pub mod FrontLemmas
 pub mod OutstandingLemmas
 pub mod FieldLemmas
 pub mod AnswerLemmas
-pub mod AgentLemmas
 pub mod RunningLemmas
 pub mod HeardLemmas
 pub mod InvariantLemmas
-pub mod OutcomeLemmas
 pub mod DecidedLemmas
 pub mod AgreesSame
 pub mod AgreesWork
@@ -21,7 +19,6 @@ pub mod TakeLemmas
 pub mod AfterFinish
 pub mod EndRequests
 pub mod EndRuns
-pub mod BegunLemmas
 pub mod EndLemmas
 pub mod CallLemmas
 pub mod SessionLemmas

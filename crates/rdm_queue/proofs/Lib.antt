@@ -1,5 +1,1 @@
-pub mod LogLemmas
-pub mod SampleLemmas
-pub mod PromiseLemmas
 pub mod BodyLemmas
-pub mod BoundLemmas

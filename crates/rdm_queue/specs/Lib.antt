@@ -1,4 +1,2 @@
-pub mod log
 pub mod promises
 pub mod body
-pub mod samples

@@ -1,4 +1,5 @@
--- What ties the code to the log. Nothing here has to be trusted: no promise speaks of it.
+-- What ties the code to the log. Nothing here has to be trusted. The clauses of a controller name `StandsAfter` alone, of
+-- which the law `controllers_keep_promises` says all that a reader needs.
 pub mod State
 pub mod Merged
 pub mod Sending
@@ -7,5 +8,4 @@ pub mod Rings
 pub mod Fields
 pub mod Agrees
 pub mod QueueInvariant
-pub mod LogInvariant
 pub mod SessionInvariant

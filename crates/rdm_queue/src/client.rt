@@ -2,9 +2,8 @@
 ghost use Rattle.std.specs.Prelude.{◌≡◌, ◌≢◌, ◌+◌, ◌-◌, ◌<◌, ◌≤◌, IfOk, IfSome, IfNone, Some, option_map, slice_get};
 ghost use Rattle.std.specs.VecDeque.{deque_len, deque_capacity};
 
-use crate::entry::{Entry, MOST_DISCOVERIES};
-use crate::outcome::{Completion, DiscoveryEnd, OutcomeKind};
 use rdm_agent::AgentFault;
+use rdm_log::{Completion, DiscoveryEnd, Entry, MOST_DISCOVERIES, OutcomeKind};
 use rdm_wire::{DeviceSet, Request};
 use std::alloc::{AllocError, Global};
 use std::collections::VecDeque;
@@ -46,8 +45,8 @@ pub(crate) struct Client {
 impl Client {
     ghost use Rattle.rdm_queue.specs.body.Rings.{IsNewClient, ClientAccepts, ClientFinishes, ClientAnswers};
     ghost use Rattle.rdm_queue.specs.body.Rings.{ClientCollects, HasSets, first_kind_owed};
-    ghost use Rattle.rdm_queue.specs.promises.Outcomes.{outcome_value, request_outcome, discovery_outcome};
-    ghost use Rattle.rdm_queue.specs.declared.outcome.OutcomeKind.TheVariants as kinds;
+    ghost use Rattle.rdm_log.specs.promises.Outcomes.{outcome_value, request_outcome, discovery_outcome};
+    ghost use Rattle.rdm_log.specs.declared.outcome.OutcomeKind.TheVariants as kinds;
 
     /// A client without requests, whose memory is reserved here.
     pub(crate) fn with_places(alloc: Global, places: u8) -> Result<Client, AllocError>

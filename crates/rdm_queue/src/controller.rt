@@ -1,11 +1,11 @@
 //! The queue of requests and discoveries on one RDM line.
-use crate::config::Config;
-use crate::entry::{ClientId, Entry, Opening, Owner};
-use crate::fault::{AskFault, JoinFault, NoMemory, NotAsked, SubmitFault};
-use crate::outcome::{Completion, DiscoveryEnd, Outcome, OutcomeKind};
 use crate::queue::Queue;
 use rdm_agent::{Kind, Search};
 use rdm_join::LineEvent;
+use rdm_log::{
+    AskFault, ClientId, Completion, Config, DiscoveryEnd, Entry, JoinFault, NoMemory, NotAsked,
+    Opening, Outcome, OutcomeKind, Owner, SubmitFault,
+};
 use rdm_wire::{DeviceSet, Frame, Request};
 use std::alloc::Global;
 use std::marker::Model;
@@ -33,23 +33,23 @@ impl Model for Controller {
 impl Controller {
     ghost use Rattle.std.specs.Prelude.{◌≡◌, ◌++◌, ◌∷◌, ◌<◌, [], List, true, false, length, IfOk, IfErr, IfSome};
     ghost use Rattle.std.specs.Prelude.{IfNone, OnErr, OnSome, Some, ◌≢◌};
-    ghost use Rattle.rdm_queue.specs.declared.entry.Opening.{Opening};
-    ghost use Rattle.rdm_queue.specs.declared.entry.Entry.{Entry};
-    ghost use Rattle.rdm_queue.specs.declared.entry.Entry.TheVariants.{Send, Came, Close};
-    ghost use Rattle.rdm_queue.specs.log.History.{awaited, is_paused, is_closed, can_pause, can_resume, is_idle};
-    ghost use Rattle.rdm_queue.specs.log.MaySend.{MaySend, NoSend};
-    ghost use Rattle.rdm_queue.specs.log.Config.{IsConfig};
-    ghost use Rattle.rdm_queue.specs.log.LogState.{opened, opening_after};
-    ghost use Rattle.rdm_queue.specs.promises.Blocks.{JoinAdds, SubmitAdds, PauseAdds, ResumeAdds, CloseAdds};
-    ghost use Rattle.rdm_queue.specs.promises.Blocks.{DiscoverAdds, TakeAdds, DeliverAdds, CollectAdds, is_result};
+    ghost use Rattle.rdm_log.specs.declared.entry.Opening.{Opening};
+    ghost use Rattle.rdm_log.specs.declared.entry.Entry.{Entry};
+    ghost use Rattle.rdm_log.specs.declared.entry.Entry.TheVariants.{Send, Came, Close};
+    ghost use Rattle.rdm_log.specs.log.History.{awaited, is_paused, is_closed, can_pause, can_resume, is_idle};
+    ghost use Rattle.rdm_log.specs.log.MaySend.{MaySend, NoSend};
+    ghost use Rattle.rdm_log.specs.log.Config.{IsConfig};
+    ghost use Rattle.rdm_log.specs.log.LogState.{opened, opening_after};
+    ghost use Rattle.rdm_log.specs.promises.Blocks.{JoinAdds, SubmitAdds, PauseAdds, ResumeAdds, CloseAdds};
+    ghost use Rattle.rdm_log.specs.promises.Blocks.{DiscoverAdds, TakeAdds, DeliverAdds, CollectAdds, is_result};
     ghost use Rattle.rdm_queue.specs.promises.EachLog.{ForEachLog, AddsToEach};
     ghost use Rattle.rdm_queue.specs.body.Agrees.{StandsAfter, StandsAmid, ForEachBlock, FinishesAll};
     ghost use Rattle.rdm_queue.specs.body.State.{unended, uncollected};
-    ghost use Rattle.rdm_queue.specs.promises.InBound.{FaultNeedsClose};
-    ghost use Rattle.rdm_queue.specs.log.Runs.{known_devices, devices_run};
+    ghost use Rattle.rdm_log.specs.promises.InBound.{FaultNeedsClose};
+    ghost use Rattle.rdm_log.specs.log.Runs.{known_devices, devices_run};
     ghost use Rattle.rdm_agent.specs.declared.search.Search.TheVariants.{Steady};
-    ghost use Rattle.rdm_queue.specs.promises.Outcomes.{oldest_kind, request_outcome, discovery_outcome};
-    ghost use Rattle.rdm_queue.specs.declared.outcome.OutcomeKind.TheVariants as kinds;
+    ghost use Rattle.rdm_log.specs.promises.Outcomes.{oldest_kind, request_outcome, discovery_outcome};
+    ghost use Rattle.rdm_log.specs.declared.outcome.OutcomeKind.TheVariants as kinds;
 
     /// A controller without clients, neither paused nor closed, whose numbers begin at 0. Its UID isn't broadcast,
     /// there are at most [`MOST_PLACES`](crate::MOST_PLACES) places, and the budget is at least 1.

@@ -23,28 +23,20 @@
 #![tactic(auto)]
 
 mod client;
-mod config;
 mod controller;
 mod copies;
-mod entry;
-mod event;
-mod fault;
-pub mod laws;
-mod log;
-mod outcome;
 mod pending;
+mod promised;
 mod queue;
 mod run;
 mod session;
 
-pub use config::{Config, MOST_PLACES};
 pub use controller::Controller;
-pub use entry::{
-    Call, Cause, ClientId, Entry, MOST_CLIENTS, MOST_DISCOVERIES, NEVER_GIVEN,
-    NEVER_GIVEN_TO_A_DISCOVERY, Opening, Owner,
+pub use promised::controllers_keep_promises;
+pub use rdm_log::{
+    Answer, AskCompletion, AskFault, Call, Cause, ClientId, Completion, Config, DiscoveryEnd,
+    Entry, Event, JoinFault, LEAST_FREE, Log, LogFull, MOST_CLIENTS, MOST_DISCOVERIES,
+    MOST_FREE_ENTRIES, MOST_PLACES, NEVER_GIVEN, NEVER_GIVEN_TO_A_DISCOVERY, NoMemory, NotAsked,
+    NotIdle, Opening, Outcome, OutcomeKind, Owner, SubmitFault, laws,
 };
-pub use event::{Answer, Event};
-pub use fault::{AskFault, JoinFault, LogFull, NoMemory, NotAsked, NotIdle, SubmitFault};
-pub use log::{LEAST_FREE, Log, MOST_FREE_ENTRIES};
-pub use outcome::{AskCompletion, Completion, DiscoveryEnd, Outcome, OutcomeKind};
 pub use session::Session;

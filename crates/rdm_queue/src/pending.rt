@@ -1,9 +1,9 @@
 //! What is still to come: the discoveries that are asked, the run that serves them, and what awaits its reply.
 ghost use Rattle.std.specs.Prelude.{◌≡◌};
 
-use crate::entry::ClientId;
 use rdm_agent::Kind;
 use rdm_join::Sent;
+use rdm_log::ClientId;
 use std::alloc::Global;
 use std::default::MadeWith;
 

@@ -7,17 +7,15 @@ ghost use Rattle.rdm_queue.specs.body.Fields.{places_of};
 mod ending;
 
 use crate::client::{Client, Waiting};
-use crate::config::Config;
-use crate::entry::{
-    ClientId, MOST_CLIENTS, MOST_DISCOVERIES, NEVER_GIVEN, NEVER_GIVEN_TO_A_DISCOVERY, Opening,
-    Owner,
-};
-use crate::fault::{AskFault, JoinFault, SubmitFault};
-use crate::outcome::{AskCompletion, Completion, DiscoveryEnd, Outcome, OutcomeKind};
 use crate::pending::{Asked, Awaited, Running};
 use arrayvec::ArrayVec;
 use rdm_agent::{Agent, Kind, Op, Search};
 use rdm_join::{Joiner, Sent};
+use rdm_log::{
+    AskCompletion, AskFault, ClientId, Completion, Config, DiscoveryEnd, JoinFault, MOST_CLIENTS,
+    MOST_DISCOVERIES, NEVER_GIVEN, NEVER_GIVEN_TO_A_DISCOVERY, Opening, Outcome, OutcomeKind,
+    Owner, SubmitFault,
+};
 use rdm_wire::{DeviceSet, Frame, Request, UidSet, encode_request};
 use std::alloc::Global;
 use std::marker::Model;
@@ -77,12 +75,12 @@ impl Queue {
     ghost use Rattle.std.specs.Prelude.{is_some, option_map, slice_get, if◌then◌else◌, ◌≢◌, ◌≤◌};
     ghost use Rattle.rdm_wire.specs.Devices.{uids_of};
     ghost use Rattle.rdm_agent.specs.Calls.{HasRunBy};
-    ghost use Rattle.rdm_queue.specs.promises.Outcomes.{outcome_value, request_outcome, discovery_outcome};
-    ghost use Rattle.rdm_queue.specs.declared.outcome.OutcomeKind.TheVariants as kinds;
-    ghost use Rattle.rdm_queue.specs.promises.Blocks.{RefusesJoin};
+    ghost use Rattle.rdm_log.specs.promises.Outcomes.{outcome_value, request_outcome, discovery_outcome};
+    ghost use Rattle.rdm_log.specs.declared.outcome.OutcomeKind.TheVariants as kinds;
+    ghost use Rattle.rdm_log.specs.promises.Blocks.{RefusesJoin};
     ghost use Rattle.rdm_queue.specs.body.Fields.{accepted_is, run_is};
-    ghost use Rattle.rdm_queue.specs.log.Config.{IsConfig};
-    ghost use Rattle.rdm_queue.specs.log.Entries.{Accepted, AskedDiscovery};
+    ghost use Rattle.rdm_log.specs.log.Config.{IsConfig};
+    ghost use Rattle.rdm_log.specs.log.Entries.{Accepted, AskedDiscovery};
     ghost use Rattle.rdm_queue.specs.body.State.{QueueState, first_state, first_join_fault, first_submit_fault};
     ghost use Rattle.rdm_queue.specs.body.State.{first_ask_fault, asked_of, joins_client, accepts_request};
     ghost use Rattle.rdm_queue.specs.body.State.{asks_discovery, collects_oldest, owed_to, uncollected, first_kind};

@@ -1,15 +1,14 @@
 //! A list of events, answered one by one.
 use crate::copies::{copy_of_event, copy_of_request};
-use crate::event::{Answer, Event};
-use crate::fault::NoMemory;
 use crate::session::Session;
+use rdm_log::{Answer, Event, NoMemory};
 use std::alloc::Global;
 
 impl Session {
     ghost use Rattle.std.specs.Prelude.{◌≡◌, List, IfOk, OnErr};
-    ghost use Rattle.rdm_queue.specs.log.Legal.{Legal};
-    ghost use Rattle.rdm_queue.specs.promises.Explains.{IsAnswered, Explains};
-    ghost use Rattle.rdm_queue.specs.promises.EventsHeadline.{EventsPromised};
+    ghost use Rattle.rdm_log.specs.log.Legal.{Legal};
+    ghost use Rattle.rdm_log.specs.promises.Explains.{IsAnswered, Explains};
+    ghost use Rattle.rdm_log.specs.promises.EventsHeadline.{EventsPromised};
 
     /// Makes the call of an event, and gives its answer. What the call refuses comes back in the answer.
     pub fn answer(&mut self, alloc: Global, event: &Event) -> Answer

@@ -1,18 +1,18 @@
 //! A controller that keeps a log of all that it does.
 ghost use Rattle.std.specs.Prelude.{◌≡◌, if◌then◌else◌};
-ghost use Rattle.rdm_queue.specs.log.LogState.{opened};
+ghost use Rattle.rdm_log.specs.log.LogState.{opened};
 ghost use Rattle.rdm_queue.specs.body.SessionInvariant.{SessionAmid, FinishesDue};
 
-use crate::config::Config;
 use crate::controller::Controller;
 use crate::copies::{copy_of_frame, copy_of_request};
-use crate::entry::{Call, Cause, ClientId, Entry, Opening};
-use crate::fault::{AskFault, JoinFault, LogFull, NoMemory, NotAsked, NotIdle, SubmitFault};
-use crate::log::{LEAST_FREE, Log};
-use crate::outcome::{Completion, DiscoveryEnd, Outcome, OutcomeKind};
 use arrayvec::ArrayVec;
 use rdm_agent::{Kind, Search};
 use rdm_join::LineEvent;
+use rdm_log::{
+    AskFault, Call, Cause, ClientId, Completion, Config, DiscoveryEnd, Entry, JoinFault,
+    LEAST_FREE, Log, LogFull, NoMemory, NotAsked, NotIdle, Opening, Outcome, OutcomeKind,
+    SubmitFault,
+};
 use rdm_wire::{DeviceSet, Frame, Request};
 use std::alloc::Global;
 use std::marker::Model;
@@ -27,7 +27,7 @@ pub struct Session {
 }
 
 impl Model for Session {
-    ghost use Rattle.rdm_queue.specs.log.LogState.{LogState};
+    ghost use Rattle.rdm_log.specs.log.LogState.{LogState};
 
     ghost Value = { LogState };
 
@@ -41,15 +41,15 @@ impl Model for Session {
 impl Session {
     ghost use Rattle.std.specs.Prelude.{◌≡◌, ◌≢◌, [], length, ◌+◌, IfOk, IfErr, OnOk, OnErr, IfNone, IfSome, Some};
     ghost use Rattle.std.specs.Prelude.{true, false};
-    ghost use Rattle.rdm_queue.specs.log.History.{awaited, is_paused, is_closed, is_idle, reserved};
-    ghost use Rattle.rdm_queue.specs.log.Legal.{Legal};
-    ghost use Rattle.rdm_queue.specs.log.Config.{IsConfig};
-    ghost use Rattle.rdm_queue.specs.log.LogState.{free_entries, is_full_log, opened, opening_after};
-    ghost use Rattle.rdm_queue.specs.promises.Blocks.{JoinLogs, SubmitLogs, PauseLogs, ResumeLogs, TakeLogs};
-    ghost use Rattle.rdm_queue.specs.log.Runs.{known_devices, devices_run};
-    ghost use Rattle.rdm_queue.specs.promises.Blocks.{DiscoverLogs, CloseAdds, DeliverAdds, CollectAdds, GrowsBy};
-    ghost use Rattle.rdm_queue.specs.promises.Outcomes.{oldest_kind, request_outcome, discovery_outcome};
-    ghost use Rattle.rdm_queue.specs.declared.outcome.OutcomeKind.TheVariants as kinds;
+    ghost use Rattle.rdm_log.specs.log.History.{awaited, is_paused, is_closed, is_idle, reserved};
+    ghost use Rattle.rdm_log.specs.log.Legal.{Legal};
+    ghost use Rattle.rdm_log.specs.log.Config.{IsConfig};
+    ghost use Rattle.rdm_log.specs.log.LogState.{free_entries, is_full_log, opened, opening_after};
+    ghost use Rattle.rdm_log.specs.promises.Blocks.{JoinLogs, SubmitLogs, PauseLogs, ResumeLogs, TakeLogs};
+    ghost use Rattle.rdm_log.specs.log.Runs.{known_devices, devices_run};
+    ghost use Rattle.rdm_log.specs.promises.Blocks.{DiscoverLogs, CloseAdds, DeliverAdds, CollectAdds, GrowsBy};
+    ghost use Rattle.rdm_log.specs.promises.Outcomes.{oldest_kind, request_outcome, discovery_outcome};
+    ghost use Rattle.rdm_log.specs.declared.outcome.OutcomeKind.TheVariants as kinds;
     ghost use Rattle.rdm_queue.specs.body.Agrees.{StandsAfter};
     ghost use Rattle.rdm_agent.specs.declared.search.Search.TheVariants.{Steady};
 
@@ -84,7 +84,8 @@ impl Session {
         self
     }
 
-    /// Lets a client join, as [`Controller::join_client`] does. A refusal but LogFull is an entry.
+    /// Lets a client join, as [`Controller::join_client`] does. LogFull leaves no entry. Any other refusal is a Refuse
+    /// entry with the number of its fault.
     /// Err: LogFull, or else the first other fault that stands; nothing changes but the log.
     pub fn join_client(&mut self, alloc: Global, places: u8) -> Result<ClientId, JoinFault>
         ensures adds { GrowsBy self.old (JoinLogs self.old places result) self.new }
@@ -174,7 +175,7 @@ impl Session {
     }
 
     /// Pauses, as [`Controller::pause`] does; an entry where that has an effect.
-    /// Err: the log is full; nothing has changed.
+    /// Err: the log is full, even if the call would have no effect; nothing has changed.
     pub fn pause(&mut self) -> Result<(), LogFull>
         ensures adds { GrowsBy self.old (PauseLogs self.old result) self.new }
         ensures legal { Legal self.new.opening self.new.entries }
@@ -191,7 +192,7 @@ impl Session {
     }
 
     /// Resumes, as [`Controller::resume`] does; an entry where that has an effect.
-    /// Err: the log is full; nothing has changed.
+    /// Err: the log is full, even if the call would have no effect; nothing has changed.
     pub fn resume(&mut self) -> Result<(), LogFull>
         ensures adds { GrowsBy self.old (ResumeLogs self.old result) self.new }
         ensures legal { Legal self.new.opening self.new.entries }
@@ -222,7 +223,7 @@ impl Session {
     }
 
     /// The next frame for the line, as [`Controller::take`] gives it; an entry where there is one.
-    /// Err: the log is full; nothing has changed.
+    /// Err: the log is full, even if there would be no frame, and after a close too; nothing has changed.
     pub fn take(&mut self) -> Result<Option<Frame>, LogFull>
         ensures adds { GrowsBy self.old (TakeLogs self.old result) self.new }
         ensures legal { Legal self.new.opening self.new.entries }

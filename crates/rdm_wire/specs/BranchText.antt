@@ -11,8 +11,9 @@ ands [] = []
 ands (x ∷ []) = []
 ands (x ∷ y ∷ rest) = bit_and x y ∷ ands rest
 
--- b is the text of the UID u: up to seven fe, one aa, sixteen bytes e and any rest; e's first six pairs
--- spell u, and its last two the sum of its first twelve bytes
+-- b is the text of the UID u: up to seven fe, one aa, sixteen bytes e and any rest. The ANDs of e's first six pairs
+-- spell u. The ANDs of its last two pairs spell the checksum of its first twelve bytes (E1.20, discovery unique branch
+-- response)
 pub record BranchText (b : List ℕ) (u : ℕ) : Type 0 where
   pub preamble : ℕ
   pub e : List ℕ
@@ -23,17 +24,18 @@ pub record BranchText (b : List ℕ) (u : ℕ) : Type 0 where
   pub uid : number_of (ands (take 12 e)) ≡ u
   pub sum : number_of (ands (drop 12 e)) ≡ checksum (take 12 e)
 
--- how bytes are read as the reply to a branch
+-- how bytes are read as the reply to a branch: no bytes are silence, the text of a UID is that UID, all else is a
+-- collision (E1.20, discovery unique branch response)
 abbrev pub ReadsAs : List ℕ → BranchReply → Type 0
 ReadsAs b Silent = b ≡ []
 ReadsAs b (One u) = BranchText b u
 ReadsAs b Collision = (b ≡ [] → ⊥) × ((u : ℕ) → BranchText b u → ⊥)
 
--- a byte as its pair
+-- a byte as its pair: b OR aa, and b OR 55 (E1.20, discovery unique branch response)
 abbrev pub pair_of : ℕ → List ℕ
 pair_of b = bit_or b 0xaa ∷ bit_or b 0x55 ∷ []
 
--- the text of u that a device sends
+-- the text of u that a device sends, after this many fe (E1.20, discovery unique branch response)
 abbrev pub branch_text : ℕ → ℕ → List ℕ
 branch_text u preamble =
     replicate preamble 0xfe ++ 0xaa ∷ coded_uid ++ flat_map pair_of (two_bytes (checksum coded_uid))

@@ -20,6 +20,7 @@ command_fields (asks.Branch range) s tn = branch_fields range.lo range.hi s tn
 command_fields (asks.Mute u) s tn = mute_fields u s tn
 command_fields (asks.Request r) s tn = request_fields r s tn
 
+-- the frame of a command, from this source with this transaction number
 abbrev pub command_frame : Command → ℕ → ℕ → List ℕ
 command_frame command s tn = packet (command_fields command s tn)
 
@@ -61,6 +62,7 @@ branch_in param =
     if (length param == 12) && nat_le (number_at 0 6 param) (number_at 6 6 param)
     then Some (asks.Branch (record { lo = number_at 0 6 param; hi = number_at 6 6 param })) else None
 
+-- the discovery command that fields say by PID, target and data (E1.20, discovery commands)
 abbrev pub discovery_in : Fields → Option Command
 discovery_in f =
     if f.pid == 3 then Some asks.Unmute
@@ -74,6 +76,7 @@ command_in f =
     else (if f.class == 0x20 then Some (asks.Request (request_in f Get))
     else (if f.class == 0x30 then Some (asks.Request (request_in f Set)) else None))
 
+-- the command with its source and number, if its frame is exactly these bytes
 abbrev pub written_so : List ℕ → ℕ → ℕ → Option Command → Option (Command × ℕ × ℕ)
 written_so b s tn None = None
 written_so b s tn (Some command) =

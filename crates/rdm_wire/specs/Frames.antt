@@ -9,10 +9,11 @@ use Rattle.rdm_wire.specs.Honest.{Asked, Heard, Seen}
 use Rattle.rdm_wire.specs.Honest.Asked.{Unmute, Branch, Mute, Other}
 use Rattle.rdm_wire.specs.Honest.Heard.{Failed, Silent, One, Acked, Noise}
 
--- the bounds of a branch, as its data give them
+-- the lower bound of a branch, as its data give it
 abbrev pub lower_bound : Fields → ℕ
 lower_bound f = number_at 0 6 f.param
 
+-- the upper bound of a branch, as its data give it
 abbrev pub upper_bound : Fields → ℕ
 upper_bound f = number_at 6 6 f.param
 
@@ -30,10 +31,12 @@ asked_with frame f =
 abbrev pub asked_in : List ℕ → Asked
 asked_in frame = asked_with frame (fields_at frame)
 
+-- the text of a UID if bytes spell one, else other bytes
 abbrev pub one_or_noise : Option ℕ → Heard
 one_or_noise None = Noise
 one_or_noise (Some u) = One u
 
+-- an acknowledgement if bytes are one, else other bytes
 abbrev pub acked_or_noise : Option MuteAck → Heard
 acked_or_noise None = Noise
 acked_or_noise (Some ack) = Acked ack

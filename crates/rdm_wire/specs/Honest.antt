@@ -20,15 +20,17 @@ pub data Heard : Type 0 where
   Acked : (ack : MuteAck) → Heard
   Noise : Heard
 
--- an exchange
+-- an exchange: what was asked, and what was heard
 pub record Seen : Type 0 where
   pub asked : Asked
   pub heard : Heard
 
+-- whether no bytes came
 abbrev pub is_silent : Heard → Bool
 is_silent Silent = true
 is_silent _ = false
 
+-- whether an acknowledgement of the mute came
 abbrev pub is_acked : Heard → Bool
 is_acked (Acked ack) = true
 is_acked _ = false

@@ -7,7 +7,8 @@ use Rattle.rdm_wire.specs.declared.response.RespClass.TheVariants as responses
 use Rattle.rdm_wire.specs.declared.response.AckType.TheVariants.{Ack as Acked}
 use Rattle.rdm_wire.specs.declared.mute_ack.MuteAck.{MuteAck}
 
--- b acknowledges a mute of u, asked by s with this number
+-- b acknowledges the mute of u that s sent with this transaction number: a DISC_MUTE response of type ACK from u to s,
+-- with 2 or 8 bytes of data (E1.20, discovery mute message)
 pub record MuteAcked (u s n : ℕ) (b : List ℕ) : Type 0 where
   pub response : Response
   pub reads : Reads response b
@@ -19,7 +20,8 @@ pub record MuteAcked (u s n : ℕ) (b : List ℕ) : Type 0 where
   pub tn : response.tn ≡ n
   pub size : (length response.param.items ≡ 2) ⊎ (length response.param.items ≡ 8)
 
--- what an acknowledgement's data says: the control field, and the binding UID where there is one
+-- what the data of an acknowledgement say: the control field, and with 8 bytes the binding UID (E1.20, discovery mute
+-- message)
 abbrev pub ack_data : List ℕ → MuteAck
 ack_data param = record {
   control = number_at 0 2 param;

@@ -6,15 +6,17 @@ use Rattle.rdm_wire.specs.declared.response.Response.{Response}
 use Rattle.rdm_wire.specs.declared.response.RespClass.TheVariants.{Discovery}
 use Rattle.rdm_wire.specs.declared.response.AckType.TheVariants.{Ack}
 
+-- the bytes of a binding UID; none without one (E1.20, discovery mute message)
 abbrev pub binding_bytes : Option ℕ → List ℕ
 binding_bytes None = []
 binding_bytes (Some u) = uid_bytes u
 
--- what a device says of itself: its control field, and its binding UID where it has one
+-- the data of an acknowledgement: the control field, and the binding UID if there is one (E1.20, discovery mute
+-- message)
 abbrev pub mute_data : Device → List ℕ
 mute_data d = two_bytes d.control ++ binding_bytes d.binding
 
--- the acknowledgement of a mute that this controller sent with this number
+-- the acknowledgement of a mute that this controller sent with this transaction number (E1.20, discovery mute message)
 abbrev pub mute_response : Device → ℕ → ℕ → Response
 mute_response d s tn = record {
   source = d.uid;

@@ -2,7 +2,7 @@
 use Rattle.std.specs.Prelude.{◌≡◌, ℕ, ◌+◌, ◌^◌, ◌<◌, ◌≤◌, List, [], ◌∷◌, ◌++◌, length, slice_index, slice_range}
 use Rattle.rdm_wire.specs.Bytes.{number_at, checksum, two_bytes, uid_bytes}
 
--- what stands in a packet, as numbers
+-- the fields of a packet, as numbers (E1.20, packet format)
 pub record Fields : Type 0 where
   pub dest : ℕ
   pub source : ℕ
@@ -14,7 +14,7 @@ pub record Fields : Type 0 where
   pub pid : ℕ
   pub param : List ℕ
 
--- each field is in its bytes' range
+-- each field is in the range of its bytes, and the data have at most 231 bytes (E1.20, packet format)
 pub record Fits (f : Fields) : Type 0 where
   pub dest : f.dest < 2 ^ 48
   pub source : f.source < 2 ^ 48
@@ -26,7 +26,7 @@ pub record Fits (f : Fields) : Type 0 where
   pub pid : f.pid < 2 ^ 16
   pub param : length f.param ≤ 231
 
--- the 24 bytes before the data
+-- the 24 bytes before the data (E1.20, packet format)
 abbrev pub header_of : Fields → List ℕ
 header_of f =
     0xcc ∷ 0x01 ∷ (24 + length f.param) ∷ uid_bytes f.dest ++ uid_bytes f.source
@@ -36,15 +36,15 @@ header_of f =
 abbrev pub body_of : Fields → List ℕ
 body_of f = header_of f ++ f.param
 
--- the packet with these fields
+-- the packet with these fields: header, data and the checksum of both (E1.20, packet format)
 abbrev pub packet : Fields → List ℕ
 packet f = body_of f ++ two_bytes (checksum (body_of f))
 
--- b is the packet with the fields f
+-- b is the packet with the fields f, which are in their ranges
 abbrev pub Packet : Fields → List ℕ → Type 0
 Packet f b = Fits f × (b ≡ packet f)
 
--- the fields that stand at the table's offsets
+-- the fields at the offsets of the packet (E1.20, packet format)
 abbrev pub fields_at : List ℕ → Fields
 fields_at b = record {
   dest = number_at 3 6 b;

@@ -34,6 +34,7 @@ acks u s tn r =
     && (r.source == u) && (r.dest == s) && (r.tn == tn)
     && ((length r.param.items == 2) || (length r.param.items == 8))
 
+-- what a decoded response acknowledges, if it acknowledges that mute
 abbrev pub ack_in_response : ℕ → ℕ → ℕ → Result Response PacketFault → Option MuteAck
 ack_in_response u s tn (Err fault) = None
 ack_in_response u s tn (Ok r) = if acks u s tn r then Some (ack_data r.param.items) else None

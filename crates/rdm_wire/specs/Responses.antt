@@ -13,11 +13,13 @@ use Rattle.rdm_wire.specs.declared.response.PacketFault.TheVariants.{TooShort, W
 use Rattle.rdm_wire.specs.declared.response.PacketFault.TheVariants.{LengthMismatch, ParamLengthMismatch, Checksum}
 use Rattle.rdm_wire.specs.declared.response.PacketFault.TheVariants.{InvalidClass, InvalidResponseType}
 
+-- the command class of a response (E1.20, command class)
 abbrev pub code_of_class : RespClass → ℕ
 code_of_class responses.Discovery = 0x11
 code_of_class responses.Get = 0x21
 code_of_class responses.Set = 0x31
 
+-- the number of a response type (E1.20, response type)
 abbrev pub code_of_ack : AckType → ℕ
 code_of_ack Acked = 0
 code_of_ack Timer = 1
@@ -48,6 +50,7 @@ class_of_code code =
     if code == 0x11 then Some responses.Discovery
     else (if code == 0x21 then Some responses.Get else (if code == 0x31 then Some responses.Set else None))
 
+-- the response type with this number, if there is one (E1.20, response type)
 abbrev pub ack_of_code : ℕ → Option AckType
 ack_of_code code =
     if code == 0 then Some Acked

@@ -3,12 +3,15 @@ use Rattle.std.specs.Prelude.{ℕ, List, [], ◌∷◌}
 use Rattle.rdm_wire.specs.Honest.{Heard, Seen}
 use Rattle.rdm_wire.specs.Honest.Asked.{Branch}
 
+-- the device 1234:00000001
 abbrev pub first_device : ℕ
 first_device = 0x123400000001
 
+-- a line with that device alone
 abbrev pub one_there : List ℕ
 one_there = first_device ∷ []
 
+-- a line with that device and 9abc:00000002
 abbrev pub two_there : List ℕ
 two_there = first_device ∷ 0x9abc00000002 ∷ []
 

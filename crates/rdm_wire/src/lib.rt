@@ -13,8 +13,6 @@ mod mute_ack;
 mod muted;
 mod request;
 mod response;
-#[cfg(test)]
-mod tests;
 mod uid;
 mod uid_range;
 mod uid_set;

@@ -1,5 +1,4 @@
 //! What the faults say.
-use super::checks::check_eq;
 use rdm_lanes::{OpenFault, RingFault, RingFull};
 use std::alloc::Global;
 use std::fmt::Display;
@@ -9,7 +8,7 @@ use std::test::Fail;
 // The fault has this text.
 fn says<F: Display>(rt: &impl Abort, alloc: Global, fault: &F, text: &str) -> Result<(), Fail> {
     let said = format!(in alloc; "{fault}")?;
-    check_eq(rt, "fault", &said.as_str(), &text);
+    assert_eq!(rt; said.as_str(), text);
     Ok(())
 }
 

@@ -1,34 +1,33 @@
 //! Why lanes can't be opened.
-use super::checks::check_at;
-use super::moves::fault_of;
-use super::rig::Setup;
 use rdm_lanes::OpenFault;
+use rdm_stage::{Setup, open_fault};
+use std::test::Fail;
+
+// Free entries, places for all clients, the places of each, and why such lanes can't be opened.
+type Row = (usize, u8, &'static [u8], Option<OpenFault>);
+
+static ROWS: [Row; 7] = [
+    (3, 255, &[1, 1], Some(OpenFault::LogFull)),
+    (4, 255, &[1, 1], None),
+    (100, 255, &[1; 17], Some(OpenFault::TooManyClients)),
+    (100, 1, &[1, 1], Some(OpenFault::NoPlaces)),
+    (0, 1, &[1; 17], Some(OpenFault::TooManyClients)),
+    (0, 1, &[1, 1], Some(OpenFault::NoPlaces)),
+    (0, 0, &[], None),
+];
 
 #[test]
-fn faults_of_an_opening_come_in_their_order(rt: HostRuntime) {
-    let rows = [
-        (3usize, 255u8, 2usize, Some(OpenFault::LogFull)),
-        (4, 255, 2, None),
-        (100, 255, 17, Some(OpenFault::TooManyClients)),
-        (100, 1, 2, Some(OpenFault::NoPlaces)),
-        (0, 1, 17, Some(OpenFault::TooManyClients)),
-        (0, 1, 2, Some(OpenFault::NoPlaces)),
-        (0, 0, 0, None),
-    ];
-    let ones = [1u8; 17];
-    for (number, (free, greatest, count, fault)) in rows.into_iter().enumerate() {
+fn faults_of_an_opening_come_in_their_order(rt: HostRuntime) -> Result<(), Fail> {
+    for (number, (free, greatest, places, wanted)) in ROWS.iter().enumerate() {
         let setup = Setup {
-            free,
-            greatest,
+            free: *free,
+            greatest: *greatest,
             ring: 2,
-            places: &ones[..count.min(17)],
+            places,
+            search: None,
         };
-        check_at(
-            &rt,
-            "row",
-            number,
-            &fault_of(&rt, rt.alloc(), setup),
-            &fault,
-        );
+        let fault = open_fault(&rt, rt.alloc(), setup)?;
+        assert_eq!(rt; fault, *wanted, "row {number}");
     }
+    Ok(())
 }

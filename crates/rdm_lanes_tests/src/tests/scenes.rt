@@ -1,136 +1,66 @@
 //! Sessions in threads over simulated lines.
-use super::checks::{check, check_eq};
-use super::heard::Found;
-use super::rig::Setup;
-use super::said::frames;
-use super::searchers::Seeker;
-use super::sessions::{ran, run};
-use arrayvec::ArrayVec;
-use rdm_agent::Search;
-use rdm_join::LineReply;
-use rdm_lanes::WorkerEnd;
-use rdm_line::{Collision, CollisionBytes, Parameters, Scene, SceneDevice, SceneDevices, SimLine};
-use rdm_wire::{Device, Uid};
+use rdm_agent::{Kind, Search};
+use rdm_line::SimLine;
+use rdm_rig::{
+    Ending, Found, Heard, LineOf, Meeting, Placed, Step, Who, Wrong, line_of, one_device,
+    two_devices,
+};
+use rdm_stage::{Failed, Play, Setup, counts_are, play_threads, player_heard, run_players};
 use std::alloc::Global;
-use std::process::Abort;
 use std::sync::Wait;
 use std::test::Fail;
 use std::thread::Threads;
 
-/// The device `1234:00000001`, with a control field and a binding UID.
-pub fn first() -> Device {
-    Device {
-        uid: Uid::new(0x1234, 1),
-        control: 2,
-        binding: Some(Uid::new(0x1234, 5)),
-    }
-}
+// A client that asks for one discovery.
+static SEEKER: [Play; 3] = [
+    Play::Do(Step::Discover(Kind::Full, 30)),
+    Play::Hear,
+    Play::Do(Step::Leave),
+];
 
-/// The device `9abc:00000002`.
-pub fn second() -> Device {
-    Device {
-        uid: Uid::new(0x9abc, 2),
-        control: 0,
-        binding: None,
-    }
-}
-
-// These devices, which are there from the start and never leave.
-#[inline(never)]
-fn present(rt: &impl Abort, alloc: Global, devices: &[Device]) -> SceneDevices {
-    let mut present = SceneDevices::new(alloc);
-    for device in devices {
-        check(rt, !device.uid.is_broadcast());
-        let device = SceneDevice {
-            device: *device,
-            preamble: 7,
-            params: Parameters::new(Vec::new(alloc)),
-            from: 0,
-            until: None,
-        };
-        check(rt, present.add(device).is_ok());
-    }
-    present
-}
-
-/// A line with these devices, on which replies that collide come so, and on which these exchanges are lost.
-#[inline(never)]
-pub fn line_of(
-    rt: &impl Abort,
-    alloc: Global,
-    devices: &[Device],
-    collision: Collision,
-    lost: &[u64],
-) -> Result<SimLine, Fail> {
-    let mut collisions = Vec::new(alloc);
-    check(rt, collisions.push(collision).is_ok());
-    let mut losses = Vec::new(alloc);
-    losses.extend_from_slice(lost)?;
-    let scene = Scene {
-        source: Uid::new(0x7a70, 0x100),
-        devices: present(rt, alloc, devices),
-        collisions,
-        losses,
-        fails: Vec::new(alloc),
-    };
-    Ok(SimLine::new(alloc, scene).ok().ok_or("memory")?)
-}
-
-// Bytes that spell no UID.
-fn noise(rt: &impl Abort) -> Collision {
-    let mut bytes: LineReply = ArrayVec::new();
-    check(rt, bytes.try_push(0xff).is_ok());
-    Collision::Bytes(CollisionBytes::new(bytes).expect(rt, "a byte"))
-}
-
-// Lets a client ask for one discovery over the line: what it was told, and how many frames the session took.
-#[inline(never)]
-fn seeks<R: Threads + Abort + Wait + Sync>(
+// Lets one client ask for a discovery over the line, where runs search like this: how many frames the session took.
+fn seeks<R: Threads + Wait + Sync>(
     rt: &R,
     alloc: Global,
     search: Search,
     line: SimLine,
-) -> (Option<Found>, usize) {
+    found: Found,
+) -> Result<usize, Failed> {
     let setup = Setup {
         free: 1000,
         greatest: 1,
         ring: 4,
         places: &[1],
+        search: Some(search),
     };
-    let seeker = Seeker {
-        wanted: [first().uid, second().uid],
-        found: None,
-    };
-    let mut bodies = Vec::new(alloc);
-    check(rt, bodies.push(seeker).is_ok());
-    let over = ran(rt, run(rt, alloc, Some(search), setup, bodies, line));
-    check_eq(rt, "the worker", &over.worker, &WorkerEnd::AllLeft);
-    check_eq(rt, "run", &over.session.devices_run(), &1);
-    let left = over.left.first().expect(rt, "a client");
-    check_eq(rt, "counts", &left.counts(), &(1, 1, 0));
-    let told = over.bodies.first().expect(rt, "a body").found;
-    (told, frames(&over.session))
-}
-
-// What a first run tells that found these devices.
-fn found(first: Device, second: Option<Device>) -> Option<Found> {
-    Some(Found {
-        tag: 30,
-        run: 1,
-        fault: None,
-        count: if second.is_some() { 2 } else { 1 },
-        first: Some(first),
-        second,
-    })
+    let told = Heard::Discovery(30, 1, Ending::Faultless, found);
+    let heard = [Heard::Done, told, Heard::Done];
+    let over = play_threads(rt, alloc, setup, &[&SEEKER], line, &[&heard])?;
+    counts_are(&over.left, &[(1, 1, 0)])?;
+    if over.state.devices != (1, found) {
+        return Err(Failed::Unmatched);
+    }
+    Ok(over.state.counts.frames.0)
 }
 
 #[test]
 fn a_discovery_over_rings_finds_the_device(rt: HostRuntime) -> Result<(), Fail> {
-    let devices = [first()];
-    let line = line_of(&rt, rt.alloc(), &devices, Collision::Or, &[])?;
-    let told = seeks(&rt, rt.alloc(), Search::Steady, line);
-    check_eq(&rt, "told", &told, &(found(first(), None), 10));
+    let line = one_device(rt.alloc(), &[])?;
+    let frames = seeks(&rt, rt.alloc(), Search::Steady, line, Found::First)?;
+    assert_eq!(rt; frames, 10);
     Ok(())
+}
+
+// A line with both devices, whose colliding replies spell a third one. The replies to these exchanges are lost.
+fn lying_line(alloc: Global, losses: &[u64]) -> Result<SimLine, Wrong> {
+    let devices = [Placed::stays(Who::First), Placed::stays(Who::Second)];
+    let of = LineOf {
+        devices: &devices,
+        meeting: Meeting::Phantom,
+        losses,
+        fails: &[],
+    };
+    line_of(alloc, of)
 }
 
 // Three unmutes; a branch, whose collision spells a device that isn't there; five mutes of it; and in each half a
@@ -138,11 +68,9 @@ fn a_discovery_over_rings_finds_the_device(rt: HostRuntime) -> Result<(), Fail> 
 #[test]
 fn a_line_that_loses_and_lies_tells_of_its_devices(rt: HostRuntime) -> Result<(), Fail> {
     for _session in 0..100 {
-        let devices = [first(), second()];
-        let lie = Collision::Uid(Uid::new(0x5555, 3));
-        let line = line_of(&rt, rt.alloc(), &devices, lie, &[9, 11])?;
-        let told = seeks(&rt, rt.alloc(), Search::Steady, line);
-        check_eq(&rt, "told", &told, &(found(first(), Some(second())), 25));
+        let line = lying_line(rt.alloc(), &[9, 11])?;
+        let frames = seeks(&rt, rt.alloc(), Search::Steady, line, Found::FirstAndSecond)?;
+        assert_eq!(rt; frames, 25);
     }
     Ok(())
 }
@@ -151,17 +79,63 @@ fn a_line_that_loses_and_lies_tells_of_its_devices(rt: HostRuntime) -> Result<()
 // quick one hears no half silent: it makes five branches of the whole range at its end.
 #[test]
 fn a_quick_session_makes_fewer_frames(rt: HostRuntime) -> Result<(), Fail> {
-    let rows = [(Search::Steady, 18), (Search::Quick, 13)];
-    for (search, wanted) in rows {
-        let devices = [first(), second()];
-        let line = line_of(&rt, rt.alloc(), &devices, noise(&rt), &[])?;
-        let told = seeks(&rt, rt.alloc(), search, line);
-        check_eq(
-            &rt,
-            "told",
-            &told,
-            &(found(first(), Some(second())), wanted),
-        );
+    for (search, wanted) in [(Search::Steady, 18), (Search::Quick, 13)] {
+        let line = two_devices(rt.alloc(), [Who::First, Who::Second])?;
+        let frames = seeks(&rt, rt.alloc(), search, line, Found::FirstAndSecond)?;
+        assert_eq!(rt; frames, wanted);
+    }
+    Ok(())
+}
+
+// A client that discovers, and then looks at the devices.
+static FINDER: [Play; 5] = [
+    Play::Do(Step::Discover(Kind::Full, 30)),
+    Play::Hear,
+    Play::Do(Step::Look),
+    Play::Arrive(0),
+    Play::Do(Step::Leave),
+];
+
+// One that collects nothing: it looks before the other one has collected, and after that.
+static VIEWER: [Play; 4] = [
+    Play::Do(Step::Look),
+    Play::Wait(0),
+    Play::Do(Step::Look),
+    Play::Do(Step::Leave),
+];
+
+const BOTH: Heard = Heard::Sees(1, Found::FirstAndSecond);
+
+static FINDER_HEARD: [Heard; 4] = [
+    Heard::Done,
+    Heard::Discovery(30, 1, Ending::Faultless, Found::FirstAndSecond),
+    BOTH,
+    Heard::Done,
+];
+
+// One client discovers, and the other one looks at what it found: what that saw before. Each has read the last view.
+fn views<R: Threads + Wait + Sync>(rt: &R, alloc: Global, line: SimLine) -> Result<Heard, Fail> {
+    let setup = Setup::new(1000, 4, &[1, 1]);
+    let over = run_players(rt, alloc, setup, &[&FINDER, &VIEWER], line)?;
+    let (Some(finder), Some(viewer)) = (over.players.first(), over.players.get(1)) else {
+        return Err("a player is missing")?;
+    };
+    let before = viewer.heard[0];
+    player_heard(finder, 0, &FINDER_HEARD)?;
+    player_heard(viewer, 1, &[before, Heard::Done, BOTH, Heard::Done])?;
+    let is_read = over.left.iter().all(|left| left.run == 1);
+    if !is_read || over.published != 2 || over.state.counts.frames != (23, 0) {
+        return Err("another view or frame")?;
+    }
+    Ok(before)
+}
+
+#[test]
+fn a_client_sees_what_another_one_found(rt: HostRuntime) -> Result<(), Fail> {
+    for _session in 0..100 {
+        let line = lying_line(rt.alloc(), &[])?;
+        let before = views(&rt, rt.alloc(), line)?;
+        assert!(rt; before == BOTH || before == Heard::Sees(0, Found::Nobody));
     }
     Ok(())
 }

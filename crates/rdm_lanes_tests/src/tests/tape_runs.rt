@@ -1,39 +1,83 @@
 //! Discoveries over rings and a tape.
-use super::checks::{check, check_eq};
-use super::heard::{Ending, Heard, Step};
-use super::moves::{Move, play_over, read_alone};
-use super::rig::{Setup, set_up};
-use super::said::{Said, frames, tells_at, tells_run};
-use super::searchers::Searcher;
-use super::sessions::{ran, run};
-use super::tapes::{Pair, seen, tape};
 use rdm_agent::Kind;
-use rdm_lanes::WorkerEnd;
-use rdm_line::TapeLine;
-use std::alloc::Global;
-use std::process::Abort;
-use std::sync::Wait;
-use std::thread::Threads;
+use rdm_rig::{
+    Act, Came, Ending, Found, Heard, Move, Said, Step, Stop, Who, says_at, says_run, tape_of,
+};
+use rdm_stage::{Play, Setup, counts_are, play_taped, play_threads, read_alone};
+use std::test::Fail;
+
+// A full run finds `1234:00000001` and `5678:00000009`: three unmutes, a reply and an acknowledgement of each, and five
+// silences.
+//
+// Then the second one has gone, and `9abc:00000002` has come. An incremental run makes three unmutes; two mutes of the
+// first device, the reply to the first of them being lost; five mutes of the second; a branch and a mute of the new
+// one; and five branches.
+static BOTH_RUNS: [Came; 29] = [
+    Came::Nothing,
+    Came::Nothing,
+    Came::Nothing,
+    Came::Spelt(Who::First),
+    Came::Muted(Who::First),
+    Came::Spelt(Who::Gone),
+    Came::Muted(Who::Gone),
+    Came::Nothing,
+    Came::Nothing,
+    Came::Nothing,
+    Came::Nothing,
+    Came::Nothing,
+    // The incremental run.
+    Came::Nothing,
+    Came::Nothing,
+    Came::Nothing,
+    Came::Nothing,
+    Came::Muted(Who::First),
+    Came::Nothing,
+    Came::Nothing,
+    Came::Nothing,
+    Came::Nothing,
+    Came::Nothing,
+    Came::Spelt(Who::Second),
+    Came::Muted(Who::Second),
+    Came::Nothing,
+    Came::Nothing,
+    Came::Nothing,
+    Came::Nothing,
+    Came::Nothing,
+];
+
+const NONE: Heard = Heard::Sees(0, Found::Nobody);
+
+const KNOWN: Heard = Heard::Sees(1, Found::FirstAndGone);
+
+const PRESENT: Heard = Heard::Sees(2, Found::FirstAndSecond);
+
+const FULL: Heard = Heard::Discovery(5, 1, Ending::Faultless, Found::FirstAndGone);
+
+const INCREMENTAL: Heard = Heard::Discovery(6, 2, Ending::Faultless, Found::FirstAndSecond);
 
 // Makes both runs, each with its last frame in the last turn. A view is read before the answer is collected; what the
 // client collects it knows of without reading.
+static MOVES: [Move; 13] = [
+    (Act::Client(0, Step::Discover(Kind::Full, 5)), Heard::Done),
+    (Act::Work(11), Heard::Worked(Stop::Turns)),
+    (Act::Client(0, Step::Collect), Heard::Nothing),
+    (Act::Client(0, Step::Look), NONE),
+    (Act::Work(1), Heard::Worked(Stop::Turns)),
+    (Act::Client(0, Step::Look), KNOWN),
+    (Act::Client(0, Step::Collect), FULL),
+    (
+        Act::Client(0, Step::Discover(Kind::Incremental, 6)),
+        Heard::Done,
+    ),
+    (Act::Work(17), Heard::Worked(Stop::Turns)),
+    (Act::Client(0, Step::Know), KNOWN),
+    (Act::Client(0, Step::Collect), INCREMENTAL),
+    (Act::Client(0, Step::Know), PRESENT),
+    (Act::Client(0, Step::Look), PRESENT),
+];
+
 #[test]
-fn an_incremental_run_over_rings_has_the_frames_12_to_28(rt: HostRuntime) {
-    static MOVES: [Move; 13] = [
-        Move::Client(0, Step::Discover(Kind::Full, 5), Heard::Sent),
-        Move::Work(11, WorkerEnd::Turns),
-        Move::Finds(0, Pair::Known, None),
-        Move::Looks(0, Pair::Known, 0),
-        Move::Work(1, WorkerEnd::Turns),
-        Move::Looks(0, Pair::Known, 1),
-        Move::Finds(0, Pair::Known, Some((5, 1))),
-        Move::Client(0, Step::Discover(Kind::Incremental, 6), Heard::Sent),
-        Move::Work(17, WorkerEnd::Turns),
-        Move::Knows(0, Pair::Known, 1),
-        Move::Finds(0, Pair::Present, Some((6, 2))),
-        Move::Knows(0, Pair::Present, 2),
-        Move::Looks(0, Pair::Present, 2),
-    ];
+fn an_incremental_run_over_rings_has_the_frames_12_to_28(rt: HostRuntime) -> Result<(), Fail> {
     static BEFORE: [Said; 2] = [Said::Join(0, 1), Said::Ask(0, 0, Kind::Full)];
     static BETWEEN: [Said; 3] = [
         Said::Answer(0, 1, Ending::Faultless),
@@ -41,77 +85,65 @@ fn an_incremental_run_over_rings_has_the_frames_12_to_28(rt: HostRuntime) {
         Said::Ask(0, 1, Kind::Incremental),
     ];
     static AFTER: [Said; 2] = [Said::Answer(1, 2, Ending::Faultless), Said::Collect(0)];
-    let events = tape(&rt, rt.alloc());
-    let setup = set_up(100, 4, &[1]);
-    let session = play_over(&rt, rt.alloc(), setup, events, &MOVES, &[(2, 2, 0)]);
-    check_eq(&rt, "entries", &session.log().entries().len(), &65);
-    tells_at(&rt, &session, 0, &BEFORE);
-    tells_run(&rt, &session, 2, 1, 0, 11);
-    tells_at(&rt, &session, 26, &BETWEEN);
-    tells_run(&rt, &session, 29, 2, 12, 28);
-    tells_at(&rt, &session, 63, &AFTER);
+    let setup = Setup::new(100, 4, &[1]);
+    let over = play_taped(&rt, rt.alloc(), setup, &BOTH_RUNS, &MOVES, &[(2, 2, 0)])?;
+    assert_eq!(rt; over.log.len(), 65);
+    says_at(&over.log, 0, &BEFORE)?;
+    says_run(&over.log, 2, 1, 0, 11)?;
+    says_at(&over.log, 26, &BETWEEN)?;
+    says_run(&over.log, 29, 2, 12, 28)?;
+    says_at(&over.log, 63, &AFTER)?;
+    Ok(())
 }
 
 // The client has read before the worker goes, before the first run's last frame and after it.
 #[test]
-fn the_last_view_stands_without_a_worker(rt: HostRuntime) {
-    static MOVES: [Move; 5] = [
-        Move::Client(0, Step::Discover(Kind::Full, 5), Heard::Sent),
-        Move::Work(11, WorkerEnd::Turns),
-        Move::Looks(0, Pair::Known, 0),
-        Move::Work(1, WorkerEnd::Turns),
-        Move::Looks(0, Pair::Known, 1),
-    ];
-    for (count, run) in [(3, 0), (5, 1)] {
-        let events = tape(&rt, rt.alloc());
-        let setup = set_up(100, 4, &[1]);
-        let read = read_alone(&rt, rt.alloc(), setup, events, &MOVES[..count]);
-        check_eq(&rt, "run", &read, &Some(run));
+fn the_last_view_stands_without_a_worker(rt: HostRuntime) -> Result<(), Fail> {
+    for (count, wanted) in [(4, NONE), (6, KNOWN)] {
+        let line = tape_of(rt.alloc(), &BOTH_RUNS)?;
+        let setup = Setup::new(100, 4, &[1]);
+        let seen = read_alone(&rt, rt.alloc(), setup, line, &MOVES[..count])?;
+        assert_eq!(rt; seen, wanted);
     }
+    Ok(())
 }
 
-// Lets a client in a thread of its own search twice over the tape, by rings of one slot: the client after that.
-#[inline(never)]
-fn searches_in_threads<R: Threads + Abort + Wait + Sync>(rt: &R, alloc: Global) -> Vec<Searcher> {
-    let setup = Setup {
-        free: 100,
-        greatest: 1,
-        ring: 1,
-        places: &[1],
-    };
-    let mut bodies = Vec::new(alloc);
-    check(
-        rt,
-        bodies
-            .push(Searcher::new(Pair::Known.uids(), Pair::Present.uids()))
-            .is_ok(),
-    );
-    let line = TapeLine::new(tape(rt, alloc));
-    let over = ran(rt, run(rt, alloc, None, setup, bodies, line));
-    check_eq(rt, "the worker", &over.worker, &WorkerEnd::AllLeft);
-    check_eq(rt, "views", &over.published, &3);
-    let session = &over.session;
-    check_eq(rt, "run", &session.devices_run(), &2);
-    check_eq(rt, "frames", &frames(session), &29);
-    let left = over.left.first().expect(rt, "a client");
-    check_eq(rt, "counts", &left.counts(), &(2, 2, 0));
-    over.bodies
-}
+// A client that asks for a full discovery and then for an incremental one. It looks at the devices before, and after
+// each.
+static SEARCHER: [Play; 8] = [
+    Play::Do(Step::Look),
+    Play::Do(Step::Discover(Kind::Full, 5)),
+    Play::Hear,
+    Play::Do(Step::Look),
+    Play::Do(Step::Discover(Kind::Incremental, 6)),
+    Play::Hear,
+    Play::Do(Step::Look),
+    Play::Do(Step::Leave),
+];
+
+static SEARCHED: [Heard; 8] = [
+    NONE,
+    Heard::Done,
+    FULL,
+    KNOWN,
+    Heard::Done,
+    INCREMENTAL,
+    PRESENT,
+    Heard::Done,
+];
 
 #[test]
-fn a_client_in_a_thread_sees_what_each_run_found(rt: HostRuntime) {
+fn a_client_in_a_thread_sees_what_each_run_found(rt: HostRuntime) -> Result<(), Fail> {
+    let setup = Setup {
+        greatest: 1,
+        ..Setup::new(100, 1, &[1])
+    };
     for _session in 0..100 {
-        let bodies = searches_in_threads(&rt, rt.alloc());
-        let client = bodies.first().expect(&rt, "a body");
-        check_eq(&rt, "before", &client.before, &Some(seen(0)));
-        check_eq(&rt, "full", &client.full, &Some(Pair::Known.found(5, 1)));
-        check_eq(&rt, "after", &client.after, &Some(seen(1)));
-        check_eq(
-            &rt,
-            "incremental",
-            &client.incremental,
-            &Some(Pair::Present.found(6, 2)),
-        );
-        check_eq(&rt, "at last", &client.at_last, &Some(seen(2)));
+        let line = tape_of(rt.alloc(), &BOTH_RUNS)?;
+        let over = play_threads(&rt, rt.alloc(), setup, &[&SEARCHER], line, &[&SEARCHED])?;
+        counts_are(&over.left, &[(2, 2, 0)])?;
+        assert_eq!(rt; (over.published, over.state.devices.0), (3, 2));
+        assert_eq!(rt; over.state.counts.frames, (29, 0));
     }
+    Ok(())
 }

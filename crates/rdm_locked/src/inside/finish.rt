@@ -1,10 +1,10 @@
 //! How a session leaves its lock.
 ghost use Rattle.std.specs.Prelude.{◌≡◌, ◌≢◌, ◌≤◌, ◌<◌, ◌+◌, length, Some, OnOk, IfOk, IfErr, IfNone};
 ghost use Rattle.std.specs.List.{sum_by};
-ghost use Rattle.rdm_queue.specs.log.History.{next_client};
-ghost use Rattle.rdm_queue.specs.log.Legal.{Legal};
-ghost use Rattle.rdm_queue.specs.promises.LogInBound.{InBound};
-ghost use Rattle.rdm_queue.specs.promises.Promised.{Promised};
+ghost use Rattle.rdm_log.specs.log.History.{next_client};
+ghost use Rattle.rdm_log.specs.log.Legal.{Legal};
+ghost use Rattle.rdm_log.specs.promises.LogInBound.{InBound};
+ghost use Rattle.rdm_log.specs.promises.Promised.{Promised};
 ghost use Rattle.rdm_locked.specs.Calls.{count_calls};
 ghost use Rattle.rdm_locked.specs.Exchanges.{exchanges_in, recorded};
 

@@ -7,7 +7,7 @@ use rdm_queue::{Completion, NoMemory, Outcome};
 use std::alloc::Global;
 use std::process::Abort;
 
-// A desk with this many places, made again where memory is refused.
+// A desk with this many places, made again if an allocation fails.
 fn desk(rt: &impl Abort, memory: &mut Memory, alloc: Global, places: u8) -> Desk<Note, AskNote> {
     match Desk::new(alloc, places) {
         Ok(desk) => desk,

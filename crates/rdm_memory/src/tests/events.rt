@@ -65,7 +65,7 @@ fn have_no_client(answers: &[Answer]) -> bool {
     )
 }
 
-// Answers the events, again where memory for the answers is refused; the session is then as new.
+// Answers the events, again if there is no memory for the answers; the session is then as new.
 fn runs(
     rt: &impl Abort,
     memory: &mut Memory,
@@ -163,7 +163,7 @@ fn run_of_many_events(rt: HostRuntime) {
     }
 }
 
-// Answers a join, again where memory is refused.
+// Answers a join, again if an allocation fails.
 fn joins(rt: &impl Abort, memory: &mut Memory, alloc: Global, session: &mut Session) {
     let joined = session.answer(alloc, &Event::Join(1));
     if matches!(&joined, Answer::Join(Err(JoinFault::NoMemory))) {

@@ -18,7 +18,7 @@ use std::process::Abort;
 use std::sync::Wait;
 use std::sync::ledger::{Blank, Ledger};
 
-// A port with two places in a log with 100 free entries, made again where memory is refused.
+// A port with two places in a log with 100 free entries, made again if an allocation fails.
 fn port<L: Ledger, R: Abort>(rt: &R, memory: &mut Memory, alloc: Global, blank: Blank) -> Port<L>
     requires name { blank.name ≡ L.name }
     requires parts { (blank.parts ≡ L.parts) × (L.parts ≡ 17) }
@@ -49,7 +49,7 @@ fn port_again<L: Ledger, R: Abort>(rt: &R, alloc: Global, blank: Blank, log: Log
 
 type Client<'a, L> = LockedClient<'a, L, Note, AskNote>;
 
-// A client with two places, which joins again where memory is refused.
+// A client with two places, which joins again if an allocation fails.
 fn client<'a, L: Ledger, R: Wait + Abort>(
     rt: &R,
     memory: &mut Memory,
@@ -79,7 +79,7 @@ fn told(collected: &Option<Collected>, tag: u64, length: usize) -> Option<(Statu
     }
 }
 
-// One turn of the worker; two where memory for its record is refused, of which the first makes no exchange.
+// One turn of the worker; two if there is no memory for its record, of which the first makes no exchange.
 fn works<L: Ledger, R: Wait + Abort>(
     rt: &R,
     memory: &mut Memory,
@@ -185,7 +185,7 @@ fn answered<L: Ledger, R: Wait + Abort>(
     Status::NoMemory
 }
 
-// A client is told two bytes, in its second request where memory for them is refused in its first.
+// A client is told two bytes, in its second request if there is no memory for them in its first.
 fn serves_data<L: Ledger, R: Wait + Abort>(rt: &R, alloc: Global, blank: Blank)
     requires name { blank.name ≡ L.name }
     requires parts { (blank.parts ≡ L.parts) × (L.parts ≡ 17) }
@@ -238,7 +238,7 @@ fn port_work(rt: HostRuntime) {
     serves_data::<Brand, _>(&rt, rt.alloc(), Blank::new(17));
 }
 
-// What lies under the lock, made again where memory is refused.
+// What lies under the lock, made again if an allocation fails.
 fn inside<L: Ledger, R: Abort>(
     rt: &R,
     memory: &mut Memory,
@@ -272,7 +272,7 @@ fn inside_again<L: Ledger, R: Abort>(rt: &R, alloc: Global, blank: Blank, log: L
     }
 }
 
-// The share of the first client, which joins again where memory is refused. The log alone has changed then.
+// The share of the first client, which joins again if an allocation fails. The log alone has changed then.
 fn joined<L: Ledger, R: Abort>(
     rt: &R,
     memory: &mut Memory,

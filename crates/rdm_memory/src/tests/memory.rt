@@ -1,19 +1,19 @@
-//! How many growths were refused.
+//! How many allocations failed.
 use std::process::Abort;
 
-/// The memory of a test, of whose growths one at most is refused.
+/// The memory of a test. One of its allocations at most fails.
 #[derive(Drop)]
 pub struct Memory {
     was_refused: bool,
 }
 
 impl Memory {
-    /// Memory of which nothing was refused so far.
+    /// Memory of which no allocation failed so far.
     pub fn new() -> Memory {
         Memory { was_refused: false }
     }
 
-    /// Takes a refusal, which is the first.
+    /// Takes a failure, which is the first.
     pub fn refuses(&mut self, rt: &impl Abort) {
         assert!(rt; !self.was_refused);
         self.was_refused = true;

@@ -8,7 +8,7 @@ use rdm_queue::{Completion, Controller, JoinFault, NoMemory, NotAsked, SubmitFau
 use std::alloc::Global;
 use std::process::Abort;
 
-// A controller with this many places, made again where memory is refused.
+// A controller with this many places, made again if an allocation fails.
 fn controller(rt: &impl Abort, memory: &mut Memory, alloc: Global, places: u8) -> Controller {
     match Controller::new(alloc, config(places)) {
         Ok(controller) => controller,
@@ -19,7 +19,7 @@ fn controller(rt: &impl Abort, memory: &mut Memory, alloc: Global, places: u8) -
     }
 }
 
-// Lets the first client join with this many places, again where memory is refused. Nothing has changed then.
+// Lets the first client join with this many places, again if an allocation fails. Nothing has changed then.
 fn joins(
     rt: &impl Abort,
     memory: &mut Memory,

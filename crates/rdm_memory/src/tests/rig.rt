@@ -1,6 +1,6 @@
 //! How sessions are set up, requests, and replies in bytes.
 ghost use Rattle.std.specs.Prelude.{◌≡◌, []};
-ghost use Rattle.rdm_queue.specs.log.Config.{IsConfig};
+ghost use Rattle.rdm_log.specs.log.Config.{IsConfig};
 
 use super::memory::Memory;
 use arrayvec::ArrayVec;
@@ -124,7 +124,7 @@ pub fn is_data(bytes: &[u8], length: usize) -> bool {
     bytes.len() == length && bytes.iter().all(|byte| *byte == 0x5a)
 }
 
-/// A log with this many free entries, made again where memory is refused.
+/// A log with this many free entries, made again if an allocation fails.
 pub fn log(rt: &impl Abort, memory: &mut Memory, alloc: Global, free: usize) -> Log
     ensures { result.entries ≡ [] }
 {
@@ -146,7 +146,7 @@ pub fn is_blank(log: &Log) -> bool {
         && log.opening().next_run == 0
 }
 
-/// A session with this many places in this log, made again where memory is refused; the log then comes back.
+/// A session with this many places in this log, made again if an allocation fails; the log then comes back.
 pub fn session_in(
     rt: &impl Abort,
     memory: &mut Memory,
@@ -188,7 +188,7 @@ pub fn session(
     session_in(rt, memory, alloc, places, log)
 }
 
-/// Room for this many items, made again where memory is refused.
+/// Room for this many items, made again if an allocation fails.
 pub fn room_for<T>(rt: &impl Abort, memory: &mut Memory, alloc: Global, count: usize) -> Vec<T> {
     match Vec::with_capacity(alloc, count) {
         Ok(items) => items,
@@ -213,7 +213,7 @@ pub fn is_refused_join(entry: Option<&Entry>, wanted: u8) -> bool {
     }
 }
 
-/// Lets this client join with this many places, again where memory is refused. The log alone has changed then.
+/// Lets this client join with this many places, again if an allocation fails. The log alone has changed then.
 pub fn joins(
     rt: &impl Abort,
     memory: &mut Memory,

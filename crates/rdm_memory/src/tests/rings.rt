@@ -89,7 +89,7 @@ fn play_with<J: ViewHistory, R: Abort + Wait>(
     }
 }
 
-// Plays, and once more with the log that came back where memory for the lanes is refused.
+// Plays, and once more with the log that came back if there is no memory for the lanes.
 fn plays_again<R: Abort + Wait>(rt: &R, alloc: Global, play: Play) {
     let mut memory = Memory::new();
     let log = log(rt, &mut memory, alloc, 100);

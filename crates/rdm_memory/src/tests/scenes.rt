@@ -32,7 +32,7 @@ fn puts(
     devices.add(device)
 }
 
-// Puts in the device with this number, again where memory is refused; it isn't there then.
+// Puts in the device with this number, again if an allocation fails; it isn't there then.
 fn adds(
     rt: &impl Abort,
     memory: &mut Memory,
@@ -88,7 +88,7 @@ fn scene(
     }
 }
 
-// A line of the scene, made again where memory is refused; the scene then comes back.
+// A line of the scene, made again if an allocation fails; the scene then comes back.
 fn line(
     rt: &impl Abort,
     memory: &mut Memory,

@@ -12,19 +12,19 @@ use Rattle.rdm_join.specs.Result.{Joined, result_of}
 use Rattle.rdm_join.specs.JoinerStanding.{JoinerStanding, StandsAt}
 use Rattle.rdm_agent.specs.Calls.{next_op}
 use Rattle.rdm_agent.specs.declared.op.Op.TheVariants.{End}
-use Rattle.rdm_queue.specs.declared.entry.Opening.{Opening}
-use Rattle.rdm_queue.specs.declared.entry.Entry.{Entry}
-use Rattle.rdm_queue.specs.declared.entry.Entry.TheVariants.{Came, Close}
+use Rattle.rdm_log.specs.declared.entry.Opening.{Opening}
+use Rattle.rdm_log.specs.declared.entry.Entry.{Entry}
+use Rattle.rdm_log.specs.declared.entry.Entry.TheVariants.{Came, Close}
 use Rattle.rdm_queue.specs.declared.pending.Awaited.{Awaited}
 use Rattle.rdm_queue.specs.declared.pending.Awaited.TheVariants as awaiting
-use Rattle.rdm_queue.specs.log.Entries.{sends, verdicts, result}
-use Rattle.rdm_queue.specs.log.History.{awaited, is_closed}
+use Rattle.rdm_log.specs.log.Entries.{sends, verdicts, result}
+use Rattle.rdm_log.specs.log.History.{awaited, is_closed}
 use Rattle.rdm_queue.specs.body.State.{QueueState, ProgressAt, Hears, HearsRequest}
 use Rattle.rdm_queue.specs.body.Sending.{hears_run}
 use Rattle.rdm_queue.specs.body.Agrees.{AwaitsRequest, IsPending, oldest_number, Agrees, StandsAfter, StandsAmid}
-use Rattle.rdm_queue.proofs.LogLemmas.Grows.{pushed}
-use Rattle.rdm_queue.proofs.LogLemmas.PushLemmas.{joins_same, is_paused-push, is_closed-push}
-use Rattle.rdm_queue.proofs.LogLemmas.LegalFacts.{LogFacts, IsAwaited, IsRunAwaited, legal_facts, unfinished_number}
+use Rattle.rdm_log.proofs.LogLemmas.Grows.{pushed}
+use Rattle.rdm_log.proofs.LogLemmas.PushLemmas.{joins_same, is_paused-push, is_closed-push}
+use Rattle.rdm_log.proofs.LogLemmas.LegalFacts.{LogFacts, IsAwaited, IsRunAwaited, legal_facts, unfinished_number}
 use Rattle.rdm_queue.proofs.BodyLemmas.AgreesSame.{same_work, stands_same}
 use Rattle.rdm_queue.proofs.BodyLemmas.AgreesWork.{stands_came, last_owner}
 use Rattle.rdm_queue.proofs.BodyLemmas.AgreesRuns.{stands_run_came}

@@ -16,41 +16,41 @@ use Rattle.rdm_wire.specs.CommandFrames.{request_fields, code_of_request_class}
 use Rattle.rdm_wire.proofs.PacketLemmas.{fields_at-packet}
 use Rattle.rdm_join.specs.declared.verdict.Sent.{Sent}
 use Rattle.rdm_join.specs.Verdict.{sent_by}
-use Rattle.rdm_queue.specs.declared.config.Config.{Config}
-use Rattle.rdm_queue.specs.declared.entry.ClientId.{ClientId}
-use Rattle.rdm_queue.specs.declared.entry.Call.TheVariants as calls
-use Rattle.rdm_queue.specs.declared.entry.Owner.{Owner}
-use Rattle.rdm_queue.specs.declared.entry.Opening.{Opening}
-use Rattle.rdm_queue.specs.declared.entry.Entry.{Entry}
-use Rattle.rdm_queue.specs.declared.entry.Entry.TheVariants.{Join, Refuse, Accept, Send, Finish, Collect, Pause, Resume}
-use Rattle.rdm_queue.specs.declared.entry.Entry.TheVariants as discovery
-use Rattle.rdm_queue.specs.declared.fault.JoinFault.{JoinFault}
-use Rattle.rdm_queue.specs.declared.fault.SubmitFault.{SubmitFault}
-use Rattle.rdm_queue.specs.declared.fault.AskFault.{AskFault}
+use Rattle.rdm_log.specs.declared.config.Config.{Config}
+use Rattle.rdm_log.specs.declared.entry.ClientId.{ClientId}
+use Rattle.rdm_log.specs.declared.entry.Call.TheVariants as calls
+use Rattle.rdm_log.specs.declared.entry.Owner.{Owner}
+use Rattle.rdm_log.specs.declared.entry.Opening.{Opening}
+use Rattle.rdm_log.specs.declared.entry.Entry.{Entry}
+use Rattle.rdm_log.specs.declared.entry.Entry.TheVariants.{Join, Refuse, Accept, Send, Finish, Collect, Pause, Resume}
+use Rattle.rdm_log.specs.declared.entry.Entry.TheVariants as discovery
+use Rattle.rdm_log.specs.declared.fault.JoinFault.{JoinFault}
+use Rattle.rdm_log.specs.declared.fault.SubmitFault.{SubmitFault}
+use Rattle.rdm_log.specs.declared.fault.AskFault.{AskFault}
 use Rattle.rdm_queue.specs.declared.pending.Awaited.{Awaited}
 use Rattle.rdm_queue.specs.declared.pending.Awaited.TheVariants as awaiting
-use Rattle.rdm_queue.specs.log.Legal.{MayFollow}
-use Rattle.rdm_queue.specs.log.Entries.{Accepted, finished_of, answered_of, joins, accepts, asks, sends, cames, finishes, answers, collectors, traded, of_request, verdicts}
-use Rattle.rdm_queue.specs.log.Runs.{last_run, last_run_without_fault}
-use Rattle.rdm_queue.specs.log.History.{awaited, is_paused, is_closed, can_pause, can_resume}
-use Rattle.rdm_queue.specs.log.Clients.{is_answer_to, answers_to, uncollected, outstanding_requests, outstanding_discoveries}
-use Rattle.rdm_queue.specs.log.Refusals.{join_fault, submit_fault, ask_fault, IsRefused, number_of_join_fault, number_of_submit_fault, number_of_ask_fault}
-use Rattle.rdm_queue.specs.log.MaySend.{MaySend}
-use Rattle.rdm_queue.specs.log.Legal.{Legal}
-use Rattle.rdm_queue.specs.promises.Outcomes.{OutcomeValue, outcome_value, outcome_of, oldest_kind, kind_of_answer}
-use Rattle.rdm_queue.specs.promises.Blocks.{RefusesJoin, join_refused, submit_refused, ask_refused, IsOldest}
-use Rattle.rdm_queue.specs.declared.outcome.Outcome.{Outcome}
-use Rattle.rdm_queue.specs.log.LogState.{opened}
+use Rattle.rdm_log.specs.log.Legal.{MayFollow}
+use Rattle.rdm_log.specs.log.Entries.{Accepted, finished_of, answered_of, joins, accepts, asks, sends, cames, finishes, answers, collectors, traded, of_request, verdicts}
+use Rattle.rdm_log.specs.log.Runs.{last_run}
+use Rattle.rdm_log.specs.log.History.{awaited, is_paused, is_closed, can_pause, can_resume}
+use Rattle.rdm_log.specs.log.Clients.{is_answer_to, answers_to, uncollected, outstanding_requests, outstanding_discoveries}
+use Rattle.rdm_log.specs.log.Refusals.{join_fault, submit_fault, ask_fault, IsRefused, number_of_join_fault, number_of_submit_fault, number_of_ask_fault}
+use Rattle.rdm_log.specs.log.MaySend.{MaySend}
+use Rattle.rdm_log.specs.log.Legal.{Legal}
+use Rattle.rdm_log.specs.promises.Outcomes.{OutcomeValue, outcome_value, outcome_of, oldest_kind, kind_of_answer}
+use Rattle.rdm_log.specs.promises.Blocks.{RefusesJoin, join_refused, submit_refused, ask_refused, IsOldest}
+use Rattle.rdm_log.specs.declared.outcome.Outcome.{Outcome}
+use Rattle.rdm_log.specs.log.LogState.{opened}
 use Rattle.rdm_queue.specs.body.State.{QueueState, first_state, first_join_fault, first_submit_fault, first_ask_fault, outstanding, outstanding_asks, is_discovery, owed_to, joins_client, accepts_request, asks_discovery, collects_oldest, first_kind, kind_of_value}
 use Rattle.rdm_queue.specs.body.Sending.{sent_for}
 use Rattle.rdm_queue.specs.body.Agrees.{IsPending, Agrees, StandsAfter}
-use Rattle.rdm_queue.proofs.LogLemmas.Grows.{empty}
-use Rattle.rdm_queue.proofs.LogLemmas.LegalFacts.{LogFacts, legal_facts}
-use Rattle.rdm_queue.proofs.LogLemmas.ClientFacts.{ClientFacts, client_facts, outstanding_parts, outstanding_discovery_parts}
-use Rattle.rdm_queue.proofs.LogLemmas.AskFacts.{AskFacts, ask_facts}
-use Rattle.rdm_queue.proofs.LogLemmas.PushLemmas.{joins_same, joins_more, is_paused-push, is_closed-push}
-use Rattle.rdm_queue.proofs.LogLemmas.KeepsLegal.{join_keeps, refuse_keeps, collect_keeps, pause_keeps, resume_keeps, accept_keeps, ask_keeps}
-use Rattle.rdm_queue.proofs.BodyLemmas.OutcomeLemmas.{answers_passed}
+use Rattle.rdm_log.proofs.LogLemmas.Grows.{empty}
+use Rattle.rdm_log.proofs.LogLemmas.LegalFacts.{LogFacts, legal_facts}
+use Rattle.rdm_log.proofs.LogLemmas.ClientFacts.{ClientFacts, client_facts, outstanding_parts, outstanding_discovery_parts}
+use Rattle.rdm_log.proofs.LogLemmas.AskFacts.{AskFacts, ask_facts}
+use Rattle.rdm_log.proofs.LogLemmas.PushLemmas.{joins_same, joins_more, is_paused-push, is_closed-push}
+use Rattle.rdm_log.proofs.LogLemmas.KeepsLegal.{join_keeps, refuse_keeps, collect_keeps, pause_keeps, resume_keeps, accept_keeps, ask_keeps}
+use Rattle.rdm_log.proofs.PromiseLemmas.OutcomeLemmas.{answers_passed}
 use Rattle.rdm_queue.proofs.BodyLemmas.InvariantLemmas.{none_owed_more}
 use Rattle.rdm_queue.proofs.BodyLemmas.AgreesSame.{SameWork, same_work, stands_same}
 use Rattle.rdm_queue.proofs.BodyLemmas.AgreesWork.{stands_accept, stands_ask, stands_collect}
@@ -66,7 +66,7 @@ clients_after o h s after = client_facts o h after.legal.each
 
 -- a queue without calls
 pub first_after : (config : Config) → StandsAfter (opened config) [] (first_state config)
-unfolding joins accepts asks sends cames finishes answers collectors traded of_request verdicts awaited is_paused is_closed answers_to last_run last_run_without_fault
+unfolding joins accepts asks sends cames finishes answers collectors traded of_request verdicts awaited is_paused is_closed answers_to last_run
 first_after config = record {
   legal = empty (opened config);
   goes_on = tt;

@@ -9,30 +9,27 @@ use Rattle.arrayvec.specs.ArrayVec.{ArrayVec}
 use Rattle.rdm_wire.specs.Lists.{EachAfter}
 use Rattle.rdm_join.specs.declared.event.LineEvent.{LineEvent}
 use Rattle.rdm_agent.specs.declared.kind.Kind.{Kind}
-use Rattle.rdm_queue.specs.declared.entry.Owner.TheVariants as owners
-use Rattle.rdm_queue.specs.declared.entry.Opening.{Opening}
-use Rattle.rdm_queue.specs.declared.entry.Entry.{Entry}
-use Rattle.rdm_queue.specs.declared.entry.Entry.TheVariants.{Send, Came}
+use Rattle.rdm_log.specs.declared.entry.Owner.TheVariants as owners
+use Rattle.rdm_log.specs.declared.entry.Opening.{Opening}
+use Rattle.rdm_log.specs.declared.entry.Entry.{Entry}
+use Rattle.rdm_log.specs.declared.entry.Entry.TheVariants.{Send, Came}
 use Rattle.rdm_queue.specs.declared.pending.Awaited.TheVariants as awaiting
-use Rattle.rdm_queue.specs.log.Entries.{AskedDiscovery, Sending, asks, sends, cames, answers, is_request}
-use Rattle.rdm_queue.specs.log.History.{unanswered}
-use Rattle.rdm_queue.specs.log.Runs.{last_run, asked_before}
-use Rattle.rdm_queue.specs.log.Legal.{MayFollow}
+use Rattle.rdm_log.specs.log.Entries.{AskedDiscovery, Sending, asks, sends, cames, answers, is_request}
+use Rattle.rdm_log.specs.log.History.{unanswered}
+use Rattle.rdm_log.specs.log.Runs.{last_run}
+use Rattle.rdm_log.specs.log.Legal.{MayFollow}
 use Rattle.rdm_queue.specs.body.State.{QueueState, RunState}
 use Rattle.rdm_queue.specs.body.Agrees.{IsNotRunning, RunIs, oldest_number, Agrees}
-use Rattle.rdm_queue.proofs.LogLemmas.PushLemmas.{joins_same, accepts_same, asks_same, answered_same, sends_same, sends_more, cames_same, finishes_same, collectors_same, awaited-push, is_paused-push, is_closed-push, unfinished_same}
-use Rattle.rdm_queue.proofs.LogLemmas.ExchangeLemmas.{IsUnanswered, verdicts_same, verdicts_sent, verdicts_came_other}
-use Rattle.rdm_queue.proofs.LogLemmas.LegalFacts.{LogFacts}
-use Rattle.rdm_queue.proofs.LogLemmas.AskFacts.{AskFacts}
-use Rattle.rdm_queue.proofs.LogLemmas.ClientLemmas.{answers_same}
-use Rattle.rdm_queue.proofs.LogLemmas.ClientFacts.{ClientFacts}
-use Rattle.rdm_queue.proofs.LogLemmas.RunLemmas.{last_run_same, last_run_sent}
-use Rattle.rdm_queue.proofs.BodyLemmas.OutcomeLemmas.{outcomes_step, known_step}
-use Rattle.rdm_queue.proofs.BodyLemmas.RunningLemmas.{asked_stays}
+use Rattle.rdm_log.proofs.LogLemmas.PushLemmas.{joins_same, accepts_same, asks_same, answered_same, sends_same, sends_more, cames_same, finishes_same, collectors_same, awaited-push, is_paused-push, is_closed-push, unfinished_same}
+use Rattle.rdm_log.proofs.LogLemmas.ExchangeLemmas.{IsUnanswered, verdicts_same, verdicts_sent, verdicts_came_other}
+use Rattle.rdm_log.proofs.LogLemmas.LegalFacts.{LogFacts}
+use Rattle.rdm_log.proofs.LogLemmas.AskFacts.{AskFacts}
+use Rattle.rdm_log.proofs.LogLemmas.ClientLemmas.{answers_same}
+use Rattle.rdm_log.proofs.LogLemmas.ClientFacts.{ClientFacts}
+use Rattle.rdm_log.proofs.LogLemmas.RunLemmas.{last_run_same, last_run_sent}
+use Rattle.rdm_log.proofs.PromiseLemmas.OutcomeLemmas.{outcomes_step, known_step}
 use Rattle.rdm_queue.proofs.BodyLemmas.AgreesSame.{devices_run_same}
 use Rattle.std.specs.Prelude.{◌-◌}
-use Rattle.std.specs.List.{before_first}
-use Rattle.std.proofs.lemmas.Bool.{or_parts}
 use Rattle.std.proofs.lemmas.List.Sums.{fold_push}
 use Rattle.rdm_wire.specs.Devices.{uids_of}
 use Rattle.rdm_wire.specs.declared.device.Device.{Device}
@@ -47,20 +44,22 @@ use Rattle.rdm_agent.specs.OpFrames.{op_frame}
 use Rattle.rdm_agent.specs.declared.op.Op.TheVariants.{End}
 use Rattle.rdm_agent.specs.declared.fault.AgentFault.{AgentFault}
 use Rattle.rdm_agent.proofs.CallLemmas.{next_asked, hears-has_run, aborted_ends}
-use Rattle.rdm_queue.specs.declared.entry.Entry.TheVariants.{Answer}
-use Rattle.rdm_queue.specs.log.Clients.{client_of_discovery}
-use Rattle.rdm_queue.specs.log.Runs.{has_begun, sends_run, entries_before_run, is_answered, unserved, run_exchanges, run_kind, known_at_run, known_devices, last_run_without_fault, if_without_fault, devices_of, devices_run, run_devices, answer_devices}
+use Rattle.rdm_log.specs.declared.entry.Entry.TheVariants.{Answer}
+use Rattle.rdm_log.specs.log.Clients.{client_of_discovery}
+use Rattle.rdm_log.specs.log.Runs.{has_begun, is_answered, run_exchanges, run_kind, known_at_run, known_devices, last_run_without_fault, if_without_fault, devices_of, devices_run, run_devices, answer_devices}
 use Rattle.rdm_queue.specs.body.Sending.{begun, kind_of, hears_run}
 use Rattle.rdm_queue.specs.body.Sending.{sends_run as gives_run}
 use Rattle.rdm_queue.specs.body.Ending.{answer_of, answer_value, answers_oldest, devices_after, devices_run_after}
 use Rattle.rdm_queue.specs.body.Agrees.{AwaitsRun, IsRunning, IsPending}
-use Rattle.rdm_queue.proofs.LogLemmas.PushLemmas.{answered_more, unanswered_answer}
-use Rattle.rdm_queue.proofs.LogLemmas.AskFacts.{unanswered_place}
-use Rattle.rdm_queue.proofs.LogLemmas.ClientLemmas.{answers_answer_own, answers_answer_other, client_of_unanswered}
-use Rattle.rdm_queue.proofs.LogLemmas.RunLemmas.{last_begun, served_stays, entries_before_run_stays, before_first-cons, has_begun_more, no_exchanges, run_exchanges_sent, run_exchanges_came_own, run_exchanges_same}
-use Rattle.rdm_queue.proofs.LogLemmas.RunFacts.{RunFacts, never_named}
-use Rattle.rdm_queue.proofs.BodyLemmas.OutcomeLemmas.{some_at}
+use Rattle.rdm_log.proofs.LogLemmas.PushLemmas.{answered_more, unanswered_answer}
+use Rattle.rdm_log.proofs.LogLemmas.AskFacts.{unanswered_place}
+use Rattle.rdm_log.proofs.LogLemmas.ClientLemmas.{answers_answer_own, answers_answer_other, client_of_unanswered}
+use Rattle.rdm_log.proofs.LogLemmas.RunLemmas.{last_begun, served_stays, entries_before_run_stays, no_exchanges, run_exchanges_sent, run_exchanges_came_own, run_exchanges_same}
+use Rattle.rdm_log.proofs.LogLemmas.RunFacts.{RunFacts, never_named}
+use Rattle.rdm_log.proofs.PromiseLemmas.OutcomeLemmas.{some_at}
 use Rattle.rdm_queue.proofs.BodyLemmas.AgreesWork.{unanswered_of, count_more, owed_more}
+use Rattle.rdm_log.proofs.LogLemmas.RunningLemmas.{asked_stays}
+use Rattle.rdm_log.proofs.LogLemmas.BegunLemmas.{before_begun, begins_now, all_unserved}
 
 -- an agent that asks for more wasn't stopped
 pub not_stopped : {search : Search} (kind : Kind) (known : List ℕ) (budget : ℕ) (aborted : Bool) (x : List Seen) (a : AgentState) → HasRunBy search kind known budget aborted x a → next_op a ≢ End → HasRunBy search kind known budget false x a
@@ -133,24 +132,6 @@ stands_run_send o h s r frame each may even is goes frame_is asks_is stands = re
 
     started : has_begun r.number h ≡ true
     started = last_begun r.number h before.last
-
--- what stood before a run that begins
-before_new : {X : Type 0} (p : X → Bool) (xs : List X) (y : X) → list_any p xs ≡ false → p y ≡ true → before_first p (xs ++ y ∷ []) ≡ xs
-before_new p [] y none own = before_first-cons p y [] ∙ rw own refl
-before_new p (x ∷ xs) y none own = let parts = or_parts (p x) (list_any p xs) none in before_first-cons p x (xs ++ y ∷ []) ∙ rw parts.0 (ap (λ l. x ∷ l) (before_new p xs y parts.1 own))
-
-pub before_begun : (r : ℕ) (h : List Entry) (frame : ArrayVec ℕ) → has_begun r h ≡ false → entries_before_run r (h ++ Send (owners.Run r) frame ∷ []) ≡ h
-unfolding has_begun entries_before_run
-before_begun r h frame none = before_new (sends_run r) h (Send (owners.Run r) frame) none (eq-eqb r r refl)
-
-begins_now : (r : ℕ) (h : List Entry) (frame : ArrayVec ℕ) → has_begun r h ≡ false → has_begun r (h ++ Send (owners.Run r) frame ∷ []) ≡ true
-begins_now r h frame none = has_begun_more r h (Send (owners.Run r) frame) ∙ rw (none, eq-eqb r r refl) refl
-
-pub all_unserved : (h : List Entry) → asked_before (last_run h) h ≤ length (answers h) → unserved h ≡ unanswered h
-all_unserved h none = ap (λ n. drop n (unanswered h)) (zero_of _ _ none)
-  where
-    zero_of : (n m : ℕ) → n ≤ m → n - m ≡ 0
-    zero_of n m p = omega arith
 
 -- a run begins with its first frame
 pub stands_begin : (o : Opening) (h : List Entry) (s : QueueState) (frame : ArrayVec ℕ) → EachAfter (MayFollow o) h → MayFollow o h (Send (owners.Run s.next_run) frame) → RunFacts o h → AskFacts o h → length (sends h) ≡ length (cames h) → s.run ≡ None → s.under_way ≡ false → 1 ≤ length s.asked → 1 ≤ s.next_run → HasRunBy s.search (kind_of s.asked) (uids_of s.devices) s.budget false [] (begun s).agent → next_op (begun s).agent ≢ End
@@ -296,7 +277,6 @@ devices_same o h n q f None = refl
 devices_same o h n q f (Some r) = rw (exchanges_answered h n q f r) refl
 
 without_fault_after : (h : List Entry) (n q : ℕ) (f : Option AgentFault) → last_run_without_fault (h ++ Answer n q f ∷ []) ≡ if_without_fault (last_run_without_fault h) (record { number = n; run = q; fault = f })
-unfolding last_run_without_fault
 without_fault_after h n q f = rw (answered_more h (Answer n q f) _ refl) (fold_push if_without_fault None (answers h) (record { number = n; run = q; fault = f }))
 
 pub known_kept : (o : Opening) (h : List Entry) (n q : ℕ) (fault : AgentFault) → known_devices o h ≡ known_devices o (h ++ Answer n q (Some fault) ∷ [])

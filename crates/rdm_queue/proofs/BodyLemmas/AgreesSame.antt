@@ -1,24 +1,25 @@
 -- A queue stands where it stood, after entries that aren't of the work on requests or discoveries.
 use Rattle.std.proofs.Common.{◌≡◌, ℕ, ◌+◌, Bool, false, List, [], ◌∷◌, ◌++◌, length, Option, Some, None, refl, sym, ap, ◌∙◌, inl}
 use Rattle.rdm_wire.specs.Lists.{EachAfter}
-use Rattle.rdm_queue.specs.declared.entry.Opening.{Opening}
-use Rattle.rdm_queue.specs.declared.entry.Entry.{Entry}
+use Rattle.rdm_log.specs.declared.entry.Opening.{Opening}
+use Rattle.rdm_log.specs.declared.entry.Entry.{Entry}
 use Rattle.rdm_queue.specs.declared.pending.Awaited.{Awaited}
 use Rattle.rdm_queue.specs.declared.pending.Awaited.TheVariants as awaiting
-use Rattle.rdm_queue.specs.log.Entries.{Sending, asks, sends, finishes, answers, collectors, sending_of, came_of, collector_of}
-use Rattle.rdm_queue.specs.log.History.{awaits_after, awaited, is_paused, is_closed, places}
-use Rattle.rdm_queue.specs.log.Clients.{answers_to}
-use Rattle.rdm_queue.specs.log.Runs.{last_run_without_fault, devices_run}
-use Rattle.rdm_queue.specs.log.Legal.{MayFollow}
-use Rattle.rdm_queue.specs.promises.Outcomes.{OutcomeValue}
+use Rattle.rdm_log.specs.log.Entries.{Sending, asks, sends, finishes, answers, collectors, sending_of, came_of, collector_of}
+use Rattle.rdm_log.specs.log.History.{awaits_after, awaited, is_paused, is_closed, places}
+use Rattle.rdm_log.specs.log.Clients.{answers_to}
+use Rattle.rdm_log.specs.log.Runs.{devices_run}
+use Rattle.rdm_log.specs.log.Legal.{MayFollow}
+use Rattle.rdm_log.specs.promises.Outcomes.{OutcomeValue}
 use Rattle.rdm_queue.specs.body.State.{QueueState, owed_to}
 use Rattle.rdm_queue.specs.body.State.{uncollected as uncollected_by}
 use Rattle.rdm_queue.specs.body.Agrees.{IsLast, IsPending, oldest_number, Agrees}
-use Rattle.rdm_queue.proofs.LogLemmas.PushLemmas.{SameRequests, same_after, collectors_same, asks_same}
-use Rattle.rdm_queue.proofs.LogLemmas.ExchangeLemmas.{verdicts_same}
-use Rattle.rdm_queue.proofs.LogLemmas.ClientLemmas.{brings_work, ends_work, no_accept, no_ask, no_finish, no_reply, answers_same}
-use Rattle.rdm_queue.proofs.BodyLemmas.OutcomeLemmas.{outcomes_step, known_step}
-use Rattle.rdm_queue.proofs.BodyLemmas.RunningLemmas.{SameRunning, same_running, run_same}
+use Rattle.rdm_log.proofs.LogLemmas.PushLemmas.{SameRequests, same_after, collectors_same, asks_same}
+use Rattle.rdm_log.proofs.LogLemmas.ExchangeLemmas.{verdicts_same}
+use Rattle.rdm_log.proofs.LogLemmas.ClientLemmas.{brings_work, ends_work, no_accept, no_ask, no_finish, no_reply, answers_same}
+use Rattle.rdm_log.proofs.PromiseLemmas.OutcomeLemmas.{outcomes_step, known_step}
+use Rattle.rdm_log.proofs.LogLemmas.RunningLemmas.{SameRunning, same_running}
+use Rattle.rdm_queue.proofs.BodyLemmas.RunningLemmas.{run_same}
 
 -- nothing of the work, its answers and their collects is different
 pub record SameWork (o : Opening) (h k : List Entry) : Type 0 where
@@ -55,7 +56,6 @@ pending_same o h k s new (Some (awaiting.Run tn)) same waits ends run agent pend
 }
 
 pub devices_run_same : (o : Opening) (h k : List Entry) (n : ℕ) → answers k ≡ answers h → n ≡ devices_run o h → n ≡ devices_run o k
-unfolding last_run_without_fault
 devices_run_same o h k n same is = rw same is
 
 pub stands_same : (o : Opening) (h : List Entry) (e : Entry) (s : QueueState) (ps : List ℕ) (paused closed : Bool) (owed : List (List OutcomeValue)) → EachAfter (MayFollow o) h → MayFollow o h e → SameWork o h (h ++ e ∷ []) → ps ≡ places o (h ++ e ∷ []) → paused ≡ is_paused o (h ++ e ∷ []) → closed ≡ is_closed o (h ++ e ∷ [])

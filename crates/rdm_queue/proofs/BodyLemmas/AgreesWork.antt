@@ -16,32 +16,33 @@ use Rattle.rdm_join.specs.Verdict.{verdict, sent_by}
 use Rattle.rdm_join.specs.Result.{Joined}
 use Rattle.rdm_join.specs.JoinerStanding.{JoinerStanding}
 use Rattle.rdm_agent.specs.declared.kind.Kind.{Kind}
-use Rattle.rdm_queue.specs.declared.entry.ClientId.{ClientId}
-use Rattle.rdm_queue.specs.declared.entry.Owner.TheVariants as owners
-use Rattle.rdm_queue.specs.declared.entry.Opening.{Opening}
-use Rattle.rdm_queue.specs.declared.entry.Entry.{Entry}
-use Rattle.rdm_queue.specs.declared.entry.Entry.TheVariants.{Accept, Ask, Send, Came, Collect}
+use Rattle.rdm_log.specs.declared.entry.ClientId.{ClientId}
+use Rattle.rdm_log.specs.declared.entry.Owner.TheVariants as owners
+use Rattle.rdm_log.specs.declared.entry.Opening.{Opening}
+use Rattle.rdm_log.specs.declared.entry.Entry.{Entry}
+use Rattle.rdm_log.specs.declared.entry.Entry.TheVariants.{Accept, Ask, Send, Came, Collect}
 use Rattle.rdm_queue.specs.declared.pending.Awaited.TheVariants as awaiting
-use Rattle.rdm_queue.specs.log.Entries.{Accepted, AskedDiscovery, Sending, accepts, asks, sends, cames, finishes, collectors, verdicts, result, is_request, is_run}
-use Rattle.rdm_queue.specs.log.History.{awaited, unfinished}
-use Rattle.rdm_queue.specs.log.Clients.{answers_to, collects_by, uncollected, client_of_request}
-use Rattle.rdm_queue.specs.log.Runs.{last_run}
-use Rattle.rdm_queue.specs.log.Legal.{MayFollow}
-use Rattle.rdm_queue.specs.promises.Outcomes.{OutcomeValue, outcome_of, completion_of}
+use Rattle.rdm_log.specs.log.Entries.{Accepted, AskedDiscovery, Sending, accepts, asks, sends, cames, finishes, collectors, verdicts, result, is_request, is_run}
+use Rattle.rdm_log.specs.log.History.{awaited, unfinished}
+use Rattle.rdm_log.specs.log.Clients.{answers_to, collects_by, uncollected, client_of_request}
+use Rattle.rdm_log.specs.log.Runs.{last_run}
+use Rattle.rdm_log.specs.log.Legal.{MayFollow}
+use Rattle.rdm_log.specs.promises.Outcomes.{OutcomeValue, outcome_of, completion_of}
 use Rattle.rdm_queue.specs.body.State.{QueueState, owed_for, owed_to, owed_value, owes, accepts_request, asks_discovery, collects_oldest, finishes_oldest, finish_of, IsProgress}
 use Rattle.rdm_queue.specs.body.Sending.{sends_request, sent_for}
 use Rattle.rdm_queue.specs.body.Agrees.{IsLast, AwaitsRequest, IsNotRunning, oldest_number, Agrees}
-use Rattle.rdm_queue.proofs.LogLemmas.PushLemmas.{joins_same, accepts_same, accepts_more, asks_same, asks_more, answered_same, sends_same, sends_more, cames_same, finishes_same, finishes_more, collectors_same, collectors_more, awaited-push, is_paused-push, is_closed-push, unfinished_same, unfinished_accept, unfinished_finish, unanswered_ask}
-use Rattle.rdm_queue.proofs.LogLemmas.Places.{place_within}
-use Rattle.rdm_queue.proofs.LogLemmas.ExchangeLemmas.{IsUnanswered, verdicts_same, verdicts_sent, verdicts_came_own, verdicts_unsent, result_same}
-use Rattle.rdm_queue.proofs.LogLemmas.LegalFacts.{LogFacts, unfinished_number, unfinished_place}
-use Rattle.rdm_queue.proofs.LogLemmas.AskFacts.{AskFacts}
-use Rattle.rdm_queue.proofs.LogLemmas.ClientLemmas.{answers_same, answers_accept, answers_ask, answers_finish_own, answers_finish_other, client_of_accepted}
-use Rattle.rdm_queue.proofs.LogLemmas.ClientFacts.{ClientFacts}
-use Rattle.rdm_queue.proofs.LogLemmas.RunLemmas.{last_run_same, last_run_sent, SameRuns, same_runs_sent}
-use Rattle.rdm_queue.proofs.BodyLemmas.OutcomeLemmas.{outcomes_step, known_step, uncollected_more, outcomes_rest, answers_passed}
+use Rattle.rdm_log.proofs.LogLemmas.PushLemmas.{joins_same, accepts_same, accepts_more, asks_same, asks_more, answered_same, sends_same, sends_more, cames_same, finishes_same, finishes_more, collectors_same, collectors_more, awaited-push, is_paused-push, is_closed-push, unfinished_same, unfinished_accept, unfinished_finish, unanswered_ask}
+use Rattle.rdm_log.proofs.LogLemmas.Places.{place_within}
+use Rattle.rdm_log.proofs.LogLemmas.ExchangeLemmas.{IsUnanswered, verdicts_same, verdicts_sent, verdicts_came_own, verdicts_unsent, result_same}
+use Rattle.rdm_log.proofs.LogLemmas.LegalFacts.{LogFacts, unfinished_number, unfinished_place}
+use Rattle.rdm_log.proofs.LogLemmas.AskFacts.{AskFacts}
+use Rattle.rdm_log.proofs.LogLemmas.ClientLemmas.{answers_same, answers_accept, answers_ask, answers_finish_own, answers_finish_other, client_of_accepted}
+use Rattle.rdm_log.proofs.LogLemmas.ClientFacts.{ClientFacts}
+use Rattle.rdm_log.proofs.LogLemmas.RunLemmas.{last_run_same, last_run_sent, SameRuns, same_runs_sent}
+use Rattle.rdm_log.proofs.PromiseLemmas.OutcomeLemmas.{outcomes_step, known_step, uncollected_more, outcomes_rest, answers_passed}
 use Rattle.rdm_queue.proofs.BodyLemmas.OutstandingLemmas.{owes-own, owes-other}
-use Rattle.rdm_queue.proofs.BodyLemmas.RunningLemmas.{same_running, same_running_came, run_same, asked_stays}
+use Rattle.rdm_log.proofs.LogLemmas.RunningLemmas.{same_running, same_running_came, asked_stays}
+use Rattle.rdm_queue.proofs.BodyLemmas.RunningLemmas.{run_same}
 use Rattle.rdm_queue.proofs.BodyLemmas.AgreesSame.{pending_same, devices_run_same}
 
 -- a request is accepted

@@ -10,13 +10,13 @@ use Rattle.rdm_agent.specs.declared.fault.AgentFault.{AgentFault}
 use Rattle.rdm_queue.specs.declared.client.Client.{Client}
 use Rattle.rdm_queue.specs.declared.pending.Asked.{Asked}
 use Rattle.rdm_queue.specs.declared.queue.Queue.TheInside.{Inside}
-use Rattle.rdm_queue.specs.log.Entries.{AskedDiscovery}
+use Rattle.rdm_log.specs.log.Entries.{AskedDiscovery}
 use Rattle.rdm_queue.specs.body.Rings.{HasSets, ClientAnswers}
 use Rattle.rdm_queue.specs.body.Fields.{asked_is, state_of, places_of, owed_rings}
 use Rattle.rdm_queue.specs.body.QueueInvariant.{QueueInvariant, served_by}
 use Rattle.rdm_queue.specs.body.State.{QueueState, RunState}
 use Rattle.rdm_queue.specs.body.Ending.{answer_value, answers_oldest, one_less}
-use Rattle.rdm_queue.proofs.LogLemmas.Places.{all_at}
+use Rattle.rdm_log.proofs.LogLemmas.Places.{all_at}
 use Rattle.rdm_queue.proofs.BodyLemmas.FieldLemmas.{read_at}
 use Rattle.rdm_queue.proofs.BodyLemmas.InvariantLemmas.{asked_joined, first_counts, held-answers}
 use Rattle.rdm_queue.proofs.BodyLemmas.RingSteps.{room_for_outcome, room_for_set, rings-answer}

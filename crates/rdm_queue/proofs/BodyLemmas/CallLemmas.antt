@@ -4,37 +4,37 @@ use Rattle.std.specs.Prelude.{◌≢◌, IfOk, IfErr, IfSome, IfNone, OnErr, OnS
 use Rattle.arrayvec.specs.ArrayVec.{ArrayVec}
 use Rattle.rdm_wire.specs.declared.request.Request.{Request}
 use Rattle.rdm_agent.specs.declared.search.Search.{Search}
-use Rattle.rdm_queue.specs.declared.entry.ClientId.{ClientId}
-use Rattle.rdm_queue.specs.declared.entry.Owner.{Owner}
-use Rattle.rdm_queue.specs.declared.entry.Opening.{Opening}
-use Rattle.rdm_queue.specs.declared.entry.Entry.{Entry}
-use Rattle.rdm_queue.specs.declared.entry.Entry.TheVariants.{Join, Accept, Ask, Send, Collect, Close}
-use Rattle.rdm_queue.specs.log.History.{is_closed}
-use Rattle.rdm_queue.specs.declared.fault.JoinFault.{JoinFault}
-use Rattle.rdm_queue.specs.declared.fault.SubmitFault.{SubmitFault}
-use Rattle.rdm_queue.specs.declared.fault.AskFault.{AskFault}
+use Rattle.rdm_log.specs.declared.entry.ClientId.{ClientId}
+use Rattle.rdm_log.specs.declared.entry.Owner.{Owner}
+use Rattle.rdm_log.specs.declared.entry.Opening.{Opening}
+use Rattle.rdm_log.specs.declared.entry.Entry.{Entry}
+use Rattle.rdm_log.specs.declared.entry.Entry.TheVariants.{Join, Accept, Ask, Send, Collect, Close}
+use Rattle.rdm_log.specs.log.History.{is_closed}
+use Rattle.rdm_log.specs.declared.fault.JoinFault.{JoinFault}
+use Rattle.rdm_log.specs.declared.fault.SubmitFault.{SubmitFault}
+use Rattle.rdm_log.specs.declared.fault.AskFault.{AskFault}
 use Rattle.rdm_agent.specs.declared.kind.Kind.{Kind}
 use Rattle.rdm_wire.specs.declared.device.Device.{Device}
-use Rattle.rdm_queue.specs.declared.outcome.Outcome.{Outcome}
-use Rattle.rdm_queue.specs.declared.outcome.OutcomeKind.{OutcomeKind}
-use Rattle.rdm_queue.specs.declared.outcome.Completion.{Completion}
-use Rattle.rdm_queue.specs.declared.outcome.DiscoveryEnd.{DiscoveryEnd}
-use Rattle.rdm_queue.specs.log.Refusals.{join_fault}
-use Rattle.rdm_queue.specs.promises.Outcomes.{outcome_value, request_outcome, discovery_outcome, oldest_kind}
-use Rattle.rdm_queue.specs.promises.Blocks.{RefusesJoin, join_refused, submit_refused, ask_refused, JoinAdds, SubmitAdds, DiscoverAdds, SwitchAdds, CloseAdds, CollectAdds, IsWithResults, is_result, AllResults}
+use Rattle.rdm_log.specs.declared.outcome.Outcome.{Outcome}
+use Rattle.rdm_log.specs.declared.outcome.OutcomeKind.{OutcomeKind}
+use Rattle.rdm_log.specs.declared.outcome.Completion.{Completion}
+use Rattle.rdm_log.specs.declared.outcome.DiscoveryEnd.{DiscoveryEnd}
+use Rattle.rdm_log.specs.log.Refusals.{join_fault}
+use Rattle.rdm_log.specs.promises.Outcomes.{outcome_value, request_outcome, discovery_outcome, oldest_kind}
+use Rattle.rdm_log.specs.promises.Blocks.{RefusesJoin, join_refused, submit_refused, ask_refused, JoinAdds, SubmitAdds, DiscoverAdds, SwitchAdds, CloseAdds, CollectAdds, IsWithResults, is_result, AllResults}
 use Rattle.rdm_queue.specs.body.State.{QueueState, first_join_fault, first_submit_fault, first_ask_fault, joins_client, accepts_request, asks_discovery, collects_oldest, owed_to, unended, OwedOutcome, owed_next, end_of_oldest, TakesOldest, first_kind}
 use Rattle.rdm_queue.specs.body.Ending.{IsEnded, HasNothingDue}
-use Rattle.rdm_queue.specs.promises.InBound.{FaultNeedsClose, AnswersInBound}
-use Rattle.rdm_queue.proofs.BoundLemmas.{block_more}
+use Rattle.rdm_log.specs.promises.InBound.{FaultNeedsClose, AnswersInBound}
+use Rattle.rdm_log.proofs.BoundLemmas.{block_more}
 use Rattle.rdm_queue.proofs.BodyLemmas.EndLemmas.{ends_amid, ends_in_bound_amid, settled_after}
 use Rattle.rdm_queue.specs.body.Ending.IsEnded.{ByRun, ByResult, ByClose}
-use Rattle.rdm_queue.specs.log.Entries.{Accepted}
+use Rattle.rdm_log.specs.log.Entries.{Accepted}
 use Rattle.rdm_join.specs.Result.{Joined}
 use Rattle.std.proofs.lemmas.Option.{none-some}
 use Rattle.std.proofs.Common.{drop, arith}
 use Rattle.rdm_queue.specs.body.Agrees.{StandsAfter, StandsAmid, ForEachBlock, FinishesAll}
 use Rattle.rdm_queue.specs.promises.EachLog.{ForEachLog, StandsWith, AddsToEach}
-use Rattle.rdm_queue.specs.log.MaySend.{MaySend, NoSend}
+use Rattle.rdm_log.specs.log.MaySend.{MaySend, NoSend}
 use Rattle.rdm_queue.specs.body.Sending.{IsGiven, to_send}
 use Rattle.std.proofs.lemmas.Bool.{false≢true}
 use Rattle.std.specs.Prelude.{is_some}

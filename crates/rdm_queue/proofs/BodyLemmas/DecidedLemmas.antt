@@ -6,8 +6,8 @@ use Rattle.rdm_join.specs.declared.status.Status.TheVariants.{Completed, Invalid
 use Rattle.rdm_join.specs.declared.verdict.Judged.{Judged}
 use Rattle.rdm_join.specs.declared.verdict.Judged.TheVariants.{Whole, Part, Ended}
 use Rattle.rdm_join.specs.Result.{Joined, ended, decides, result_of, result_after, or_if_open, joined_data, head_of}
-use Rattle.rdm_queue.specs.log.MayFinish.{FitsResult}
-use Rattle.rdm_queue.specs.promises.Outcomes.{completion_of}
+use Rattle.rdm_log.specs.log.MayFinish.{FitsResult}
+use Rattle.rdm_log.specs.promises.Outcomes.{completion_of}
 use Rattle.rdm_queue.specs.body.State.{GivesResult}
 
 -- a result is its own completion: only status Completed has data

@@ -16,36 +16,36 @@ use Rattle.rdm_agent.specs.declared.fault.AgentFault.{AgentFault}
 use Rattle.rdm_agent.specs.declared.fault.AgentFault.TheVariants.{Aborted}
 use Rattle.rdm_agent.proofs.CallLemmas.{aborted_ends, next_none, runs-own}
 use Rattle.rdm_agent.proofs.BoundRuns.{ends_in_bound_by}
-use Rattle.rdm_queue.specs.declared.entry.Opening.{Opening}
-use Rattle.rdm_queue.specs.declared.entry.Entry.{Entry}
-use Rattle.rdm_queue.specs.declared.entry.Entry.TheVariants.{Answer}
-use Rattle.rdm_queue.specs.log.Entries.{Accepted, AskedDiscovery, Answered, Sending, sends, answers, asks, verdicts, result, is_request}
-use Rattle.rdm_queue.specs.log.History.{awaited, is_closed, unfinished, unanswered}
-use Rattle.rdm_queue.specs.log.Runs.{has_begun, entries_before_run, last_run, is_answered, unless_answered, asked_before, run_kind, known_at_run, run_exchanges}
-use Rattle.rdm_queue.specs.log.Due.{NothingDue, AllAnswered}
-use Rattle.rdm_queue.specs.log.MayAnswer.{MayAnswer}
-use Rattle.rdm_queue.specs.promises.InBound.{FaultNeedsClose}
+use Rattle.rdm_log.specs.declared.entry.Opening.{Opening}
+use Rattle.rdm_log.specs.declared.entry.Entry.{Entry}
+use Rattle.rdm_log.specs.declared.entry.Entry.TheVariants.{Answer}
+use Rattle.rdm_log.specs.log.Entries.{Accepted, AskedDiscovery, Answered, Sending, sends, answers, asks, verdicts, result, is_request}
+use Rattle.rdm_log.specs.log.History.{awaited, is_closed, unfinished, unanswered}
+use Rattle.rdm_log.specs.log.Runs.{has_begun, entries_before_run, last_run, is_answered, unless_answered, asked_before, run_kind, known_at_run, run_exchanges}
+use Rattle.rdm_log.specs.log.Due.{NothingDue, AllAnswered}
+use Rattle.rdm_log.specs.log.MayAnswer.{MayAnswer}
+use Rattle.rdm_log.specs.promises.InBound.{FaultNeedsClose}
 use Rattle.rdm_queue.specs.body.State.{QueueState, RunState, due, end_of_oldest, owed_next, owed_for, is_closing}
 use Rattle.rdm_queue.specs.body.Ending.{stopped_at, agent_at_end, answer_of, answers_oldest, AnswersUnserved, NothingToEnd, HasNothingDue, IsEnded}
 use Rattle.rdm_queue.specs.body.Ending.IsEnded.{ByRun, ByResult, ByClose}
 use Rattle.rdm_queue.specs.body.Agrees.{IsRunning, IsNotRunning, RunIs, RunGoesOn, oldest_number, Agrees, StandsAfter, StandsAmid}
-use Rattle.rdm_queue.proofs.LogLemmas.Grows.{pushed}
-use Rattle.rdm_queue.proofs.LogLemmas.Places.{all_from_places}
-use Rattle.rdm_queue.proofs.LogLemmas.PushLemmas.{answered_more, sends_same}
-use Rattle.rdm_queue.proofs.LogLemmas.ExchangeLemmas.{result_unsent}
-use Rattle.rdm_queue.proofs.LogLemmas.LegalFacts.{LogFacts, legal_facts, later_unsent, unfinished_number}
-use Rattle.rdm_queue.proofs.LogLemmas.AskFacts.{ask_facts}
-use Rattle.rdm_queue.proofs.LogLemmas.ClientFacts.{client_facts}
-use Rattle.rdm_queue.proofs.LogLemmas.RunLemmas.{last_run_same}
-use Rattle.rdm_queue.proofs.BodyLemmas.AgentLemmas.{agent_goes_on}
+use Rattle.rdm_log.proofs.LogLemmas.Grows.{pushed}
+use Rattle.rdm_log.proofs.LogLemmas.Places.{all_from_places}
+use Rattle.rdm_log.proofs.LogLemmas.PushLemmas.{answered_more, sends_same}
+use Rattle.rdm_log.proofs.LogLemmas.ExchangeLemmas.{result_unsent}
+use Rattle.rdm_log.proofs.LogLemmas.LegalFacts.{LogFacts, legal_facts, later_unsent, unfinished_number}
+use Rattle.rdm_log.proofs.LogLemmas.AskFacts.{ask_facts}
+use Rattle.rdm_log.proofs.LogLemmas.ClientFacts.{client_facts}
+use Rattle.rdm_log.proofs.LogLemmas.RunLemmas.{last_run_same}
+use Rattle.rdm_log.proofs.LogLemmas.AgentLemmas.{agent_goes_on}
 use Rattle.rdm_queue.proofs.BodyLemmas.AfterLemmas.{pending_flag}
-use Rattle.rdm_queue.proofs.BodyLemmas.OutcomeLemmas.{some_at}
-use Rattle.rdm_queue.proofs.BodyLemmas.RunningLemmas.{asked_stays}
-use Rattle.rdm_queue.proofs.BodyLemmas.AgreesRuns.{not_stopped, stands_answer, known_kept, run_after, all_unserved}
+use Rattle.rdm_log.proofs.PromiseLemmas.OutcomeLemmas.{some_at}
+use Rattle.rdm_log.proofs.LogLemmas.RunningLemmas.{asked_stays}
+use Rattle.rdm_queue.proofs.BodyLemmas.AgreesRuns.{not_stopped, stands_answer, known_kept, run_after}
 use Rattle.rdm_queue.proofs.BodyLemmas.TakeLemmas.{not_running, running, run_opened}
 use Rattle.rdm_queue.proofs.BodyLemmas.EndRequests.{undecided, finish_amid}
 use Rattle.rdm_queue.proofs.BodyLemmas.EndRuns.{at_end, ended_same, answer_amid, and_left, and_right}
-use Rattle.rdm_queue.proofs.BodyLemmas.BegunLemmas.{asked_fewer, in_order, all_answered, none_begun}
+use Rattle.rdm_log.proofs.LogLemmas.BegunLemmas.{asked_fewer, in_order, all_answered, none_begun, all_unserved}
 
 -- a close that finds no request to finish finds none
 closing_end : (decided : Option Joined) (closing : Bool) → closing ≡ true → or_if_open decided (if closing then Some (ended FailedToSend) else None) ≡ None → ⊥

@@ -8,24 +8,24 @@ use Rattle.rdm_join.specs.declared.verdict.Judged.{Judged}
 use Rattle.rdm_join.specs.declared.verdict.Sent.{Sent}
 use Rattle.rdm_join.specs.Result.{Joined, result_of, ended, or_if_open}
 use Rattle.rdm_join.specs.JoinerStanding.{JoinerStanding}
-use Rattle.rdm_queue.specs.declared.entry.Opening.{Opening}
-use Rattle.rdm_queue.specs.declared.entry.Entry.{Entry}
+use Rattle.rdm_log.specs.declared.entry.Opening.{Opening}
+use Rattle.rdm_log.specs.declared.entry.Entry.{Entry}
 use Rattle.rdm_queue.specs.declared.pending.Awaited.{Awaited}
 use Rattle.rdm_queue.specs.declared.pending.Awaited.TheVariants as awaiting
-use Rattle.rdm_queue.specs.log.Entries.{Accepted, verdicts, result}
-use Rattle.rdm_queue.specs.log.History.{unfinished}
-use Rattle.rdm_queue.specs.log.MayFinish.{MayFinish, IsClosing, FitsResult}
-use Rattle.rdm_queue.specs.promises.Outcomes.{completion_of}
+use Rattle.rdm_log.specs.log.Entries.{Accepted, verdicts, result}
+use Rattle.rdm_log.specs.log.History.{unfinished}
+use Rattle.rdm_log.specs.log.MayFinish.{MayFinish, IsClosing, FitsResult}
+use Rattle.rdm_log.specs.promises.Outcomes.{completion_of}
 use Rattle.rdm_queue.specs.body.State.{QueueState, OwedOutcome, owed_for, finish_of, finishes_oldest, end_of_oldest, owed_next, due, GivesResult, ProgressAt, IsProgress}
 use Rattle.rdm_queue.specs.body.Agrees.{AwaitsRun, IsPending, oldest_number, Agrees, StandsAmid}
-use Rattle.rdm_queue.proofs.LogLemmas.Grows.{pushed}
-use Rattle.rdm_queue.proofs.LogLemmas.LegalFacts.{LogFacts, legal_facts, unfinished_number}
-use Rattle.rdm_queue.proofs.LogLemmas.ClientFacts.{client_facts}
+use Rattle.rdm_log.proofs.LogLemmas.Grows.{pushed}
+use Rattle.rdm_log.proofs.LogLemmas.LegalFacts.{LogFacts, legal_facts, unfinished_number}
+use Rattle.rdm_log.proofs.LogLemmas.ClientFacts.{client_facts}
 use Rattle.rdm_queue.proofs.BodyLemmas.DecidedLemmas.{result_complete, gives_complete, gives_fits}
 use Rattle.rdm_queue.proofs.BodyLemmas.AfterLemmas.{pending_flag}
 use Rattle.rdm_queue.proofs.BodyLemmas.AfterFinish.{open_progress, awaited_open}
 use Rattle.rdm_queue.proofs.BodyLemmas.AgreesWork.{stands_finish}
-use Rattle.rdm_queue.proofs.BodyLemmas.AgreesRuns.{all_unserved}
+use Rattle.rdm_log.proofs.LogLemmas.BegunLemmas.{all_unserved}
 use Rattle.rdm_queue.proofs.BodyLemmas.TakeLemmas.{not_running}
 
 -- how far the oldest request is, where it isn't decided

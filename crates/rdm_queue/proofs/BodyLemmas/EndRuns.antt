@@ -1,8 +1,8 @@
 -- The oldest discovery is answered by its run, or at a close.
 use Rattle.std.proofs.Common.{◌≡◌, ℕ, ◌+◌, ◌-◌, ◌<◌, ◌≤◌, Bool, true, false, not, List, [], ◌∷◌, ◌++◌, length, Option, Some, None, slice_get, refl, sym, ap, ◌∙◌, subst, inl, inr, length-append, arith}
 use Rattle.std.specs.Prelude.{◌⊎◌, ◌==◌, ◌&&◌, ◌||◌, is_some, nat_lt, if◌then◌else◌}
-use Rattle.std.specs.List.{list_any, before_first}
-use Rattle.std.proofs.lemmas.Bool.{cases_Bool, false≢true, eq-eqb, ne_eqb, ltb-true, ltb-false}
+use Rattle.std.specs.List.{list_any}
+use Rattle.std.proofs.lemmas.Bool.{false≢true, eq-eqb, ne_eqb, ltb-true, ltb-false}
 use Rattle.std.proofs.lemmas.List.Folds.{list_any-append}
 use Rattle.std.proofs.lemmas.Map.Keys.{any_passes_from_place}
 use Rattle.rdm_join.specs.declared.verdict.Sent.{Sent}
@@ -12,31 +12,32 @@ use Rattle.rdm_agent.specs.declared.op.Op.{Op}
 use Rattle.rdm_agent.specs.declared.op.Op.TheVariants as ops
 use Rattle.rdm_agent.specs.declared.fault.AgentFault.{AgentFault}
 use Rattle.rdm_agent.proofs.CallLemmas.{runs-own}
-use Rattle.rdm_queue.specs.declared.entry.Opening.{Opening}
-use Rattle.rdm_queue.specs.declared.entry.Entry.{Entry}
+use Rattle.rdm_log.specs.declared.entry.Opening.{Opening}
+use Rattle.rdm_log.specs.declared.entry.Entry.{Entry}
 use Rattle.rdm_queue.specs.declared.pending.Awaited.{Awaited}
 use Rattle.rdm_queue.specs.declared.pending.Awaited.TheVariants as awaiting
-use Rattle.rdm_queue.specs.log.Entries.{AskedDiscovery, Answered, asks, answers}
-use Rattle.rdm_queue.specs.log.History.{is_closed, unanswered, was_sent}
-use Rattle.rdm_queue.specs.log.Runs.{has_begun, entries_before_run, sends_run, last_run, is_answered, asked_before, unserved, served, run_exchanges, run_devices, run_kind, known_at_run, answer_devices}
-use Rattle.rdm_queue.specs.log.MayAnswer.{MayAnswer}
+use Rattle.rdm_log.specs.log.Entries.{AskedDiscovery, Answered, asks, answers}
+use Rattle.rdm_log.specs.log.History.{is_closed, unanswered, was_sent}
+use Rattle.rdm_log.specs.log.Runs.{has_begun, entries_before_run, last_run, is_answered, asked_before, unserved, served, run_exchanges, run_devices, run_kind, known_at_run, answer_devices}
+use Rattle.rdm_log.specs.log.MayAnswer.{MayAnswer}
 use Rattle.rdm_queue.specs.body.State.{QueueState, RunState, is_closing}
 use Rattle.rdm_queue.specs.body.Ending.{stopped_at, agent_at_end, answer_of, answers_oldest, one_less, answers_by_run, devices_after, devices_run_after}
 use Rattle.rdm_queue.specs.body.Agrees.{AwaitsRequest, AwaitsRun, IsPending, IsRunning, RunIs, oldest_number, Agrees, StandsAmid}
-use Rattle.rdm_queue.proofs.LogLemmas.Grows.{pushed}
-use Rattle.rdm_queue.proofs.LogLemmas.Places.{all_from_places, slice_get-push, IsPushed, slice_get-drop, slice_get_append_within}
-use Rattle.rdm_queue.proofs.LogLemmas.PushLemmas.{asks-append, answered-append, answered_more, sends_same, is_closed-push, awaited-push}
-use Rattle.rdm_queue.proofs.LogLemmas.AskFacts.{ask_facts, unanswered_place}
-use Rattle.rdm_queue.proofs.LogLemmas.ClientFacts.{client_facts}
-use Rattle.rdm_queue.proofs.LogLemmas.RunFacts.{run_facts}
-use Rattle.rdm_queue.proofs.LogLemmas.RunLemmas.{last_begun, last_run_same, served_stays, entries_before_run_stays, before_first-cons}
-use Rattle.rdm_queue.proofs.BodyLemmas.AgentLemmas.{agent_shows, agent_found}
+use Rattle.rdm_log.proofs.LogLemmas.Grows.{pushed}
+use Rattle.rdm_log.proofs.LogLemmas.Places.{all_from_places, slice_get-push, IsPushed, slice_get-drop, slice_get_append_within}
+use Rattle.rdm_log.proofs.LogLemmas.PushLemmas.{asks-append, answered-append, answered_more, sends_same, is_closed-push, awaited-push}
+use Rattle.rdm_log.proofs.LogLemmas.AskFacts.{ask_facts, unanswered_place}
+use Rattle.rdm_log.proofs.LogLemmas.ClientFacts.{client_facts}
+use Rattle.rdm_log.proofs.LogLemmas.RunFacts.{run_facts}
+use Rattle.rdm_log.proofs.LogLemmas.RunLemmas.{last_begun, last_run_same, served_stays, entries_before_run_stays}
+use Rattle.rdm_log.proofs.LogLemmas.AgentLemmas.{agent_shows, agent_found}
 use Rattle.rdm_queue.proofs.BodyLemmas.AfterLemmas.{pending_flag}
-use Rattle.rdm_queue.proofs.BodyLemmas.OutcomeLemmas.{some_at}
-use Rattle.rdm_queue.proofs.BodyLemmas.RunningLemmas.{asked_stays}
+use Rattle.rdm_log.proofs.PromiseLemmas.OutcomeLemmas.{some_at}
 use Rattle.rdm_queue.proofs.BodyLemmas.AgreesWork.{was_sent_own}
 use Rattle.rdm_queue.proofs.BodyLemmas.AgreesRuns.{not_stopped, stands_answer, known_after, run_after, exchanges_answered}
 use Rattle.rdm_queue.proofs.BodyLemmas.TakeLemmas.{running}
+use Rattle.rdm_log.proofs.LogLemmas.RunningLemmas.{asked_stays}
+use Rattle.rdm_log.proofs.LogLemmas.BegunLemmas.{before_front}
 
 -- the agent at the end stands after the run's exchanges
 pub record AtEnd (o : Opening) (h : List Entry) (s : QueueState) (r : RunState) : Type 0 where
@@ -116,18 +117,6 @@ idle_by_run o h s r run stands end = by_awaited s.awaited refl
         absurd (w.goes_on (rw open_ at end))
 
 -- the oldest unanswered discovery is served by the run
-front_of : (p : Entry → Bool) (xs : List Entry) → (ys : List Entry) × (xs ≡ before_first p xs ++ ys)
-front_of p [] = ([], refl)
-front_of p (x ∷ xs) = by_test (cases_Bool (p x)) (front_of p xs)
-  where
-    by_test : (p x ≡ true) ⊎ (p x ≡ false) → (ys : List Entry) × (xs ≡ before_first p xs ++ ys) → (ys : List Entry) × (x ∷ xs ≡ before_first p (x ∷ xs) ++ ys)
-    by_test (inl here) rest = let none : before_first p (x ∷ xs) ≡ [] = before_first-cons p x xs ∙ rw here refl in (x ∷ xs, sym (ap (λ l. l ++ x ∷ xs) none))
-    by_test (inr there) rest = let more : before_first p (x ∷ xs) ≡ x ∷ before_first p xs = before_first-cons p x xs ∙ rw there refl in (rest.0, ap (λ l. x ∷ l) rest.1 ∙ sym (ap (λ l. l ++ rest.0) more))
-
-pub before_front : (r : ℕ) (h : List Entry) → (ys : List Entry) × (h ≡ entries_before_run r h ++ ys)
-unfolding entries_before_run
-before_front r h = front_of (sends_run r) h
-
 pub serves_oldest : (o : Opening) (h : List Entry) (s : QueueState) (r : RunState) (a : AskedDiscovery) → IsRunning o h s r → slice_get (unanswered h) 0 ≡ Some a → list_any (λ b. b.number == a.number) (served r.number h) ≡ true
 serves_oldest o h s r a run oldest = rw (last_begun r.number h run.last) (any_passes_from_place (λ (b : AskedDiscovery). b.number == a.number) (unserved early) place a at (eq-eqb a.number a.number refl))
   where

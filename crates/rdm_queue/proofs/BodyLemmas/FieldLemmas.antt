@@ -8,14 +8,14 @@ use Rattle.std.proofs.lemmas.Option.{slice_get-get_or}
 use Rattle.std.proofs.lemmas.List.{append-nil, drop_all, take_all, length-set, length-map}
 use Rattle.std.proofs.lemmas.List.Sums.{sum_by-cons}
 use Rattle.rdm_queue.specs.declared.client.Client.{Client}
-use Rattle.rdm_queue.specs.declared.config.Config.{Config}
-use Rattle.rdm_queue.specs.declared.fault.SubmitFault.TheVariants as submit_faults
-use Rattle.rdm_queue.specs.declared.fault.AskFault.TheVariants as ask_faults
+use Rattle.rdm_log.specs.declared.config.Config.{Config}
+use Rattle.rdm_log.specs.declared.fault.SubmitFault.TheVariants as submit_faults
+use Rattle.rdm_log.specs.declared.fault.AskFault.TheVariants as ask_faults
 use Rattle.rdm_queue.specs.declared.pending.Asked.{Asked}
-use Rattle.rdm_queue.specs.log.Entries.{AskedDiscovery}
-use Rattle.rdm_queue.specs.log.Runs.{is_full_kind}
-use Rattle.rdm_queue.specs.log.Config.{IsConfig}
-use Rattle.rdm_queue.specs.promises.Outcomes.{OutcomeValue}
+use Rattle.rdm_log.specs.log.Entries.{AskedDiscovery}
+use Rattle.rdm_log.specs.log.Runs.{is_full_kind}
+use Rattle.rdm_log.specs.log.Config.{IsConfig}
+use Rattle.rdm_log.specs.promises.Outcomes.{OutcomeValue}
 use Rattle.rdm_queue.specs.body.Rings.{owed_values}
 use Rattle.rdm_queue.specs.body.Merged.{merged}
 use Rattle.rdm_queue.specs.body.Fields.{accepted_is, asked_is, waiting_ring, rings_from, waiting_rings, owed_rings, places_of}
@@ -25,7 +25,7 @@ use Rattle.rdm_queue.proofs.BodyLemmas.InvariantLemmas.{waiting_rises, has_place
 use Rattle.rdm_queue.proofs.BodyLemmas.MergedLemmas.{merged_shares, length-put_all}
 use Rattle.rdm_queue.proofs.BodyLemmas.OutstandingLemmas.{waiting-le, uncollected-le}
 use Rattle.rdm_queue.proofs.BodyLemmas.ValueLemmas.{length-values}
-use Rattle.rdm_queue.proofs.LogLemmas.Places.{place_within}
+use Rattle.rdm_log.proofs.LogLemmas.Places.{place_within}
 use Rattle.rdm_queue.proofs.BodyLemmas.RingSteps.{outstanding_count, sets_count, places_at}
 
 pub waiting_are : (s : QueueState) (clients : List Client) → QueueInvariant s clients → merged (λ a. a.number) (waiting_rings clients) ≡ s.waiting

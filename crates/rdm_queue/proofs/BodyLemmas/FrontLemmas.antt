@@ -8,14 +8,14 @@ use Rattle.std.proofs.lemmas.Bool.{cases_Bool, cases_lt, eq-eqb}
 use Rattle.rdm_wire.specs.Uid.{IsAscending}
 use Rattle.rdm_queue.specs.declared.client.Client.{Client}
 use Rattle.rdm_queue.specs.declared.client.Waiting.{Waiting}
-use Rattle.rdm_queue.specs.log.Entries.{Accepted}
+use Rattle.rdm_log.specs.log.Entries.{Accepted}
 use Rattle.rdm_queue.specs.body.Merged.{AreShares}
 use Rattle.rdm_queue.specs.body.Rings.{OldestOf, NoneWaits, IsFirstInLine}
 use Rattle.rdm_queue.specs.body.Fields.{accepted_is, waiting_ring, waiting_rings}
 use Rattle.rdm_queue.specs.body.QueueInvariant.{QueueInvariant}
 use Rattle.rdm_queue.specs.body.State.{QueueState}
 use Rattle.rdm_queue.proofs.BodyLemmas.InvariantLemmas.{waiting_rises}
-use Rattle.rdm_queue.proofs.LogLemmas.Places.{place_within}
+use Rattle.rdm_log.proofs.LogLemmas.Places.{place_within}
 use Rattle.rdm_queue.proofs.BodyLemmas.MergedLemmas.{all_passed}
 use Rattle.rdm_queue.proofs.BodyLemmas.RingLemmas.{ring_of, ring_past}
 

@@ -10,16 +10,16 @@ use Rattle.rdm_wire.specs.declared.request.Request.{Request}
 use Rattle.rdm_join.specs.Result.{Joined}
 use Rattle.rdm_agent.specs.declared.kind.Kind.{Kind}
 use Rattle.rdm_agent.specs.declared.kind.Kind.TheVariants.{Full}
-use Rattle.rdm_queue.specs.declared.fault.JoinFault.TheVariants as join_faults
-use Rattle.rdm_queue.specs.declared.fault.SubmitFault.TheVariants as submit_faults
-use Rattle.rdm_queue.specs.declared.fault.AskFault.TheVariants as ask_faults
-use Rattle.rdm_queue.specs.log.Entries.{Accepted, AskedDiscovery}
-use Rattle.rdm_queue.specs.promises.Outcomes.{OutcomeValue}
+use Rattle.rdm_log.specs.declared.fault.JoinFault.TheVariants as join_faults
+use Rattle.rdm_log.specs.declared.fault.SubmitFault.TheVariants as submit_faults
+use Rattle.rdm_log.specs.declared.fault.AskFault.TheVariants as ask_faults
+use Rattle.rdm_log.specs.log.Entries.{Accepted, AskedDiscovery}
+use Rattle.rdm_log.specs.promises.Outcomes.{OutcomeValue}
 use Rattle.rdm_queue.specs.body.QueueInvariant.{StateInvariant, numbers, served_by}
 use Rattle.rdm_queue.specs.body.State.{QueueState, RunState, outstanding, outstanding_asks, owes, is_discovery, owed_for, finishes_oldest, accepts_request, accepted_as, asks_discovery, asked_as, joins_client, collects_oldest, first_join_fault, first_submit_fault, first_ask_fault}
 use Rattle.rdm_queue.specs.body.Sending.{begun}
-use Rattle.rdm_queue.proofs.LogLemmas.RefusalLemmas.{none_stands}
-use Rattle.rdm_queue.proofs.LogLemmas.Places.{slice_get_first}
+use Rattle.rdm_log.proofs.LogLemmas.RefusalLemmas.{none_stands}
+use Rattle.rdm_log.proofs.LogLemmas.Places.{slice_get_first}
 use Rattle.rdm_queue.proofs.BodyLemmas.OutstandingLemmas.{owes-count, without_first, one_more, four, asked-le}
 
 pub waiting_rises : (s : QueueState) → StateInvariant s → IsAscending (map (λ (a : Accepted). a.number) s.waiting)

@@ -5,9 +5,9 @@ use Rattle.std.proofs.lemmas.Bool.{eq-eqb, ne_eqb, cases_eq, cases_lt}
 use Rattle.std.proofs.lemmas.List.{length-map, get_or-set_same, get_or-set_other, get_or_past}
 use Rattle.std.proofs.lemmas.List.Sums.{sum_by-set, sum_by-cons}
 use Rattle.std.proofs.lemmas.List.Elements.{filter-append}
-use Rattle.rdm_queue.proofs.LogLemmas.Counts.{count}
-use Rattle.rdm_queue.proofs.LogLemmas.Places.{slice_get_first}
-use Rattle.rdm_queue.specs.promises.Outcomes.{OutcomeValue}
+use Rattle.rdm_log.proofs.LogLemmas.Counts.{count}
+use Rattle.rdm_log.proofs.LogLemmas.Places.{slice_get_first}
+use Rattle.rdm_log.specs.promises.Outcomes.{OutcomeValue}
 use Rattle.rdm_queue.specs.body.QueueInvariant.{StateInvariant}
 use Rattle.rdm_queue.specs.body.State.{QueueState, owed_to, owes, is_discovery, uncollected}
 

@@ -9,7 +9,7 @@ use Rattle.rdm_queue.specs.declared.client.Client.{Client}
 use Rattle.rdm_queue.specs.body.Merged.{AreShares}
 use Rattle.rdm_queue.specs.body.Fields.{rings_from, places_of}
 use Rattle.rdm_queue.specs.body.Rings.{HasRings, SameRings}
-use Rattle.rdm_queue.proofs.LogLemmas.Places.{place_within}
+use Rattle.rdm_log.proofs.LogLemmas.Places.{place_within}
 
 -- a client's ring among all rings
 ring_from : {X : Type 0} (ring : ℕ → Client → List X) (from : ℕ) (clients : List Client) (i : ℕ) (k : Client) → slice_get clients i ≡ Some k → get_or (rings_from ring from clients) i [] ≡ ring (from + i) k

@@ -10,18 +10,18 @@ use Rattle.rdm_wire.specs.declared.device.Device.{Device}
 use Rattle.rdm_agent.specs.declared.fault.AgentFault.{AgentFault}
 use Rattle.rdm_queue.specs.declared.client.Client.{Client}
 use Rattle.rdm_queue.specs.declared.client.Waiting.{Waiting}
-use Rattle.rdm_queue.specs.declared.entry.Entry.{Entry}
+use Rattle.rdm_log.specs.declared.entry.Entry.{Entry}
 use Rattle.rdm_queue.specs.declared.pending.Running.{Running}
-use Rattle.rdm_queue.specs.declared.outcome.Completion.{Completion}
-use Rattle.rdm_queue.specs.log.Entries.{Accepted, AskedDiscovery}
-use Rattle.rdm_queue.specs.promises.Outcomes.{OutcomeValue, completion_value}
+use Rattle.rdm_log.specs.declared.outcome.Completion.{Completion}
+use Rattle.rdm_log.specs.log.Entries.{Accepted, AskedDiscovery}
+use Rattle.rdm_log.specs.promises.Outcomes.{OutcomeValue, completion_value}
 use Rattle.rdm_queue.specs.body.Merged.{AreShares}
 use Rattle.rdm_queue.specs.body.Rings.{HasRings, HasSets, IsNewClient, ClientAccepts, ClientFinishes, ClientAnswers, ClientCollects, owed_values, first_kind_owed}
 use Rattle.rdm_queue.specs.body.Fields.{accepted_is, run_is, waiting_ring, waiting_rings, owed_rings, places_of}
 use Rattle.rdm_queue.specs.body.QueueInvariant.{RingsInvariant, QueueInvariant}
 use Rattle.rdm_queue.specs.body.State.{QueueState, outstanding, outstanding_asks, owed_for, owed_value, owes, accepted_as, accepts_request, finishes_oldest, joins_client, collects_oldest, first_join_fault, first_submit_fault, owed_to, is_discovery, first_kind, kind_of_value, TakesOldest}
 use Rattle.rdm_queue.specs.body.Ending.{answer_value}
-use Rattle.rdm_queue.proofs.LogLemmas.Places.{all_at, slice_get_first}
+use Rattle.rdm_log.proofs.LogLemmas.Places.{all_at, slice_get_first}
 use Rattle.rdm_queue.proofs.BodyLemmas.InvariantLemmas.{has_place, has_room, held-finishes, held-accepts, held-collects, held-joins}
 use Rattle.rdm_queue.proofs.BodyLemmas.OutstandingLemmas.{both_kinds, fours}
 use Rattle.rdm_queue.proofs.BodyLemmas.ValueLemmas.{length-values, discoveries-values, values-request, values-discovery, sets-finish, sets-answer, few_discoveries, kind_first}

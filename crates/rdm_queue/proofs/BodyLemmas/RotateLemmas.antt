@@ -5,25 +5,25 @@ use Rattle.std.proofs.lemmas.Bool.{cases_Bool, eq-eqb, eqb-true, false≢true}
 use Rattle.std.proofs.lemmas.Option.{none-some}
 use Rattle.std.proofs.lemmas.List.{length-drop}
 use Rattle.std.proofs.lemmas.List.Sums.{sum_by-cons}
-use Rattle.rdm_queue.specs.declared.entry.Owner.TheVariants as owners
-use Rattle.rdm_queue.specs.declared.entry.Opening.{Opening}
-use Rattle.rdm_queue.specs.declared.entry.Entry.{Entry}
+use Rattle.rdm_log.specs.declared.entry.Owner.TheVariants as owners
+use Rattle.rdm_log.specs.declared.entry.Opening.{Opening}
+use Rattle.rdm_log.specs.declared.entry.Entry.{Entry}
 use Rattle.rdm_queue.specs.declared.pending.Awaited.{Awaited}
 use Rattle.rdm_queue.specs.declared.pending.Awaited.TheVariants as awaiting
-use Rattle.rdm_queue.specs.log.Entries.{Sending, joins, accepts, asks, sends, cames, finishes, answers, collectors, traded, of_request, verdicts, is_request}
-use Rattle.rdm_queue.specs.log.History.{awaited, is_paused, is_closed, is_idle, unfinished, unanswered, uncollected_count}
-use Rattle.rdm_queue.specs.log.Clients.{answers_to}
-use Rattle.rdm_queue.specs.log.Runs.{last_run, number_after, open_run, last_run_without_fault}
-use Rattle.rdm_queue.specs.log.LogState.{opening_after}
-use Rattle.rdm_queue.specs.promises.Outcomes.{OutcomeValue}
+use Rattle.rdm_log.specs.log.Entries.{Sending, joins, accepts, asks, sends, cames, finishes, answers, collectors, traded, of_request, verdicts, is_request}
+use Rattle.rdm_log.specs.log.History.{awaited, is_paused, is_closed, is_idle, unfinished, unanswered, uncollected_count}
+use Rattle.rdm_log.specs.log.Clients.{answers_to}
+use Rattle.rdm_log.specs.log.Runs.{last_run, number_after, open_run}
+use Rattle.rdm_log.specs.log.LogState.{opening_after}
+use Rattle.rdm_log.specs.promises.Outcomes.{OutcomeValue}
 use Rattle.rdm_queue.specs.body.State.{QueueState, RunState, opening_of, uncollected}
 use Rattle.rdm_queue.specs.body.Agrees.{IsPending, RunIs, Agrees, StandsAfter, oldest_number}
 use Rattle.rdm_queue.specs.body.SessionInvariant.{SessionInvariant}
-use Rattle.rdm_queue.proofs.LogLemmas.Grows.{empty}
-use Rattle.rdm_queue.proofs.LogLemmas.LegalFacts.{LogFacts, legal_facts, IsAwaited, IsRunAwaited}
-use Rattle.rdm_queue.proofs.LogLemmas.RunFacts.{run_facts}
-use Rattle.rdm_queue.proofs.LogLemmas.ExchangeLemmas.{verdicts_unsent}
-use Rattle.rdm_queue.proofs.BodyLemmas.BegunLemmas.{asked_fewer}
+use Rattle.rdm_log.proofs.LogLemmas.Grows.{empty}
+use Rattle.rdm_log.proofs.LogLemmas.LegalFacts.{LogFacts, legal_facts, IsAwaited, IsRunAwaited}
+use Rattle.rdm_log.proofs.LogLemmas.RunFacts.{run_facts}
+use Rattle.rdm_log.proofs.LogLemmas.ExchangeLemmas.{verdicts_unsent}
+use Rattle.rdm_log.proofs.LogLemmas.BegunLemmas.{asked_fewer}
 use Rattle.rdm_queue.proofs.BodyLemmas.AgreesWork.{none_sent}
 
 -- nothing is left
@@ -95,7 +95,7 @@ from_one first None some = some
 from_one first (Some r) some = omega arith
 
 pub rotated : (o : Opening) (h : List Entry) (s : QueueState) → is_idle h ≡ true → StandsAfter o h s → StandsAfter (opening_after o h) [] s
-unfolding joins accepts asks sends cames finishes answers collectors traded of_request verdicts awaited is_paused is_closed answers_to last_run last_run_without_fault
+unfolding joins accepts asks sends cames finishes answers collectors traded of_request verdicts awaited is_paused is_closed answers_to last_run
 rotated o h s idle after = record {
   legal = empty (opening_after o h);
   goes_on = rw none tt;

@@ -3,10 +3,10 @@ use Rattle.std.proofs.Common.{◌≡◌, ℕ, true, List, Option, Some, None, ap
 use Rattle.std.specs.Prelude.{IfSome, IfNone}
 use Rattle.arrayvec.specs.ArrayVec.{ArrayVec}
 use Rattle.rdm_agent.specs.declared.search.Search.{Search}
-use Rattle.rdm_queue.specs.declared.entry.Owner.{Owner}
-use Rattle.rdm_queue.specs.declared.entry.Opening.{Opening}
-use Rattle.rdm_queue.specs.declared.entry.Entry.{Entry}
-use Rattle.rdm_queue.specs.log.History.{is_idle}
+use Rattle.rdm_log.specs.declared.entry.Owner.{Owner}
+use Rattle.rdm_log.specs.declared.entry.Opening.{Opening}
+use Rattle.rdm_log.specs.declared.entry.Entry.{Entry}
+use Rattle.rdm_log.specs.log.History.{is_idle}
 use Rattle.rdm_queue.specs.body.State.{QueueState}
 use Rattle.rdm_queue.specs.body.Sending.{IsGiven, WhichGives}
 use Rattle.rdm_queue.specs.body.Sending.WhichGives.{Opened, Turned, Began}

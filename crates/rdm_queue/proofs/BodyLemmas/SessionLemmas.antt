@@ -4,21 +4,21 @@ use Rattle.std.proofs.lemmas.Bool.{ltb-false}
 use Rattle.std.specs.Prelude.{Ok}
 use Rattle.rdm_join.specs.declared.event.LineEvent.{LineEvent}
 use Rattle.rdm_agent.specs.declared.search.Search.TheVariants.{Steady}
-use Rattle.rdm_queue.specs.declared.config.Config.{Config}
-use Rattle.rdm_queue.specs.declared.entry.Entry.{Entry}
-use Rattle.rdm_queue.specs.declared.entry.Entry.TheVariants.{Came, Finish, Answer, Close}
-use Rattle.rdm_queue.specs.log.Entries.{accepts, asks, finishes, answers, collectors}
-use Rattle.rdm_queue.specs.log.History.{is_closed, awaited, reserved}
-use Rattle.rdm_queue.specs.log.LogState.{LogState, grown, free_entries, is_full_log, opened}
-use Rattle.rdm_queue.specs.promises.Blocks.{UnlessFull, is_result, AllResults, IsWithResults, CloseAdds, DeliverAdds, GrowsBy}
-use Rattle.rdm_queue.specs.promises.InBound.{FaultNeedsClose, AnswersInBound}
+use Rattle.rdm_log.specs.declared.config.Config.{Config}
+use Rattle.rdm_log.specs.declared.entry.Entry.{Entry}
+use Rattle.rdm_log.specs.declared.entry.Entry.TheVariants.{Came, Finish, Answer, Close}
+use Rattle.rdm_log.specs.log.Entries.{accepts, asks, finishes, answers, collectors}
+use Rattle.rdm_log.specs.log.History.{is_closed, awaited, reserved}
+use Rattle.rdm_log.specs.log.LogState.{LogState, grown, free_entries, is_full_log, opened}
+use Rattle.rdm_log.specs.promises.Blocks.{UnlessFull, is_result, AllResults, IsWithResults, CloseAdds, DeliverAdds, GrowsBy}
+use Rattle.rdm_log.specs.promises.InBound.{FaultNeedsClose, AnswersInBound}
 use Rattle.rdm_queue.specs.body.State.{QueueState}
 use Rattle.rdm_queue.specs.body.Agrees.{StandsAfter, StandsAmid}
 use Rattle.rdm_queue.specs.body.SessionInvariant.{HasRoom, SessionInvariant, SessionAmid, FinishesDue}
 use Rattle.rdm_wire.specs.Lists.{EachAfter}
-use Rattle.rdm_queue.specs.log.Legal.{MayFollow}
-use Rattle.rdm_queue.proofs.BoundLemmas.{after_growth}
-use Rattle.rdm_queue.proofs.LogLemmas.RoomLemmas.{added, added_by, taken_block}
+use Rattle.rdm_log.specs.log.Legal.{MayFollow}
+use Rattle.rdm_log.proofs.BoundLemmas.{after_growth}
+use Rattle.rdm_log.proofs.LogLemmas.RoomLemmas.{added, added_by, taken_block}
 
 -- a block within the free entries
 room_grown : (k : LogState) (block : List Entry) → HasRoom k → EachAfter (MayFollow k.opening) (k.entries ++ block) → added_by block ≤ free_entries k → HasRoom (grown k block)

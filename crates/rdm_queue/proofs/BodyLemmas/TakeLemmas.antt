@@ -12,30 +12,31 @@ use Rattle.rdm_agent.specs.OpFrames.{op_frame}
 use Rattle.rdm_agent.specs.declared.op.Op.{Op}
 use Rattle.rdm_agent.specs.declared.op.Op.TheVariants as ops
 use Rattle.rdm_agent.proofs.CallLemmas.{next-in_order, next-in_budget}
-use Rattle.rdm_queue.specs.declared.entry.Owner.{Owner}
-use Rattle.rdm_queue.specs.declared.entry.Owner.TheVariants as owners
-use Rattle.rdm_queue.specs.declared.entry.Opening.{Opening}
-use Rattle.rdm_queue.specs.declared.entry.Entry.{Entry}
-use Rattle.rdm_queue.specs.log.Entries.{Accepted, AskedDiscovery, Sending, Traded, traded_of, traded, accepts, finishes, sends, cames, is_request, is_run}
+use Rattle.rdm_log.specs.declared.entry.Owner.{Owner}
+use Rattle.rdm_log.specs.declared.entry.Owner.TheVariants as owners
+use Rattle.rdm_log.specs.declared.entry.Opening.{Opening}
+use Rattle.rdm_log.specs.declared.entry.Entry.{Entry}
+use Rattle.rdm_log.specs.log.Entries.{Accepted, AskedDiscovery, Sending, Traded, traded_of, traded, accepts, finishes, sends, cames, is_request, is_run}
 use Rattle.rdm_join.specs.declared.event.LineEvent.{LineEvent}
-use Rattle.rdm_queue.specs.log.History.{awaited, unfinished, was_sent, under_way, next_tn, next_request}
-use Rattle.rdm_queue.specs.log.Runs.{has_begun, open_run, last_run, unserved, run_frames, run_exchanges, is_answered, seen_of, run_kind, known_at_run}
-use Rattle.rdm_queue.specs.log.MaySend.{MaySendRequest, MaySendRun, MayBegin, IsRunFrame, NoSend}
+use Rattle.rdm_log.specs.log.History.{awaited, unfinished, was_sent, under_way, next_tn, next_request}
+use Rattle.rdm_log.specs.log.Runs.{has_begun, open_run, last_run, unserved, run_frames, run_exchanges, is_answered, seen_of, run_kind, known_at_run}
+use Rattle.rdm_log.specs.log.MaySend.{MaySendRequest, MaySendRun, MayBegin, IsRunFrame, NoSend}
 use Rattle.rdm_queue.specs.body.State.{QueueState, RunState}
 use Rattle.rdm_queue.specs.body.Sending.{GivesRun, GivesTurn, GivesFirst, IsGiven, WhichGives, begun, unless_ended, of_run, run_to_send, request_to_send, to_send}
 use Rattle.rdm_queue.specs.body.Sending.ToSend.{OfRequest, OfRun}
 use Rattle.rdm_queue.specs.body.Sending.WhichGives.{Opened, Turned, Began}
 use Rattle.rdm_queue.specs.body.Agrees.{IsRunning, IsNotRunning, RunIs, RunGoesOn, oldest_number, Agrees, StandsAfter}
-use Rattle.rdm_queue.proofs.LogLemmas.KeepsLegal.{send_keeps, run_send_keeps}
-use Rattle.rdm_queue.proofs.LogLemmas.LegalFacts.{LogFacts, legal_facts, sent_evenly, unfinished_number, later_unsent}
-use Rattle.rdm_queue.proofs.LogLemmas.AskFacts.{ask_facts}
-use Rattle.rdm_queue.proofs.LogLemmas.RunFacts.{is_open, run_facts, any_from_place}
-use Rattle.rdm_queue.proofs.LogLemmas.Places.{slice_get-drop, within_some}
-use Rattle.rdm_queue.proofs.LogLemmas.RunLemmas.{no_frames}
-use Rattle.rdm_queue.proofs.BodyLemmas.AgentLemmas.{agent_goes_on}
+use Rattle.rdm_log.proofs.LogLemmas.KeepsLegal.{send_keeps, run_send_keeps}
+use Rattle.rdm_log.proofs.LogLemmas.LegalFacts.{LogFacts, legal_facts, sent_evenly, unfinished_number, later_unsent}
+use Rattle.rdm_log.proofs.LogLemmas.AskFacts.{ask_facts}
+use Rattle.rdm_log.proofs.LogLemmas.RunFacts.{is_open, run_facts, any_from_place}
+use Rattle.rdm_log.proofs.LogLemmas.Places.{slice_get-drop, within_some}
+use Rattle.rdm_log.proofs.LogLemmas.RunLemmas.{no_frames}
+use Rattle.rdm_log.proofs.LogLemmas.AgentLemmas.{agent_goes_on}
 use Rattle.rdm_queue.proofs.BodyLemmas.AfterLemmas.{IsSent, pending_flag, sent_by_frame}
 use Rattle.rdm_queue.proofs.BodyLemmas.AgreesWork.{stands_send, none_sent}
-use Rattle.rdm_queue.proofs.BodyLemmas.AgreesRuns.{stands_run_send, stands_begin, not_stopped, all_unserved}
+use Rattle.rdm_queue.proofs.BodyLemmas.AgreesRuns.{stands_run_send, stands_begin, not_stopped}
+use Rattle.rdm_log.proofs.LogLemmas.BegunLemmas.{all_unserved}
 
 -- no reply is awaited
 free_of : (o : Opening) (h : List Entry) (s : QueueState) → is_some s.awaited ≡ false → StandsAfter o h s → awaited h ≡ false

@@ -8,10 +8,10 @@ use Rattle.rdm_agent.specs.declared.fault.AgentFault.{AgentFault}
 use Rattle.rdm_queue.specs.declared.client.Client.{Client}
 use Rattle.rdm_queue.specs.declared.client.Owed.{Owed}
 use Rattle.rdm_queue.specs.declared.client.Owed.TheVariants as owed
-use Rattle.rdm_queue.specs.declared.entry.Entry.{Entry}
-use Rattle.rdm_queue.specs.declared.outcome.Completion.{Completion}
-use Rattle.rdm_queue.specs.promises.Outcomes.{completion_value}
-use Rattle.rdm_queue.specs.promises.Outcomes.OutcomeValue.{RequestValue, DiscoveryValue}
+use Rattle.rdm_log.specs.declared.entry.Entry.{Entry}
+use Rattle.rdm_log.specs.declared.outcome.Completion.{Completion}
+use Rattle.rdm_log.specs.promises.Outcomes.{completion_value}
+use Rattle.rdm_log.specs.promises.Outcomes.OutcomeValue.{RequestValue, DiscoveryValue}
 use Rattle.rdm_queue.specs.body.State.{is_discovery, kind_of_value}
 use Rattle.rdm_queue.specs.body.Rings.{owes_discovery, HasSets, values, owed_values, IsNewClient, ClientFinishes, ClientAnswers, ClientCollects, kind_of_owed}
 

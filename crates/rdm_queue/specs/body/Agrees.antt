@@ -11,22 +11,22 @@ use Rattle.rdm_agent.specs.Run.{asked_by}
 use Rattle.rdm_agent.specs.Machine.{AgentState, fault_of}
 use Rattle.rdm_agent.specs.OpFrames.{op_frame}
 use Rattle.rdm_agent.specs.declared.op.Op.TheVariants.{End}
-use Rattle.rdm_queue.specs.declared.entry.Owner.TheVariants as owners
-use Rattle.rdm_queue.specs.declared.entry.Opening.{Opening}
-use Rattle.rdm_queue.specs.declared.entry.Entry.{Entry}
+use Rattle.rdm_log.specs.declared.entry.Owner.TheVariants as owners
+use Rattle.rdm_log.specs.declared.entry.Opening.{Opening}
+use Rattle.rdm_log.specs.declared.entry.Entry.{Entry}
 use Rattle.rdm_queue.specs.declared.pending.Awaited.{Awaited}
 use Rattle.rdm_queue.specs.declared.pending.Awaited.TheVariants as awaiting
-use Rattle.rdm_queue.specs.log.Entries.{Sending, Answered, sends, finishes, answers, collectors, verdicts}
-use Rattle.rdm_queue.specs.log.History.{awaited, is_paused, is_closed, places, next_request, next_ask, next_tn}
-use Rattle.rdm_queue.specs.log.History.{unfinished, unanswered, was_sent}
-use Rattle.rdm_queue.specs.log.Runs.{entries_before_run, last_run, next_run, open_run, is_answered, asked_before}
-use Rattle.rdm_queue.specs.log.Runs.{run_kind, known_at_run, run_exchanges, known_devices, devices_run}
-use Rattle.rdm_queue.specs.log.Clients.{uncollected}
+use Rattle.rdm_log.specs.log.Entries.{Sending, Answered, sends, finishes, answers, collectors, verdicts}
+use Rattle.rdm_log.specs.log.History.{awaited, is_paused, is_closed, places, next_request, next_ask, next_tn}
+use Rattle.rdm_log.specs.log.History.{unfinished, unanswered, was_sent}
+use Rattle.rdm_log.specs.log.Runs.{entries_before_run, last_run, next_run, open_run, is_answered, asked_before}
+use Rattle.rdm_log.specs.log.Runs.{run_kind, known_at_run, run_exchanges, known_devices, devices_run}
+use Rattle.rdm_log.specs.log.Clients.{uncollected}
 use Rattle.rdm_wire.specs.Lists.{EachAfter}
-use Rattle.rdm_queue.specs.log.Legal.{MayFollow, Legal}
-use Rattle.rdm_queue.specs.promises.Outcomes.{outcome_of}
-use Rattle.rdm_queue.specs.promises.Blocks.{AllResults}
-use Rattle.rdm_queue.specs.promises.InBound.{AnswersInBound}
+use Rattle.rdm_log.specs.log.Legal.{MayFollow, Legal}
+use Rattle.rdm_log.specs.promises.Outcomes.{outcome_of}
+use Rattle.rdm_log.specs.promises.Blocks.{AllResults}
+use Rattle.rdm_log.specs.promises.InBound.{AnswersInBound}
 use Rattle.rdm_queue.specs.body.State.{QueueState, RunState, owed_to, IsProgress}
 use Rattle.rdm_queue.specs.body.State.{uncollected as uncollected_by}
 

@@ -8,11 +8,11 @@ use Rattle.rdm_agent.specs.declared.fault.AgentFault.{AgentFault}
 use Rattle.rdm_agent.specs.declared.fault.AgentFault.TheVariants.{Aborted}
 use Rattle.rdm_agent.specs.declared.op.Op.{Op}
 use Rattle.rdm_agent.specs.declared.op.Op.TheVariants.{End}
-use Rattle.rdm_queue.specs.declared.entry.Entry.{Entry}
-use Rattle.rdm_queue.specs.declared.entry.Entry.TheVariants.{Answer}
-use Rattle.rdm_queue.specs.log.Entries.{AskedDiscovery}
-use Rattle.rdm_queue.specs.promises.Outcomes.{OutcomeValue}
-use Rattle.rdm_queue.specs.promises.Outcomes.OutcomeValue.{DiscoveryValue}
+use Rattle.rdm_log.specs.declared.entry.Entry.{Entry}
+use Rattle.rdm_log.specs.declared.entry.Entry.TheVariants.{Answer}
+use Rattle.rdm_log.specs.log.Entries.{AskedDiscovery}
+use Rattle.rdm_log.specs.promises.Outcomes.{OutcomeValue}
+use Rattle.rdm_log.specs.promises.Outcomes.OutcomeValue.{DiscoveryValue}
 use Rattle.rdm_queue.specs.body.State.{QueueState, RunState, owes, is_closing, due, IsFinished}
 
 -- an agent that was stopped: one that has ended stays as it is

@@ -5,8 +5,8 @@ use Rattle.rdm_queue.specs.declared.client.Client.{Client}
 use Rattle.rdm_queue.specs.declared.pending.Asked.{Asked}
 use Rattle.rdm_queue.specs.declared.pending.Running.{Running}
 use Rattle.rdm_queue.specs.declared.queue.Queue.TheInside.{Inside}
-use Rattle.rdm_queue.specs.log.Entries.{Accepted, AskedDiscovery}
-use Rattle.rdm_queue.specs.promises.Outcomes.{OutcomeValue, completion_value}
+use Rattle.rdm_log.specs.log.Entries.{Accepted, AskedDiscovery}
+use Rattle.rdm_log.specs.promises.Outcomes.{OutcomeValue, completion_value}
 use Rattle.rdm_queue.specs.body.Rings.{owed_values}
 use Rattle.rdm_queue.specs.body.State.{QueueState, RunState}
 use Rattle.rdm_queue.specs.body.Merged.{merged}

@@ -9,13 +9,13 @@ use Rattle.rdm_queue.specs.declared.client.Client.{Client}
 use Rattle.rdm_queue.specs.declared.client.Waiting.{Waiting}
 use Rattle.rdm_queue.specs.declared.client.Owed.{Owed}
 use Rattle.rdm_queue.specs.declared.client.Owed.TheVariants as owed
-use Rattle.rdm_queue.specs.declared.entry.Entry.{Entry}
-use Rattle.rdm_queue.specs.declared.entry.Entry.TheVariants.{Finish}
-use Rattle.rdm_queue.specs.declared.outcome.Completion.{Completion}
-use Rattle.rdm_queue.specs.declared.outcome.OutcomeKind.{OutcomeKind}
-use Rattle.rdm_queue.specs.declared.outcome.OutcomeKind.TheVariants as kinds
-use Rattle.rdm_queue.specs.promises.Outcomes.{OutcomeValue, completion_value}
-use Rattle.rdm_queue.specs.promises.Outcomes.OutcomeValue.{RequestValue, DiscoveryValue}
+use Rattle.rdm_log.specs.declared.entry.Entry.{Entry}
+use Rattle.rdm_log.specs.declared.entry.Entry.TheVariants.{Finish}
+use Rattle.rdm_log.specs.declared.outcome.Completion.{Completion}
+use Rattle.rdm_log.specs.declared.outcome.OutcomeKind.{OutcomeKind}
+use Rattle.rdm_log.specs.declared.outcome.OutcomeKind.TheVariants as kinds
+use Rattle.rdm_log.specs.promises.Outcomes.{OutcomeValue, completion_value}
+use Rattle.rdm_log.specs.promises.Outcomes.OutcomeValue.{RequestValue, DiscoveryValue}
 
 -- a discovery's outcome
 abbrev pub owes_discovery : Owed → Bool

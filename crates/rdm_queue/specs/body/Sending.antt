@@ -18,11 +18,11 @@ use Rattle.rdm_agent.specs.declared.kind.Kind.{Kind}
 use Rattle.rdm_agent.specs.declared.kind.Kind.TheVariants.{Full, Incremental}
 use Rattle.rdm_agent.specs.declared.op.Op.{Op}
 use Rattle.rdm_agent.specs.declared.op.Op.TheVariants.{UnmuteAll, Mute, Branch, End}
-use Rattle.rdm_queue.specs.declared.entry.Owner.{Owner}
-use Rattle.rdm_queue.specs.declared.entry.Owner.TheVariants as owners
+use Rattle.rdm_log.specs.declared.entry.Owner.{Owner}
+use Rattle.rdm_log.specs.declared.entry.Owner.TheVariants as owners
 use Rattle.rdm_queue.specs.declared.pending.Awaited.TheVariants as awaiting
-use Rattle.rdm_queue.specs.log.Entries.{Accepted, AskedDiscovery}
-use Rattle.rdm_queue.specs.log.Runs.{is_full_kind}
+use Rattle.rdm_log.specs.log.Entries.{Accepted, AskedDiscovery}
+use Rattle.rdm_log.specs.log.Runs.{is_full_kind}
 use Rattle.rdm_queue.specs.body.State.{QueueState, RunState}
 
 -- a frame of this request, or of this run's next operation

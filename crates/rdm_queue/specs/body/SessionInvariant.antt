@@ -1,10 +1,10 @@
 -- What a session keeps of its controller and its log.
 use Rattle.std.specs.Prelude.{◌≡◌, ◌+◌, ◌≤◌, List, length}
-use Rattle.rdm_queue.specs.declared.entry.Entry.{Entry}
-use Rattle.rdm_queue.specs.log.History.{reserved}
-use Rattle.rdm_queue.specs.log.LogState.{LogState, grown}
-use Rattle.rdm_queue.specs.promises.Blocks.{AllResults}
-use Rattle.rdm_queue.specs.promises.InBound.{AnswersInBound}
+use Rattle.rdm_log.specs.declared.entry.Entry.{Entry}
+use Rattle.rdm_log.specs.log.History.{reserved}
+use Rattle.rdm_log.specs.log.LogState.{LogState, grown}
+use Rattle.rdm_log.specs.promises.Blocks.{AllResults}
+use Rattle.rdm_log.specs.promises.InBound.{AnswersInBound}
 use Rattle.rdm_queue.specs.body.State.{QueueState}
 use Rattle.rdm_queue.specs.body.Agrees.{StandsAmid, StandsAfter}
 

@@ -16,20 +16,20 @@ use Rattle.rdm_agent.specs.declared.search.Search.{Search}
 use Rattle.rdm_agent.specs.declared.search.Search.TheVariants.{Steady}
 use Rattle.rdm_agent.specs.declared.kind.Kind.{Kind}
 use Rattle.rdm_agent.specs.declared.kind.Kind.TheVariants.{Full}
-use Rattle.rdm_queue.specs.declared.config.Config.{Config}
+use Rattle.rdm_log.specs.declared.config.Config.{Config}
 use Rattle.rdm_queue.specs.declared.pending.Awaited.{Awaited}
-use Rattle.rdm_queue.specs.declared.fault.JoinFault.{JoinFault}
-use Rattle.rdm_queue.specs.declared.fault.SubmitFault.{SubmitFault}
-use Rattle.rdm_queue.specs.declared.fault.AskFault.{AskFault}
-use Rattle.rdm_queue.specs.declared.entry.Opening.{Opening}
-use Rattle.rdm_queue.specs.declared.entry.Entry.{Entry}
-use Rattle.rdm_queue.specs.declared.entry.Entry.TheVariants.{Finish}
-use Rattle.rdm_queue.specs.log.Entries.{Accepted, AskedDiscovery}
-use Rattle.rdm_queue.specs.log.Refusals.{join_fault_at, submit_fault_at, ask_fault_at}
-use Rattle.rdm_queue.specs.promises.Outcomes.{OutcomeValue}
-use Rattle.rdm_queue.specs.promises.Outcomes.OutcomeValue.{RequestValue, DiscoveryValue}
-use Rattle.rdm_queue.specs.declared.outcome.OutcomeKind.{OutcomeKind}
-use Rattle.rdm_queue.specs.declared.outcome.OutcomeKind.TheVariants as kinds
+use Rattle.rdm_log.specs.declared.fault.JoinFault.{JoinFault}
+use Rattle.rdm_log.specs.declared.fault.SubmitFault.{SubmitFault}
+use Rattle.rdm_log.specs.declared.fault.AskFault.{AskFault}
+use Rattle.rdm_log.specs.declared.entry.Opening.{Opening}
+use Rattle.rdm_log.specs.declared.entry.Entry.{Entry}
+use Rattle.rdm_log.specs.declared.entry.Entry.TheVariants.{Finish}
+use Rattle.rdm_log.specs.log.Entries.{Accepted, AskedDiscovery}
+use Rattle.rdm_log.specs.log.Refusals.{join_fault_at, submit_fault_at, ask_fault_at}
+use Rattle.rdm_log.specs.promises.Outcomes.{OutcomeValue}
+use Rattle.rdm_log.specs.promises.Outcomes.OutcomeValue.{RequestValue, DiscoveryValue}
+use Rattle.rdm_log.specs.declared.outcome.OutcomeKind.{OutcomeKind}
+use Rattle.rdm_log.specs.declared.outcome.OutcomeKind.TheVariants as kinds
 
 -- how a request ended, which its client is owed
 pub record OwedOutcome : Type 0 where

@@ -3,14 +3,13 @@ ghost use Rattle.std.specs.Prelude.{◌≡◌, ◌⊎◌, ◌<◌, length};
 ghost use Rattle.rdm_join.specs.Result.{ended};
 ghost use Rattle.rdm_join.specs.JoinerStanding.{head_of_standing};
 ghost use Rattle.rdm_join.specs.declared.status.Status.TheVariants.{NoMemory as NoMemoryLeft};
-ghost use Rattle.rdm_queue.specs.promises.Outcomes.{completion_value};
+ghost use Rattle.rdm_log.specs.promises.Outcomes.{completion_value};
 
-use crate::entry::Entry;
-use crate::outcome::Completion;
 use crate::pending::{Awaited, Running};
 use crate::queue::Queue;
 use rdm_agent::{AgentFault, Op};
 use rdm_join::{Joiner, LineEvent, Sent, Status, Step, judge};
+use rdm_log::{Completion, Entry};
 use rdm_wire::DeviceSet;
 use std::alloc::Global;
 
@@ -21,7 +20,7 @@ impl Queue {
     ghost use Rattle.rdm_agent.specs.Calls.{next_op};
     ghost use Rattle.rdm_agent.specs.declared.op.Op.TheVariants.{End};
     ghost use Rattle.rdm_queue.specs.body.Fields.{run_is};
-    ghost use Rattle.rdm_queue.specs.log.Entries.{Accepted, AskedDiscovery};
+    ghost use Rattle.rdm_log.specs.log.Entries.{Accepted, AskedDiscovery};
     ghost use Rattle.rdm_queue.specs.body.State.{end_of_oldest, due, IsFinished, owed_for, finish_of, finishes_oldest};
     ghost use Rattle.rdm_queue.specs.body.State.{is_closing, HearsRequest};
     ghost use Rattle.rdm_queue.specs.body.Sending.{hears_run};

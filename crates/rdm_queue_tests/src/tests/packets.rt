@@ -1,6 +1,6 @@
 //! Sessions, requests, and replies in bytes.
 ghost use Rattle.std.specs.Prelude.{◌≡◌, []};
-ghost use Rattle.rdm_queue.specs.log.Config.{IsConfig};
+ghost use Rattle.rdm_log.specs.log.Config.{IsConfig};
 
 use super::checks::{check, check_eq};
 use arrayvec::ArrayVec;

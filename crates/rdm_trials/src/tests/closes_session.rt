@@ -1,124 +1,26 @@
 //! A close at each place, over a session and a simulated line.
-use super::due::{EXCHANGES, due, seen};
-use super::heard::{Heard, found_in, said};
-use super::rig::{config, get, line_of_one, log};
-use rdm_agent::Kind;
-use rdm_join::LineEvent;
-use rdm_line::{Line, LineFault, SimLine};
-use rdm_queue::{AskFault, ClientId, JoinFault, NotAsked, Session, SubmitFault};
-use rdm_wire::Frame;
+use super::due::{EXCHANGES, accepted_before, due, seen, sees};
+use rdm_agent::{DEFAULT_BUDGET, Kind};
+use rdm_queue::{AskFault, JoinFault, SubmitFault};
+use rdm_rig::{Act, Heard, Move, Refusal, Step, moved, one_device, open_session};
 use std::alloc::Global;
-use std::process::Abort;
 use std::test::Fail;
-
-const CLIENT: ClientId = ClientId(0);
 
 /// The last place of a close: after the pause, three calls, a take without a frame, the resume, a take and a deliver of
 /// each exchange, and three collects.
 const PLACES: usize = 31;
 
-// A session with its line, what it awaits, and what came of its calls.
-#[derive(Drop)]
-struct Bench {
-    session: Session,
-    line: SimLine,
-    awaited: Option<Frame>,
-    frames: usize,
-    accepted: usize,
-    heard: [Heard; 3],
-}
-
-#[inline(never)]
-fn new_bench(rt: &impl Abort, alloc: Global) -> Result<Bench, Fail> {
-    let log = log(rt, alloc, 100);
-    let made = Session::new(alloc, config(4), log);
-    let mut session = made.map_err(|(fault, _)| fault)?;
-    assert_eq!(rt; session.join_client(alloc, 4), Ok(CLIENT));
-    Ok(Bench {
-        session,
-        line: line_of_one(rt, alloc)?,
-        awaited: None,
-        frames: 0,
-        accepted: 0,
-        heard: [Heard::Nothing; 3],
-    })
-}
-
-impl Bench {
-    // The step at this place.
-    fn step(&mut self, rt: &impl Abort, alloc: Global, place: usize) {
-        match place {
-            0 => assert!(rt; self.session.pause().is_ok()),
-            1 => self.submits(),
-            2 => self.asks(Kind::Full),
-            3 => self.asks(Kind::Incremental),
-            5 => assert!(rt; self.session.resume().is_ok()),
-            28 | 29 | 30 => self.collects(place % 28),
-            _ if place % 2 == 0 => self.takes(rt),
-            _ => self.delivers(rt, alloc),
-        }
-    }
-
-    fn counts(&mut self, is_accepted: bool) {
-        if is_accepted {
-            self.accepted = self.accepted.saturating_add(1);
-        }
-    }
-
-    fn submits(&mut self) {
-        let is_accepted = self.session.submit(CLIENT, get()).is_ok();
-        self.counts(is_accepted);
-    }
-
-    fn asks(&mut self, kind: Kind) {
-        let is_accepted = self.session.discover(CLIENT, kind).is_ok();
-        self.counts(is_accepted);
-    }
-
-    fn takes(&mut self, rt: &impl Abort) {
-        let taken = self.session.take();
-        assert!(rt; taken.is_ok());
-        self.awaited = taken.ok().flatten();
-        if self.awaited.is_some() {
-            self.frames = self.frames.saturating_add(1);
-        }
-    }
-
-    // Makes the exchange of the frame that is awaited; where there is none, nothing may be delivered.
-    fn delivers(&mut self, rt: &impl Abort, alloc: Global) {
-        let Some(frame) = self.awaited.take() else {
-            let refused = self.session.deliver(alloc, LineEvent::Failed);
-            assert!(rt; matches!(refused, Err((NotAsked, LineEvent::Failed))));
-            return;
-        };
-        let event = match self.line.exchange(&frame) {
-            Ok(reply) => LineEvent::Reply(reply),
-            Err(LineFault) => LineEvent::Failed,
-        };
-        assert!(rt; self.session.deliver(alloc, event).is_ok());
-    }
-
-    #[inline(never)]
-    fn collects(&mut self, at: usize) {
-        let heard = said(&self.session.next_outcome(CLIENT));
-        if let Some(place) = self.heard.get_mut(at) {
-            *place = heard;
-        }
-    }
-
-    // After the close each call is refused, nothing more is told, and no frame goes out.
-    #[inline(never)]
-    fn is_over(&mut self, rt: &impl Abort, alloc: Global) {
-        let submitted = self.session.submit(CLIENT, get());
-        assert!(rt; matches!(submitted, Err((SubmitFault::Closed, _))));
-        let asked = self.session.discover(CLIENT, Kind::Full);
-        assert_eq!(rt; asked, Err(AskFault::Closed));
-        let joined = self.session.join_client(alloc, 0);
-        assert_eq!(rt; joined, Err(JoinFault::Closed));
-        assert!(rt; self.session.take().is_ok_and(|frame| frame.is_none()));
-        let heard = said(&self.session.next_outcome(CLIENT));
-        assert_eq!(rt; heard, Heard::Nothing);
-        assert!(rt; self.session.is_closed() && self.session.is_idle());
+// The act at this place.
+fn act(place: usize) -> Act {
+    match place {
+        0 => Act::Pause,
+        1 => Act::Client(0, Step::Submit(0)),
+        2 => Act::Client(0, Step::Discover(Kind::Full, 0)),
+        3 => Act::Client(0, Step::Discover(Kind::Incremental, 1)),
+        5 => Act::Resume,
+        28 | 29 | 30 => Act::Client(0, Step::Collect),
+        _ if place % 2 == 0 => Act::Take,
+        _ => Act::Deliver,
     }
 }
 
@@ -127,35 +29,88 @@ fn frames_before(place: usize) -> usize {
     (place.max(5).saturating_sub(5) / 2).min(EXCHANGES)
 }
 
-// All steps, with a close before the one at this place; then nothing more comes.
-fn closes_at(rt: &impl Abort, alloc: Global, close_at: usize) -> Result<(), Fail> {
-    let mut bench = new_bench(rt, alloc)?;
+// What the act at this place comes to, where there is a close before the one at that place.
+fn wanted(place: usize, close_at: usize) -> Heard {
+    match place {
+        0 | 5 => Heard::Done,
+        1 | 2 | 3 => call(place, place >= close_at),
+        28 | 29 | 30 => {
+            let due = due(frames_before(close_at), accepted_before(close_at));
+            due[place % 28 % 3]
+        }
+        _ if place % 2 == 0 => taken(place, close_at),
+        // The reply to a frame that was taken before the close still counts.
+        _ if place <= close_at => Heard::Done,
+        _ => Heard::Nothing,
+    }
+}
+
+// What the call at this place comes to.
+fn call(place: usize, is_closed: bool) -> Heard {
+    match place {
+        1 if is_closed => Heard::Refused(Refusal::Submit(SubmitFault::Closed, 0)),
+        2 if is_closed => Heard::Refused(Refusal::Ask(AskFault::Closed, 0)),
+        _ if is_closed => Heard::Refused(Refusal::Ask(AskFault::Closed, 1)),
+        3 => Heard::Number(1),
+        _ => Heard::Number(0),
+    }
+}
+
+// What a take at this place comes to.
+fn taken(place: usize, close_at: usize) -> Heard {
+    if place == 4 || place >= close_at {
+        return Heard::Nothing;
+    }
+    Heard::Frame((place.saturating_sub(6) / 2 % 256) as u8)
+}
+
+// After the close each call is refused, nothing more is told, and no frame goes out.
+static AFTER: [Move; 5] = [
+    (
+        Act::Client(0, Step::Submit(2)),
+        Heard::Refused(Refusal::Submit(SubmitFault::Closed, 2)),
+    ),
+    (
+        Act::Client(0, Step::Discover(Kind::Full, 3)),
+        Heard::Refused(Refusal::Ask(AskFault::Closed, 3)),
+    ),
+    (
+        Act::Join(0),
+        Heard::Refused(Refusal::Join(JoinFault::Closed)),
+    ),
+    (Act::Take, Heard::Nothing),
+    (Act::Client(0, Step::Collect), Heard::Nothing),
+];
+
+// All acts, with a close before the one at this place; then nothing more comes.
+fn moves(alloc: Global, close_at: usize) -> Result<Vec<Move>, Fail> {
+    let mut moves = Vec::new(alloc);
+    moves.push((Act::Join(4), Heard::Number(0)))?;
     for place in 0..=PLACES {
         if place == close_at {
-            bench.session.close();
+            moves.push((Act::Close, Heard::Done))?;
         }
         if place < PLACES {
-            bench.step(rt, alloc, place);
+            moves.push((act(place), wanted(place, close_at)))?;
         }
     }
-    let frames = frames_before(close_at);
-    let accepted = close_at.max(1).saturating_sub(1).min(3);
-    assert_eq!(rt;
-        (bench.frames, bench.accepted),
-        (frames, accepted),
-        "{close_at}"
-    );
-    assert_eq!(rt; bench.heard, due(frames, accepted), "{close_at}");
-    let found = found_in(bench.session.devices());
-    assert_eq!(rt; (bench.session.devices_run(), found), seen(frames));
-    bench.is_over(rt, alloc);
-    Ok(())
+    moves.push((Act::Client(0, Step::Know), sees(frames_before(close_at))))?;
+    moves.extend_from_slice(&AFTER)?;
+    Ok(moves)
 }
 
 #[test]
 fn a_close_comes_at_each_place_of_a_session(rt: HostRuntime) -> Result<(), Fail> {
     for place in 0..=PLACES {
-        closes_at(&rt, rt.alloc(), place)?;
+        let line = one_device(rt.alloc(), &[])?;
+        let mut stage = open_session(rt.alloc(), 4, DEFAULT_BUDGET, 100, line)?;
+        moved(rt.alloc(), &mut stage, &moves(rt.alloc(), place)?)?;
+        let state = stage.state();
+        let frames = frames_before(place);
+        assert_eq!(rt; state.counts.frames, (frames, 0), "{place}");
+        assert_eq!(rt; state.counts.accepted, accepted_before(place), "{place}");
+        assert_eq!(rt; state.devices, seen(frames));
+        assert!(rt; state.is_closed && state.is_idle);
     }
     Ok(())
 }

@@ -1,22 +1,9 @@
 //! A close beside a client over rings, in threads of their own, a hundred times each.
-ghost use Rattle.std.specs.Prelude.{◌≡◌};
-ghost use Rattle.rdm_lanes.specs.Workers.{book_of};
-
-use super::driven::opened;
-use super::heard::{Found, Heard};
-use super::logs::{Counts, counted, frames};
-use super::notes::{AskNote, Note};
-use super::players::{Asker, Closed};
-use super::rig::line_of_one;
-use super::said::{Said, tells};
-use rdm_agent::AgentFault;
+use rdm_agent::Kind;
 use rdm_join::Status;
-use rdm_lanes::{BlankHistory, Body, ViewHistory, WorkerEnd};
-use rdm_line::SimLine;
-use rdm_queue::Session;
+use rdm_rig::{Ending, Found, Heard, Said, Step, Stop, one_device, says};
+use rdm_stage::{LanesOver, Play, Player, Setup, counts_are, player_heard, run_beside};
 use std::alloc::Global;
-use std::marker::Brand;
-use std::process::Abort;
 use std::sync::Wait;
 use std::test::Fail;
 use std::thread::Threads;
@@ -25,78 +12,133 @@ const TIMES: u64 = 100;
 
 const FAILED: Status = Status::FailedToSend;
 
-// Lets a client with two places do what its body says beside a close, over rings of two slots: the session. It has sent
-// and collected this many calls, and left.
-#[inline(never)]
-fn plays<
-    J: ViewHistory + Send + Sync,
-    B: Body<Note, AskNote> + Send,
-    R: Threads + Abort + Wait + Sync,
->(rt: &R, alloc: Global, history: BlankHistory, line: SimLine, body: &mut B, calls: u64) -> Session
-    requires { book_of history ≡ J.book }
-{
-    let places = [2u8];
-    let mut lanes = opened::<J, R>(rt, alloc, history, 1000, 2, places.as_slice(), line);
-    let end = lanes.beside(rt, alloc, 0, body);
-    assert_eq!(rt; end, Some(WorkerEnd::AllLeft));
-    let (session, counts) = lanes.end(rt, alloc);
-    assert_eq!(rt; counts.as_slice(), [(calls, calls, 0)].as_slice());
-    assert!(rt; session.is_closed() && session.is_idle());
-    session
+// At this point the operator is asked to close.
+const CLOSE: u8 = 0;
+
+// At this one the close is sent.
+const CLOSED: u8 = 1;
+
+// At this one the worker may begin.
+const BEGIN: u8 = 2;
+
+// Lets a client with two places do what its script says beside a close, over rings of two slots. It has sent and
+// collected this many calls, and left.
+fn plays<R: Threads + Wait + Sync>(
+    rt: &R,
+    alloc: Global,
+    player: &mut Player,
+    calls: u64,
+) -> Result<LanesOver, Fail> {
+    let line = one_device(alloc, &[])?;
+    let (stop, over) = run_beside(rt, alloc, Setup::new(1000, 2, &[2]), line, player)?;
+    counts_are(&over.left, &[(calls, calls, 0)])?;
+    let is_over = over.state.is_closed && over.state.is_idle && stop == Stop::AllLeft;
+    if is_over {
+        Ok(over)
+    } else {
+        Err("another end")?
+    }
 }
 
-// The worker begins once the close is sent. It takes the submit and then the close; the second submit comes later.
+// A client that submits before a close, and again once that is told. The worker begins once the close is sent.
+static CALLER: [Play; 8] = [
+    Play::Do(Step::Submit(1)),
+    Play::Arrive(CLOSE),
+    Play::Wait(CLOSED),
+    Play::Arrive(BEGIN),
+    Play::Hear,
+    Play::Do(Step::Submit(2)),
+    Play::Hear,
+    Play::Do(Step::Leave),
+];
+
+static CALLER_HEARD: [Heard; 6] = [
+    Heard::Done,
+    Heard::Done,
+    Heard::Request(1, FAILED),
+    Heard::Done,
+    Heard::Request(2, FAILED),
+    Heard::Done,
+];
+
+// The worker takes the submit and then the close; the second submit comes later.
+static CALLER_LOG: [Said; 6] = [
+    Said::Join(0, 2),
+    Said::Accept(0, 0),
+    Said::Close,
+    Said::Finish(0, FAILED, 0),
+    Said::Collect(0),
+    Said::Refuse(Some(0), 1),
+];
+
 #[test]
 fn a_client_submits_before_a_close_and_after_it(rt: HostRuntime) -> Result<(), Fail> {
-    let log = [
-        Said::Join(0, 2),
-        Said::Accept(0, 0),
-        Said::Close,
-        Said::Finish(0, FAILED),
-        Said::Collect(0),
-        Said::Refuse(Some(0), 1),
-    ];
     for _session in 0..TIMES {
-        let line = line_of_one(&rt, rt.alloc())?;
-        let mut body = Closed::new();
-        let history = BlankHistory::new();
-        let session = plays::<Brand, _, _>(&rt, rt.alloc(), history, line, &mut body, 2);
-        assert_eq!(rt; body.before, Heard::Request(1, FAILED));
-        assert_eq!(rt; body.after, Heard::Request(2, FAILED));
-        tells(&rt, &session, log.as_slice());
+        let mut player = Player::new(&CALLER);
+        let over = plays(&rt, rt.alloc(), &mut player, 2)?;
+        player_heard(&player, 0, &CALLER_HEARD)?;
+        says(&over.log, &CALLER_LOG)?;
     }
     Ok(())
 }
 
-// What a client is told of a round before the close.
-fn served(tag: u64) -> [Heard; 2] {
-    [
-        Heard::Request(tag, Status::Completed),
-        Heard::Discovery(tag, tag.saturating_add(1), None, Found::First),
-    ]
-}
+// A client that makes a request and asks for a discovery, and collects what both tell, in each of four rounds. The
+// close is asked for after two of them, and is sent before the last one.
+static ASKER: [Play; 20] = [
+    Play::Arrive(BEGIN),
+    Play::Do(Step::Submit(0)),
+    Play::Do(Step::Discover(Kind::Full, 0)),
+    Play::Hear,
+    Play::Hear,
+    Play::Do(Step::Submit(1)),
+    Play::Do(Step::Discover(Kind::Full, 1)),
+    Play::Hear,
+    Play::Hear,
+    Play::Arrive(CLOSE),
+    Play::Do(Step::Submit(2)),
+    Play::Do(Step::Discover(Kind::Full, 2)),
+    Play::Hear,
+    Play::Hear,
+    Play::Wait(CLOSED),
+    Play::Do(Step::Submit(3)),
+    Play::Do(Step::Discover(Kind::Full, 3)),
+    Play::Hear,
+    Play::Hear,
+    Play::Do(Step::Leave),
+];
 
-// What it is told of one after that.
-fn refused(tag: u64) -> [Heard; 2] {
+// What it hears, where this comes of the round in which the close comes.
+fn asker_heard(request: Heard, discovery: Heard) -> [Heard; 18] {
     [
-        Heard::Request(tag, FAILED),
-        Heard::Discovery(tag, 0, Some(AgentFault::Aborted), Found::Nobody),
+        Heard::Done,
+        Heard::Done,
+        Heard::Answered(0, 1, 2),
+        Heard::Discovery(0, 1, Ending::Faultless, Found::First),
+        Heard::Done,
+        Heard::Done,
+        Heard::Answered(1, 1, 2),
+        Heard::Discovery(1, 2, Ending::Faultless, Found::First),
+        Heard::Done,
+        Heard::Done,
+        request,
+        discovery,
+        Heard::Done,
+        Heard::Done,
+        Heard::Done,
+        Heard::Request(3, FAILED),
+        Heard::Discovery(3, 0, Ending::Aborted, Found::Nobody),
+        Heard::Done,
     ]
 }
 
 // Whether it was told of each call of the round in which the close came, once and in order. After one that the close
 // ended the next one is ended too.
-fn is_cut(told: [Heard; 2], tag: u64) -> bool {
-    match told {
-        [
-            Heard::Request(request, status),
-            Heard::Discovery(ask, _, fault, _),
-        ] => {
-            let is_served = status == Status::Completed;
-            let is_ended = status == FAILED && fault == Some(AgentFault::Aborted);
-            let is_fault_due = fault.is_none() || fault == Some(AgentFault::Aborted);
-            request == tag && ask == tag && is_fault_due && (is_served || is_ended)
+fn is_cut(request: Heard, discovery: Heard) -> bool {
+    match (request, discovery) {
+        (Heard::Answered(2, 1, 2), Heard::Discovery(2, _, ending, _)) => {
+            ending == Ending::Faultless || ending == Ending::Aborted
         }
+        (Heard::Request(2, FAILED), Heard::Discovery(2, _, Ending::Aborted, _)) => true,
         _ => false,
     }
 }
@@ -106,23 +148,15 @@ fn is_cut(told: [Heard; 2], tag: u64) -> bool {
 #[test]
 fn a_close_comes_while_a_client_calls_over_rings(rt: HostRuntime) -> Result<(), Fail> {
     for _session in 0..TIMES {
-        let line = line_of_one(&rt, rt.alloc())?;
-        let mut body = Asker::new();
-        let history = BlankHistory::new();
-        let session = plays::<Brand, _, _>(&rt, rt.alloc(), history, line, &mut body, 8);
-        assert_eq!(rt; body.first, served(0));
-        assert_eq!(rt; body.second, served(1));
-        assert!(rt; is_cut(body.cut, 2));
-        assert_eq!(rt; body.after, refused(3));
-        let Counts {
-            calls,
-            accepted,
-            ended,
-            collected,
-        } = counted(&session);
-        assert_eq!(rt; (calls, ended, collected), (8, accepted, accepted));
-        let (before, after) = frames(&session);
-        assert!(rt; before >= 22 && after == 0);
+        let mut player = Player::new(&ASKER);
+        let over = plays(&rt, rt.alloc(), &mut player, 8)?;
+        let (request, discovery) = (player.heard[10], player.heard[11]);
+        player_heard(&player, 0, &asker_heard(request, discovery))?;
+        assert!(rt; is_cut(request, discovery));
+        let counts = over.state.counts;
+        assert_eq!(rt; (counts.calls, counts.ended), (8, counts.accepted));
+        assert_eq!(rt; counts.collected, counts.accepted);
+        assert!(rt; counts.frames.0 >= 22 && counts.frames.1 == 0);
     }
     Ok(())
 }

@@ -1,8 +1,7 @@
 //! A pause, a request, two discoveries and a resume; one run answers both discoveries in ten exchanges, and then the
 //! request goes out. What becomes of them where a close comes between.
-use super::heard::{Found, Heard};
-use rdm_agent::AgentFault;
 use rdm_join::Status;
+use rdm_rig::{Ending, Found, Heard};
 
 /// How many exchanges there are without a close: ten of the run, and one of the request.
 pub const EXCHANGES: usize = 11;
@@ -14,51 +13,44 @@ pub const EXCHANGES: usize = 11;
 /// unless all its ten exchanges were made; by the fifth it has found the device.
 pub fn due(exchanges: usize, accepted: usize) -> [Heard; 3] {
     let mut due = [Heard::Nothing; 3];
-    let all = if exchanges == 0 {
-        [
-            Heard::Request(0, Status::FailedToSend),
-            unbegun(0),
-            unbegun(1),
-        ]
-    } else {
-        begun(exchanges)
-    };
-    for (due, heard) in due.iter_mut().zip(&all[..accepted.min(3)]) {
+    for (due, heard) in due.iter_mut().zip(&all_due(exchanges)[..accepted.min(3)]) {
         *due = *heard;
     }
     due
 }
 
-// What a discovery is told that no run was begun for.
-fn unbegun(tag: u64) -> Heard {
-    Heard::Discovery(tag, 0, Some(AgentFault::Aborted), Found::Nobody)
-}
-
-// The same where the run had begun.
-fn begun(exchanges: usize) -> [Heard; 3] {
-    [
-        discovery(0, exchanges),
-        discovery(1, exchanges),
-        Heard::Request(0, status_of(exchanges)),
-    ]
+fn all_due(exchanges: usize) -> [Heard; 3] {
+    if exchanges == 0 {
+        [
+            Heard::Request(0, Status::FailedToSend),
+            Heard::Discovery(0, 0, Ending::Aborted, Found::Nobody),
+            Heard::Discovery(1, 0, Ending::Aborted, Found::Nobody),
+        ]
+    } else {
+        [
+            discovery(0, exchanges),
+            discovery(1, exchanges),
+            request(exchanges),
+        ]
+    }
 }
 
 // What the discovery with this tag is told of the run.
 fn discovery(tag: u64, exchanges: usize) -> Heard {
     if exchanges < 5 {
-        Heard::Discovery(tag, 1, Some(AgentFault::Aborted), Found::Nobody)
+        Heard::Discovery(tag, 1, Ending::Aborted, Found::Nobody)
     } else if exchanges < 10 {
-        Heard::Discovery(tag, 1, Some(AgentFault::Aborted), Found::First)
+        Heard::Discovery(tag, 1, Ending::Aborted, Found::First)
     } else {
-        Heard::Discovery(tag, 1, None, Found::First)
+        Heard::Discovery(tag, 1, Ending::Faultless, Found::First)
     }
 }
 
-fn status_of(exchanges: usize) -> Status {
+fn request(exchanges: usize) -> Heard {
     if exchanges < EXCHANGES {
-        Status::FailedToSend
+        Heard::Request(0, Status::FailedToSend)
     } else {
-        Status::Completed
+        Heard::Answered(0, 1, 2)
     }
 }
 
@@ -69,4 +61,15 @@ pub fn seen(exchanges: usize) -> (u64, Found) {
     } else {
         (1, Found::First)
     }
+}
+
+/// The same, as what a client sees.
+pub fn sees(exchanges: usize) -> Heard {
+    let (run, found) = seen(exchanges);
+    Heard::Sees(run, found)
+}
+
+/// How many of the three calls were accepted before a close at this place, where they are at the places 1, 2 and 3.
+pub fn accepted_before(place: usize) -> usize {
+    place.max(1).saturating_sub(1).min(3)
 }

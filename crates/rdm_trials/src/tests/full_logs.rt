@@ -1,114 +1,90 @@
 //! Logs of each size: what is refused for want of entries, and that nothing else is.
-use super::heard::{Heard, said};
-use super::logs::{Counts, counted};
-use super::rig::{config, get, line_of_one, log};
-use rdm_agent::Kind;
-use rdm_join::LineEvent;
-use rdm_line::{Line, LineFault, SimLine};
-use rdm_queue::{AskFault, ClientId, JoinFault, LogFull, Session, SubmitFault};
+use rdm_agent::{DEFAULT_BUDGET, Kind};
+use rdm_line::SimLine;
+use rdm_queue::{AskFault, JoinFault, SubmitFault};
+use rdm_rig::{
+    Act, Heard, Refusal, SessionStage, Stage, State, Step, Stop, one_device, open_session,
+};
 use std::alloc::Global;
-use std::process::Abort;
 use std::test::Fail;
 
-const CLIENT: ClientId = ClientId(0);
+// A join, a pause, a request, two discoveries and a resume. After that eleven exchanges are made.
+static ACTS: [Act; 6] = [
+    Act::Join(4),
+    Act::Pause,
+    Act::Client(0, Step::Submit(0)),
+    Act::Client(0, Step::Discover(Kind::Full, 0)),
+    Act::Client(0, Step::Discover(Kind::Incremental, 1)),
+    Act::Resume,
+];
 
-// A session whose log had this many free entries.
-#[derive(Drop)]
-struct Bench {
-    session: Session,
-    line: SimLine,
-    size: usize,
+// How many entries are free, counted by hand, where the log had this many free entries. Of these and one for the close
+// the following are taken: the log's entries; one for the close, and one for the reply that is awaited; two for each
+// call that is accepted and not ended; one for each that is ended and not collected.
+fn free_by_hand(state: &State, size: usize) -> usize {
+    let counts = &state.counts;
+    let due = counts.accepted.saturating_sub(counts.ended);
+    let taken = [
+        counts.entries,
+        usize::from(!state.is_closed),
+        usize::from(state.awaits),
+        due.saturating_mul(2),
+        counts.ended.saturating_sub(counts.collected),
+    ];
+    let mut free = size.saturating_add(1);
+    for taken in taken {
+        free = free.saturating_sub(taken);
+    }
+    free
 }
 
-impl Bench {
-    // How many entries are free, counted by hand. Of the size and one for the close these are taken: the log's entries;
-    // one for the close, and one for the reply that is awaited; two for each call that is accepted and not ended; one
-    // for each that is ended and not collected.
-    fn free(&self) -> usize {
-        let Counts {
-            calls: _,
-            accepted,
-            ended,
-            collected,
-        } = counted(&self.session);
-        let close = usize::from(!self.session.is_closed());
-        let reply = usize::from(self.session.awaits());
-        let due = accepted.saturating_sub(ended).saturating_mul(2);
-        let told = ended.saturating_sub(collected);
-        let entries = self.session.log().entries().len();
-        let taken = [entries, close, reply, due, told];
-        let mut free = self.size.saturating_add(1);
-        for taken in taken {
-            free = free.saturating_sub(taken);
-        }
-        free
-    }
-
-    // Whether the step at this place was refused for want of entries.
-    fn is_refused(&mut self, rt: &impl Abort, alloc: Global, place: usize) -> bool {
-        match place {
-            0 => self.session.join_client(alloc, 4) == Err(JoinFault::LogFull),
-            1 => self.session.pause() == Err(LogFull),
-            2 => matches!(
-                self.session.submit(CLIENT, get()),
-                Err((SubmitFault::LogFull, _))
-            ),
-            3 => self.session.discover(CLIENT, Kind::Full) == Err(AskFault::LogFull),
-            4 => self.session.discover(CLIENT, Kind::Incremental) == Err(AskFault::LogFull),
-            5 => self.session.resume() == Err(LogFull),
-            _ => self.is_take_refused(rt, alloc),
-        }
-    }
-
-    // A take, and where there is a frame its exchange, which is never refused.
-    fn is_take_refused(&mut self, rt: &impl Abort, alloc: Global) -> bool {
-        let taken = self.session.take();
-        if let Ok(Some(frame)) = &taken {
-            let event = match self.line.exchange(frame) {
-                Ok(reply) => LineEvent::Reply(reply),
-                Err(LineFault) => LineEvent::Failed,
-            };
-            assert!(rt; self.session.deliver(alloc, event).is_ok());
-        }
-        taken.is_err()
-    }
+// Whether the act was refused for want of entries.
+fn is_refused(heard: Heard) -> bool {
+    matches!(
+        heard,
+        Heard::Refused(
+            Refusal::LogFull
+                | Refusal::Join(JoinFault::LogFull)
+                | Refusal::Submit(SubmitFault::LogFull, _)
+                | Refusal::Ask(AskFault::LogFull, _)
+        ) | Heard::Worked(Stop::LogFull)
+    )
 }
 
-// A join, a pause, a request, two discoveries, a resume, and eleven exchanges: each is refused exactly when fewer than
-// three entries are free. Then a close and the collects, which never are.
-fn fills(rt: &impl Abort, alloc: Global, size: usize) -> Result<(), Fail> {
-    let made = Session::new(alloc, config(4), log(rt, alloc, size));
-    let mut bench = Bench {
-        session: made.map_err(|(fault, _)| fault)?,
-        line: line_of_one(rt, alloc)?,
-        size,
-    };
+// Each act and each exchange is refused exactly when fewer than three entries are free.
+fn fills(alloc: Global, stage: &mut SessionStage<SimLine>, size: usize) -> bool {
     for place in 0..17 {
-        let free = bench.free();
-        assert_eq!(rt; bench.session.free(), free, "{size} {place}");
-        let is_refused = bench.is_refused(rt, alloc, place);
-        assert_eq!(rt; is_refused, free < 3, "{size} {place}");
+        let state = stage.state();
+        let act = ACTS.get(place).copied().unwrap_or(Act::Work(1));
+        let heard = stage.act(alloc, act);
+        let free = free_by_hand(&state, size);
+        if state.free != free || is_refused(heard) != (free < 3) {
+            return false;
+        }
     }
-    bench.session.close();
-    collects_all(rt, &mut bench.session);
-    assert!(rt; bench.session.is_closed() && bench.session.is_idle());
-    Ok(())
+    true
 }
 
-// Each call that was accepted has an outcome.
-fn collects_all(rt: &impl Abort, session: &mut Session) {
-    let Counts { accepted, .. } = counted(session);
-    for _ in 0..accepted {
-        let heard = said(&session.next_outcome(CLIENT));
-        assert!(rt; heard != Heard::Nothing);
+// A close and the collects are never refused: each call that was accepted has an outcome.
+fn closes(alloc: Global, stage: &mut SessionStage<SimLine>) -> bool {
+    stage.act(alloc, Act::Close);
+    for _ in 0..stage.state().counts.accepted {
+        if stage.act(alloc, Act::Client(0, Step::Collect)) == Heard::Nothing {
+            return false;
+        }
     }
-    assert_eq!(rt; said(&session.next_outcome(CLIENT)), Heard::Nothing);
+    let last = stage.act(alloc, Act::Client(0, Step::Collect));
+    let state = stage.state();
+    last == Heard::Nothing && state.is_closed && state.is_idle
 }
 
 #[test]
 fn a_log_of_each_size_is_full_in_a_session(rt: HostRuntime) -> Result<(), Fail> {
     for size in 0..=50 {
-        fills(&rt, rt.alloc(), size)?;
+        let line = one_device(rt.alloc(), &[])?;
+        let mut stage = open_session(rt.alloc(), 4, DEFAULT_BUDGET, size, line)?;
+        assert!(rt; fills(rt.alloc(), &mut stage, size), "{size}");
+        assert!(rt; closes(rt.alloc(), &mut stage), "{size}");
     }
     Ok(())
 }

@@ -1,172 +1,143 @@
 //! Clients over rings in threads of their own, a hundred times each.
-ghost use Rattle.std.specs.Prelude.{◌≡◌};
-ghost use Rattle.rdm_lanes.specs.Workers.{book_of};
-
-use super::driven::{Step, all_counts};
-use super::heard::{Found, Heard};
-use super::logs::{Counts, counted, frames};
-use super::notes::{AskNote, Note};
-use super::players::{Caller, Points};
-use super::rig::{Placed, config, first_device, line_of, line_of_one, log, second_device, stays};
-use super::said::{Said, tells};
 use rdm_agent::Kind;
 use rdm_join::Status;
-use rdm_lanes::{BlankHistory, LanesEnd, ViewHistory, WorkerEnd, run_session};
 use rdm_line::SimLine;
-use rdm_queue::{Owner, Session};
+use rdm_queue::Owner;
+use rdm_rig::{
+    Ending, Found, Heard, LineOf, Meeting, Placed, Said, Step, Who, Wrong, line_of, one_device,
+    says, says_at,
+};
+use rdm_stage::{Play, PlayersOver, Setup, counts_are, play_threads, player_heard, run_players};
 use std::alloc::Global;
-use std::marker::Brand;
-use std::process::Abort;
 use std::sync::Wait;
 use std::test::Fail;
 use std::thread::Threads;
 
 const TIMES: u64 = 100;
 
-/// More turns than a worker takes.
-const TURNS: u64 = 1_000_000_000;
-
-// Runs these clients, each with two places, over rings of one slot: the session, and the clients after it.
-#[inline(never)]
-fn plays<J: ViewHistory + Send + Sync, R: Threads + Abort + Wait + Sync>(
-    rt: &R,
-    alloc: Global,
-    history: BlankHistory,
-    places: &[u8],
-    callers: Vec<Caller>,
-    line: SimLine,
-) -> (Session, Vec<Caller>)
-    requires { book_of history ≡ J.book }
-{
-    let gate = Points::new();
-    let log = log(rt, alloc, 1000);
-    assert!(rt; callers.len() == places.len());
-    let ended = run_session::<J, Caller, Note, AskNote, Points, SimLine, R>(
-        rt,
-        alloc,
-        history,
-        config(4),
-        log,
-        1,
-        places,
-        callers,
-        &gate,
-        line,
-        TURNS,
-    );
-    match ended {
-        Ok(end) => has_played(rt, alloc, end),
-        Err((fault, _, _, _)) => panic!(rt; "{fault}"),
+// Clients with these places each, over rings of one slot.
+fn setup(places: &[u8]) -> Setup {
+    Setup {
+        greatest: 4,
+        ..Setup::new(1000, 1, places)
     }
 }
 
-// Each client has sent and collected four calls, and left; nothing is outstanding.
-#[inline(never)]
-fn has_played<J: ViewHistory>(
-    rt: &impl Abort,
-    alloc: Global,
-    end: LanesEnd<J, Caller, SimLine, Note, AskNote>,
-) -> (Session, Vec<Caller>) {
-    let LanesEnd {
-        session,
-        line: _,
-        bodies,
-        worker,
-        ends,
-        matched,
-        published: _,
-    } = end;
-    let counts = all_counts(rt, alloc, ends);
-    assert!(rt; matched && counts.iter().all(|counts| *counts == (4, 4, 0)));
-    assert!(rt; bodies.iter().all(|body| body.is_sent));
-    assert_eq!(rt; worker, WorkerEnd::AllLeft);
-    assert!(rt; session.is_idle() && !session.is_closed());
-    (session, bodies)
-}
+// A client that makes two calls, the second one once its ring has a slot, collects what both tell, and looks at the
+// devices. It does so twice, and leaves.
+static ONE_CLIENT: [Play; 11] = [
+    Play::Do(Step::Submit(1)),
+    Play::Do(Step::Submit(2)),
+    Play::Hear,
+    Play::Hear,
+    Play::Do(Step::Look),
+    Play::Do(Step::Submit(3)),
+    Play::Do(Step::Submit(4)),
+    Play::Hear,
+    Play::Hear,
+    Play::Do(Step::Look),
+    Play::Do(Step::Leave),
+];
 
-// A client that submits four times, with tags from this one on.
-fn submits(tag: u64) -> Caller {
-    Caller::new([
-        Step::Submit(tag),
-        Step::Submit(tag.saturating_add(1)),
-        Step::Submit(tag.saturating_add(2)),
-        Step::Submit(tag.saturating_add(3)),
-    ])
-}
-
-// What it is told.
-fn completed(tag: u64) -> [Heard; 2] {
+// What comes of four submits with tags from this one on.
+fn served(tag: u64) -> [Heard; 11] {
     [
-        Heard::Request(tag, Status::Completed),
-        Heard::Request(tag.saturating_add(1), Status::Completed),
+        Heard::Done,
+        Heard::Done,
+        Heard::Answered(tag, 1, 2),
+        Heard::Answered(tag.saturating_add(1), 1, 2),
+        Heard::Sees(0, Found::Nobody),
+        Heard::Done,
+        Heard::Done,
+        Heard::Answered(tag.saturating_add(2), 1, 2),
+        Heard::Answered(tag.saturating_add(3), 1, 2),
+        Heard::Sees(0, Found::Nobody),
+        Heard::Done,
     ]
 }
 
-// The log of a request that is served before another call is taken.
-fn served(number: u8) -> [Said; 5] {
+// The log from this entry on is that of a request that is served before another call is taken.
+fn is_served(log: &[Said], at: usize, number: u8) -> Result<(), Wrong> {
     let of = u64::from(number);
-    [
+    let wanted = [
         Said::Accept(0, of),
         Said::Send(Owner::Request(of), Some(number)),
         Said::Came(true),
-        Said::Finish(of, Status::Completed),
+        Said::Finish(of, Status::Completed, 2),
         Said::Collect(0),
-    ]
+    ];
+    says_at(log, at, &wanted)
 }
 
 // A turn takes a call, makes its exchange and moves its outcome, unless the one before is still on the ring. So the log
 // is the same each time.
 #[test]
 fn a_client_tries_again_while_its_ring_is_full(rt: HostRuntime) -> Result<(), Fail> {
-    let mut wanted = Vec::new(rt.alloc());
-    wanted.push(Said::Join(0, 2))?;
-    for number in 0..4 {
-        wanted.extend_from_slice(&served(number))?;
-    }
     for _session in 0..TIMES {
-        let line = line_of_one(&rt, rt.alloc())?;
-        let mut callers = Vec::new(rt.alloc());
-        callers.push(submits(1))?;
-        let history = BlankHistory::new();
-        let (session, callers) = plays::<Brand, _>(&rt, rt.alloc(), history, &[2], callers, line);
-        let caller = callers.first().expect(&rt, "a client");
-        assert_eq!(rt; caller.first, completed(1));
-        assert_eq!(rt; caller.second, completed(3));
-        tells(&rt, &session, wanted.as_slice());
+        let line = one_device(rt.alloc(), &[])?;
+        let heard = served(1);
+        let over = play_threads(
+            &rt,
+            rt.alloc(),
+            setup(&[2]),
+            &[&ONE_CLIENT],
+            line,
+            &[&heard],
+        )?;
+        counts_are(&over.left, &[(4, 4, 0)])?;
+        says_at(&over.log, 0, &[Said::Join(0, 2)])?;
+        for number in 0..4u8 {
+            is_served(&over.log, usize::from(number) * 5 + 1, number)?;
+        }
+        assert_eq!(rt; over.log.len(), 21);
+        assert!(rt; over.state.is_idle && !over.state.is_closed);
     }
     Ok(())
 }
 
+static TENS: [Play; 11] = [
+    Play::Do(Step::Submit(10)),
+    Play::Do(Step::Submit(11)),
+    Play::Hear,
+    Play::Hear,
+    Play::Do(Step::Look),
+    Play::Do(Step::Submit(12)),
+    Play::Do(Step::Submit(13)),
+    Play::Hear,
+    Play::Hear,
+    Play::Do(Step::Look),
+    Play::Do(Step::Leave),
+];
+
+static TWENTIES: [Play; 11] = [
+    Play::Do(Step::Submit(20)),
+    Play::Do(Step::Submit(21)),
+    Play::Hear,
+    Play::Hear,
+    Play::Do(Step::Look),
+    Play::Do(Step::Submit(22)),
+    Play::Do(Step::Submit(23)),
+    Play::Hear,
+    Play::Hear,
+    Play::Do(Step::Look),
+    Play::Do(Step::Leave),
+];
+
 // The order between the clients may differ. What each is told may not, nor how many entries of each kind there are.
 #[test]
 fn two_clients_are_each_told_of_their_own_requests(rt: HostRuntime) -> Result<(), Fail> {
-    let counts = Counts {
-        calls: 8,
-        accepted: 8,
-        ended: 8,
-        collected: 8,
-    };
+    let scripts: [&'static [Play]; 2] = [&TENS, &TWENTIES];
+    let (tens, twenties) = (served(10), served(20));
     for _session in 0..TIMES {
-        let line = line_of_one(&rt, rt.alloc())?;
-        let mut callers = Vec::new(rt.alloc());
-        callers.push(submits(10))?;
-        callers.push(submits(20))?;
-        let history = BlankHistory::new();
-        let (session, callers) = plays::<Brand, _>(
-            &rt,
-            rt.alloc(),
-            history,
-            &[2, 2],
-            callers,
-            line,
-        );
-        assert_eq!(rt; callers.len(), 2);
-        for (caller, tag) in callers.iter().zip([10u64, 20]) {
-            assert_eq!(rt; caller.first, completed(tag));
-            assert_eq!(rt; caller.second, completed(tag.saturating_add(2)));
-        }
-        assert_eq!(rt; (counted(&session), frames(&session)), (counts, (8, 0)));
-        assert_eq!(rt; session.log().entries().len(), 42);
+        let line = one_device(rt.alloc(), &[])?;
+        let heard: [&[Heard]; 2] = [&tens, &twenties];
+        let over = play_threads(&rt, rt.alloc(), setup(&[2, 2]), &scripts, line, &heard)?;
+        counts_are(&over.left, &[(4, 4, 0), (4, 4, 0)])?;
+        let counts = over.state.counts;
+        assert_eq!(rt; (counts.calls, counts.accepted), (8, 8));
+        assert_eq!(rt; (counts.ended, counts.collected), (8, 8));
+        assert_eq!(rt; (counts.entries, counts.frames), (42, (8, 0)));
+        assert!(rt; over.state.is_idle && !over.state.is_closed);
     }
     Ok(())
 }
@@ -185,7 +156,7 @@ struct Visit {
 // It comes after the first device's mute. It stays: three unmutes, a branch and a mute of each, and five silences; then
 // three unmutes, both mutes, and five silences. It leaves after its own mute: the same, but five mutes of it without
 // answer. It leaves before that: five mutes of it, and five silences in each half; then it isn't known.
-const VISITS: [Visit; 3] = [
+static VISITS: [Visit; 3] = [
     Visit {
         from: 5,
         until: None,
@@ -210,67 +181,89 @@ const VISITS: [Visit; 3] = [
 ];
 
 // A client that asks for a full run and then for an incremental one, and makes a request beside each.
-fn searches() -> Caller {
-    Caller::new([
-        Step::Discover(Kind::Full, 5),
-        Step::Submit(6),
-        Step::Discover(Kind::Incremental, 7),
-        Step::Submit(8),
-    ])
-}
+static SEARCHER: [Play; 11] = [
+    Play::Do(Step::Discover(Kind::Full, 5)),
+    Play::Do(Step::Submit(6)),
+    Play::Hear,
+    Play::Hear,
+    Play::Do(Step::Look),
+    Play::Do(Step::Discover(Kind::Incremental, 7)),
+    Play::Do(Step::Submit(8)),
+    Play::Hear,
+    Play::Hear,
+    Play::Do(Step::Look),
+    Play::Do(Step::Leave),
+];
 
-// What it is told of a run and of the request beside it.
-fn searched(tag: u64, run: u64, found: Found) -> [Heard; 2] {
+// What it hears, where its runs find these devices.
+fn searched(found: Found, found_then: Found) -> [Heard; 11] {
     [
-        Heard::Discovery(tag, run, None, found),
-        Heard::Request(tag.saturating_add(1), Status::Completed),
+        Heard::Done,
+        Heard::Done,
+        Heard::Discovery(5, 1, Ending::Faultless, found),
+        Heard::Answered(6, 1, 2),
+        Heard::Sees(1, found),
+        Heard::Done,
+        Heard::Done,
+        Heard::Discovery(7, 2, Ending::Faultless, found_then),
+        Heard::Answered(8, 1, 2),
+        Heard::Sees(2, found_then),
+        Heard::Done,
     ]
 }
 
 // A line with the first device, and with the second one while it is there.
-fn line_with_second(
-    rt: &impl Abort,
-    alloc: Global,
-    from: u64,
-    until: Option<u64>,
-) -> Result<SimLine, Fail> {
+fn line_with_second(alloc: Global, from: u64, until: Option<u64>) -> Result<SimLine, Wrong> {
     let second = Placed {
-        uid: second_device(),
+        who: Who::Second,
         from,
         until,
     };
-    let placed = [stays(first_device()), second];
-    line_of(rt, alloc, &placed, &[], &[])
+    let devices = [Placed::stays(Who::First), second];
+    let of = LineOf {
+        devices: &devices,
+        meeting: Meeting::Noise,
+        losses: &[],
+        fails: &[],
+    };
+    line_of(alloc, of)
 }
 
 #[test]
 fn a_second_device_comes_and_leaves_over_rings(rt: HostRuntime) -> Result<(), Fail> {
     for turn in 0..100usize {
         let visit = VISITS[turn % 3];
-        let line = line_with_second(&rt, rt.alloc(), visit.from, visit.until)?;
-        let mut callers = Vec::new(rt.alloc());
-        callers.push(searches())?;
-        let history = BlankHistory::new();
-        let (session, callers) = plays::<Brand, _>(&rt, rt.alloc(), history, &[2], callers, line);
-        let caller = callers.first().expect(&rt, "a client");
-        assert_eq!(rt; caller.first, searched(5, 1, visit.found));
-        assert_eq!(rt; caller.seen, (1, visit.found));
-        assert_eq!(rt; caller.second, searched(7, 2, visit.found_then));
-        assert_eq!(rt; caller.seen_then, (2, visit.found_then));
+        let line = line_with_second(rt.alloc(), visit.from, visit.until)?;
+        let heard = searched(visit.found, visit.found_then);
+        let over = play_threads(&rt, rt.alloc(), setup(&[2]), &[&SEARCHER], line, &[&heard])?;
+        counts_are(&over.left, &[(4, 4, 0)])?;
         // A frame of each request is beside those of the runs.
-        assert_eq!(rt; frames(&session), (visit.frames.saturating_add(2), 0));
+        assert_eq!(rt;
+            over.state.counts.frames,
+            (visit.frames.saturating_add(2), 0)
+        );
     }
     Ok(())
 }
 
-// Whether a run without fault found the device that stays, and none that was never there.
-fn is_sound(heard: Heard) -> bool {
+// What a discovery found, if that is the device that stays, and none that was never there.
+fn sound(heard: Heard) -> Option<Found> {
     match heard {
-        Heard::Discovery(_, _, None, found) => {
-            matches!(found, Found::First | Found::FirstAndSecond)
+        Heard::Discovery(_, _, Ending::Faultless, Found::First) => Some(Found::First),
+        Heard::Discovery(_, _, Ending::Faultless, Found::FirstAndSecond) => {
+            Some(Found::FirstAndSecond)
         }
-        _ => false,
+        _ => None,
     }
+}
+
+// Both runs found the device that stays, and none that was never there.
+fn is_sound(over: &PlayersOver) -> Result<(), Fail> {
+    let player = over.players.first().ok_or("no player")?;
+    let found = sound(player.heard[2]).ok_or("the full run")?;
+    let found_then = sound(player.heard[7]).ok_or("the incremental run")?;
+    player_heard(player, 0, &searched(found, found_then))?;
+    Ok(())
 }
 
 // The second device comes at each of 20 exchanges, and stays for 1, 2, 4, 8 or 16 of them.
@@ -279,17 +272,10 @@ fn runs_find_the_device_that_stays(rt: HostRuntime) -> Result<(), Fail> {
     for session in 0..100u64 {
         let from = session % 20;
         let stays_for = 1u64 << (session / 20 % 5);
-        let until = Some(from.saturating_add(stays_for));
-        let line = line_with_second(&rt, rt.alloc(), from, until)?;
-        let mut callers = Vec::new(rt.alloc());
-        callers.push(searches())?;
-        let history = BlankHistory::new();
-        let (_, callers) = plays::<Brand, _>(&rt, rt.alloc(), history, &[2], callers, line);
-        let caller = callers.first().expect(&rt, "a client");
-        assert!(rt; is_sound(caller.first[0]), "{from} {stays_for}");
-        assert!(rt; is_sound(caller.second[0]), "{from} {stays_for}");
-        assert_eq!(rt; caller.seen.0, 1);
-        assert_eq!(rt; caller.seen_then.0, 2);
+        let line = line_with_second(rt.alloc(), from, Some(from.saturating_add(stays_for)))?;
+        let over = run_players(&rt, rt.alloc(), setup(&[2]), &[&SEARCHER], line)?;
+        counts_are(&over.left, &[(4, 4, 0)])?;
+        is_sound(&over)?;
     }
     Ok(())
 }

@@ -1,5 +1,5 @@
 use Rattle.std.proofs.Common.{refl}
-use Rattle.rdm_queue.specs.declared.outcome.Outcome.TheVariants as outcomes
+use Rattle.rdm_log.specs.declared.outcome.Outcome.TheVariants as outcomes
 use Rattle.std.proofs.Common.{Some}
 use Rattle.rdm_lanes.specs.declared.ring_outcome.RingOutcome.TheVariants.{Request}
 use Rattle.rdm_lanes.proofs.CollectedLemmas.{has_request, fits_completion}

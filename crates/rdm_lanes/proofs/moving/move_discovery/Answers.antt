@@ -1,5 +1,5 @@
 use Rattle.std.proofs.Common.{refl}
-use Rattle.rdm_queue.specs.promises.Outcomes.{discovery_outcome}
+use Rattle.rdm_log.specs.promises.Outcomes.{discovery_outcome}
 use Rattle.rdm_lanes.proofs.CollectedLemmas.{has_ask, fits_discovery}
 use Rattle.rdm_lanes.proofs.StepLemmas.{collects, collect_served, others_wait_collect}
 use Rattle.rdm_lanes.proofs.moving.move_discovery.Goals as goal

@@ -1,6 +1,6 @@
 use Rattle.std.proofs.Common.{◌≡◌, drop, map}
 use Rattle.std.specs.Prelude.{◌↔◌}
-use Rattle.rdm_queue.specs.log.Entries.{cames}
+use Rattle.rdm_log.specs.log.Entries.{cames}
 use Rattle.rdm_locked.proofs.exchange.has_events.Given as goal
 
 abbrev pub invariant-entries : goal.invariant-entries

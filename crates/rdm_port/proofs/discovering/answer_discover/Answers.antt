@@ -2,13 +2,13 @@ use Rattle.std.proofs.Common.{◌≡◌, ℕ, Bool, List, Option, Result, Ok, Er
 use Rattle.std.specs.Prelude.{IfOk}
 use Rattle.rdm_agent.specs.declared.kind.Kind.{Kind}
 use Rattle.rdm_line.specs.SimRuns.{NoFiveSuccessive}
-use Rattle.rdm_port.specs.SceneDiscovery.{IsSceneDiscovery, IsHonestReport}
+use Rattle.rdm_serving.specs.SceneDiscovery.{IsSceneDiscovery, IsHonestReport}
 use Rattle.rdm_port.specs.Fault.{ReadsScene}
 use Rattle.rdm_port.specs.Outcome.{Discovers, answer_bytes, kind_of, search_of}
-use Rattle.rdm_port.specs.Report.{report_text, report_status}
+use Rattle.rdm_serving.specs.Report.{report_text, report_status}
 use Rattle.rdm_port.specs.declared.answer.Answered.{Answered}
-use Rattle.rdm_port.specs.declared.discovery.Discovery.{Discovery}
-use Rattle.rdm_port.specs.declared.scene.file.SceneFile.{SceneFile}
+use Rattle.rdm_serving.specs.declared.discovery.Discovery.{Discovery}
+use Rattle.rdm_files.specs.declared.scene.file.SceneFile.{SceneFile}
 use Rattle.rdm_port.proofs.discovering.answer_discover.Goals as goal
 
 -- a run whose report is printed answers

@@ -1,5 +1,5 @@
 use Rattle.std.proofs.Common.{ap}
-use Rattle.rdm_port.specs.Forms.{is_memory}
+use Rattle.rdm_files.specs.Forms.{is_memory}
 use Rattle.serde_json.specs.View.{view}
 use Rattle.rdm_port.proofs.discovering.scene_of.Goals as goal
 

@@ -13,7 +13,7 @@ use Rattle.clap.proofs.WalkLemmas.{first_value-rows}
 use Rattle.rdm_port.specs.Words.{value_of, flag_of, port_of, port_in, is_set, IsGiven}
 use Rattle.rdm_port.specs.declared.job.Job.{Job}
 use Rattle.rdm_port.specs.declared.job.Job.TheVariants.{Decode, Encode, Discover, Run}
-use Rattle.rdm_port.specs.declared.job.PortKind.{PortKind}
+use Rattle.rdm_serving.specs.declared.port_kind.PortKind.{PortKind}
 use Rattle.rdm_port.proofs.job.given.Goals as goal
 
 -- a command that was given is its name and what was given to it

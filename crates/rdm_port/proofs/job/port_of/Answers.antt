@@ -3,7 +3,7 @@ use Rattle.std.specs.Option.{option_map_or}
 use Rattle.clap.specs.Words.{found_of}
 use Rattle.clap.proofs.WalkLemmas.{first_value-rows}
 use Rattle.rdm_port.specs.Words.{port_named}
-use Rattle.rdm_port.specs.declared.job.PortKind.TheVariants.{Locked}
+use Rattle.rdm_serving.specs.declared.port_kind.PortKind.TheVariants.{Locked}
 use Rattle.rdm_port.proofs.job.port_of.Goals as goal
 
 pub returns-in-Some : goal.returns-in-Some

@@ -2,10 +2,10 @@ use Rattle.std.proofs.Common.{◌≡◌, ℕ, List, Option, ap, ◌∙◌, inl, 
 use Rattle.std.specs.Prelude.{◌⊎◌}
 use Rattle.rdm_port.specs.Fault.{ReadsSession, IsServeFault}
 use Rattle.rdm_port.specs.Outcome.{answer_bytes}
-use Rattle.rdm_port.specs.SessionReport.{session_text}
+use Rattle.rdm_serving.specs.SessionReport.{session_text}
 use Rattle.rdm_port.specs.declared.fault.Fault.{Fault}
 use Rattle.rdm_port.specs.declared.fault.Fault.TheVariants.{Memory, Log, Turns}
-use Rattle.rdm_port.specs.declared.session.file.SessionFile.{SessionFile}
+use Rattle.rdm_files.specs.declared.session.file.SessionFile.{SessionFile}
 use Rattle.rdm_port.proofs.run.answer_run.Goals as goal
 
 -- why a session that was read isn't answered

@@ -1,8 +1,8 @@
 use Rattle.std.proofs.Common.{◌≡◌, List}
-use Rattle.rdm_queue.specs.declared.entry.Entry.{Entry}
-use Rattle.rdm_queue.specs.log.LogState.{grown}
-use Rattle.rdm_queue.specs.promises.Blocks.{AllResults}
-use Rattle.rdm_queue.specs.promises.InBound.{AnswersInBound}
+use Rattle.rdm_log.specs.declared.entry.Entry.{Entry}
+use Rattle.rdm_log.specs.log.LogState.{grown}
+use Rattle.rdm_log.specs.promises.Blocks.{AllResults}
+use Rattle.rdm_log.specs.promises.InBound.{AnswersInBound}
 use Rattle.rdm_queue.specs.body.State.{unended}
 use Rattle.rdm_queue.specs.body.SessionInvariant.{SessionAmid}
 use Rattle.rdm_queue.proofs.session.finish_due.Given as goal

@@ -1,6 +1,6 @@
 use Rattle.std.proofs.Common.{◌<◌, ◌≤◌, refl, length, arith}
 use Rattle.std.proofs.lemmas.Option.{slice_get_read}
-use Rattle.rdm_queue.proofs.PromiseLemmas.Promises.{promised}
+use Rattle.rdm_log.proofs.PromiseLemmas.Promises.{promised}
 use Rattle.rdm_lanes.proofs.EndLemmas.{comparing_none, comparing_more, all_compared, all_read}
 use Rattle.rdm_lanes.proofs.worker.Worker.compared.Goals as goal
 

@@ -1,5 +1,5 @@
 use Rattle.std.proofs.Common.{◌≡◌, ◌∙◌, Ok, ap, sym, subst, inl, arith}
-use Rattle.rdm_queue.specs.log.LogState.{LogState}
+use Rattle.rdm_log.specs.log.LogState.{LogState}
 use Rattle.rdm_lanes.specs.Lines.{IsBetweenTurns}
 use Rattle.rdm_lanes.specs.Lanes.{AllFit}
 use Rattle.rdm_lanes.specs.Views.{views_found}

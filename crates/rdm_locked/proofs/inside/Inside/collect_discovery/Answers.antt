@@ -1,8 +1,8 @@
 use Rattle.std.proofs.Common.{arith, Some}
-use Rattle.rdm_queue.specs.promises.Outcomes.{discovery_outcome}
-use Rattle.rdm_queue.proofs.PromiseLemmas.LogInBoundLemmas.{call_in_bound}
-use Rattle.rdm_queue.specs.declared.event.Event.TheVariants as events
-use Rattle.rdm_queue.specs.declared.event.Answer.TheVariants as answers
+use Rattle.rdm_log.specs.promises.Outcomes.{discovery_outcome}
+use Rattle.rdm_log.proofs.PromiseLemmas.LogInBoundLemmas.{call_in_bound}
+use Rattle.rdm_log.specs.declared.event.Event.TheVariants as events
+use Rattle.rdm_log.specs.declared.event.Answer.TheVariants as answers
 use Rattle.rdm_locked.proofs.CallLemmas.{grown_counts, collect_brings, calls_few}
 use Rattle.rdm_locked.proofs.inside.Inside.collect_discovery.Goals as goal
 

@@ -1,10 +1,10 @@
 use Rattle.std.proofs.Common.{arith}
 use Rattle.std.specs.Prelude.{Ok, Err}
-use Rattle.rdm_queue.proofs.PromiseLemmas.LogInBoundLemmas.{call_in_bound}
-use Rattle.rdm_queue.specs.declared.event.Event.TheVariants as events
-use Rattle.rdm_queue.specs.declared.event.Answer.TheVariants as answers
-use Rattle.rdm_queue.proofs.LogLemmas.RefusalLemmas.{join_passes}
-use Rattle.rdm_queue.proofs.PromiseLemmas.BlockLemmas.{join_ok}
+use Rattle.rdm_log.proofs.PromiseLemmas.LogInBoundLemmas.{call_in_bound}
+use Rattle.rdm_log.specs.declared.event.Event.TheVariants as events
+use Rattle.rdm_log.specs.declared.event.Answer.TheVariants as answers
+use Rattle.rdm_log.proofs.LogLemmas.RefusalLemmas.{join_passes}
+use Rattle.rdm_log.proofs.PromiseLemmas.BlockLemmas.{join_ok}
 use Rattle.rdm_locked.proofs.CallLemmas.{grown_counts, join_brings, join_refused_brings}
 use Rattle.rdm_locked.proofs.inside.Inside.join.Goals as goal
 

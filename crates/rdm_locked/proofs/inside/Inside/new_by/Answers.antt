@@ -1,7 +1,7 @@
 use Rattle.std.proofs.Common.{arith, refl, ap, ◌∙◌}
-use Rattle.rdm_queue.specs.log.Entries.{joins, accepts, asks, finishes, answers, collectors}
-use Rattle.rdm_queue.specs.log.LogState.{LogState}
-use Rattle.rdm_queue.proofs.PromiseLemmas.LogInBoundLemmas.{empty_in_bound}
+use Rattle.rdm_log.specs.log.Entries.{joins, accepts, asks, finishes, answers, collectors}
+use Rattle.rdm_log.specs.log.LogState.{LogState}
+use Rattle.rdm_log.proofs.PromiseLemmas.LogInBoundLemmas.{empty_in_bound}
 use Rattle.rdm_locked.specs.Calls.{count_calls}
 use Rattle.rdm_locked.proofs.inside.Inside.new_by.Goals as goal
 

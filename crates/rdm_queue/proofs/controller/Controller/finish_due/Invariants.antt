@@ -1,7 +1,7 @@
 use Rattle.std.proofs.Common.{◌≡◌, List, ◌++◌}
-use Rattle.rdm_queue.specs.declared.entry.Entry.{Entry}
-use Rattle.rdm_queue.specs.promises.Blocks.{AllResults}
-use Rattle.rdm_queue.specs.promises.InBound.{AnswersInBound}
+use Rattle.rdm_log.specs.declared.entry.Entry.{Entry}
+use Rattle.rdm_log.specs.promises.Blocks.{AllResults}
+use Rattle.rdm_log.specs.promises.InBound.{AnswersInBound}
 use Rattle.rdm_queue.specs.body.State.{unended}
 use Rattle.rdm_queue.specs.body.Agrees.{StandsAmid, ForEachBlock}
 use Rattle.rdm_queue.proofs.controller.Controller.finish_due.Given as goal

@@ -1,5 +1,5 @@
 use Rattle.std.proofs.Common.{[], sym, subst, ◌∙◌}
-use Rattle.rdm_queue.specs.log.LogState.{opened}
+use Rattle.rdm_log.specs.log.LogState.{opened}
 use Rattle.rdm_queue.specs.body.Agrees.{StandsAfter}
 use Rattle.rdm_queue.proofs.BodyLemmas.AfterLemmas.{first_after}
 use Rattle.rdm_queue.proofs.controller.Controller.new.Goals as goal

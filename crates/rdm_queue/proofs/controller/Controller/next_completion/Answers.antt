@@ -1,5 +1,5 @@
 use Rattle.std.proofs.Common.{◌∙◌}
-use Rattle.rdm_queue.specs.declared.outcome.OutcomeKind.TheVariants.{Request}
+use Rattle.rdm_log.specs.declared.outcome.OutcomeKind.TheVariants.{Request}
 use Rattle.rdm_queue.proofs.BodyLemmas.CallLemmas.{completion_adds, not_kind}
 use Rattle.rdm_queue.proofs.controller.Controller.next_completion.Goals as goal
 

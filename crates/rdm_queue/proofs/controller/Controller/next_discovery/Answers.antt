@@ -1,5 +1,5 @@
 use Rattle.std.proofs.Common.{◌∙◌}
-use Rattle.rdm_queue.specs.declared.outcome.OutcomeKind.TheVariants.{Discovery}
+use Rattle.rdm_log.specs.declared.outcome.OutcomeKind.TheVariants.{Discovery}
 use Rattle.rdm_queue.proofs.BodyLemmas.CallLemmas.{discovery_adds, not_kind}
 use Rattle.rdm_queue.proofs.controller.Controller.next_discovery.Goals as goal
 

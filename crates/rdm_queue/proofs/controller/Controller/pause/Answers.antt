@@ -1,5 +1,5 @@
 use Rattle.std.proofs.Common.{◌∷◌, [], refl, sym, ◌∙◌}
-use Rattle.rdm_queue.specs.declared.entry.Entry.TheVariants.{Pause}
+use Rattle.rdm_log.specs.declared.entry.Entry.TheVariants.{Pause}
 use Rattle.rdm_queue.proofs.BodyLemmas.AfterLemmas.{pause_after}
 use Rattle.rdm_queue.proofs.controller.Controller.pause.Goals as goal
 

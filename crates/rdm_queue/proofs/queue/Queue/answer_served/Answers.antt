@@ -2,7 +2,7 @@ use Rattle.std.proofs.Common.{◌≡◌, ◌<◌, ◌≤◌, List, length, drop,
 use Rattle.std.proofs.lemmas.List.{length-map, drop-map}
 use Rattle.rdm_queue.specs.declared.client.Client.{Client}
 use Rattle.rdm_queue.specs.declared.pending.Asked.{Asked}
-use Rattle.rdm_queue.specs.log.Entries.{AskedDiscovery}
+use Rattle.rdm_log.specs.log.Entries.{AskedDiscovery}
 use Rattle.rdm_queue.specs.body.Rings.{ClientAnswers}
 use Rattle.rdm_queue.specs.body.Fields.{state_of, places_of, asked_is, run_is, owed_rings}
 use Rattle.rdm_queue.specs.body.QueueInvariant.{QueueInvariant}

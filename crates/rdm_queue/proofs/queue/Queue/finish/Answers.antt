@@ -1,8 +1,8 @@
 use Rattle.std.proofs.Common.{◌≡◌, ◌<◌, List, length, get_or, set, Some, None, slice_get, refl, sym, ap, ◌∙◌, subst, arith}
 use Rattle.rdm_queue.specs.declared.client.Client.{Client}
-use Rattle.rdm_queue.specs.declared.entry.Entry.TheVariants.{Finish}
-use Rattle.rdm_queue.specs.log.Entries.{Accepted}
-use Rattle.rdm_queue.specs.promises.Outcomes.{completion_value}
+use Rattle.rdm_log.specs.declared.entry.Entry.TheVariants.{Finish}
+use Rattle.rdm_log.specs.log.Entries.{Accepted}
+use Rattle.rdm_log.specs.promises.Outcomes.{completion_value}
 use Rattle.rdm_queue.specs.body.Fields.{state_of, places_of, owed_rings}
 use Rattle.rdm_queue.specs.body.QueueInvariant.{QueueInvariant}
 use Rattle.rdm_queue.specs.body.State.{QueueState, finishes_oldest, owed_for, owed_value, owes}

@@ -2,8 +2,8 @@ use Rattle.std.proofs.Common.{◌≡◌, List, set, Some, slice_get, sym, ap, �
 use Rattle.std.specs.Prelude.{◌≢◌}
 use Rattle.std.proofs.lemmas.Option.{slice_get-get_or}
 use Rattle.rdm_queue.specs.declared.client.Client.{Client}
-use Rattle.rdm_queue.specs.declared.outcome.OutcomeKind.TheVariants as kinds
-use Rattle.rdm_queue.specs.promises.Outcomes.{outcome_value, request_outcome}
+use Rattle.rdm_log.specs.declared.outcome.OutcomeKind.TheVariants as kinds
+use Rattle.rdm_log.specs.promises.Outcomes.{outcome_value, request_outcome}
 use Rattle.rdm_queue.specs.body.Rings.{first_kind_owed}
 use Rattle.rdm_queue.specs.body.Fields.{state_of, places_of}
 use Rattle.rdm_queue.specs.body.State.{QueueState}

@@ -1,5 +1,5 @@
 use Rattle.std.proofs.Common.{◌∷◌, [], arith}
-use Rattle.rdm_queue.specs.declared.entry.Entry.TheVariants.{Collect}
+use Rattle.rdm_log.specs.declared.entry.Entry.TheVariants.{Collect}
 use Rattle.rdm_queue.proofs.BodyLemmas.SessionLemmas.{session_grown, room_for}
 use Rattle.rdm_queue.proofs.session.Session.next_completion.Goals as goal
 

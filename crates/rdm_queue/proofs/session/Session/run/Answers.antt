@@ -1,7 +1,7 @@
 use Rattle.std.proofs.Common.{◌≡◌, ◌+◌, ◌≤◌, ◌++◌, ◌∷◌, [], length, take, arith, sym, ap, ◌∙◌}
 use Rattle.std.proofs.lemmas.List.{length_push, take_more, take_all}
-use Rattle.rdm_queue.proofs.PromiseLemmas.ExplainsLemmas.{explains_more}
-use Rattle.rdm_queue.proofs.PromiseLemmas.EventsPromises.{events_promised}
+use Rattle.rdm_log.proofs.PromiseLemmas.ExplainsLemmas.{explains_more}
+use Rattle.rdm_log.proofs.PromiseLemmas.EventsPromises.{events_promised}
 use Rattle.rdm_queue.proofs.session.Session.run.Goals as goal
 
 pub loop-event-preserved : goal.loop-event-preserved

@@ -1,7 +1,7 @@
 use Rattle.std.proofs.Common.{◌≡◌, ◌≤◌, length, take}
 use Rattle.std.specs.Vec.{vec_capacity}
-use Rattle.rdm_queue.specs.log.Legal.{Legal}
-use Rattle.rdm_queue.specs.promises.Explains.{Explains}
+use Rattle.rdm_log.specs.log.Legal.{Legal}
+use Rattle.rdm_log.specs.promises.Explains.{Explains}
 use Rattle.rdm_queue.proofs.session.Session.run.Given as goal
 
 -- the answers so far explain the log so far

@@ -1,0 +1,1 @@
+"""Runs the built program on cases, and compares what it prints with what it has to print."""

@@ -1,0 +1,92 @@
+"""What a case is: how the program is called, and what it has to print."""
+from __future__ import annotations
+
+import enum
+from dataclasses import dataclass
+from pathlib import Path
+from typing import Callable, Dict, Optional, Tuple
+
+Arguments = Tuple[bytes, ...]
+
+# Whether a text is a whole answer of a certain form, with its status.
+Form = Callable[[bytes, int], bool]
+
+FILE_NAME = "file.json"
+PROGRAM_NAME = "wurstlinen"
+OTHER_PROGRAM_NAME = "rdm_port"
+
+
+class Output(enum.Enum):
+    """Where standard output goes."""
+
+    READ = "read"
+    FULL = "full"
+    CLOSED = "closed"
+    UNREAD = "unread"
+
+
+@dataclass(frozen=True)
+class File:
+    """A file in the folder in which the program runs."""
+
+    contents: bytes
+    path: str = FILE_NAME
+    is_readable: bool = True
+
+
+@dataclass(frozen=True)
+class Expected:
+    """What the program has to print, and its status. What is None isn't compared."""
+
+    status: Optional[int] = 0
+    out: Optional[bytes] = None
+    err: Optional[bytes] = None
+    # Standard error has this text somewhere.
+    err_has: Optional[bytes] = None
+    # Standard error is one line, and begins with this text.
+    err_begins: Optional[bytes] = None
+    form: Optional[Form] = None
+
+
+@dataclass(frozen=True)
+class Case:
+    """Some commands that all have to print the same."""
+
+    name: str
+    commands: Tuple[Arguments, ...]
+    expected: Expected
+    files: Tuple[File, ...] = ()
+    # The folder in which the program runs, instead of a new one with the files.
+    folder: Optional[Path] = None
+    program: str = PROGRAM_NAME
+    output: Output = Output.READ
+    times: int = 1
+
+
+@dataclass(frozen=True)
+class Answer:
+    """What the program printed, and its status."""
+
+    status: int
+    out: bytes
+    err: bytes
+
+
+@dataclass(frozen=True)
+class Subject:
+    """The cases of one table, or of one kind of generated input."""
+
+    name: str
+    cases: Tuple[Case, ...]
+
+
+def arguments_of(*texts: str) -> Arguments:
+    """The arguments, as the program gets them."""
+    return tuple(text.encode() for text in texts)
+
+
+def prints(text: str) -> Expected:
+    """The program prints this text, with the status that the formats give it."""
+    statuses: Dict[str, int] = {"fault: command line\n": 2}
+    is_fault = text.startswith("fault")
+    return Expected(status=statuses.get(text, 1 if is_fault else 0), out=text.encode())

@@ -1,0 +1,106 @@
+"""The forms that what is printed may have: a fault alone, or a whole answer."""
+from __future__ import annotations
+
+import re
+from typing import Dict, Iterator, Optional, Tuple
+
+FAULTS: Dict[bytes, int] = {
+    b"fault: hex\n": 1,
+    b"fault: uid\n": 1,
+    b"fault: file\n": 1,
+    b"fault: json\n": 1,
+    b"fault: discovery command\n": 1,
+    b"fault: scene\n": 1,
+    b"fault: log\n": 1,
+    b"fault: turns\n": 1,
+    b"fault: memory\n": 1,
+    b"fault: command line\n": 2,
+}
+
+NUMBER = "(?:0|[1-9][0-9]*)"
+UID = "[0-9a-f]{4}:[0-9a-f]{8}"
+RUN_FAULT = f"fault (?:1 {UID}|[2-5])"
+REPLY = re.compile(f"(?:silent|collision|{UID}|fefefefefefefeaa[0-9a-f]{{32}})\n")
+# The control field is left out if it is 0 and there is no binding UID.
+DEVICE = f"(?:{UID})(?: (?!0000)[0-9a-f]{{4}}| [0-9a-f]{{4}} {UID})?\n"
+DISCOVERY = re.compile(f"(?:{DEVICE})*frames {NUMBER}\n")
+FAILED_DISCOVERY = re.compile(f"{RUN_FAULT}\nframes {NUMBER}\n")
+STATUS = "(?:[1-9]|1[0-8])"
+REQUEST = f"(request) ({NUMBER}): (?:0 (?:00|01|02) (?:-|(?:[0-9a-f]{{2}})+)|{STATUS})"
+ASK = f"(discovery) ({NUMBER}): (?:ok(?: {UID})*|{RUN_FAULT})"
+OUTCOME = re.compile(f"client ({NUMBER}) (?:{REQUEST}|{ASK})")
+
+# Whose outcome a line has: the client, whether it is a discovery's, and its number among the client's of that kind.
+Place = Tuple[int, bool, int]
+
+
+def is_fault(text: bytes, status: int) -> bool:
+    """One of the faults, alone, with its status."""
+    return FAULTS.get(text) == status
+
+
+def is_reply(text: bytes, status: int) -> bool:
+    """The whole answer of decode or of encode."""
+    return status == 0 and REPLY.fullmatch(decoded(text)) is not None
+
+
+def is_discovery(text: bytes, status: int) -> bool:
+    """The whole answer of a discovery: its devices, ascending, or a fault, and then how many frames it sent."""
+    lines = decoded(text)
+    if FAILED_DISCOVERY.fullmatch(lines):
+        return status == 1
+    if status != 0 or not DISCOVERY.fullmatch(lines):
+        return False
+    uids = [line[:13] for line in lines.splitlines()[:-1]]
+    return all(uid < later for uid, later in zip(uids, uids[1:]))
+
+
+def is_session(text: bytes, status: int, calls: int) -> bool:
+    """The whole answer of a session with this many calls: each client's requests in order, then its discoveries."""
+    lines = decoded(text)
+    places = list(places_of(lines))
+    if status != 0 or not lines.endswith("\n") or len(places) != calls:
+        return False
+    return all(follows(last, place) for last, place in zip([None, *places], places))
+
+
+def places_of(lines: str) -> Iterator[Optional[Place]]:
+    """Whose outcome each line has; none for one that has no outcome."""
+    for line in lines[:-1].split("\n"):
+        match = OUTCOME.fullmatch(line)
+        if match:
+            yield int(match[1]), match[4] is not None, int(match[3] or match[5])
+        else:
+            yield None
+
+
+def follows(last: Optional[Place], place: Optional[Place]) -> bool:
+    """Whether a place comes right after another one."""
+    if place is None:
+        return False
+    client, is_ask, number = place
+    if last is None:
+        return number == 0
+    if last[:2] == (client, is_ask):
+        return number == last[2] + 1
+    return number == 0 and (last[0] < client or (last[0] == client and is_ask))
+
+
+def decoded(text: bytes) -> str:
+    """The text; what isn't UTF-8 fits no form."""
+    return text.decode(errors="replace")
+
+
+def fault_or_discovery(text: bytes, status: int) -> bool:
+    """A fault, or the whole answer of a discovery."""
+    return is_fault(text, status) or is_discovery(text, status)
+
+
+def fault_or_answer(text: bytes, status: int) -> bool:
+    """A fault, or the whole answer of any command but run."""
+    return fault_or_discovery(text, status) or is_reply(text, status)
+
+
+def fault_or_three_outcomes(text: bytes, status: int) -> bool:
+    """A fault, or the whole answer of a session with three calls."""
+    return is_fault(text, status) or is_session(text, status, 3)

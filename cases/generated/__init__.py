@@ -1,0 +1,23 @@
+"""Cases that are too many or too large to write out: hostile input, and large rigs.
+
+Each answer to hostile input is one of the named faults, alone and with its status, or a whole answer: the one that the
+formats give, or, if bytes are changed at random, one of the right form.
+"""
+from __future__ import annotations
+
+from typing import List
+
+from ..checker.case import Subject
+from . import arguments, damage, encodings, keys, limits, neighbours, nesting, remarks
+
+MODULES = (damage, arguments, keys, limits, encodings, nesting, remarks, neighbours)
+
+
+def subjects() -> List[Subject]:
+    """The cases of each module."""
+    return [Subject(f"generated/{name_of(module)}", tuple(module.cases())) for module in MODULES]
+
+
+def name_of(module: object) -> str:
+    """A module's own name."""
+    return getattr(module, "__name__").rsplit(".", maxsplit=1)[-1]

@@ -1,0 +1,34 @@
+"""Rigs of many devices whose UIDs are 0 and the numbers after it, and whose collisions spell nobody."""
+from __future__ import annotations
+
+import json
+from typing import Iterator, Sequence
+
+from ..checker.case import Case
+from .commands import DISCOVER, NO_SCENE, QUICK, file_case
+
+# How many devices, and how many frames a run sends.
+STEADY = ((256, 2290), (1024, 8422))
+QUICKLY = ((1, 10), (10, 129), (50, 247), (100, 395), (256, 855))
+
+
+def cases() -> Iterator[Case]:
+    """All rigs. The counts of frames are worked out by hand."""
+    for commands, rows in (((DISCOVER,), STEADY), ((QUICK,), QUICKLY)):
+        for count, frames in rows:
+            uids = uids_of(count)
+            lines = "".join(f"{uid}\n" for uid in uids)
+            name = f"{count} neighbours in {frames} frames"
+            yield file_case(name, commands, scene(uids), f"{lines}frames {frames}\n")
+    yield file_case("a device too many", (DISCOVER,), scene(uids_of(1025)), NO_SCENE)
+
+
+def uids_of(count: int) -> Sequence[str]:
+    """The UIDs of so many devices."""
+    return [f"0000:{device:08x}" for device in range(count)]
+
+
+def scene(uids: Sequence[str]) -> str:
+    """The scene of these devices."""
+    devices = [{"uid": uid} for uid in uids]
+    return json.dumps({"source": "7a70:00000100", "collisions": [{"bytes": "ff"}], "devices": devices})

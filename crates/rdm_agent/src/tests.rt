@@ -1,8 +1,0 @@
-//! Whole runs over a line in memory, by replies made by hand, and operations as bytes.
-mod bound;
-mod by_hand;
-mod bytes;
-mod faults;
-mod line;
-mod quick;
-mod runs;

@@ -1,0 +1,74 @@
+-- Session files: what each key says, and what holds where it is absent.
+use Rattle.std.specs.Prelude.{◌≡◌, ℕ, List, [], None, Some, codes}
+use Rattle.serde_json.specs.Data.{Data}
+use Rattle.serde_json.specs.Find.{get, as_str}
+use Rattle.rdm_wire.specs.declared.request.ReqClass.{ReqClass}
+use Rattle.rdm_wire.specs.declared.request.ReqClass.TheVariants as classes
+use Rattle.rdm_wire.specs.declared.request.Request.{Request}
+use Rattle.rdm_agent.specs.declared.search.Search.{Search}
+use Rattle.rdm_agent.specs.declared.search.Search.TheVariants.{Steady, Quick}
+use Rattle.rdm_agent.specs.declared.kind.Kind.{Kind}
+use Rattle.rdm_agent.specs.declared.kind.Kind.TheVariants.{Full, Incremental}
+use Rattle.rdm_files.specs.Forms.{IsWhole, IsUid, IsFourDigits, IsBytesText, IsListOf, Has, MayHave}
+use Rattle.rdm_files.specs.SceneFiles.{IsSceneFile, any_length}
+use Rattle.rdm_files.specs.declared.session.call.ClientCall.{ClientCall}
+use Rattle.rdm_files.specs.declared.session.call.ClientCall.TheVariants.{Submit, Discover}
+use Rattle.rdm_files.specs.declared.session.client.ClientFile.{ClientFile}
+use Rattle.rdm_files.specs.declared.session.file.SessionFile.{SessionFile}
+
+-- a request of this class, to the UID under this key
+pub record IsRequestTo (key : List ℕ) (class : ReqClass) (d : Data) (r : Request) : Type 0 where
+  pub target : Has key IsUid d r.target
+  pub class_is : r.class ≡ class
+  pub pid : Has (codes "pid") IsFourDigits d r.pid
+  pub sub : MayHave (codes "sub") (IsWhole 0 65535) 0 d r.sub_device
+  pub param : MayHave (codes "param") (λ v p. IsBytesText 0 231 v p.items) (record { items = [] }) d r.param
+
+abbrev pub IsRequest : List ℕ → ReqClass → Data → ClientCall → Type 0
+IsRequest key class d (Submit r) = IsRequestTo key class d r
+IsRequest key class d (Discover kind) = ⊥
+
+-- the text `full` or `incremental`
+abbrev pub IsKind : Data → Kind → Type 0
+IsKind d Full = as_str d ≡ Some (codes "full")
+IsKind d Incremental = as_str d ≡ Some (codes "incremental")
+
+-- a discovery
+abbrev pub IsAsk : Data → ClientCall → Type 0
+IsAsk d (Submit r) = ⊥
+IsAsk d (Discover kind) = Has (codes "discover") IsKind d kind
+
+-- these two keys are absent
+abbrev pub HasNeither : List ℕ → List ℕ → Data → Type 0
+HasNeither one other d = (get one d ≡ None) × (get other d ≡ None)
+
+-- a request, by its class
+abbrev pub IsSubmit : Data → ReqClass → Request → Type 0
+IsSubmit d classes.Get r =
+    IsRequestTo (codes "get") classes.Get d r × HasNeither (codes "set") (codes "discover") d
+IsSubmit d classes.Set r =
+    IsRequestTo (codes "set") classes.Set d r × HasNeither (codes "get") (codes "discover") d
+
+-- a call has one of the keys `get`, `set` and `discover`
+abbrev pub IsCall : Data → ClientCall → Type 0
+IsCall d (Submit r) = IsSubmit d r.class r
+IsCall d (Discover kind) = Has (codes "discover") IsKind d kind × HasNeither (codes "get") (codes "set") d
+
+-- a client, with its calls in order
+pub record IsClient (d : Data) (c : ClientFile) : Type 0 where
+  pub places : Has (codes "places") (IsWhole 1 255) d c.places
+  pub calls : Has (codes "calls") (IsListOf ClientCall IsCall 0 any_length) d c.calls.items
+
+-- the text `steady` or `quick`
+abbrev pub IsSearch : Data → Search → Type 0
+IsSearch d Steady = as_str d ≡ Some (codes "steady")
+IsSearch d Quick = as_str d ≡ Some (codes "quick")
+
+-- the whole file
+pub record IsSessionFile (d : Data) (f : SessionFile) : Type 0 where
+  pub scene : Has (codes "scene") IsSceneFile d f.scene
+  pub clients : Has (codes "clients") (IsListOf ClientFile IsClient 1 16) d f.clients.items
+  pub ring : MayHave (codes "ring") (IsWhole 1 255) 8 d f.ring
+  pub search : MayHave (codes "search") IsSearch Steady d f.search
+  pub log : MayHave (codes "log") (IsWhole 0 1000000) 10000 d f.log
+  pub turns : MayHave (codes "turns") (IsWhole 1 1000000000) 100000000 d f.turns

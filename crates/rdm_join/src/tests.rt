@@ -1,4 +1,0 @@
-//! What lies outside the proofs: values from outside, and that calls succeed.
-
-mod joining;
-mod judging;

@@ -1,5 +1,0 @@
-//! What lies outside the proofs: values from outside, and that calls succeed.
-mod faults;
-mod rules;
-mod sim;
-mod tape;

@@ -1,0 +1,4 @@
+//! What lies outside the proofs: values from outside, and that calls succeed.
+
+mod agent;
+mod line;

@@ -1,0 +1,7 @@
+//! Whole runs over a line in memory, by replies made by hand, and operations as bytes.
+
+mod by_hand;
+mod bytes;
+mod faults;
+mod line;
+mod quick;

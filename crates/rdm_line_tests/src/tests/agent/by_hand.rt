@@ -1,0 +1,204 @@
+//! Runs by replies made by hand.
+use super::line::{ack_of, ended, plain, set_of};
+use rdm_agent::{Agent, AgentFault, DEFAULT_BUDGET, Kind, Op, OpReply};
+use rdm_wire::{BranchReply, DeviceSet, Uid, UidRange, UidSet};
+use std::process::Abort;
+
+// The agent hears a reply that is to fit.
+fn hear(rt: &impl Abort, agent: &mut Agent, reply: OpReply) {
+    let op = agent.next();
+    assert!(rt; reply.fits(&op));
+    agent.hear(reply);
+}
+
+// A full run after its unmutes.
+fn begun(rt: &impl Abort) -> Agent {
+    let mut agent = Agent::start(Kind::Full, &UidSet::new(), DEFAULT_BUDGET);
+    for _ in 0..3 {
+        hear(rt, &mut agent, OpReply::Done);
+    }
+    agent
+}
+
+// A full run with a small budget, after one unmute.
+fn unmuted_once(rt: &impl Abort, budget: u64) -> Agent {
+    let agent = Agent::start(Kind::Full, &UidSet::new(), budget);
+    assert!(rt; OpReply::Done.fits(&agent.next()));
+    agent.feed(OpReply::Done)
+}
+
+#[test]
+fn a_line_that_always_collides(rt: HostRuntime) {
+    let mut agent = begun(&rt);
+    for _ in 0..48 {
+        hear(&rt, &mut agent, OpReply::Branch(BranchReply::Collision));
+    }
+    // The last split left one range at each depth, and one more at the deepest.
+    assert_eq!(rt; agent.open_ranges(), 49);
+    hear(&rt, &mut agent, OpReply::Branch(BranchReply::Collision));
+    assert_eq!(rt; agent.frames(), 52);
+    assert_eq!(rt;
+        ended(&rt, agent),
+        Err((AgentFault::Corrupt(Uid::new(0, 0)), DeviceSet::new()))
+    );
+}
+
+#[test]
+fn one_device_too_many(rt: HostRuntime) {
+    let mut agent = begun(&rt);
+    for number in 0..1025 {
+        let uid = Uid::new(0x1234, number);
+        hear(&rt, &mut agent, OpReply::Branch(BranchReply::One(uid)));
+        assert_eq!(rt; agent.next(), Op::Mute(uid));
+        hear(&rt, &mut agent, OpReply::Mute(Some(ack_of(plain(uid)))));
+    }
+    assert_eq!(rt; agent.frames(), 2_053);
+    assert_eq!(rt; agent.found().len(), 1024);
+    assert_eq!(rt; agent.next(), Op::End);
+    assert_eq!(rt; agent.fault(), Some(AgentFault::TooMany));
+    let Err((fault, found)) = ended(&rt, agent) else {
+        panic!(rt; "it has no fault")
+    };
+    assert_eq!(rt; fault, AgentFault::TooMany);
+    assert_eq!(rt; fault.number(), 2);
+    assert_eq!(rt; found.len(), 1024);
+}
+
+#[test]
+fn a_failure_and_an_abort(rt: HostRuntime) {
+    let mut failed = begun(&rt);
+    hear(&rt, &mut failed, OpReply::Failed);
+    assert_eq!(rt; failed.frames(), 4);
+    assert_eq!(rt;
+        ended(&rt, failed.abort()),
+        Err((AgentFault::LineFailed, DeviceSet::new()))
+    );
+    let mut aborted = begun(&rt);
+    aborted.stop();
+    assert_eq!(rt; aborted.next(), Op::End);
+    assert_eq!(rt; aborted.fault(), Some(AgentFault::Aborted));
+    assert!(rt; aborted.found().is_empty());
+    assert_eq!(rt; aborted.frames(), 3);
+    let aborted = begun(&rt).abort();
+    assert_eq!(rt; aborted.frames(), 3);
+    assert_eq!(rt;
+        ended(&rt, aborted),
+        Err((AgentFault::Aborted, DeviceSet::new()))
+    );
+}
+
+// What the last reply itself shows comes before a budget that is used up, and that before an abort.
+#[test]
+fn the_first_of_several_faults(rt: HostRuntime) {
+    let mut failed = unmuted_once(&rt, 2);
+    hear(&rt, &mut failed, OpReply::Failed);
+    assert_eq!(rt;
+        ended(&rt, failed.abort()),
+        Err((AgentFault::LineFailed, DeviceSet::new()))
+    );
+    let used_up = unmuted_once(&rt, 1);
+    assert_eq!(rt;
+        ended(&rt, used_up.abort()),
+        Err((AgentFault::Exhausted, DeviceSet::new()))
+    );
+}
+
+#[test]
+fn a_budget_of_no_frames(rt: HostRuntime) {
+    let agent = Agent::start(Kind::Full, &UidSet::new(), 0);
+    assert_eq!(rt; agent.next(), Op::End);
+    assert_eq!(rt;
+        ended(&rt, agent),
+        Err((AgentFault::Exhausted, DeviceSet::new()))
+    );
+}
+
+// The agent asks this, and hears that reply.
+fn asks(rt: &impl Abort, agent: &mut Agent, op: Op, reply: OpReply) {
+    assert_eq!(rt; agent.next(), op);
+    hear(rt, agent, reply);
+}
+
+// The range shows this device, which acknowledges its mute, and is then silent.
+fn finds(rt: &impl Abort, agent: &mut Agent, range: UidRange, uid: Uid) {
+    let branch = Op::Branch(range);
+    asks(rt, agent, branch, OpReply::Branch(BranchReply::One(uid)));
+    let ack = ack_of(plain(uid));
+    asks(rt, agent, Op::Mute(uid), OpReply::Mute(Some(ack)));
+    for _ in 0..5 {
+        asks(rt, agent, branch, OpReply::Branch(BranchReply::Silent));
+    }
+}
+
+// The run has found both devices, in this many frames.
+fn has_found_both(rt: &impl Abort, agent: Agent, frames: u64) {
+    assert_eq!(rt; agent.frames(), frames);
+    let both = set_of(rt, &[plain(near()), plain(far())]);
+    assert_eq!(rt; ended(rt, agent), Ok(both));
+}
+
+fn near() -> Uid {
+    Uid::new(0x1234, 1)
+}
+
+fn far() -> Uid {
+    Uid::new(0x9abc, 2)
+}
+
+fn lower() -> UidRange {
+    UidRange {
+        lo: Uid::new(0, 0),
+        hi: Uid::new(0x7fff, 0xffff_ffff),
+    }
+}
+
+fn upper() -> UidRange {
+    UidRange {
+        lo: Uid::new(0x8000, 0),
+        hi: Uid::ALL,
+    }
+}
+
+// A collision spells a UID that isn't there: it is muted five times, and then the range is split.
+#[test]
+fn a_phantom(rt: HostRuntime) {
+    let phantom = Uid::new(0x5555, 3);
+    let mut agent = begun(&rt);
+    let spelt = OpReply::Branch(BranchReply::One(phantom));
+    asks(&rt, &mut agent, Op::Branch(UidRange::whole()), spelt);
+    for _ in 0..5 {
+        asks(&rt, &mut agent, Op::Mute(phantom), OpReply::Mute(None));
+    }
+    finds(&rt, &mut agent, lower(), near());
+    finds(&rt, &mut agent, upper(), far());
+    has_found_both(&rt, agent, 23);
+}
+
+#[test]
+fn a_broadcast_uid_is_not_muted(rt: HostRuntime) {
+    let mut agent = begun(&rt);
+    let spelt = OpReply::Branch(BranchReply::One(Uid::new(0x7a70, 0xffff_ffff)));
+    asks(&rt, &mut agent, Op::Branch(UidRange::whole()), spelt);
+    finds(&rt, &mut agent, lower(), near());
+    finds(&rt, &mut agent, upper(), far());
+    has_found_both(&rt, agent, 18);
+}
+
+// The first mute of a known device is lost, and the other known one isn't there.
+#[test]
+fn known_devices(rt: HostRuntime) {
+    let absent = Uid::new(0x5678, 9);
+    let known = set_of(&rt, &[plain(near()), plain(absent)]).uids();
+    let mut agent = Agent::start(Kind::Incremental, &known, DEFAULT_BUDGET);
+    for _ in 0..3 {
+        asks(&rt, &mut agent, Op::UnmuteAll, OpReply::Done);
+    }
+    asks(&rt, &mut agent, Op::Mute(near()), OpReply::Mute(None));
+    let ack = ack_of(plain(near()));
+    asks(&rt, &mut agent, Op::Mute(near()), OpReply::Mute(Some(ack)));
+    for _ in 0..5 {
+        asks(&rt, &mut agent, Op::Mute(absent), OpReply::Mute(None));
+    }
+    finds(&rt, &mut agent, UidRange::whole(), far());
+    has_found_both(&rt, agent, 17);
+}

@@ -1,0 +1,7 @@
+//! Simulated lines and tapes: which bytes come after which frame.
+
+mod faults;
+mod rules;
+mod sim;
+mod stream;
+mod tape;

@@ -1,0 +1,4 @@
+//! What lies outside the proofs: that calls succeed, which calls are made, and what happens in threads.
+
+mod client;
+mod locked;

@@ -1,0 +1,132 @@
+//! Boxed callbacks.
+use super::outcomes::{ended, found};
+use rdm_client::{AskCallback, AskTold, Callback, Collected, Tells, TellsAsk, Told};
+use rdm_join::{ReplyHead, Status};
+use rdm_queue::{AskCompletion, Completion};
+use rdm_rig::{Ending, Found, Heard, told};
+use rdm_wire::{AckType, RespClass};
+use std::alloc::Global;
+use std::sync::Arc;
+use std::sync::atomic::{AtomicU64, Ordering};
+use std::test::Fail;
+
+// How a request ended that was answered with two bytes.
+fn answered(alloc: Global) -> Result<Completion, Fail> {
+    Ok(Completion {
+        status: Status::Completed,
+        reply: Some(ReplyHead {
+            ack: AckType::Ack,
+            class: RespClass::Get,
+            pid: 0x0060,
+            sub_device: 7,
+        }),
+        bytes: Vec::from_slice(alloc, &[0x01, 0x00])?,
+    })
+}
+
+// What a request's callback told.
+fn of_request(one: Told) -> Heard {
+    told(&Some(Collected::Request(one)))
+}
+
+// What a discovery's callback told.
+fn of_ask(one: AskTold) -> Heard {
+    told(&Some(Collected::Ask(one)))
+}
+
+#[test]
+fn calls_the_box_with_the_answer(rt: HostRuntime) -> Result<(), Fail> {
+    let calls = Arc::new(rt.alloc(), AtomicU64::new(0))?;
+    let counter = Arc::try_clone(&calls)?;
+    let run = Box::new(rt.alloc(), move |done: Completion| {
+        counter.fetch_add(1, Ordering::SeqCst);
+        Told { tag: 7, done }
+    })?;
+    let done = answered(rt.alloc())?;
+    let told = Callback::new(7, run).spend(done);
+    assert_eq!(rt; of_request(told), Heard::Answered(7, 1, 0));
+    assert_eq!(rt; calls.load(Ordering::SeqCst), 1);
+    Ok(())
+}
+
+#[test]
+fn tells_a_cancelled_callback_that_its_request_was_not_sent(rt: HostRuntime) -> Result<(), Fail> {
+    let calls = Arc::new(rt.alloc(), AtomicU64::new(0))?;
+    let counter = Arc::try_clone(&calls)?;
+    let run = Box::new(rt.alloc(), move |done: Completion| {
+        counter.fetch_add(1, Ordering::SeqCst);
+        Told { tag: 8, done }
+    })?;
+    let told = Callback::new(8, run).cancel(rt.alloc());
+    assert_eq!(rt; of_request(told), Heard::Request(8, Status::FailedToSend));
+    assert_eq!(rt; calls.load(Ordering::SeqCst), 1);
+    Ok(())
+}
+
+#[test]
+fn calls_the_box_with_the_devices(rt: HostRuntime) -> Result<(), Fail> {
+    let calls = Arc::new(rt.alloc(), AtomicU64::new(0))?;
+    let counter = Arc::try_clone(&calls)?;
+    let run = Box::new(rt.alloc(), move |done: AskCompletion| {
+        counter.fetch_add(1, Ordering::SeqCst);
+        AskTold { tag: 9, done }
+    })?;
+    let told = AskCallback::new(9, run).spend(found(1));
+    assert_eq!(rt;
+        of_ask(told),
+        Heard::Discovery(9, 1, Ending::Faultless, Found::First)
+    );
+    assert_eq!(rt; calls.load(Ordering::SeqCst), 1);
+    Ok(())
+}
+
+#[test]
+fn tells_a_cancelled_callback_that_no_run_was_begun(rt: HostRuntime) -> Result<(), Fail> {
+    let calls = Arc::new(rt.alloc(), AtomicU64::new(0))?;
+    let counter = Arc::try_clone(&calls)?;
+    let run = Box::new(rt.alloc(), move |done: AskCompletion| {
+        counter.fetch_add(1, Ordering::SeqCst);
+        AskTold { tag: 10, done }
+    })?;
+    let told = AskCallback::new(10, run).cancel();
+    assert_eq!(rt;
+        of_ask(told),
+        Heard::Discovery(10, 0, Ending::Aborted, Found::Nobody)
+    );
+    assert_eq!(rt; calls.load(Ordering::SeqCst), 1);
+    Ok(())
+}
+
+// Closures that work with what they are called with: its numbers are in the ranges of their types.
+#[test]
+fn lets_a_closure_count_with_the_numbers(rt: HostRuntime) -> Result<(), Fail> {
+    let last = Arc::new(rt.alloc(), AtomicU64::new(0))?;
+    let place = Arc::try_clone(&last)?;
+    let run = Box::new(rt.alloc(), move |done: Completion| {
+        if let Some(head) = done.reply {
+            place.store(u64::from(head.pid) + 1, Ordering::SeqCst);
+        }
+        Told { tag: 11, done }
+    })?;
+    let told = Callback::new(11, run).spend(ended(rt.alloc(), Status::Timeout));
+    assert_eq!(rt; of_request(told), Heard::Request(11, Status::Timeout));
+    assert_eq!(rt; last.load(Ordering::SeqCst), 0);
+    Ok(())
+}
+
+#[test]
+fn lets_a_discoverys_closure_count_with_the_numbers(rt: HostRuntime) -> Result<(), Fail> {
+    let last = Arc::new(rt.alloc(), AtomicU64::new(0))?;
+    let place = Arc::try_clone(&last)?;
+    let run = Box::new(rt.alloc(), move |done: AskCompletion| {
+        place.store(done.run / 2 + 1, Ordering::SeqCst);
+        AskTold { tag: 12, done }
+    })?;
+    let told = AskCallback::new(12, run).spend(found(4));
+    assert_eq!(rt;
+        of_ask(told),
+        Heard::Discovery(12, 4, Ending::Faultless, Found::First)
+    );
+    assert_eq!(rt; last.load(Ordering::SeqCst), 3);
+    Ok(())
+}

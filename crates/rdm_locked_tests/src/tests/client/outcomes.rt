@@ -1,0 +1,45 @@
+//! What callbacks are called with.
+use rdm_join::Status;
+use rdm_queue::{AskCompletion, Completion, Outcome};
+use rdm_rig::{Who, device_of};
+use rdm_wire::DeviceSet;
+use std::alloc::Global;
+
+/// How a request without data ended.
+pub fn ended(alloc: Global, status: Status) -> Completion {
+    Completion {
+        status,
+        reply: None,
+        bytes: Vec::new(alloc),
+    }
+}
+
+/// What a client is given for such a request.
+pub fn request_outcome(alloc: Global, number: u64, status: Status) -> Outcome {
+    Outcome::Request {
+        number: Some(number),
+        done: ended(alloc, status),
+    }
+}
+
+/// A run that found `1234:00000001`.
+pub fn found(run: u64) -> AskCompletion {
+    let mut set = DeviceSet::new();
+    let device = device_of(Who::First);
+    if !device.uid.is_broadcast() {
+        let _ = set.insert(device);
+    }
+    AskCompletion {
+        run,
+        fault: None,
+        set,
+    }
+}
+
+/// What a client is given for a discovery whose run found that device.
+pub fn ask_outcome(number: u64, run: u64) -> Outcome {
+    Outcome::Discovery {
+        number: Some(number),
+        done: found(run),
+    }
+}

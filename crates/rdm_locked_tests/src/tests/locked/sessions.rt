@@ -1,0 +1,148 @@
+//! Sessions over lines.
+use rdm_agent::{DEFAULT_BUDGET, Kind};
+use rdm_join::Status;
+use rdm_rig::{
+    Act, Came, Ending, Found, Heard, Stage, Step, Stop, Who, moved, one_device, open_session,
+    tape_of, two_devices,
+};
+use rdm_wire::AckType;
+use std::alloc::Global;
+use std::test::Fail;
+
+const JOINS: (Act, Heard) = (Act::Join(1), Heard::Number(0));
+
+const COLLECT: Act = Act::Client(0, Step::Collect);
+
+// A GET over a tape of 511 empty parts and a last reply: how it ends, and how many frames it took.
+fn with_empty_parts(alloc: Global, last: AckType) -> Result<(Heard, usize), Fail> {
+    let mut came = [Came::Empty(AckType::Overflow); 512];
+    came[511] = Came::Empty(last);
+    let mut stage = open_session(alloc, 1, DEFAULT_BUDGET, 2000, tape_of(alloc, &came)?)?;
+    let moves = [
+        JOINS,
+        (Act::Client(0, Step::Submit(0)), Heard::Number(0)),
+        (Act::Work(600), Heard::Worked(Stop::AllLeft)),
+    ];
+    moved(alloc, &mut stage, &moves)?;
+    Ok((stage.act(alloc, COLLECT), stage.state().counts.frames.0))
+}
+
+#[test]
+fn takes_511_empty_parts_and_an_end(rt: HostRuntime) -> Result<(), Fail> {
+    let ended = with_empty_parts(rt.alloc(), AckType::Ack)?;
+    assert_eq!(rt; ended, (Heard::Data(0, 0), 512));
+    Ok(())
+}
+
+#[test]
+fn refuses_a_512th_part(rt: HostRuntime) -> Result<(), Fail> {
+    let ended = with_empty_parts(rt.alloc(), AckType::Overflow)?;
+    assert_eq!(rt; ended, (Heard::Request(0, Status::InvalidResponse), 512));
+    Ok(())
+}
+
+// What comes of two discoveries and a GET over a line that fails at one exchange alone. The mute's acknowledgement is
+// that of the fifth exchange, and the GET's is the eleventh.
+#[derive(Clone, Copy)]
+struct Failure {
+    ending: Ending,
+    found: Found,
+    // The devices that the session knows after that.
+    known: (u64, Found),
+    request: Heard,
+    // The last frame's transaction number: that of the GET, which the failing exchange comes before, or is.
+    last: u8,
+}
+
+fn failure_at(place: u8) -> Failure {
+    if place == 10 {
+        return Failure {
+            ending: Ending::Faultless,
+            found: Found::First,
+            known: (1, Found::First),
+            request: Heard::Request(0, Status::FailedToSend),
+            last: 10,
+        };
+    }
+    Failure {
+        ending: Ending::LineFailed,
+        found: if place < 5 {
+            Found::Nobody
+        } else {
+            Found::First
+        },
+        known: (0, Found::Nobody),
+        request: Heard::Answered(0, 1, 2),
+        last: place.wrapping_add(1),
+    }
+}
+
+fn fails_at(alloc: Global, place: u8) -> Result<u8, Fail> {
+    let wanted = failure_at(place);
+    let line = one_device(alloc, &[u64::from(place)])?;
+    let mut stage = open_session(alloc, 1, DEFAULT_BUDGET, 100, line)?;
+    let moves = [
+        JOINS,
+        (Act::Pause, Heard::Done),
+        (Act::Client(0, Step::Submit(0)), Heard::Number(0)),
+        (
+            Act::Client(0, Step::Discover(Kind::Full, 0)),
+            Heard::Number(0),
+        ),
+        (
+            Act::Client(0, Step::Discover(Kind::Incremental, 1)),
+            Heard::Number(1),
+        ),
+        (Act::Take, Heard::Nothing),
+        (Act::Resume, Heard::Done),
+        (Act::Work(20), Heard::Worked(Stop::AllLeft)),
+        (COLLECT, Heard::Discovery(0, 1, wanted.ending, wanted.found)),
+        (COLLECT, Heard::Discovery(1, 1, wanted.ending, wanted.found)),
+        (
+            Act::Client(0, Step::Know),
+            Heard::Sees(wanted.known.0, wanted.known.1),
+        ),
+        (COLLECT, wanted.request),
+    ];
+    moved(alloc, &mut stage, &moves)?;
+    Ok(stage.state().counts.last_frame.number)
+}
+
+#[test]
+fn a_line_fails_at_each_exchange(rt: HostRuntime) -> Result<(), Fail> {
+    for place in 0..=10 {
+        assert_eq!(rt; fails_at(rt.alloc(), place)?, failure_at(place).last);
+    }
+    Ok(())
+}
+
+// A run over the devices with the two lowest UIDs, under this budget: how it ends, and in how many frames. It finds both.
+fn seeks_neighbours(alloc: Global, budget: u64, ending: Ending) -> Result<usize, Fail> {
+    let line = two_devices(alloc, [Who::Lowest, Who::NextToLowest])?;
+    let mut stage = open_session(alloc, 1, budget, 1000, line)?;
+    let moves = [
+        JOINS,
+        (
+            Act::Client(0, Step::Discover(Kind::Full, 0)),
+            Heard::Number(0),
+        ),
+        (Act::Work(400), Heard::Worked(Stop::AllLeft)),
+        (COLLECT, Heard::Discovery(0, 1, ending, Found::Neighbours)),
+    ];
+    moved(alloc, &mut stage, &moves)?;
+    Ok(stage.state().counts.frames.0)
+}
+
+#[test]
+fn a_budget_that_suffices_for_neighbours(rt: HostRuntime) -> Result<(), Fail> {
+    let rows = [
+        (299, Ending::Exhausted, 299),
+        (300, Ending::Faultless, 300),
+        (748, Ending::Faultless, 300),
+    ];
+    for (budget, ending, wanted) in rows {
+        let frames = seeks_neighbours(rt.alloc(), budget, ending)?;
+        assert_eq!(rt; frames, wanted);
+    }
+    Ok(())
+}

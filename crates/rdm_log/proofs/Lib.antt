@@ -1,0 +1,4 @@
+pub mod LogLemmas
+pub mod SampleLemmas
+pub mod PromiseLemmas
+pub mod BoundLemmas

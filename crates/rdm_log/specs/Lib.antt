@@ -1,0 +1,4 @@
+pub mod log
+pub mod promises
+pub mod body
+pub mod samples

@@ -1,0 +1,2 @@
+-- What a log's fields keep. Nothing here has to be trusted: no promise speaks of it.
+pub mod LogInvariant

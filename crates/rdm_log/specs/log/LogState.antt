@@ -1,0 +1,75 @@
+-- What a log and a session are seen as.
+use Rattle.std.specs.Prelude.{ℕ, Bool, false, List, [], ◌++◌, nat_lt}
+use Rattle.rdm_agent.specs.declared.search.Search.{Search}
+use Rattle.rdm_agent.specs.declared.search.Search.TheVariants.{Steady}
+use Rattle.rdm_log.specs.declared.config.Config.{Config}
+use Rattle.rdm_log.specs.declared.entry.Opening.{Opening}
+use Rattle.rdm_log.specs.declared.entry.Entry.{Entry}
+use Rattle.rdm_log.specs.log.History.{free_room, is_paused, is_closed, places, next_request, next_ask, next_tn}
+use Rattle.rdm_log.specs.log.Runs.{next_run, known_devices, devices_run}
+
+-- the opening, the entries after it, the entries that there is room for, and how the runs of its session search
+pub record LogState : Type 0 where
+  pub opening : Opening
+  pub entries : List Entry
+  pub room : ℕ
+  pub search : Search
+
+-- the log with these entries at its end
+abbrev pub grown : LogState → List Entry → LogState
+grown k block = record k { entries = k.entries ++ block }
+
+-- how many entries of a log are free: neither taken nor reserved
+abbrev pub free_entries : LogState → ℕ
+free_entries k = free_room k.room k.opening k.entries
+
+-- three entries have to be free for each call that a full log refuses
+abbrev pub is_full_log : LogState → Bool
+is_full_log k = nat_lt (free_entries k) 3
+
+-- what a new log stands after
+abbrev pub blank_opening : Opening
+blank_opening = record {
+  source = 0;
+  greatest = 0;
+  budget = 0;
+  places = record { items = [] };
+  paused = false;
+  closed = false;
+  devices = [];
+  devices_run = 0;
+  next_request = 0;
+  next_ask = 0;
+  next_run = 0;
+  next_tn = 0;
+}
+
+-- a new log with this room
+abbrev pub blank_log : ℕ → LogState
+blank_log room = record { opening = blank_opening; entries = []; room = room; search = Steady }
+
+-- what a session stands after that is set up so; its first run is number 1
+abbrev pub opened : Config → Opening
+opened config = record blank_opening {
+  source = config.source;
+  greatest = config.places;
+  budget = config.budget;
+  next_run = 1;
+}
+
+-- what stands after these entries: the opening of a log that goes on from there
+abbrev pub opening_after : Opening → List Entry → Opening
+opening_after o h = record {
+  source = o.source;
+  greatest = o.greatest;
+  budget = o.budget;
+  places = record { items = places o h };
+  paused = is_paused o h;
+  closed = is_closed o h;
+  devices = known_devices o h;
+  devices_run = devices_run o h;
+  next_request = next_request o h;
+  next_ask = next_ask o h;
+  next_run = next_run o h;
+  next_tn = next_tn o h;
+}

@@ -1,0 +1,34 @@
+-- Which Finishes may stand.
+use Rattle.std.specs.Prelude.{◌≡◌, ◌≢◌, ◌⊎◌, ℕ, true, false, List, [], length, Option, Some, None, slice_get}
+use Rattle.rdm_join.specs.declared.status.Status.{Status}
+use Rattle.rdm_join.specs.declared.status.Status.TheVariants.{Completed, FailedToSend, NoMemory}
+use Rattle.rdm_join.specs.Result.{Joined}
+use Rattle.rdm_log.specs.declared.entry.Opening.{Opening}
+use Rattle.rdm_log.specs.declared.entry.Entry.{Entry}
+use Rattle.rdm_log.specs.log.Entries.{Accepted, result}
+use Rattle.rdm_log.specs.log.History.{awaited, is_closed, unfinished, unanswered}
+use Rattle.rdm_log.specs.log.Runs.{unserved}
+
+-- a close ends what is left: no reply is awaited, and each discovery that a run serves has its Answer
+pub record IsClosing (o : Opening) (h : List Entry) : Type 0 where
+  pub closed : is_closed o h ≡ true
+  pub not_awaited : awaited h ≡ false
+  pub runs_answered : unanswered h ≡ unserved h
+
+-- a status and a length tell a joined result: its own, or want of memory for its data
+abbrev pub Tells : Joined → Status → ℕ → Type 0
+Tells j status len =
+    ((status ≡ j.status) × (len ≡ length j.data_))
+    ⊎ ((status ≡ NoMemory) × (j.status ≡ Completed) × (j.data_ ≢ []) × (len ≡ 0))
+
+-- they fit a result that is decided where they tell it, and an open one at a close alone
+abbrev pub FitsResult : Type 0 → Option Joined → Status → ℕ → Type 0
+FitsResult closing None status len = closing × (status ≡ FailedToSend) × (len ≡ 0)
+FitsResult closing (Some j) status len = Tells j status len
+
+-- the oldest unfinished request may be finished
+pub record MayFinish (o : Opening) (h : List Entry) (n : ℕ) (status : Status) (len : ℕ) : Type 0 where
+  pub accepted : Accepted
+  pub oldest : slice_get (unfinished h) 0 ≡ Some accepted
+  pub number : n ≡ accepted.number
+  pub fits : FitsResult (IsClosing o h) (result n h) status len

@@ -1,0 +1,174 @@
+-- What each call adds to a log: for each call one word, of what it answers and of its block of entries.
+use Rattle.std.specs.Prelude.{◌≡◌, ℕ, Bool, true, false, List, [], ◌∷◌, Option, Some, None, Result, Ok, Err}
+use Rattle.std.specs.Prelude.{unwrap_or, if◌then◌else◌, slice_get}
+use Rattle.std.specs.List.{AllByRecursion}
+use Rattle.arrayvec.specs.ArrayVec.{ArrayVec}
+use Rattle.rdm_wire.specs.declared.request.Request.{Request}
+use Rattle.rdm_join.specs.declared.event.LineEvent.{LineEvent}
+use Rattle.rdm_agent.specs.declared.kind.Kind.{Kind}
+use Rattle.rdm_agent.specs.declared.search.Search.{Search}
+use Rattle.rdm_log.specs.declared.entry.ClientId.{ClientId}
+use Rattle.rdm_log.specs.declared.entry.Call.TheVariants as calls
+use Rattle.rdm_log.specs.declared.entry.Owner.{Owner}
+use Rattle.rdm_log.specs.declared.entry.Opening.{Opening}
+use Rattle.rdm_log.specs.declared.entry.Entry.{Entry}
+use Rattle.rdm_log.specs.declared.entry.Entry.TheVariants.{Join, Refuse, Accept, Ask, Send, Came, Finish}
+use Rattle.rdm_log.specs.declared.entry.Entry.TheVariants.{Answer, Collect, Pause, Resume, Close}
+use Rattle.rdm_log.specs.declared.fault.JoinFault.{JoinFault}
+use Rattle.rdm_log.specs.declared.fault.JoinFault.TheVariants as join_faults
+use Rattle.rdm_log.specs.declared.fault.SubmitFault.{SubmitFault}
+use Rattle.rdm_log.specs.declared.fault.SubmitFault.TheVariants as submit_faults
+use Rattle.rdm_log.specs.declared.fault.AskFault.{AskFault}
+use Rattle.rdm_log.specs.declared.fault.AskFault.TheVariants as ask_faults
+use Rattle.rdm_log.specs.declared.fault.LogFull.{LogFull}
+use Rattle.rdm_log.specs.declared.fault.NotAsked.{NotAsked}
+use Rattle.rdm_log.specs.declared.outcome.Outcome.{Outcome}
+use Rattle.rdm_log.specs.log.History.{awaited, is_closed, can_pause, can_resume, next_client, next_request}
+use Rattle.rdm_log.specs.log.History.{next_ask}
+use Rattle.rdm_log.specs.log.Clients.{uncollected}
+use Rattle.rdm_log.specs.log.Refusals.{join_fault, submit_fault, ask_fault, number_of_join_fault}
+use Rattle.rdm_log.specs.log.Refusals.{number_of_submit_fault, number_of_ask_fault}
+use Rattle.rdm_log.specs.log.MaySend.{MaySend, NoSend}
+use Rattle.rdm_log.specs.log.LogState.{LogState, grown, is_full_log}
+use Rattle.rdm_log.specs.promises.Outcomes.{outcome_value, outcome_of}
+use Rattle.rdm_log.specs.promises.InBound.{AnswersInBound}
+
+-- the entry of a refused join
+abbrev pub join_refused : ℕ → JoinFault → Entry
+join_refused n fault = Refuse None (calls.Join n) (record { 0 = number_of_join_fault fault })
+
+-- the entry of a refused submit
+abbrev pub submit_refused : ClientId → Request → SubmitFault → Entry
+submit_refused c request fault =
+    Refuse (Some c) (calls.Submit request) (record { 0 = number_of_submit_fault fault })
+
+-- the entry of a refused discover
+abbrev pub ask_refused : ClientId → Kind → AskFault → Entry
+ask_refused c kind fault = Refuse (Some c) (calls.Discover kind) (record { 0 = number_of_ask_fault fault })
+
+-- the first fault that stands, or want of memory where none does
+abbrev pub RefusesJoin : Option JoinFault → JoinFault → Type 0
+RefusesJoin first fault = fault ≡ unwrap_or first join_faults.NoMemory
+
+-- a Finish or an Answer
+abbrev pub is_result : Entry → Bool
+is_result (Finish n status len) = true
+is_result (Answer n run fault) = true
+is_result _ = false
+
+-- only Finishes and Answers
+abbrev pub AllResults : List Entry → Type 0
+AllResults block = AllByRecursion (λ r. is_result r ≡ true) block
+
+-- the entry, and then Finishes and Answers
+pub record IsWithResults (e : Entry) (block : List Entry) : Type 0 where
+  pub results : List Entry
+  pub whole : block ≡ e ∷ results
+  pub each : AllResults results
+
+-- the outcome is that of the oldest answer that the client hasn't collected
+pub record IsOldest (o : Opening) (h : List Entry) (c : ℕ) (outcome : Outcome) : Type 0 where
+  pub entry : Entry
+  pub oldest : slice_get (uncollected o c h) 0 ≡ Some entry
+  pub told : outcome_of h entry ≡ Some (outcome_value outcome)
+
+-- An entry where the call has an effect, else none.
+abbrev pub SwitchAdds : Bool → Entry → List Entry → Type 0
+SwitchAdds has_effect e block = block ≡ (if has_effect then e ∷ [] else [])
+
+-- The calls of a controller, after a history: what each answers, and its block.
+abbrev pub JoinAdds : Opening → List Entry → ℕ → Result ClientId JoinFault → List Entry → Type 0
+JoinAdds o h n (Ok c) block = (join_fault o h n ≡ None) × (c.0 ≡ next_client o h) × (block ≡ Join c n ∷ [])
+JoinAdds o h n (Err fault) block = RefusesJoin (join_fault o h n) fault × (block ≡ join_refused n fault ∷ [])
+
+-- a submit: accepted with the next number, or refused with the first fault; a refused request comes back
+abbrev pub SubmitAdds : Opening → List Entry → ClientId → Request → Result ℕ (SubmitFault × Request)
+    → List Entry → Type 0
+SubmitAdds o h c request (Ok n) block =
+    (submit_fault o h c.0 ≡ None) × (n ≡ next_request o h) × (block ≡ Accept c n request ∷ [])
+SubmitAdds o h c request (Err e) block =
+    (submit_fault o h c.0 ≡ Some e.0) × (e.1 ≡ request) × (block ≡ submit_refused c request e.0 ∷ [])
+
+-- a discover: accepted with the next number, or refused with the first fault
+abbrev pub DiscoverAdds : Opening → List Entry → ClientId → Kind → Result ℕ AskFault → List Entry → Type 0
+DiscoverAdds o h c kind (Ok n) block = (ask_fault o h c.0 ≡ None) × (n ≡ next_ask o h) × (block ≡ Ask c n kind ∷ [])
+DiscoverAdds o h c kind (Err fault) block =
+    (ask_fault o h c.0 ≡ Some fault) × (block ≡ ask_refused c kind fault ∷ [])
+
+-- a pause: a Pause if it has an effect, else nothing
+abbrev pub PauseAdds : Opening → List Entry → List Entry → Type 0
+PauseAdds o h block = SwitchAdds (can_pause o h) Pause block
+
+-- a resume: a Resume if it has an effect, else nothing
+abbrev pub ResumeAdds : Opening → List Entry → List Entry → Type 0
+ResumeAdds o h block = SwitchAdds (can_resume o h) Resume block
+
+-- a close adds nothing if the queue is closed; else a Close, and the results that are due then
+abbrev pub CloseAddsWhere : Bool → List Entry → Type 0
+CloseAddsWhere true block = block ≡ []
+CloseAddsWhere false block = IsWithResults Close block
+
+-- a close after h
+abbrev pub CloseAdds : Opening → List Entry → List Entry → Type 0
+CloseAdds o h block = CloseAddsWhere (is_closed o h) block
+
+-- a take: a frame that may be sent, and its Send; or no frame, since none may be sent
+abbrev pub TakeAdds : Opening → List Entry → Option (ArrayVec ℕ) → List Entry → Type 0
+TakeAdds o h (Some frame) block = (owner : Owner) × MaySend o h owner frame × (block ≡ Send owner frame ∷ [])
+TakeAdds o h None block = NoSend o h × (block ≡ [])
+
+-- on a calm line, with a budget that suffices for this search, the Answers of the block have a fault only after a close
+abbrev pub DeliverAdds : Search → Opening → List Entry → LineEvent → Result (Unit {0}) (NotAsked × LineEvent)
+    → List Entry → Type 0
+DeliverAdds search o h event (Ok x) block =
+    (awaited h ≡ true) × IsWithResults (Came event) block × AnswersInBound search o h block
+DeliverAdds search o h event (Err e) block = (awaited h ≡ false) × (e.1 ≡ event) × (block ≡ [])
+
+-- a collect: the client's oldest outcome that isn't collected, and a Collect; or nothing, since there is none
+abbrev pub CollectAdds : Opening → List Entry → ClientId → Option Outcome → List Entry → Type 0
+CollectAdds o h c (Some outcome) block = IsOldest o h c.0 outcome × (block ≡ Collect c ∷ [])
+CollectAdds o h c None block = (uncollected o c.0 h ≡ []) × (block ≡ [])
+
+-- In a session some calls are refused where the log is full, and add nothing then.
+abbrev pub UnlessFull : Bool → Type 0 → Type 0 → Type 0
+UnlessFull true refuses adds = refuses
+UnlessFull false refuses adds = adds
+
+-- The calls of a session: as those of its controller, but for a full log.
+abbrev pub JoinLogs : LogState → ℕ → Result ClientId JoinFault → List Entry → Type 0
+JoinLogs k n answer block =
+    UnlessFull (is_full_log k) ((answer ≡ Err join_faults.LogFull) × (block ≡ []))
+    (JoinAdds k.opening k.entries n answer block)
+
+-- a submit of a session: LogFull if the log is full, else as a controller's
+abbrev pub SubmitLogs : LogState → ClientId → Request → Result ℕ (SubmitFault × Request) → List Entry → Type 0
+SubmitLogs k c request answer block =
+    UnlessFull (is_full_log k) ((answer ≡ Err (submit_faults.LogFull, request)) × (block ≡ []))
+    (SubmitAdds k.opening k.entries c request answer block)
+
+-- a discover of a session: LogFull if the log is full, else as a controller's
+abbrev pub DiscoverLogs : LogState → ClientId → Kind → Result ℕ AskFault → List Entry → Type 0
+DiscoverLogs k c kind answer block =
+    UnlessFull (is_full_log k) ((answer ≡ Err ask_faults.LogFull) × (block ≡ []))
+    (DiscoverAdds k.opening k.entries c kind answer block)
+
+-- a pause of a session: an error if the log is full, else as a controller's
+abbrev pub PauseLogs : LogState → Result (Unit {0}) LogFull → List Entry → Type 0
+PauseLogs k (Ok x) block = (is_full_log k ≡ false) × PauseAdds k.opening k.entries block
+PauseLogs k (Err x) block = (is_full_log k ≡ true) × (block ≡ [])
+
+-- a resume of a session: an error if the log is full, else as a controller's
+abbrev pub ResumeLogs : LogState → Result (Unit {0}) LogFull → List Entry → Type 0
+ResumeLogs k (Ok x) block = (is_full_log k ≡ false) × ResumeAdds k.opening k.entries block
+ResumeLogs k (Err x) block = (is_full_log k ≡ true) × (block ≡ [])
+
+-- a take of a session: an error if the log is full, else as a controller's
+abbrev pub TakeLogs : LogState → Result (Option (ArrayVec ℕ)) LogFull → List Entry → Type 0
+TakeLogs k (Ok taken) block = (is_full_log k ≡ false) × TakeAdds k.opening k.entries taken block
+TakeLogs k (Err x) block = (is_full_log k ≡ true) × (block ≡ [])
+
+-- old grew to new by a block of which this holds
+pub record GrowsBy (old : LogState) (Adds : List Entry → Type 0) (new : LogState) : Type 0 where
+  pub block : List Entry
+  pub adds : Adds block
+  pub grows : new ≡ grown old block

@@ -1,0 +1,202 @@
+-- What clients are promised, said of a list of events and its answers.
+use Rattle.std.specs.Prelude.{◌≡◌, ◌↔◌, ℕ, ◌+◌, ◌<◌, Bool, true, false, List, [], ◌∷◌, ◌++◌, length, take, drop, zip}
+use Rattle.std.specs.Prelude.{filter_map, Option, Some, None, Ok, Err, ◌==◌, if◌then◌else◌, slice_get}
+use Rattle.std.specs.List.{Contains}
+use Rattle.rdm_wire.specs.Uid.{has, IsDevice}
+use Rattle.rdm_wire.specs.Devices.{uids_of}
+use Rattle.rdm_wire.specs.Honest.{HonestTo, HonestTrace}
+use Rattle.rdm_wire.specs.HonestOver.{HonestOver}
+use Rattle.rdm_wire.specs.declared.request.Request.{Request}
+use Rattle.rdm_join.specs.declared.event.LineEvent.{LineEvent}
+use Rattle.rdm_join.specs.declared.status.Status.{Status}
+use Rattle.rdm_join.specs.Result.{Joined}
+use Rattle.rdm_agent.specs.Statements.{IsInEach, IsInOne}
+use Rattle.rdm_agent.specs.declared.kind.Kind.{Kind}
+use Rattle.rdm_agent.specs.declared.fault.AgentFault.{AgentFault}
+use Rattle.rdm_log.specs.declared.entry.ClientId.{ClientId}
+use Rattle.rdm_log.specs.declared.entry.Opening.{Opening}
+use Rattle.rdm_log.specs.declared.entry.Entry.{Entry}
+use Rattle.rdm_log.specs.declared.entry.Entry.TheVariants.{Accept, Ask, Finish}
+use Rattle.rdm_log.specs.declared.entry.Entry.TheVariants as entries
+use Rattle.rdm_log.specs.declared.fault.SubmitFault.TheVariants.{Full}
+use Rattle.rdm_log.specs.declared.fault.AskFault.TheVariants as ask_faults
+use Rattle.rdm_log.specs.declared.outcome.AskCompletion.{AskCompletion}
+use Rattle.rdm_log.specs.declared.outcome.Outcome.{Outcome}
+use Rattle.rdm_log.specs.declared.outcome.Outcome.TheVariants as outcomes
+use Rattle.rdm_log.specs.declared.event.Event.{Event}
+use Rattle.rdm_log.specs.declared.event.Event.TheVariants as events
+use Rattle.rdm_log.specs.declared.event.Answer.{Answer}
+use Rattle.rdm_log.specs.declared.event.Answer.TheVariants as answers
+use Rattle.rdm_log.specs.log.Entries.{result}
+use Rattle.rdm_log.specs.log.History.{is_closed}
+use Rattle.rdm_log.specs.log.Runs.{run_exchanges, answer_devices}
+use Rattle.rdm_log.specs.log.Clients.{client_of_request, client_of_discovery, collected}
+use Rattle.rdm_log.specs.promises.Outcomes.{OutcomeValue, Discovered, completion_value, discovered, outcome_value}
+use Rattle.rdm_log.specs.promises.Outcomes.{outcome_of, completion_of}
+use Rattle.rdm_log.specs.log.LogState.{LogState, grown, is_full_log}
+use Rattle.rdm_log.specs.promises.Blocks.{submit_refused, ask_refused}
+use Rattle.rdm_log.specs.promises.Explains.{IsAnswered, Explains}
+use Rattle.rdm_log.specs.promises.InBound.{IsCalmRun}
+use Rattle.rdm_log.specs.promises.Headline.{IsFull, SameQueue, result_count}
+use Rattle.rdm_log.specs.promises.Discoveries.{HasMostDiscoveries, answer_count}
+use Rattle.rdm_log.specs.promises.Promised.{Promised}
+
+-- event i was answered so: the log stood at before, and then at after
+pub record AnsweredAt (old : LogState) (es : List Event) (rs : List Answer) (new : LogState) (i : ℕ) (event : Event)
+    (answer : Answer) : Type 0 where
+  pub before : LogState
+  pub after : LogState
+  pub earlier : Explains old (take i es) (take i rs) before
+  pub here : IsAnswered before event answer after
+  pub later : Explains after (drop (i + 1) es) (drop (i + 1) rs) new
+
+-- the answer to a submit of a client whose queue is full, and to no other
+abbrev pub refuses_full : Request → Answer
+refuses_full request = answers.Submit (Err (Full, request))
+
+-- a submit is answered Full exactly when the client's queue is full, if the log isn't; that changes the log alone
+pub record FullExactly (old : LogState) (es : List Event) (rs : List Answer) (new : LogState) (i : ℕ) (c : ClientId)
+    (request : Request) (answer : Answer) : Type 0 where
+  pub at : AnsweredAt old es rs new i (events.Submit c request) answer
+  pub exactly : is_full_log at.before ≡ false
+      → (answer ≡ refuses_full request) ↔ IsFull at.before.opening at.before.entries c.0
+  pub refused : answer ≡ refuses_full request → at.after ≡ grown at.before (submit_refused c request Full ∷ [])
+  pub unchanged : answer ≡ refuses_full request → SameQueue new.opening at.before.entries at.after.entries
+
+-- the answer to a discover of a client that has as many discoveries as it may, and to no other
+abbrev pub refuses_discovery : Answer
+refuses_discovery = answers.Discover (Err ask_faults.Full)
+
+-- a discover is answered Full exactly when the client has as many as it may, if the log isn't full; that changes the
+-- log alone
+pub record MostExactly (old : LogState) (es : List Event) (rs : List Answer) (new : LogState) (i : ℕ) (c : ClientId)
+    (kind : Kind) (answer : Answer) : Type 0 where
+  pub at : AnsweredAt old es rs new i (events.Discover c kind) answer
+  pub exactly : is_full_log at.before ≡ false
+      → (answer ≡ refuses_discovery) ↔ HasMostDiscoveries at.before.opening at.before.entries c.0
+  pub refused : answer ≡ refuses_discovery
+      → at.after ≡ grown at.before (ask_refused c kind ask_faults.Full ∷ [])
+  pub unchanged : answer ≡ refuses_discovery → SameQueue new.opening at.before.entries at.after.entries
+
+-- an answer that starts something: a client joined, a request or a discovery was accepted, or a frame was given
+abbrev pub starts : Answer → Bool
+starts (answers.Join (Ok c)) = true
+starts (answers.Submit (Ok n)) = true
+starts (answers.Discover (Ok n)) = true
+starts (answers.Take (Ok (Some frame))) = true
+starts _ = false
+
+-- the outcome of a finished request of the client: the joined answer of the request's own exchanges
+pub record IsOwnResult (o : Opening) (h : List Entry) (c : ℕ) (number : Option ℕ) (done : Joined) : Type 0 where
+  pub request : ℕ
+  pub number_is : number ≡ Some request
+  pub status : Status
+  pub len : ℕ
+  pub finished : Contains h (Finish request status len)
+  pub client : client_of_request o h request ≡ Some c
+  pub told : done ≡ completion_of status (result request h)
+
+-- the outcome of an answered discovery of the client: the devices that its run reports
+pub record IsOwnReport (o : Opening) (h : List Entry) (c : ℕ) (number : Option ℕ) (done : Discovered) : Type 0 where
+  pub discovery : ℕ
+  pub number_is : number ≡ Some discovery
+  pub answered : Contains h (entries.Answer discovery done.run done.fault)
+  pub client : client_of_discovery o h discovery ≡ Some c
+  pub told : done.devices ≡ answer_devices done.run h
+
+-- the outcome is of a request or a discovery of client c, and says what the log says of it
+abbrev pub IsOwnOutcome : Opening → List Entry → ℕ → Outcome → Type 0
+IsOwnOutcome o h c (outcomes.Request number done) = IsOwnResult o h c number (completion_value done)
+IsOwnOutcome o h c (outcomes.Discovery number done) = IsOwnReport o h c number (discovered done)
+
+-- the devices of a discovery are those that the line showed in its run
+pub record ReportsTheLine (h : List Entry) (done : Discovered) : Type 0 where
+  -- on an honest line with fixed devices: without fault exactly these, whatever bytes colliding replies make
+  pub exactly : (present : List ℕ) → done.fault ≡ None → HonestTrace present (run_exchanges done.run h)
+      → uids_of done.devices ≡ present
+  -- and with a fault none but these
+  pub no_phantom : (present : List ℕ) (u : ℕ) → HonestTrace present (run_exchanges done.run h)
+      → has (uids_of done.devices) u ≡ true → has present u ≡ true
+  -- on a line that is honest to one device: without fault that device, whatever others do
+  pub each : (u : ℕ) → done.fault ≡ None → IsDevice u → HonestTo u (run_exchanges done.run h)
+      → has (uids_of done.devices) u ≡ true
+  -- on an honest line whose devices come and leave: without fault each that was always present
+  pub staying : (sets : List (List ℕ)) (u : ℕ) → done.fault ≡ None → HonestOver sets (run_exchanges done.run h)
+      → IsInEach u sets → has (uids_of done.devices) u ≡ true
+  -- and none that was never present
+  pub no_stranger : (sets : List (List ℕ)) (u : ℕ) → HonestOver sets (run_exchanges done.run h)
+      → has (uids_of done.devices) u ≡ true → IsInOne u sets
+
+-- the outcome that an event gave to the client
+abbrev pub outcome_given : ℕ → Event → Answer → Option OutcomeValue
+outcome_given c (events.Collect d) (answers.Collect (Some outcome)) =
+    if c == d.0 then Some (outcome_value outcome) else None
+outcome_given c _ _ = None
+
+-- all outcomes that events gave to the client, in order
+abbrev pub given_to : ℕ → List Event → List Answer → List OutcomeValue
+given_to c es rs = filter_map (λ p. outcome_given c p.0 p.1) (zip es rs)
+
+-- the outcomes that the client's collected Finishes and Answers of h have in a log
+abbrev pub collected_outcomes : Opening → ℕ → List Entry → List Entry → List OutcomeValue
+collected_outcomes o c h log = filter_map (outcome_of log) (collected o c h)
+
+-- For every list of events.
+pub record EventsPromised (old : LogState) (es : List Event) (rs : List Answer) (new : LogState) : Type 0 where
+  -- each event has one answer
+  pub all_answered : length rs ≡ length es
+  -- the log only grows
+  pub only_grows : (block : List Entry) × (new ≡ grown old block)
+  -- and keeps all that is promised of a log
+  pub log : Promised new.opening new.entries
+  -- a request that was accepted stands there under its number
+  pub accepted : (i : ℕ) (c : ClientId) (n : ℕ) (request : Request) → slice_get es i ≡ Some (events.Submit c request)
+      → slice_get rs i ≡ Some (answers.Submit (Ok n)) → Contains new.entries (Accept c n request)
+  -- and has exactly one result after a Close and then a Deliver, of the reply that the close found awaited, if any
+  pub finished : (i j m : ℕ) (c : ClientId) (n : ℕ) (request : Request) (event : LineEvent)
+      → slice_get es i ≡ Some (events.Submit c request) → slice_get rs i ≡ Some (answers.Submit (Ok n)) → j < m
+      → slice_get es j ≡ Some events.Close → slice_get es m ≡ Some (events.Deliver event)
+      → result_count n new.entries ≡ 1
+  -- a discovery that was accepted stands there under its number
+  pub asked : (i : ℕ) (c : ClientId) (n : ℕ) (kind : Kind) → slice_get es i ≡ Some (events.Discover c kind)
+      → slice_get rs i ≡ Some (answers.Discover (Ok n)) → Contains new.entries (Ask c n kind)
+  -- and has exactly one answer after a Close and then a Deliver
+  pub answered : (i j m : ℕ) (c : ClientId) (n : ℕ) (kind : Kind) (event : LineEvent)
+      → slice_get es i ≡ Some (events.Discover c kind) → slice_get rs i ≡ Some (answers.Discover (Ok n)) → j < m
+      → slice_get es j ≡ Some events.Close → slice_get es m ≡ Some (events.Deliver event)
+      → answer_count n new.entries ≡ 1
+  -- accepted requests have numbers that rise, so no two share one; and so have discoveries
+  pub numbers_rise : (i j n m : ℕ) → i < j → slice_get rs i ≡ Some (answers.Submit (Ok n))
+      → slice_get rs j ≡ Some (answers.Submit (Ok m)) → n < m
+  pub asks_rise : (i j n m : ℕ) → i < j → slice_get rs i ≡ Some (answers.Discover (Ok n))
+      → slice_get rs j ≡ Some (answers.Discover (Ok m)) → n < m
+  -- a close closes
+  pub closed : (i : ℕ) → slice_get es i ≡ Some events.Close → is_closed new.opening new.entries ≡ true
+  -- and nothing starts after it, nor where the queue was closed before
+  pub nothing_after : (i j : ℕ) (answer : Answer) → i < j → slice_get es i ≡ Some events.Close
+      → slice_get rs j ≡ Some answer → starts answer ≡ false
+  pub nothing_closed : is_closed old.opening old.entries ≡ true → (j : ℕ) (answer : Answer)
+      → slice_get rs j ≡ Some answer → starts answer ≡ false
+  -- a full queue refuses, and changes nothing but the log
+  pub full : (i : ℕ) (c : ClientId) (request : Request) (answer : Answer)
+      → slice_get es i ≡ Some (events.Submit c request) → slice_get rs i ≡ Some answer
+      → FullExactly old es rs new i c request answer
+  -- and so is a client with four discoveries outstanding
+  pub most : (i : ℕ) (c : ClientId) (kind : Kind) (answer : Answer)
+      → slice_get es i ≡ Some (events.Discover c kind) → slice_get rs i ≡ Some answer
+      → MostExactly old es rs new i c kind answer
+  -- a client collects the joined answers of its own requests, and what the runs of its own discoveries found
+  pub collected : (i : ℕ) (c : ClientId) (outcome : Outcome) → slice_get es i ≡ Some (events.Collect c)
+      → slice_get rs i ≡ Some (answers.Collect (Some outcome)) → IsOwnOutcome new.opening new.entries c.0 outcome
+  -- on an honest line these are exactly the devices present
+  pub reported : (i : ℕ) (number : Option ℕ) (done : AskCompletion)
+      → slice_get rs i ≡ Some (answers.Collect (Some (outcomes.Discovery number done)))
+      → ReportsTheLine new.entries (discovered done)
+  -- and is given each of them once, in order
+  pub collected_once : (c : ℕ)
+      → collected_outcomes new.opening c new.entries new.entries
+      ≡ collected_outcomes new.opening c old.entries new.entries ++ given_to c es rs
+  -- on a calm line, with a budget that suffices, a discovery that these events answered has a fault only after a close
+  pub in_bound : (front back : List Entry) (n r : ℕ) (fault : AgentFault) (present : List ℕ)
+      → new.entries ≡ old.entries ++ front ++ entries.Answer n r (Some fault) ∷ back
+      → IsCalmRun new.search new.opening new.entries r present → is_closed new.opening (old.entries ++ front) ≡ true

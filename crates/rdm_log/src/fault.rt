@@ -1,0 +1,128 @@
+//! Why a call is refused.
+use thiserror::Error;
+
+/// There was no memory, and nothing has changed (profile of this project).
+#[derive(Clone, Copy, Debug, PartialEq, Eq, Error)]
+#[error("out of memory")]
+pub struct NoMemory;
+
+/// The log has fewer than three free entries, and nothing has changed (profile of this project).
+#[derive(Clone, Copy, Debug, PartialEq, Eq, Error)]
+#[error("the log is full")]
+pub struct LogFull;
+
+/// No reply is awaited, and nothing has changed (profile of this project).
+#[derive(Clone, Copy, Debug, PartialEq, Eq, Error)]
+#[error("no reply is awaited")]
+pub struct NotAsked;
+
+/// The session isn't idle, and nothing has changed (profile of this project).
+#[derive(Clone, Copy, Debug, PartialEq, Eq, Error)]
+#[error("the session isn't idle")]
+pub struct NotIdle;
+
+/// Why a join is refused (profile of this project). LogFull is tested first, and then the others in this order.
+#[derive(Clone, Copy, Debug, PartialEq, Eq, Error)]
+pub enum JoinFault {
+    /// 1: the queue is closed.
+    #[error("the queue is closed")]
+    Closed,
+    /// 2: sixteen clients have joined.
+    #[error("there are sixteen clients")]
+    TooManyClients,
+    /// 3: the places of all clients together would be more than there are.
+    #[error("there are too few places")]
+    NoPlaces,
+    /// 4: there is no memory for what the client may have outstanding.
+    #[error("out of memory")]
+    NoMemory,
+    /// 5: the log has fewer than three free entries.
+    #[error("the log is full")]
+    LogFull,
+}
+
+/// Why a submit is refused (profile of this project). LogFull is tested first, and then the others in this order.
+#[derive(Clone, Copy, Debug, PartialEq, Eq, Error)]
+pub enum SubmitFault {
+    /// 1: the queue is closed.
+    #[error("the queue is closed")]
+    Closed,
+    /// 2: no such client has joined.
+    #[error("no such client")]
+    UnknownClient,
+    /// 3: the client's places are taken, or the numbers have run out.
+    #[error("the client's places are taken")]
+    Full,
+    /// 4: the log has fewer than three free entries.
+    #[error("the log is full")]
+    LogFull,
+}
+
+/// Why a discover is refused (profile of this project). LogFull is tested first, and then the others in this order.
+#[derive(Clone, Copy, Debug, PartialEq, Eq, Error)]
+pub enum AskFault {
+    /// 1: the queue is closed.
+    #[error("the queue is closed")]
+    Closed,
+    /// 2: no such client has joined.
+    #[error("no such client")]
+    UnknownClient,
+    /// 3: the client has four discoveries outstanding, or the numbers have run out.
+    #[error("the client has four discoveries outstanding")]
+    Full,
+    /// 4: the log has fewer than three free entries.
+    #[error("the log is full")]
+    LogFull,
+}
+
+impl JoinFault {
+    ghost use Rattle.std.specs.Prelude.{◌≡◌};
+    ghost use Rattle.rdm_log.specs.log.Refusals.{number_of_join_fault};
+
+    /// The fault's number, as an entry of the log has it; LogFull's stands in none.
+    pub fn number(self) -> u8
+        ensures { result ≡ number_of_join_fault self }
+    {
+        match self {
+            JoinFault::Closed => 1,
+            JoinFault::TooManyClients => 2,
+            JoinFault::NoPlaces => 3,
+            JoinFault::NoMemory => 4,
+            JoinFault::LogFull => 5,
+        }
+    }
+}
+
+impl SubmitFault {
+    ghost use Rattle.std.specs.Prelude.{◌≡◌};
+    ghost use Rattle.rdm_log.specs.log.Refusals.{number_of_submit_fault};
+
+    /// The fault's number, as an entry of the log has it; LogFull's stands in none.
+    pub fn number(self) -> u8
+        ensures { result ≡ number_of_submit_fault self }
+    {
+        match self {
+            SubmitFault::Closed => 1,
+            SubmitFault::UnknownClient => 2,
+            SubmitFault::Full => 3,
+            SubmitFault::LogFull => 4,
+        }
+    }
+}
+
+impl AskFault {
+    ghost use Rattle.std.specs.Prelude.{◌≡◌};
+    ghost use Rattle.rdm_log.specs.log.Refusals.{number_of_ask_fault};
+
+    /// The fault's number, as an entry of the log has it; LogFull's stands in none.
+    pub fn number(self) -> u8
+        ensures { result ≡ number_of_ask_fault self }
+    {
+        match self {
+            AskFault::Closed => 1,
+            AskFault::UnknownClient => 2,
+            AskFault::Full => 3,
+            AskFault::LogFull => 4,
+        }
+    }
+}

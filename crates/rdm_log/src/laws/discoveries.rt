@@ -1,0 +1,46 @@
+//! What clients are promised of discoveries: laws on each legal log.
+ghost use Rattle.std.specs.Prelude.{List};
+ghost use Rattle.rdm_log.specs.declared.entry.Opening.{Opening};
+ghost use Rattle.rdm_log.specs.declared.entry.Entry.{Entry};
+ghost use Rattle.rdm_log.specs.log.Legal.{Legal};
+ghost use Rattle.rdm_log.specs.promises.Discoveries.{OneAnswer, AnsweredInOrder, TellsTheLine, RunsAnswer};
+ghost use Rattle.rdm_log.specs.promises.Discoveries.{OwnDiscoveries, FullRefusesDiscoveries, DiscoveriesPromised};
+
+/// Each discovery that is asked has exactly one answer: never two, and one once the queue is closed and no reply is
+/// awaited.
+pub fn exactly_one_answer()
+    ensures { (o : Opening) (h : List Entry) → Legal o h → OneAnswer o h }
+{}
+
+/// First in, first out: discoveries are answered in the order in which they were asked, over all clients and for each.
+pub fn first_asked_first_answered()
+    ensures { (o : Opening) (h : List Entry) → Legal o h → AnsweredInOrder o h }
+{}
+
+/// A discovery that ends without fault on an honest line reports exactly the devices present, whatever bytes colliding
+/// replies make; with a fault, none but those. Where devices come and leave, without fault each that was always
+/// present, and none that never was. This holds amid requests, pauses, closes and other runs.
+pub fn answers_tell_the_line()
+    ensures { (o : Opening) (h : List Entry) → Legal o h → TellsTheLine o h }
+{}
+
+/// One run answers the discoveries that were asked before it began, and all of them alike.
+pub fn runs_answer_what_was_asked()
+    ensures { (o : Opening) (h : List Entry) → Legal o h → RunsAnswer o h }
+{}
+
+/// A client is answered its own discoveries.
+pub fn own_discoveries()
+    ensures { (o : Opening) (h : List Entry) → Legal o h → OwnDiscoveries o h }
+{}
+
+/// A discovery is refused as full only where its client has four outstanding or the numbers have run out, and is not
+/// accepted there.
+pub fn full_client_is_refused()
+    ensures { (o : Opening) (h : List Entry) → Legal o h → FullRefusesDiscoveries o h }
+{}
+
+/// All that clients are promised of discoveries holds of each legal log.
+pub fn legal_keeps_discoveries()
+    ensures { (o : Opening) (h : List Entry) → Legal o h → DiscoveriesPromised o h }
+{}

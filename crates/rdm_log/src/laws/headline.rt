@@ -1,0 +1,65 @@
+//! What clients are promised: laws on each legal log.
+ghost use Rattle.std.specs.Prelude.{List};
+ghost use Rattle.rdm_log.specs.declared.entry.Opening.{Opening};
+ghost use Rattle.rdm_log.specs.declared.entry.Entry.{Entry};
+ghost use Rattle.rdm_log.specs.declared.event.Event.{Event};
+ghost use Rattle.rdm_log.specs.declared.event.Answer.{Answer};
+ghost use Rattle.rdm_log.specs.log.Legal.{Legal};
+ghost use Rattle.rdm_log.specs.log.LogState.{LogState};
+ghost use Rattle.rdm_log.specs.promises.Explains.{Explains};
+ghost use Rattle.rdm_log.specs.promises.Headline.{OneResult, OwnRequests, OwnAnswers, InOrder, FullRefuses};
+ghost use Rattle.rdm_log.specs.promises.Headline.{NothingAfterClose};
+ghost use Rattle.rdm_log.specs.promises.Promised.{Promised};
+ghost use Rattle.rdm_log.specs.promises.EventsHeadline.{EventsPromised};
+
+/// Each accepted request is finished with exactly one result: never with two, and with one once the queue is closed
+/// and no reply is awaited.
+pub fn exactly_one_result()
+    ensures { (o : Opening) (h : List Entry) → Legal o h → OneResult o h }
+{}
+
+/// Each frame that is sent for a request is that request's packet, with the transaction number of its place among all
+/// frames.
+pub fn own_requests()
+    ensures { (o : Opening) (h : List Entry) → Legal o h → OwnRequests o h }
+{}
+
+/// Each result is the joined answer of the request's own exchanges.
+pub fn joined_answer()
+    ensures { (o : Opening) (h : List Entry) → Legal o h → OwnAnswers o h }
+{}
+
+/// First in, first out: requests finish in the order in which they were accepted, over all clients and for each.
+pub fn first_in_first_out()
+    ensures { (o : Opening) (h : List Entry) → Legal o h → InOrder o h }
+{}
+
+/// A full queue refuses, and only there; after the refusal's entry the log says of the queue what it said before.
+pub fn full_queue_refuses()
+    ensures { (o : Opening) (h : List Entry) → Legal o h → FullRefuses o h }
+{}
+
+/// Nothing starts after a close.
+pub fn nothing_after_close()
+    ensures { (o : Opening) (h : List Entry) → Legal o h → NothingAfterClose o h }
+{}
+
+/// All that clients are promised holds of each legal log.
+pub fn legal_keeps_promises()
+    ensures { (o : Opening) (h : List Entry) → Legal o h → Promised o h }
+{}
+
+/// The whole, for every list of events. Where a log explains its answers and is legal, these hold:
+/// - each event has one answer;
+/// - each accepted request is finished with exactly one result, the joined answer of its own exchanges, first in, first
+///   out;
+/// - a full queue refuses and changes nothing but the log;
+/// - nothing starts after a close.
+///
+/// Where the exchanges of a run are those of an honest line, its discoveries that are collected without fault have
+/// exactly the devices present. With at most 1,024 devices, no failure and a budget that suffices, they are answered
+/// with a fault only after a close.
+pub fn answers_keep_promises()
+    ensures { (old : LogState) (es : List Event) (rs : List Answer) (new : LogState) → Explains old es rs new
+        → Legal new.opening new.entries → EventsPromised old es rs new }
+{}

@@ -1,0 +1,17 @@
+//! The numbers of the limits.
+ghost use Rattle.std.specs.Prelude.{◌≡◌};
+ghost use Rattle.rdm_log.specs.declared.config.TheConstants.{MOST_PLACES};
+ghost use Rattle.rdm_log.specs.declared.entry.TheConstants.{MOST_CLIENTS, MOST_DISCOVERIES};
+ghost use Rattle.rdm_log.specs.declared.entry.TheConstants.{NEVER_GIVEN, NEVER_GIVEN_TO_A_DISCOVERY};
+ghost use Rattle.rdm_log.specs.declared.log.TheConstants.{LEAST_FREE, MOST_FREE_ENTRIES};
+
+/// The limits that definitions cite by name.
+pub fn limits_are()
+    ensures clients { MOST_CLIENTS ≡ 16 }
+    ensures places { MOST_PLACES ≡ 4080 }
+    ensures discoveries { MOST_DISCOVERIES ≡ 4 }
+    ensures never_given { NEVER_GIVEN ≡ 18446744073709551615 }
+    ensures never_given_to_a_discovery { NEVER_GIVEN_TO_A_DISCOVERY ≡ 18446744073709551614 }
+    ensures free_entries { MOST_FREE_ENTRIES ≡ 1000000 }
+    ensures least_free { LEAST_FREE ≡ 3 }
+{}

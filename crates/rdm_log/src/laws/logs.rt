@@ -1,0 +1,74 @@
+//! Laws of logs, and a sample log that is legal.
+ghost use Rattle.std.specs.Prelude.{◌≡◌, ◌↔◌, ℕ, List, [], ◌∷◌, ◌++◌, Some, None, true};
+ghost use Rattle.arrayvec.specs.ArrayVec.{ArrayVec};
+ghost use Rattle.rdm_wire.specs.Lists.{EachAfter};
+ghost use Rattle.rdm_join.specs.Result.{ended};
+ghost use Rattle.rdm_join.specs.declared.status.Status.TheVariants.{Timeout};
+ghost use Rattle.rdm_log.specs.declared.entry.Call.TheVariants as calls;
+ghost use Rattle.rdm_log.specs.declared.entry.Opening.{Opening};
+ghost use Rattle.rdm_log.specs.declared.entry.Entry.{Entry};
+ghost use Rattle.rdm_log.specs.declared.entry.Entry.TheVariants.{Finish, Send};
+ghost use Rattle.rdm_log.specs.declared.entry.Owner.{Owner};
+ghost use Rattle.rdm_log.specs.declared.fault.JoinFault.TheVariants as join_faults;
+ghost use Rattle.rdm_log.specs.declared.fault.SubmitFault.TheVariants as submit_faults;
+ghost use Rattle.rdm_log.specs.log.History.{awaited, free_room};
+ghost use Rattle.rdm_log.specs.log.Clients.{uncollected, outstanding_requests};
+ghost use Rattle.rdm_log.specs.log.Refusals.{join_fault, submit_fault, IsRefused};
+ghost use Rattle.rdm_log.specs.log.MaySend.{NoSend};
+ghost use Rattle.rdm_log.specs.log.Legal.{MayFollow, Legal};
+ghost use Rattle.rdm_log.specs.promises.Outcomes.{told, outcome_of};
+ghost use Rattle.rdm_log.specs.promises.Outcomes.OutcomeValue.{RequestValue};
+ghost use Rattle.rdm_log.specs.samples.Sample.{sample_opening, join_only, accepted_one, sent_one, finished_one};
+ghost use Rattle.rdm_log.specs.samples.Sample.{closed_log};
+
+/// In some logs each entry may stand after those before it. Such a log stays so where one more entry may stand after
+/// it, and at each of its fronts.
+pub fn log_grows()
+    ensures pushed { (o : Opening) (h : List Entry) (e : Entry) → EachAfter (MayFollow o) h → MayFollow o h e
+        → EachAfter (MayFollow o) (h ++ e ∷ []) }
+    ensures front { (o : Opening) (h more : List Entry) → EachAfter (MayFollow o) (h ++ more)
+        → EachAfter (MayFollow o) h }
+    ensures empty { (o : Opening) → Legal o [] }
+{}
+
+/// No frame may be sent after a legal log exactly when no Send keeps it legal.
+pub fn no_send_is_no_legal_send()
+    ensures { (o : Opening) (h : List Entry) → Legal o h
+        → NoSend o h ↔ ((owner : Owner) (frame : ArrayVec ℕ) → Legal o (h ++ Send owner frame ∷ []) → ⊥) }
+{}
+
+/// A whole log is legal: a join, a request, its frame, silence, its Finish, a Collect, a Close.
+pub fn sample_is_legal()
+    ensures { Legal sample_opening closed_log }
+{}
+
+/// The counts of a log.
+pub fn counts_of_a_log()
+    ensures waits { awaited sent_one ≡ true }
+    ensures collected { uncollected sample_opening 0 closed_log ≡ [] }
+    ensures outstanding { outstanding_requests sample_opening 0 finished_one ≡ 1 }
+    ensures settled { outstanding_requests sample_opening 0 closed_log ≡ 0 }
+    ensures told { told sample_opening 0 closed_log ≡ Finish 0 Timeout 0 ∷ [] }
+    ensures outcome { outcome_of closed_log (Finish 0 Timeout 0) ≡ Some (RequestValue (Some 0) (ended Timeout)) }
+{}
+
+/// The first fault that stands, in order.
+pub fn faults_in_order()
+    ensures join_goes { join_fault sample_opening [] 1 ≡ None }
+    ensures no_places { join_fault sample_opening accepted_one 1 ≡ Some join_faults.NoPlaces }
+    ensures no_memory { IsRefused sample_opening [] None (calls.Join 1) 4 }
+    ensures closed_first { join_fault sample_opening closed_log 1 ≡ Some join_faults.Closed }
+    ensures full { submit_fault sample_opening accepted_one 0 ≡ Some submit_faults.Full }
+    ensures still_full { submit_fault sample_opening finished_one 0 ≡ Some submit_faults.Full }
+    ensures unknown { submit_fault sample_opening accepted_one 1 ≡ Some submit_faults.UnknownClient }
+    ensures closed { submit_fault sample_opening closed_log 1 ≡ Some submit_faults.Closed }
+{}
+
+/// The rooms of logs with eleven entries, and with four.
+pub fn rooms()
+    ensures accepted { free_room 11 sample_opening accepted_one ≡ 6 }
+    ensures finished { free_room 11 sample_opening finished_one ≡ 4 }
+    ensures closed { free_room 11 sample_opening closed_log ≡ 4 }
+    ensures three { free_room 4 sample_opening [] ≡ 3 }
+    ensures two { free_room 4 sample_opening join_only ≡ 2 }
+{}

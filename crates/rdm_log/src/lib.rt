@@ -1,0 +1,30 @@
+//! The log of a queue of requests and discoveries on one RDM line: its entries, which logs are legal, and what a legal
+//! log promises.
+//!
+//! The laws of [`laws`] speak of logs alone. `rdm_queue` has the queue that writes such a log.
+//!
+//! # What calls cost
+//!
+//! - A log's opening holds a set of devices, 32 KB large. It is filled when a log is made or cleared, and when it is
+//!   given another opening.
+//! - An entry takes 296 bytes. The memory of all of them is reserved when the log is made, so `append` takes constant
+//!   time and allocates nothing.
+#![tactic(auto)]
+
+mod config;
+mod entry;
+mod event;
+mod fault;
+pub mod laws;
+mod log;
+mod outcome;
+
+pub use config::{Config, MOST_PLACES};
+pub use entry::{
+    Call, Cause, ClientId, Entry, MOST_CLIENTS, MOST_DISCOVERIES, NEVER_GIVEN,
+    NEVER_GIVEN_TO_A_DISCOVERY, Opening, Owner,
+};
+pub use event::{Answer, Event};
+pub use fault::{AskFault, JoinFault, LogFull, NoMemory, NotAsked, NotIdle, SubmitFault};
+pub use log::{LEAST_FREE, Log, MOST_FREE_ENTRIES};
+pub use outcome::{AskCompletion, Completion, DiscoveryEnd, Outcome, OutcomeKind};

@@ -1,0 +1,158 @@
+//! The log of a session.
+use crate::entry::{Entry, Opening};
+use crate::fault::NoMemory;
+use arrayvec::ArrayVec;
+use rdm_agent::Search;
+use rdm_wire::{DeviceSet, Uid};
+use std::alloc::Global;
+use std::marker::Model;
+
+/// The greatest number of free entries that a log may be made with (profile of this project).
+pub const MOST_FREE_ENTRIES: usize = 1_000_000;
+
+/// How many entries have to be free for each call that a full log refuses (profile of this project).
+pub const LEAST_FREE: usize = 3;
+
+/// The entries of a session, oldest first, and what they stand after (profile of this project). Its memory is
+/// reserved when it is made.
+#[derive(Debug, Drop)]
+pub struct Log {
+    // It holds a device set, and a log is moved often. So it lies in memory of its own.
+    opening: Box<Opening>,
+    entries: Vec<Entry>,
+    room: usize,
+    /// How the runs of its session search from now on. No entry says so, and no rule on logs looks at it.
+    search: Search,
+}
+
+impl Model for Log {
+    ghost use Rattle.std.specs.Prelude.{◌≤◌, vec_len, vec_capacity};
+    ghost use Rattle.rdm_log.specs.log.LogState.{LogState};
+
+    ghost Value = { LogState };
+
+    ghost use Rattle.rdm_log.specs.body.LogInvariant.{LogInvariant};
+
+    ghost view = { λ l. record {
+      opening = l.opening.value;
+      entries = l.entries.items;
+      room = l.room;
+      search = l.search;
+    } };
+
+    ghost invariant = { λ l. LogInvariant l.room (vec_len l.entries) (vec_capacity l.entries) };
+}
+
+impl Log {
+    ghost use Rattle.std.specs.Prelude.{◌≡◌, ◌+◌, ◌<◌, ◌≤◌, [], ◌∷◌, IfOk, length};
+    ghost use Rattle.rdm_log.specs.log.LogState.{grown, blank_opening, blank_log};
+
+    /// A log without entries, with room for this many, 0 to 1,000,000, and one more for a close. Its opening has 0
+    /// everywhere, no places and no devices, is neither paused nor closed, and is written when a session begins.
+    /// Err: there was no memory.
+    pub fn new(alloc: Global, free: usize) -> Result<Log, NoMemory>
+        requires { free ≤ 1000000 }
+        ensures { IfOk result (λ log. log ≡ blank_log (free + 1)) }
+    {
+        let room = free + 1;
+        let Ok(entries) = Vec::with_capacity(alloc, room) else {
+            return Err(NoMemory);
+        };
+        let Ok(opening) = Box::new(alloc, Log::blank()) else {
+            return Err(NoMemory);
+        };
+        Ok(Log {
+            opening,
+            entries,
+            room,
+            search: Search::Steady,
+        })
+    }
+
+    /// How the queue stood before the first entry.
+    pub fn opening(&self) -> &Opening
+        ensures { result.now ≡ self.now.opening }
+    {
+        &self.opening
+    }
+
+    /// The entries, oldest first.
+    pub fn entries(&self) -> &[Entry]
+        ensures { result.now ≡ self.now.entries }
+    {
+        self.entries.as_slice()
+    }
+
+    /// How the runs of its session search from now on; steadily, until a session is told otherwise.
+    pub fn search(&self) -> Search
+        ensures { result ≡ self.now.search }
+    {
+        self.search
+    }
+
+    /// How many entries the log can hold, those that it has among them. It is at least 1, and no call changes it.
+    pub fn room(&self) -> usize
+        ensures room { result ≡ self.now.room }
+        ensures within { length self.now.entries ≤ self.now.room }
+        ensures some { 1 ≤ self.now.room }
+    {
+        self.room
+    }
+
+    /// The same log after another opening, of a session whose runs search by `search`. Its entries and its room are
+    /// unchanged.
+    pub fn after(mut self, opening: Opening, search: Search) -> Log
+        ensures log { result ≡ record self { opening = opening; search = search } }
+        ensures some { 1 ≤ self.room }
+    {
+        *self.opening = opening;
+        self.set_search(search);
+        self
+    }
+
+    /// Notes how the runs of its session search from now on. Its opening, its entries and its room are unchanged.
+    pub fn set_search(&mut self, search: Search)
+        ensures { self.new ≡ record self.old { search = search } }
+    {
+        self.search = search;
+    }
+
+    /// The log without its entries, with the same room, and with the opening of a new log.
+    pub fn cleared(mut self) -> Log
+        ensures { result ≡ blank_log self.room }
+    {
+        self.entries.clear();
+        *self.opening = Log::blank();
+        self.set_search(Search::Steady);
+        self
+    }
+
+    /// Puts an entry at the end. Fewer entries than [`room`](Log::room) stand in the log, so this allocates nothing.
+    /// What the log has is unchanged. The entry is any: whether the log is legal with it is for the caller to see to.
+    pub fn append(&mut self, entry: Entry)
+        requires { length self.old.entries < self.old.room }
+        ensures { self.new ≡ grown self.old (entry ∷ []) }
+    {
+        self.entries.push_reserved(entry);
+    }
+
+    // The opening that a new log has.
+    fn blank() -> Opening
+        ensures { result ≡ blank_opening }
+    {
+        Opening {
+            source: Uid::default(),
+            greatest: 0,
+            budget: 0,
+            places: ArrayVec::new(),
+            paused: false,
+            closed: false,
+            devices: DeviceSet::new(),
+            devices_run: 0,
+            next_request: 0,
+            next_ask: 0,
+            next_run: 0,
+            next_tn: 0,
+        }
+    }
+}

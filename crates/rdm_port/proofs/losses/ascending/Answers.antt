@@ -1,5 +1,0 @@
-use Rattle.std.proofs.lemmas.List.Sorted.{IsNonDecreasingBy-from_sort}
-use Rattle.rdm_port.proofs.losses.ascending.Goals as goal
-
-pub returns-clause-ascending : goal.returns-clause-ascending
-returns-clause-ascending c = IsNonDecreasingBy-from_sort (λ x. x) _ c.sort_unstable.ensures.sorted

@@ -1,5 +1,0 @@
-use Rattle.rdm_port.proofs.FiveLemmas.{NoneEnd}
-use Rattle.rdm_port.proofs.losses.first_of_five.Given as goal
-
-abbrev pub invariant-ends : goal.invariant-ends
-invariant-ends l = NoneEnd l.sorted l.i

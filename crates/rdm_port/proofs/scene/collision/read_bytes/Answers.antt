@@ -1,9 +1,0 @@
-use Rattle.serde_json.specs.View.{view}
-use Rattle.rdm_port.specs.SceneFiles.{IsCollision}
-use Rattle.rdm_port.proofs.FormLemmas.{passed}
-use Rattle.rdm_port.proofs.CollisionForms.{no_bytes}
-use Rattle.rdm_port.proofs.scene.collision.read_bytes.Goals as goal
-
-pub returns-in_err-bytes : goal.returns-in_err-bytes
-returns-in_err-bytes c = passed c.from_residual.result c.in_err-bytes.field-0.0 (IsCollision (view c.args.value.now)) c.from_residual.ensures.1
-    (λ other. no_bytes (view c.args.value.now) c.requires.no_uid c.requires.no_text (c.in_err-bytes.ensures other))

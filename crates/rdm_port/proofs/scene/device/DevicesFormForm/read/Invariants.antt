@@ -1,5 +1,0 @@
-use Rattle.rdm_port.proofs.DeviceForms.{Placed}
-use Rattle.rdm_port.proofs.scene.device.DevicesFormForm.read.Given as goal
-
-abbrev pub invariant-devices : goal.invariant-devices
-invariant-devices l = Placed l.values.items l.i l.devices

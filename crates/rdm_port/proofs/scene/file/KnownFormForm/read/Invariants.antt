@@ -1,5 +1,0 @@
-use Rattle.rdm_port.proofs.KnownForms.{KnownSoFar}
-use Rattle.rdm_port.proofs.scene.file.KnownFormForm.read.Given as goal
-
-abbrev pub invariant-known : goal.invariant-known
-invariant-known l = KnownSoFar l.values.items l.i l.known

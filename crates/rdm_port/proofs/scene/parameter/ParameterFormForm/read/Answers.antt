@@ -1,7 +1,0 @@
-use Rattle.serde_json.specs.View.{view}
-use Rattle.rdm_port.specs.SceneFiles.{IsParameter}
-use Rattle.rdm_port.proofs.FormLemmas.{passed}
-use Rattle.rdm_port.proofs.scene.parameter.ParameterFormForm.read.Goals as goal
-
-pub returns-in_err-parts : goal.returns-in_err-parts
-returns-in_err-parts c = passed c.from_residual-in_err-parts.result c.in_err-parts.field-0.0 (IsParameter (view c.args.value.now)) c.from_residual-in_err-parts.ensures.1 (λ other p h. c.in_err-parts.ensures other p.parts h.parts)

@@ -1,6 +1,0 @@
-use Rattle.std.proofs.Common.{take}
-use Rattle.rdm_port.specs.LoggedOutcomes.{AllLogged}
-use Rattle.rdm_port.proofs.serving.logged.are_logged.Given as goal
-
-abbrev pub invariant-clients : goal.invariant-clients
-invariant-clients l = AllLogged l.log.opening l.log.entries 0 (take l.client l.told)

@@ -1,0 +1,45 @@
+//! The program over a reader and a writer, and two files for it.
+use rdm_port::{parse_words, perform};
+use std::alloc::Global;
+use std::io::{Read, Write};
+use std::sync::Wait;
+use std::thread::Threads;
+
+/// What is printed, and the status.
+pub type Due<'a> = (&'a str, u8);
+
+/// An incremental run, and a session over each port.
+pub const INCREMENTAL: [&str; 3] = ["discover", "--incremental", "scene.json"];
+
+pub const LOCKED: [&str; 2] = ["run", "session.json"];
+
+pub const RINGS: [&str; 4] = ["run", "--port", "rings", "session.json"];
+
+/// A scene of one device, with each key that there is.
+pub const SCENE_FILE: &str =
+    "{\"source\":\"7a70:00000100\",\"devices\":[{\"uid\":\"1234:00000001\",\"preamble\":3,\"params\":[{\"pid\":\"0060\",\"parts\":[\"01\",\"02\"]}],\"control\":\"0002\",\"binding\":\"1234:00000005\",\"from\":0,\"until\":1000}],\"collisions\":[\"or\"],\"losses\":[3],\"fails\":[900],\"known\":[\"1234:00000001\"],\"budget\":400}";
+
+/// What an incremental run prints of the scene: three unmutes, a mute that is lost and one that is acknowledged, and
+/// five branches without reply.
+pub const SCENE: Due<'static> = ("1234:00000001 0002 1234:00000005\nframes 10\n", 0);
+
+/// A session over that scene, with each key that there is: one client asks for a discovery, and makes a GET and a SET.
+pub const SESSION_FILE: &str =
+    "{\"scene\":{\"source\":\"7a70:00000100\",\"devices\":[{\"uid\":\"1234:00000001\",\"preamble\":3,\"params\":[{\"pid\":\"0060\",\"parts\":[\"01\",\"02\"]}],\"control\":\"0002\",\"binding\":\"1234:00000005\",\"from\":0,\"until\":1000}],\"collisions\":[\"or\"],\"losses\":[3],\"fails\":[900],\"known\":[\"1234:00000001\"],\"budget\":400},\"clients\":[{\"places\":2,\"calls\":[{\"discover\":\"full\"},{\"get\":\"1234:00000001\",\"pid\":\"0060\",\"sub\":1,\"param\":\"07\"},{\"set\":\"1234:00000001\",\"pid\":\"0060\",\"sub\":1,\"param\":\"07\"}]}],\"ring\":2,\"search\":\"quick\",\"log\":1000,\"turns\":100000000}";
+
+/// What is printed of the session: the GET's two parts, the SET's answer without data, and the device.
+pub const SESSION: Due<'static> = (
+    "client 0 request 0: 0 00 0102\nclient 0 request 1: 0 00 -\nclient 0 discovery 0: ok 1234:00000001\n",
+    0,
+);
+
+/// Does what the arguments ask for, and gives the status.
+pub fn status_of<R: Read, W: Write, T: Threads + Wait + Sync>(
+    rt: &T,
+    alloc: Global,
+    words: &[&str],
+    reader: &mut R,
+    writer: &mut W,
+) -> u8 {
+    perform(rt, alloc, parse_words(alloc, words), reader, writer)
+}

@@ -1,5 +1,0 @@
-use Rattle.rdm_queue.proofs.PromiseLemmas.AnsweredInOrder.{in_order}
-use Rattle.rdm_queue.proofs.laws.discoveries.first_asked_first_answered.Goals as goal
-
-pub returns : goal.returns
-returns c = in_order

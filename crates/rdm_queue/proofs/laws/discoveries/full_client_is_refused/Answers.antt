@@ -1,5 +1,0 @@
-use Rattle.rdm_queue.proofs.PromiseLemmas.OwnDiscoveries.{full_refuses}
-use Rattle.rdm_queue.proofs.laws.discoveries.full_client_is_refused.Goals as goal
-
-pub returns : goal.returns
-returns c = full_refuses

@@ -1,5 +1,0 @@
-use Rattle.rdm_queue.proofs.PromiseLemmas.InOrder.{in_order}
-use Rattle.rdm_queue.proofs.laws.headline.first_in_first_out.Goals as goal
-
-pub returns : goal.returns
-returns c = in_order

@@ -1,5 +1,0 @@
-use Rattle.rdm_queue.proofs.LogLemmas.Grows.{pushed, front, empty}
-use Rattle.rdm_queue.proofs.laws.logs.log_grows.Goals as goal
-
-pub returns : goal.returns
-returns c = record { pushed = pushed; front = front; empty = empty }

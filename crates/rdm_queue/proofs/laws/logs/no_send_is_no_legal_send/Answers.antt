@@ -1,5 +1,0 @@
-use Rattle.rdm_queue.proofs.LogLemmas.KeepsLegal.{no_send_legal, legal_no_send}
-use Rattle.rdm_queue.proofs.laws.logs.no_send_is_no_legal_send.Goals as goal
-
-pub returns : goal.returns
-returns c = λ o h legal. (no_send_legal o h, legal_no_send o h legal)

@@ -1,9 +1,0 @@
-use Rattle.std.proofs.Common.{refl}
-use Rattle.rdm_queue.specs.log.Entries.{accepts, finishes, collectors, asks, answers, sends}
-use Rattle.rdm_queue.specs.log.Runs.{has_begun, entries_before_run, last_run, run_exchanges}
-use Rattle.rdm_queue.specs.log.History.{awaited, is_closed}
-use Rattle.rdm_queue.proofs.laws.logs.rooms.Goals as goal
-
-pub returns : goal.returns
-unfolding accepts finishes collectors awaited is_closed asks answers sends has_begun entries_before_run last_run run_exchanges
-returns c = record { accepted = refl; finished = refl; closed = refl; three = refl; two = refl }

@@ -1,5 +1,0 @@
-use Rattle.rdm_queue.proofs.SampleLemmas.RunsLegal.{found, failed}
-use Rattle.rdm_queue.proofs.laws.runs.runs_are_legal.Goals as goal
-
-pub returns : goal.returns
-returns c = record { found = found; failed = failed }

@@ -1,0 +1,65 @@
+//! What the clients of a queue, its operator and its worker do, one act after another.
+use crate::heard::Heard;
+use crate::wrong::Wrong;
+use rdm_agent::Kind;
+use std::alloc::Global;
+
+/// What a client does.
+#[derive(Clone, Copy, Debug, PartialEq, Eq)]
+pub enum Step {
+    /// It submits the request with this tag.
+    Submit(u64),
+    /// It asks for a discovery of this kind, with this tag.
+    Discover(Kind, u64),
+    /// It collects.
+    Collect,
+    /// It leaves.
+    Leave,
+    /// It reads, and says which devices it knows of.
+    Look,
+    /// It says which devices it knows of without reading.
+    Know,
+}
+
+/// What somebody does. Clients have numbers from 0.
+#[derive(Clone, Copy, Debug, PartialEq, Eq)]
+pub enum Act {
+    /// A client joins with this many places.
+    Join(u8),
+    /// What this client does.
+    Client(u8, Step),
+    /// The operator pauses.
+    Pause,
+    /// The operator resumes.
+    Resume,
+    /// The operator closes.
+    Close,
+    /// The operator leaves.
+    Retire,
+    /// The worker works for this many turns at most.
+    Work(u64),
+    /// A session gives its next frame.
+    Take,
+    /// The line's answer to that frame is delivered.
+    Deliver,
+}
+
+/// An act, and what it has to come to.
+pub type Move = (Act, Heard);
+
+/// Where acts are done. An act that a stage doesn't have comes to nothing.
+pub trait Stage {
+    /// Does this, and says what it came to.
+    fn act(&mut self, alloc: Global, act: Act) -> Heard;
+}
+
+/// Makes these moves. Err: the first one that came to something else.
+pub fn moved<S: Stage>(alloc: Global, stage: &mut S, moves: &[Move]) -> Result<(), Wrong> {
+    for (number, (act, wanted)) in moves.iter().enumerate() {
+        let came = stage.act(alloc, *act);
+        if came != *wanted {
+            return Err(Wrong::Move(number, *act, came));
+        }
+    }
+    Ok(())
+}

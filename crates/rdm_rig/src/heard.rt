@@ -1,0 +1,105 @@
+//! What acts come to, in short.
+//!
+//! An outcome may hold a device set, which is large. It is taken and compared in one function, which isn't inlined, and
+//! tests have what it came to.
+use crate::found::{Ending, Found, ending_by, found_in};
+use crate::refusal::Refusal;
+use crate::setup::sub_device_of;
+use rdm_client::Collected;
+use rdm_join::{ReplyHead, Status};
+use rdm_queue::{AskCompletion, Completion, Outcome};
+use rdm_wire::{AckType, RespClass};
+
+/// Why a worker stopped.
+#[derive(Clone, Copy, Debug, PartialEq, Eq)]
+pub enum Stop {
+    /// It made all its turns.
+    Turns,
+    /// All have left, and there is no frame to send. A session in one thread has no clients that leave: there it says
+    /// that no frame was left to send.
+    AllLeft,
+    /// The log is full.
+    LogFull,
+}
+
+/// What an act came to.
+#[derive(Clone, Copy, Debug, PartialEq, Eq)]
+pub enum Heard {
+    /// There was nothing to collect, to take or to deliver, or nobody to do it.
+    Nothing,
+    /// It was done, or sent.
+    Done,
+    /// The call was accepted with this number, or the client joined with it.
+    Number(u64),
+    /// The frame that was taken has this transaction number.
+    Frame(u8),
+    /// The worker stopped like this.
+    Worked(Stop),
+    /// The call was refused.
+    Refused(Refusal),
+    /// The request with this tag, or number, ended with this status, without data.
+    Request(u64, Status),
+    /// It was completed by a device, with these two bytes.
+    Answered(u64, u8, u8),
+    /// It was completed by a device, with this many bytes.
+    Data(u64, usize),
+    /// The discovery with this tag, or number: its run, how that ended, and what it found.
+    Discovery(u64, u64, Ending, Found),
+    /// The devices that are known are those of this run.
+    Sees(u64, Found),
+    /// What came back isn't what was handed in, or belongs to another request.
+    Mixed,
+}
+
+/// What a client collected. The number of a request or a discovery is its callback's tag.
+#[inline(never)]
+pub fn told(collected: &Option<Collected>) -> Heard {
+    match collected {
+        None => Heard::Nothing,
+        Some(Collected::Request(told)) => of_request(told.tag, &told.done),
+        Some(Collected::Ask(told)) => of_discovery(told.tag, &told.done),
+    }
+}
+
+/// What a session's outcome says. One without a number has the number that is never given.
+#[inline(never)]
+pub fn outcome_told(outcome: &Option<Outcome>) -> Heard {
+    match outcome {
+        None => Heard::Nothing,
+        Some(Outcome::Request { number, done }) => of_request(number.unwrap_or(u64::MAX), done),
+        Some(Outcome::Discovery { number, done }) => of_discovery(number.unwrap_or(u64::MAX), done),
+    }
+}
+
+// How the request with this tag ended. A reply is there for status Completed alone, and is the device's to that request.
+fn of_request(tag: u64, done: &Completion) -> Heard {
+    match &done.reply {
+        None if done.status == Status::Completed || !done.bytes.is_empty() => Heard::Mixed,
+        None => Heard::Request(tag, done.status),
+        Some(head) if done.status == Status::Completed && is_of(head, tag) => {
+            of_data(tag, done.bytes.as_slice())
+        }
+        Some(_) => Heard::Mixed,
+    }
+}
+
+// Whether it is the head of an ACK to the request with this tag.
+fn is_of(head: &ReplyHead, tag: u64) -> bool {
+    head.ack == AckType::Ack
+        && head.class == RespClass::Get
+        && head.pid == 0x0060
+        && head.sub_device == sub_device_of(tag)
+}
+
+// The data of the request with this tag.
+fn of_data(tag: u64, bytes: &[u8]) -> Heard {
+    match bytes {
+        [first, second] => Heard::Answered(tag, *first, *second),
+        _ => Heard::Data(tag, bytes.len()),
+    }
+}
+
+// How the discovery with this tag ended.
+fn of_discovery(tag: u64, done: &AskCompletion) -> Heard {
+    Heard::Discovery(tag, done.run, ending_by(done.fault), found_in(&done.set))
+}

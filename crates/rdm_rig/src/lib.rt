@@ -1,0 +1,35 @@
+//! Rigs for tests: callbacks that tell what they were called with, lines of simulated devices and of stored replies, and
+//! a list of acts that drives the clients of a queue. Here the queue is a session in one thread; `rdm_stage` has a
+//! session with a mutex, and clients with ring buffers. Nothing but tests and measurements depends on these crates.
+//!
+//! What a test compares is plain data: [`Heard`] for what an act came to, [`Said`] for an entry of a log, and [`State`]
+//! for how a session stands. The functions have hardly any clauses, so a test that calls them is proved quickly.
+#![tactic(auto)]
+
+mod act;
+mod device;
+mod found;
+mod heard;
+mod line;
+mod note;
+mod refusal;
+mod said;
+mod session;
+mod setup;
+mod state;
+mod tape;
+mod wrong;
+
+pub use act::{Act, Move, Stage, Step, moved};
+pub use device::{Who, device_of};
+pub use found::{Ending, Found, ending_by, found_in};
+pub use heard::{Heard, Stop, outcome_told, told};
+pub use line::{LineOf, Meeting, Placed, line_of, one_device, two_devices};
+pub use note::{AskNote, Note, cancels};
+pub use refusal::Refusal;
+pub use said::{Said, log_of, says, says_at, says_run};
+pub use session::{SessionStage, open_session, switched};
+pub use setup::{config, config_with, controller, get, log, request};
+pub use state::{Counts, LastFrame, State, state_of};
+pub use tape::{Came, silent, tape_of};
+pub use wrong::Wrong;

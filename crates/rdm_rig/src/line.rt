@@ -1,0 +1,172 @@
+//! Lines of simulated devices.
+use crate::device::{Who, device_of};
+use crate::setup::controller;
+use crate::wrong::Wrong;
+use arrayvec::ArrayVec;
+use rdm_join::LineReply;
+use rdm_line::{
+    Collision, CollisionBytes, Parameter, ParameterPart, Parameters, Scene, SceneDevice,
+    SceneDevices, SimLine,
+};
+use rdm_wire::Uid;
+use std::alloc::Global;
+
+/// A device of a scene, and when it is there.
+#[derive(Clone, Copy, Debug)]
+pub struct Placed {
+    /// The device.
+    pub who: Who,
+    /// The exchange at which it comes, 0 to 1,000,000,000.
+    pub from: u64,
+    /// The exchange at which it has left, if it ever leaves.
+    pub until: Option<u64>,
+}
+
+impl Placed {
+    /// A device that is there from the start and never leaves.
+    pub fn stays(who: Who) -> Placed {
+        Placed {
+            who,
+            from: 0,
+            until: None,
+        }
+    }
+}
+
+/// What comes of replies to a branch that collide.
+#[derive(Clone, Copy, Debug)]
+pub enum Meeting {
+    /// Their bits, laid over one another.
+    Or,
+    /// A byte that spells nobody.
+    Noise,
+    /// The text of `5555:00000003`, a device that isn't there.
+    Phantom,
+}
+
+/// A scene in short. Each device has the parameter `0060`, in one part of two bytes, 1 and 2.
+#[derive(Clone, Copy, Debug)]
+pub struct LineOf<'a> {
+    /// The devices.
+    pub devices: &'a [Placed],
+    /// What comes of replies that collide.
+    pub meeting: Meeting,
+    /// The exchanges whose reply is lost.
+    pub losses: &'a [u64],
+    /// The exchanges at which the line fails.
+    pub fails: &'a [u64],
+}
+
+/// A line of this scene.
+pub fn line_of(alloc: Global, of: LineOf) -> Result<SimLine, Wrong> {
+    match SimLine::new(alloc, scene_of(alloc, of)?) {
+        Ok(line) => Ok(line),
+        Err(_) => Err(Wrong::NoMemory),
+    }
+}
+
+/// A line with [`Who::First`] alone, which fails at these exchanges.
+pub fn one_device(alloc: Global, fails: &[u64]) -> Result<SimLine, Wrong> {
+    let devices = [Placed::stays(Who::First)];
+    line_of(
+        alloc,
+        LineOf {
+            devices: &devices,
+            meeting: Meeting::Noise,
+            losses: &[],
+            fails,
+        },
+    )
+}
+
+/// A line with these two devices, whose colliding replies spell nobody.
+pub fn two_devices(alloc: Global, devices: [Who; 2]) -> Result<SimLine, Wrong> {
+    let [one, other] = devices;
+    let devices = [Placed::stays(one), Placed::stays(other)];
+    line_of(
+        alloc,
+        LineOf {
+            devices: &devices,
+            meeting: Meeting::Noise,
+            losses: &[],
+            fails: &[],
+        },
+    )
+}
+
+fn scene_of(alloc: Global, of: LineOf) -> Result<Scene, Wrong> {
+    let mut devices = SceneDevices::new(alloc);
+    for placed in of.devices {
+        add(alloc, &mut devices, *placed)?;
+    }
+    let mut collisions = Vec::new(alloc);
+    if collisions.push(collision_of(of.meeting)?).is_err() {
+        return Err(Wrong::NoMemory);
+    }
+    Ok(Scene {
+        source: controller(),
+        devices,
+        collisions,
+        losses: numbers(alloc, of.losses)?,
+        fails: numbers(alloc, of.fails)?,
+    })
+}
+
+fn numbers(alloc: Global, of: &[u64]) -> Result<Vec<u64>, Wrong> {
+    match Vec::from_slice(alloc, of) {
+        Ok(numbers) => Ok(numbers),
+        Err(_) => Err(Wrong::NoMemory),
+    }
+}
+
+fn collision_of(meeting: Meeting) -> Result<Collision, Wrong> {
+    match meeting {
+        Meeting::Or => Ok(Collision::Or),
+        Meeting::Phantom => Ok(Collision::Uid(Uid::new(0x5555, 3))),
+        Meeting::Noise => noise(),
+    }
+}
+
+fn noise() -> Result<Collision, Wrong> {
+    let mut bytes = LineReply::new();
+    let _ = bytes.try_push(0xff);
+    match CollisionBytes::new(bytes) {
+        Some(bytes) => Ok(Collision::Bytes(bytes)),
+        None => Err(Wrong::Device),
+    }
+}
+
+// Puts a device into a scene.
+fn add(alloc: Global, devices: &mut SceneDevices, placed: Placed) -> Result<(), Wrong> {
+    let params = params_of(alloc)?;
+    let device = device_of(placed.who);
+    if device.uid.is_broadcast() || placed.from > 1_000_000_000 {
+        return Err(Wrong::Device);
+    }
+    let added = devices.add(SceneDevice {
+        device,
+        preamble: 7,
+        params,
+        from: placed.from,
+        until: placed.until,
+    });
+    match added {
+        Ok(()) => Ok(()),
+        Err(_) => Err(Wrong::NoMemory),
+    }
+}
+
+// The parameter `0060` in one part of two bytes.
+fn params_of(alloc: Global) -> Result<Parameters, Wrong> {
+    let mut part: ParameterPart = ArrayVec::new();
+    let _ = part.try_extend_from_slice(&[1, 2]);
+    let mut parts = Vec::new(alloc);
+    if parts.push(part).is_err() {
+        return Err(Wrong::NoMemory);
+    }
+    let mut params = Vec::new(alloc);
+    if params.push(Parameter::new(0x0060, parts)).is_err() {
+        return Err(Wrong::NoMemory);
+    }
+    Ok(Parameters::new(params))
+}

@@ -1,0 +1,69 @@
+//! How sessions are set up, and what their clients ask.
+ghost use Rattle.std.specs.Prelude.{◌≡◌, [], IfOk};
+ghost use Rattle.rdm_log.specs.log.Config.{IsConfig};
+
+use crate::wrong::Wrong;
+use arrayvec::ArrayVec;
+use rdm_agent::DEFAULT_BUDGET;
+use rdm_queue::{Config, Log};
+use rdm_wire::{ReqClass, Request, Uid};
+use std::alloc::Global;
+
+/// The controller's own UID, `7a70:00000100`.
+pub fn controller() -> Uid {
+    Uid::new(0x7a70, 0x100)
+}
+
+/// A controller `7a70:00000100` with this many places, and the budget by default.
+pub fn config(places: u8) -> Config
+    ensures { IsConfig result }
+{
+    config_with(places, DEFAULT_BUDGET)
+}
+
+/// The same with this budget, or 1.
+pub fn config_with(places: u8, budget: u64) -> Config
+    ensures { IsConfig result }
+{
+    Config {
+        source: Uid::new(0x7a70, 0x100),
+        places: u16::from(places),
+        budget: budget.max(1),
+    }
+}
+
+/// A log with this many free entries.
+pub fn log(alloc: Global, free: usize) -> Result<Log, Wrong>
+    ensures { IfOk result (λ log. log.entries ≡ []) }
+{
+    match Log::new(alloc, free.min(1_000_000)) {
+        Ok(log) => Ok(log),
+        Err(_) => Err(Wrong::NoMemory),
+    }
+}
+
+/// A GET of the parameter `0060` from `1234:00000001`, to its root, without data.
+pub fn get() -> Request {
+    request(0)
+}
+
+/// The request with this tag: a GET of the parameter `0060` from `1234:00000001`. The tag 0 has no sub-device and no
+/// data. Each other one names another sub-device, up to 511, and has its last byte as data.
+pub fn request(tag: u64) -> Request {
+    let mut param = ArrayVec::new();
+    if tag != 0 {
+        let _ = param.try_push((tag % 256) as u8);
+    }
+    Request {
+        target: Uid::new(0x1234, 1),
+        sub_device: sub_device_of(tag),
+        class: ReqClass::Get,
+        pid: 0x0060,
+        param,
+    }
+}
+
+/// The sub-device that the request with this tag names.
+pub(crate) fn sub_device_of(tag: u64) -> u16 {
+    (tag % 512) as u16
+}

@@ -1,0 +1,6 @@
+pub mod DiscoveryLemmas
+pub mod SceneRuns
+pub mod NumberedLemmas
+pub mod SettledLemmas
+pub mod PlaceLemmas
+pub mod LoggedLemmas

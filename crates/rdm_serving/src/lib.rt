@@ -1,0 +1,21 @@
+//! Discovery runs and sessions of clients on a simulated line, and the texts that report them.
+//!
+//! [`discover_in`] makes a run on the line of a scene, and [`report`] says what is printed of it. [`serve`] serves the
+//! clients of a session file, each in a thread of its own, and [`session_text`] says what is printed of them. A
+//! [`Progress`] is told how far they are.
+#![tactic(auto)]
+
+mod discovery;
+pub mod laws;
+mod outcomes;
+mod port_kind;
+mod progress;
+mod reporting;
+mod serving;
+
+pub use discovery::{Discovery, discover, discover_in};
+pub use outcomes::{Discovered, Outcomes, session_text};
+pub use port_kind::PortKind;
+pub use progress::Progress;
+pub use reporting::{device_lines, report};
+pub use serving::{ServeFault, are_logged, serve};

@@ -1,0 +1,102 @@
+//! What is printed of a discovery run.
+ghost use Rattle.std.specs.Prelude.{◌≡◌, ◌++◌, ◌∷◌, IfOk, OnOk, flat_map};
+ghost use Rattle.rdm_wire.specs.UidText.{uid_text};
+ghost use Rattle.rdm_serving.specs.Report.{report_text, found_text, fault_text, device_line, details, four_digits};
+ghost use Rattle.rdm_serving.specs.Report.{line_of};
+
+use crate::discovery::Discovery;
+use itoa::Buffer;
+use rdm_agent::AgentFault;
+use rdm_wire::{Device, DeviceSet, Uid};
+use std::alloc::{AllocError, Global};
+
+/// The lines of a report: each device, ascending by UID, or the fault; and the count of frames. Err: memory was
+/// refused.
+pub fn report(alloc: Global, discovery: &Discovery) -> Result<Vec<u8>, AllocError>
+    ensures { IfOk result (λ text. text.items ≡ report_text discovery.now.found discovery.now.frames) }
+{
+    let mut text = Vec::new(alloc);
+    match &discovery.found {
+        Ok(devices) => tell_devices(&mut text, devices.as_slice())?,
+        Err((fault, _)) => tell_fault(&mut text, *fault)?,
+    }
+    text.extend_from_slice(b"frames ")?;
+    text.extend_from_slice(Buffer::new().format(discovery.frames).as_bytes())?;
+    text.push(b'\n')?;
+    Ok(text)
+}
+
+/// The lines of these devices, ascending by UID, as a report has them. Err: memory was refused.
+pub fn device_lines(alloc: Global, devices: &DeviceSet) -> Result<Vec<u8>, AllocError>
+    ensures { IfOk result (λ text. text.items ≡ flat_map device_line devices.now) }
+{
+    let mut text = Vec::new(alloc);
+    tell_devices(&mut text, devices.as_slice())?;
+    Ok(text)
+}
+
+fn tell_devices(text: &mut Vec<u8>, devices: &[Device]) -> Result<(), AllocError>
+    ensures { OnOk result (text.new.items ≡ text.old.items ++ flat_map device_line devices.now) }
+{
+    'devices: for device in devices {
+        tell_device(text, device)?;
+    }
+    Ok(())
+}
+
+fn tell_device(text: &mut Vec<u8>, device: &Device) -> Result<(), AllocError>
+    ensures { OnOk result (text.new.items ≡ text.old.items ++ device_line device.now) }
+{
+    tell_uid(text, device.uid)?;
+    tell_details(text, device.control, device.binding)?;
+    text.push(b'\n')?;
+    Ok(())
+}
+
+// What a device says of itself, unless it is nothing.
+fn tell_details(text: &mut Vec<u8>, control: u16, binding: Option<Uid>) -> Result<(), AllocError>
+    ensures { OnOk result (text.new.items ≡ text.old.items ++ details control binding) }
+{
+    match binding {
+        None if control == 0 => Ok(()),
+        None => tell_control(text, control),
+        Some(binding) => {
+            tell_control(text, control)?;
+            text.push(b' ')?;
+            tell_uid(text, binding)
+        }
+    }
+}
+
+// A blank and the control field.
+fn tell_control(text: &mut Vec<u8>, control: u16) -> Result<(), AllocError>
+    ensures { OnOk result (text.new.items ≡ text.old.items ++ (32 ∷ four_digits control)) }
+{
+    let mut digits = [0; 4];
+    hex::encode_to_slice(control.to_be_bytes(), &mut digits).unwrap();
+    text.push(b' ')?;
+    text.extend_from_slice(&digits)
+}
+
+pub(crate) fn tell_uid(text: &mut Vec<u8>, uid: Uid) -> Result<(), AllocError>
+    ensures { OnOk result (text.new.items ≡ text.old.items ++ uid_text uid) }
+{
+    text.extend_from_slice(&uid.to_text())
+}
+
+pub(crate) fn tell_fault(text: &mut Vec<u8>, fault: AgentFault) -> Result<(), AllocError>
+    ensures { OnOk result (text.new.items ≡ text.old.items ++ line_of (fault_text fault)) }
+{
+    match fault {
+        AgentFault::Corrupt(uid) => {
+            text.extend_from_slice(b"fault 1 ")?;
+            tell_uid(text, uid)?;
+        }
+        AgentFault::TooMany => text.extend_from_slice(b"fault 2")?,
+        AgentFault::Exhausted => text.extend_from_slice(b"fault 3")?,
+        AgentFault::LineFailed => text.extend_from_slice(b"fault 4")?,
+        AgentFault::Aborted => text.extend_from_slice(b"fault 5")?,
+    }
+    text.push(b'\n')?;
+    Ok(())
+}

@@ -1,0 +1,222 @@
+//! Serves the clients of a session file on its simulated line: each in a thread of its own, and a worker in another.
+ghost use Rattle.std.specs.Prelude.{◌≡◌, ◌≤◌, [], IfOk, map};
+ghost use Rattle.std.specs.Bool.{OnTrue};
+ghost use Rattle.rdm_wire.specs.Uid.{IsDevice};
+ghost use Rattle.rdm_log.specs.log.Config.{IsConfig};
+ghost use Rattle.rdm_client.specs.declared.told.Told.{Told};
+ghost use Rattle.rdm_serving.specs.LoggedOutcomes.{HasLog};
+ghost use Rattle.rdm_serving.specs.SessionReport.{AllSettled, IsSettled, is_request, is_ask, places_of};
+ghost use Rattle.rdm_serving.specs.declared.outcomes.Discovered.{Discovered};
+
+mod calls;
+mod locked;
+mod logged;
+mod rings;
+mod script;
+mod ticket;
+mod told_line;
+
+use crate::outcomes::{Discovered, Outcomes};
+use crate::port_kind::PortKind;
+use crate::progress::Progress;
+use crate::serving::locked::serve_locked;
+pub use crate::serving::logged::are_logged;
+use crate::serving::rings::serve_rings;
+use crate::serving::told_line::ToldLine;
+use rdm_agent::Search;
+use rdm_client::Told;
+use rdm_files::{ClientCall, ClientFile, SceneFile, SessionFile};
+use rdm_line::SimLine;
+use rdm_queue::{Config, LEAST_FREE, Log, MOST_PLACES, Session, laws};
+use rdm_wire::Uid;
+use std::alloc::Global;
+use std::sync::Wait;
+use std::sync::ledger::{Blank, Ledger};
+use std::thread::Threads;
+
+/// Why not all calls of a session are settled.
+#[derive(Clone, Copy, Debug, PartialEq, Eq)]
+pub enum ServeFault {
+    /// Memory was refused.
+    Memory,
+    /// The log is full.
+    Log,
+    /// A client or the worker has made all its turns.
+    Turns,
+}
+
+/// How a session is begun.
+#[derive(Drop)]
+pub struct SetUp {
+    /// How its discoveries search.
+    pub search: Search,
+    /// How its queue is set up.
+    pub config: Config,
+    /// Its log, which is empty.
+    pub log: Log,
+    /// How many turns the worker and each client may make.
+    pub turns: u64,
+}
+
+/// What is left of a session.
+#[derive(Drop)]
+pub struct Served {
+    /// What came of each client's calls, in the order of the clients.
+    pub outcomes: Vec<Outcomes>,
+    /// The session, with its log.
+    pub session: Session,
+}
+
+/// Serves a session, and gives what came of each client's calls, in the order of the clients. Each outcome has its
+/// call's tag, and ended as a legal log says: its status and how many bytes it has, or its fault.
+/// Err: memory was refused; or else the log is full; or else a client or the worker has made all its turns.
+pub fn serve<L: Ledger + Send + Sync, P: Progress + Send, R: Threads + Wait + Sync>(
+    rt: &R,
+    alloc: Global,
+    blank: Blank,
+    port: PortKind,
+    file: SessionFile,
+    progress: &mut P,
+) -> Result<Vec<Outcomes>, ServeFault>
+    requires name { blank.name ≡ L.name }
+    requires parts { (blank.parts ≡ L.parts) × (L.parts ≡ 17) }
+    requires source { IsDevice file.scene.scene.source }
+    requires budget { 1 ≤ file.scene.budget }
+    requires ring { 1 ≤ file.ring }
+    requires log { file.log ≤ 1000000 }
+    ensures settled { IfOk result (λ outcomes. AllSettled file.clients.items outcomes.items) }
+    ensures logged { IfOk result (λ outcomes. HasLog outcomes.items) }
+{
+    let SessionFile {
+        scene,
+        clients,
+        ring,
+        search,
+        log,
+        turns,
+    } = file;
+    let SceneFile { scene, budget, .. } = scene;
+    let config = config_of(scene.source, budget, &clients);
+    let Ok(log) = Log::new(alloc, log as usize) else {
+        return Err(ServeFault::Memory);
+    };
+    let line = match SimLine::new(alloc, scene) {
+        Ok(line) => ToldLine::new(line, progress),
+        Err(_) => return Err(ServeFault::Memory),
+    };
+    let set_up = SetUp {
+        search,
+        config,
+        log,
+        turns,
+    };
+    let served = match port {
+        PortKind::Locked => serve_locked::<L, _, R>(rt, alloc, blank, set_up, &clients, line),
+        PortKind::Rings => serve_rings(rt, alloc, set_up, ring, &clients, line),
+    };
+    match served {
+        Ok(served) => settled(alloc, &clients, served),
+        Err(fault) => Err(fault),
+    }
+}
+
+// The outcomes, where each call has one. A log with fewer than three free entries would have refused the worker's next
+// frame, so it is full, also where no frame was left. It doesn't come to outcomes that the log doesn't have.
+fn settled(
+    alloc: Global,
+    clients: &[ClientFile],
+    served: Served,
+) -> Result<Vec<Outcomes>, ServeFault>
+    ensures settled { IfOk result (λ outcomes. AllSettled clients.now outcomes.items) }
+    ensures logged { IfOk result (λ outcomes. HasLog outcomes.items) }
+{
+    if served.session.free() < LEAST_FREE {
+        return Err(ServeFault::Log);
+    }
+    laws::legal_keeps_promises();
+    let Ok(is_logged) = are_logged(alloc, served.session.log(), &served.outcomes) else {
+        return Err(ServeFault::Memory);
+    };
+    if is_logged && all_settled(clients, &served.outcomes) {
+        Ok(served.outcomes)
+    } else {
+        Err(ServeFault::Turns)
+    }
+}
+
+// The greatest queue has the sum of the clients' places.
+fn config_of(source: Uid, budget: u64, clients: &[ClientFile]) -> Config
+    requires source { IsDevice source }
+    requires budget { 1 ≤ budget }
+    ensures { IsConfig result }
+{
+    let mut places: u16 = 0;
+    for client in clients {
+        places = places.saturating_add(u16::from(client.places));
+    }
+    Config {
+        source,
+        places: places.min(MOST_PLACES),
+        budget,
+    }
+}
+
+// Whether each client's calls have all their outcomes.
+fn all_settled(clients: &[ClientFile], outcomes: &[Outcomes]) -> bool
+    ensures { OnTrue result (AllSettled clients.now outcomes.now) }
+{
+    if clients.len() != outcomes.len() {
+        return false;
+    }
+    'clients: for i in 0..clients.len() {
+        if !is_settled(&clients[i].calls, &outcomes[i]) {
+            return false;
+        }
+    }
+    true
+}
+
+// Whether each call has its outcome, in order.
+fn is_settled(calls: &[ClientCall], outcomes: &Outcomes) -> bool
+    ensures { OnTrue result (IsSettled calls.now outcomes.now) }
+{
+    are_of_requests(calls, &outcomes.requests) && are_of_discoveries(calls, &outcomes.discoveries)
+}
+
+// Whether these are the outcomes of the requests among the calls, in order.
+fn are_of_requests(calls: &[ClientCall], outcomes: &[Told]) -> bool
+    ensures { OnTrue result (map (λ (t : Told). t.tag) outcomes.now ≡ places_of is_request 0 calls.now) }
+{
+    let mut count = 0;
+    'calls: for place in 0..calls.len() {
+        match &calls[place] {
+            ClientCall::Submit(_) => {
+                if count == outcomes.len() || outcomes[count].tag != place as u64 {
+                    return false;
+                }
+                count += 1;
+            }
+            ClientCall::Discover(_) => {}
+        }
+    }
+    count == outcomes.len()
+}
+
+// Whether these are the outcomes of the discoveries among the calls, in order.
+fn are_of_discoveries(calls: &[ClientCall], outcomes: &[Discovered]) -> bool
+    ensures { OnTrue result (map (λ (d : Discovered). d.tag) outcomes.now ≡ places_of is_ask 0 calls.now) }
+{
+    let mut count = 0;
+    'calls: for place in 0..calls.len() {
+        match &calls[place] {
+            ClientCall::Discover(_) => {
+                if count == outcomes.len() || outcomes[count].tag != place as u64 {
+                    return false;
+                }
+                count += 1;
+            }
+            ClientCall::Submit(_) => {}
+        }
+    }
+    count == outcomes.len()
+}

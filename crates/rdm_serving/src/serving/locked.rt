@@ -1,0 +1,341 @@
+//! Serves the clients of a session file behind a lock.
+ghost use Rattle.std.specs.Prelude.{◌≡◌, []};
+ghost use Rattle.rdm_log.specs.log.Config.{IsConfig};
+
+use crate::outcomes::Outcomes;
+use crate::serving::calls::{cancel_all, copy_of};
+use crate::serving::script::{Next, Script};
+use crate::serving::ticket::{AskTicket, RequestTicket};
+use crate::serving::{ServeFault, Served, SetUp};
+use rdm_agent::Kind;
+use rdm_client::{Tells, TellsAsk};
+use rdm_files::{ClientCall, ClientFile};
+use rdm_line::Line;
+use rdm_locked::{CallShare, Exchange, Left, LockedClient, Port};
+use rdm_queue::{AskFault, JoinFault, SubmitFault};
+use rdm_wire::Request;
+use std::alloc::Global;
+use std::sync::Wait;
+use std::sync::atomic::{AtomicBool, Ordering};
+use std::sync::ledger::{Blank, Ledger};
+use std::thread::{Threads, join_mut};
+use std::{mem, thread};
+
+type Client<'a, L> = LockedClient<'a, L, RequestTicket, AskTicket>;
+
+/// Serves the clients: each has a thread, and the worker another. At the end the log's exchanges are compared with
+/// those that the worker recorded, and its calls with those that the clients counted.
+/// Err: memory was refused, or the log is full before all clients have joined.
+pub fn serve_locked<L: Ledger + Send + Sync, X: Line + Send + Drop, R: Threads + Wait + Sync>(
+    rt: &R,
+    alloc: Global,
+    blank: Blank,
+    set_up: SetUp,
+    clients: &[ClientFile],
+    mut line: X,
+) -> Result<Served, ServeFault>
+    requires name { blank.name ≡ L.name }
+    requires parts { (blank.parts ≡ L.parts) × (L.parts ≡ 17) }
+    requires config_is { IsConfig set_up.config }
+    requires empty { set_up.log.entries ≡ [] }
+{
+    let SetUp {
+        search,
+        config,
+        log,
+        turns,
+    } = set_up;
+    let port = match Port::<L>::new_by(alloc, search, blank, config, log) {
+        Ok(port) => port,
+        Err(_) => return Err(ServeFault::Memory),
+    };
+    let mut record = Vec::new(alloc);
+    let ended = together(rt, alloc, &port, clients, &mut line, turns, &mut record);
+    match ended {
+        Ok(ended) => finish(port, ended, &record),
+        Err(fault) => Err(fault),
+    }
+}
+
+// Ends the port, and hands back its session.
+fn finish<L: Ledger>(
+    port: Port<L>,
+    ended: Ended<L>,
+    record: &[Exchange],
+) -> Result<Served, ServeFault>
+    requires { L.parts ≡ 17 }
+{
+    let Ended { outcomes, shares } = ended;
+    match port.finish(shares, record) {
+        Ok(end) => Ok(Served {
+            outcomes,
+            session: end.session,
+        }),
+        // It doesn't come to this: all shares are there, and the record is the worker's own.
+        Err(_) => Err(ServeFault::Log),
+    }
+}
+
+// What is left of the clients, in their order, after all have left.
+#[derive(Drop)]
+struct Ended<L: Ledger> {
+    outcomes: Vec<Outcomes>,
+    shares: Vec<CallShare<L>>,
+}
+
+// The clients and the worker, each in a thread.
+fn together<L: Ledger + Send + Sync, X: Line + Send, R: Threads + Wait + Sync>(
+    rt: &R,
+    alloc: Global,
+    port: &Port<L>,
+    clients: &[ClientFile],
+    line: &mut X,
+    turns: u64,
+    record: &mut Vec<Exchange>,
+) -> Result<Ended<L>, ServeFault> {
+    let (mut callers, refused) = join_all(rt, alloc, port, clients);
+    if refused.is_none() {
+        let stop = AtomicBool::new(false);
+        let all = callers.as_mut_slice();
+        join_mut(
+            rt,
+            &mut || work(rt, alloc, port, line, turns, record, &stop),
+            &mut || call_all(rt, alloc, turns, &stop, all),
+        );
+    }
+    let ended = end_all(rt, alloc, callers);
+    match refused {
+        Some(fault) => Err(fault),
+        None => ended,
+    }
+}
+
+// The worker. It tells the clients that it has stopped.
+fn work<L: Ledger, X: Line, R: Wait>(
+    rt: &R,
+    alloc: Global,
+    port: &Port<L>,
+    line: &mut X,
+    turns: u64,
+    record: &mut Vec<Exchange>,
+    stop: &AtomicBool,
+) {
+    port.work(rt, alloc, line, turns, record);
+    stop.store(true, Ordering::SeqCst);
+}
+
+fn call_all<L: Ledger + Send + Sync, R: Threads + Wait + Sync>(
+    rt: &R,
+    alloc: Global,
+    turns: u64,
+    stop: &AtomicBool,
+    callers: &mut [Caller<'_, '_, L>],
+) {
+    thread::for_each_mut(
+        rt,
+        callers,
+        16,
+        &|_, caller| { caller.call(rt, alloc, turns, stop) },
+    );
+}
+
+// The clients in their order; where one may not join, those before it, and why.
+fn join_all<'p, 'c, L: Ledger, R: Wait>(
+    rt: &R,
+    alloc: Global,
+    port: &'p Port<L>,
+    clients: &'c [ClientFile],
+) -> (Vec<Caller<'p, 'c, L>>, Option<ServeFault>) {
+    let mut callers = Vec::new(alloc);
+    for client in clients {
+        match port.client(rt, alloc, client.places) {
+            Ok(joined) => {
+                let caller = Caller::new(alloc, joined, &client.calls);
+                if let Err(refused) = callers.push(caller) {
+                    drop(refused.value.end(rt, alloc));
+                    return (callers, Some(ServeFault::Memory));
+                }
+            }
+            Err(JoinFault::LogFull) => return (callers, Some(ServeFault::Log)),
+            Err(_) => return (callers, Some(ServeFault::Memory)),
+        }
+    }
+    (callers, None)
+}
+
+// What is left of the clients. All leave, also where memory is refused.
+fn end_all<L: Ledger, R: Wait>(
+    rt: &R,
+    alloc: Global,
+    callers: Vec<Caller<'_, '_, L>>,
+) -> Result<Ended<L>, ServeFault> {
+    let mut callers = callers;
+    let mut outcomes = Vec::new(alloc);
+    let mut shares = Vec::new(alloc);
+    let mut has_memory = true;
+    while let Some(caller) = callers.pop() {
+        let called = caller.end(rt, alloc);
+        has_memory &= called.end != Err(ServeFault::Memory);
+        has_memory &= outcomes.push(called.outcomes).is_ok();
+        if let Some(share) = called.share {
+            has_memory &= shares.push(share).is_ok();
+        }
+    }
+    callers.destroy_empty();
+    outcomes.reverse();
+    if has_memory {
+        Ok(Ended { outcomes, shares })
+    } else {
+        Err(ServeFault::Memory)
+    }
+}
+
+// A client with its script.
+struct Caller<'p, 'c, L: Ledger> {
+    // None once it has left.
+    client: Option<Client<'p, L>>,
+    // None until it has left.
+    share: Option<CallShare<L>>,
+    script: Script<'c>,
+    end: Result<(), ServeFault>,
+}
+
+// What is left of a client.
+#[derive(Drop)]
+struct Called<L: Ledger> {
+    outcomes: Outcomes,
+    share: Option<CallShare<L>>,
+    end: Result<(), ServeFault>,
+}
+
+impl<'p, 'c, L: Ledger> Caller<'p, 'c, L> {
+    // A client that has made none of these calls.
+    fn new(alloc: Global, client: Client<'p, L>, calls: &'c [ClientCall]) -> Caller<'p, 'c, L> {
+        Caller {
+            client: Some(client),
+            share: None,
+            script: Script::new(alloc, calls),
+            end: Err(ServeFault::Turns),
+        }
+    }
+
+    // Makes the calls in this many turns at most, and leaves.
+    fn call<R: Wait>(&mut self, rt: &R, alloc: Global, turns: u64, stop: &AtomicBool) {
+        let Some(mut client) = mem::replace(&mut self.client, None) else {
+            return;
+        };
+        self.end = play(rt, alloc, &mut client, &mut self.script, turns, stop);
+        self.share = Some(leave(rt, alloc, client));
+    }
+
+    // What is left of it. A client that hasn't left leaves.
+    fn end<R: Wait>(self, rt: &R, alloc: Global) -> Called<L> {
+        let Caller {
+            client,
+            share,
+            script,
+            end,
+        } = self;
+        let share = match client {
+            Some(client) => Some(leave(rt, alloc, client)),
+            None => share,
+        };
+        Called {
+            outcomes: script.into_outcomes(),
+            share,
+            end,
+        }
+    }
+}
+
+// Lets a client leave, and cancels the callbacks that it held.
+fn leave<L: Ledger, R: Wait>(rt: &R, alloc: Global, client: Client<'_, L>) -> CallShare<L> {
+    let Left { unspent, calls } = client.leave(rt);
+    cancel_all(alloc, unspent);
+    calls
+}
+
+// Plays the script. A turn is one submit, discover or collect, with or without success.
+fn play<L: Ledger, R: Wait>(
+    rt: &R,
+    alloc: Global,
+    client: &mut Client<'_, L>,
+    script: &mut Script<'_>,
+    turns: u64,
+    stop: &AtomicBool,
+) -> Result<(), ServeFault> {
+    for _ in 0..turns {
+        match script.next() {
+            Next::Call(call, place) => {
+                let is_accepted = is_accepted(rt, alloc, client, call, place)?;
+                script.tried(is_accepted);
+            }
+            Next::Collect => {
+                // It is read before the collect: then all that the worker delivered is collected.
+                let has_stopped = stop.load(Ordering::SeqCst);
+                let collected = client.collect(rt);
+                if collected.is_none() {
+                    thread::yield_now();
+                }
+                script.collected(alloc, collected, has_stopped)?;
+            }
+            Next::Done => return Ok(()),
+        }
+    }
+    script.at_last_turn()
+}
+
+// Whether a call is accepted; if not, the client's queue is full. Err: the log is full.
+fn is_accepted<L: Ledger, R: Wait>(
+    rt: &R,
+    alloc: Global,
+    client: &mut Client<'_, L>,
+    call: &ClientCall,
+    place: u64,
+) -> Result<bool, ServeFault> {
+    match call {
+        ClientCall::Submit(request) => {
+            is_submitted(rt, alloc, client, copy_of(request), RequestTicket(place))
+        }
+        ClientCall::Discover(kind) => is_asked(rt, client, *kind, AskTicket(place)),
+    }
+}
+
+fn is_submitted<L: Ledger, R: Wait>(
+    rt: &R,
+    alloc: Global,
+    client: &mut Client<'_, L>,
+    request: Request,
+    callback: RequestTicket,
+) -> Result<bool, ServeFault> {
+    match client.submit(rt, request, callback) {
+        Ok(_) => Ok(true),
+        Err((fault, _, callback)) => {
+            drop(callback.cancel(alloc));
+            if fault == SubmitFault::LogFull {
+                Err(ServeFault::Log)
+            } else {
+                Ok(false)
+            }
+        }
+    }
+}
+
+fn is_asked<L: Ledger, R: Wait>(
+    rt: &R,
+    client: &mut Client<'_, L>,
+    kind: Kind,
+    callback: AskTicket,
+) -> Result<bool, ServeFault> {
+    match client.discover(rt, kind, callback) {
+        Ok(_) => Ok(true),
+        Err((fault, callback)) => {
+            drop(callback.cancel());
+            if fault == AskFault::LogFull {
+                Err(ServeFault::Log)
+            } else {
+                Ok(false)
+            }
+        }
+    }
+}

@@ -1,0 +1,247 @@
+//! Serves the clients of a session file over rings.
+ghost use Rattle.std.specs.Prelude.{◌≡◌, ◌≤◌, [], length, IfSome};
+ghost use Rattle.rdm_log.specs.log.Config.{IsConfig};
+ghost use Rattle.rdm_lanes.specs.Clients.{SameClient};
+ghost use Rattle.rdm_lanes.specs.Workers.{book_of};
+
+use crate::outcomes::Outcomes;
+use crate::serving::calls::{cancel_all, copy_of};
+use crate::serving::script::{Next, Script};
+use crate::serving::ticket::{AskTicket, RequestTicket};
+use crate::serving::{ServeFault, Served, SetUp};
+use rdm_client::{Tells, TellsAsk};
+use rdm_files::{ClientCall, ClientFile};
+use rdm_lanes::{
+    BlankHistory, Body, ClientEnd, Gate, LanesEnd, OpenFault, RingClient, ViewHistory,
+    WORKER_STOPPED, run_session_by,
+};
+use rdm_line::Line;
+use std::alloc::Global;
+use std::marker::Brand;
+use std::sync::Wait;
+use std::sync::atomic::{AtomicBool, Ordering};
+use std::thread;
+use std::thread::Threads;
+
+type Client<J> = RingClient<J, RequestTicket, AskTicket>;
+
+/// Serves the clients: each has a thread and two rings with this many slots, and the worker another thread.
+/// Err: memory was refused, or the log is full before all clients have joined.
+pub fn serve_rings<X: Line + Send + Drop, R: Threads + Wait + Sync>(
+    rt: &R,
+    alloc: Global,
+    set_up: SetUp,
+    ring: u8,
+    clients: &[ClientFile],
+    line: X,
+) -> Result<Served, ServeFault>
+    requires config_is { IsConfig set_up.config }
+    requires empty { set_up.log.entries ≡ [] }
+    requires slots { 1 ≤ ring }
+{
+    let history = BlankHistory::new();
+    serve_views::<Brand, X, R>(rt, alloc, history, set_up, ring, clients, line)
+}
+
+// The same, with this history of the views that the worker publishes.
+fn serve_views<J: ViewHistory + Send + Sync, X: Line + Send + Drop, R: Threads + Wait + Sync>(
+    rt: &R,
+    alloc: Global,
+    history: BlankHistory,
+    set_up: SetUp,
+    ring: u8,
+    clients: &[ClientFile],
+    line: X,
+) -> Result<Served, ServeFault>
+    requires name { book_of history ≡ J.book }
+    requires config_is { IsConfig set_up.config }
+    requires empty { set_up.log.entries ≡ [] }
+    requires slots { 1 ≤ ring }
+{
+    let SetUp {
+        search,
+        config,
+        log,
+        turns,
+    } = set_up;
+    let Some((places, callers)) = seats_of(alloc, clients, turns) else {
+        return Err(ServeFault::Memory);
+    };
+    let gate = Stop(AtomicBool::new(false));
+    let ended = run_session_by::<J, _, _, _, _, X, R>(
+        rt, alloc, history, search, config, log, ring, &places, callers, &gate, line, turns,
+    );
+    match ended {
+        Ok(end) => served(alloc, end),
+        Err((OpenFault::LogFull, _, _, _)) => Err(ServeFault::Log),
+        Err(_) => Err(ServeFault::Memory),
+    }
+}
+
+// The places of the clients, and what they do. None: memory was refused.
+fn seats_of(alloc: Global, clients: &[ClientFile], turns: u64) -> Option<(Vec<u8>, Vec<Caller<'_>>)>
+    ensures { IfSome result (λ seats. length seats.1.items ≡ length seats.0.items) }
+{
+    let mut places = Vec::new(alloc);
+    let mut callers = Vec::new(alloc);
+    for client in clients {
+        places.push(client.places).ok()?;
+        callers.push(Caller::new(alloc, &client.calls, turns)).ok()?;
+    }
+    Some((places, callers))
+}
+
+// What came of the clients' calls, in their order, and the session. All callbacks that are left are cancelled.
+fn served<J: ViewHistory, X: Drop>(
+    alloc: Global,
+    end: LanesEnd<J, Caller<'_>, X, RequestTicket, AskTicket>,
+) -> Result<Served, ServeFault> {
+    let LanesEnd {
+        session,
+        ends,
+        matched: _,
+        bodies,
+        worker: _,
+        line: _,
+        published: _,
+    } = end;
+    cancel_ends(alloc, ends);
+    let mut outcomes = Vec::new(alloc);
+    for caller in bodies {
+        if caller.end == Err(ServeFault::Memory)
+            || outcomes.push(caller.script.into_outcomes()).is_err()
+        {
+            return Err(ServeFault::Memory);
+        }
+    }
+    Ok(Served { outcomes, session })
+}
+
+// Cancels the callbacks that the clients held at their ends.
+fn cancel_ends<J: ViewHistory>(alloc: Global, ends: Vec<ClientEnd<J, RequestTicket, AskTicket>>) {
+    let mut ends = ends;
+    while let Some(end) = ends.pop() {
+        cancel_all(alloc, end.into_unspent());
+    }
+    ends.destroy_empty();
+}
+
+// Whether the worker has stopped.
+#[derive(Drop)]
+struct Stop(AtomicBool);
+
+impl Gate for Stop {
+    fn arrive(&self, point: u8) {
+        if point == WORKER_STOPPED {
+            self.0.store(true, Ordering::SeqCst);
+        }
+    }
+
+    fn passed(&self, point: u8) -> bool {
+        point == WORKER_STOPPED && self.0.load(Ordering::SeqCst)
+    }
+}
+
+// What a client does.
+#[derive(Drop)]
+struct Caller<'a> {
+    alloc: Global,
+    script: Script<'a>,
+    turns: u64,
+    end: Result<(), ServeFault>,
+}
+
+impl<'a> Caller<'a> {
+    // A client that has made none of these calls.
+    fn new(alloc: Global, calls: &'a [ClientCall], turns: u64) -> Caller<'a> {
+        Caller {
+            alloc,
+            script: Script::new(alloc, calls),
+            turns,
+            end: Err(ServeFault::Turns),
+        }
+    }
+
+    // Plays the script. A turn is one submit, discover or collect, with or without success.
+    fn play<J: ViewHistory, G: Gate>(
+        &mut self,
+        client: &mut Client<J>,
+        gate: &G,
+    ) -> Result<(), ServeFault>
+        ensures { SameClient client.old client.new }
+    {
+        for _turn in 0..self.turns {
+            match self.script.next() {
+                Next::Call(call, place) => {
+                    let is_accepted = is_accepted(self.alloc, client, call, place);
+                    self.script.tried(is_accepted);
+                }
+                Next::Collect => self.collect(client, gate)?,
+                Next::Done => return Ok(()),
+            }
+        }
+        self.script.at_last_turn()
+    }
+
+    fn collect<J: ViewHistory, G: Gate>(
+        &mut self,
+        client: &mut Client<J>,
+        gate: &G,
+    ) -> Result<(), ServeFault>
+        ensures { SameClient client.old client.new }
+    {
+        // It is read before the collect: then all that the worker put on the ring is collected.
+        let has_stopped = gate.passed(WORKER_STOPPED);
+        let collected = client.collect();
+        if collected.is_none() {
+            thread::yield_now();
+        }
+        self.script.collected(self.alloc, collected, has_stopped)
+    }
+
+    // Leaves. A client whose turns run out may find its ring full, until the worker takes a call or has stopped.
+    fn leave<J: ViewHistory, G: Gate>(&self, client: &mut Client<J>, gate: &G)
+        ensures { SameClient client.old client.new }
+    {
+        for _turn in 0..self.turns {
+            if client.leave().is_ok() || gate.passed(WORKER_STOPPED) {
+                return;
+            }
+            thread::yield_now();
+        }
+    }
+}
+
+impl Body<RequestTicket, AskTicket> for Caller<'_> {
+    fn run<J: ViewHistory, G: Gate>(&mut self, client: &mut Client<J>, gate: &G) {
+        self.end = self.play(client, gate);
+        self.leave(client, gate);
+    }
+}
+
+// Whether a call is sent to the worker; if not, there is no place or no slot for it.
+fn is_accepted<J: ViewHistory>(
+    alloc: Global,
+    client: &mut Client<J>,
+    call: &ClientCall,
+    place: u64,
+) -> bool
+    ensures { SameClient client.old client.new }
+{
+    match call {
+        ClientCall::Submit(request) => match client.submit(copy_of(request), RequestTicket(place)) {
+            Ok(()) => true,
+            Err((_, _, callback)) => {
+                drop(callback.cancel(alloc));
+                false
+            }
+        },
+        ClientCall::Discover(kind) => match client.discover(*kind, AskTicket(place)) {
+            Ok(()) => true,
+            Err((_, callback)) => {
+                drop(callback.cancel());
+                false
+            }
+        },
+    }
+}

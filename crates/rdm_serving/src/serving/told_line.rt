@@ -1,0 +1,45 @@
+//! A line that tells how many exchanges it has made.
+ghost use Rattle.std.specs.Prelude.{◌≡◌};
+
+use crate::progress::{Progress, tell_often};
+use rdm_join::LineReply;
+use rdm_line::{Line, LineFault};
+use rdm_wire::Frame;
+
+/// A line that tells every thousand exchanges how many it has made, and else is the line that it was made of.
+#[derive(Drop)]
+pub struct ToldLine<'a, X, P> {
+    line: X,
+    progress: &'a mut P,
+    made: usize,
+}
+
+impl<'a, X, P> ToldLine<'a, X, P> {
+    /// A line that has made no exchange yet.
+    pub fn new(line: X, progress: &'a mut P) -> ToldLine<'a, X, P>
+        ensures line { result.line ≡ line }
+        ensures made { result.made ≡ 0 }
+    {
+        ToldLine {
+            line,
+            progress,
+            made: 0,
+        }
+    }
+}
+
+impl<X: Line, P: Progress> Line for ToldLine<'_, X, P> {
+    ghost step = { λ before exchange after. X.step before.line exchange after.line };
+
+    ghost failures_of = { λ told. X.failures_of told.line };
+
+    fn exchange(&mut self, frame: &Frame) -> Result<LineReply, LineFault> {
+        self.made = self.made.saturating_add(1);
+        tell_often(self.progress, self.made);
+        self.line.exchange(frame)
+    }
+
+    fn failures(&self) -> u64 {
+        self.line.failures()
+    }
+}

@@ -1,0 +1,24 @@
+//! Stages for tests, on which the acts of `rdm_rig` are done: a session with a mutex, and clients with ring buffers. Each
+//! is driven in one thread by a list of moves, or has clients in threads of their own. Nothing but tests depends on this
+//! crate.
+#![tactic(auto)]
+
+mod failed;
+mod lanes;
+mod player;
+mod port;
+mod port_line;
+mod port_threads;
+mod setup;
+mod threads;
+
+pub use failed::Failed;
+pub use lanes::{
+    LanesOver, LanesStage, Left, counts_are, open_fault, play_lanes, play_taped, read_alone,
+};
+pub use player::{MOST_NOTED, Play, Player, Points, TRIES, waits};
+pub use port::{PortOver, PortSetup, PortStage, play_port};
+pub use port_line::{ClosingLine, PortNote};
+pub use port_threads::run_port;
+pub use setup::Setup;
+pub use threads::{NotRun, PlayersOver, play_threads, player_heard, run_beside, run_players};

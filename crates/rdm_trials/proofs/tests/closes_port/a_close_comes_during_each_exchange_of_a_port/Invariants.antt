@@ -1,5 +1,0 @@
--- the blank picks the ledger
-use Rattle.rdm_trials.proofs.tests.closes_port.a_close_comes_during_each_exchange_of_a_port.Given as goal
-
-abbrev pub ghosts-closes : goal.ghosts-closes
-ghosts-closes g a = record { name = a.blank.name; parts = a.blank.parts }

@@ -1,6 +1,0 @@
--- the history of each session's views
-use Rattle.rdm_lanes.specs.Workers.{book_of}
-use Rattle.rdm_trials.proofs.tests.threads_rings.a_client_tries_again_while_its_ring_is_full.Given as goal
-
-abbrev pub ghosts-plays : goal.ghosts-plays
-ghosts-plays g a = record { book = book_of a.history }

@@ -1,7 +1,0 @@
-//! What lies outside the proofs: values from outside, and that calls succeed.
-mod branch;
-mod commands;
-mod faults;
-mod packets;
-mod sets;
-mod uid;

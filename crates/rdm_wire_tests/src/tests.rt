@@ -1,0 +1,10 @@
+//! What lies outside the proofs: values from outside, and that calls succeed.
+
+mod branch;
+mod commands;
+mod faults;
+mod joining;
+mod judging;
+mod packets;
+mod sets;
+mod uid;
