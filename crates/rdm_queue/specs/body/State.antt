@@ -7,7 +7,8 @@ use Rattle.rdm_join.specs.declared.verdict.Sent.{Sent}
 use Rattle.rdm_join.specs.declared.verdict.Judged.{Judged}
 use Rattle.rdm_join.specs.Verdict.{verdict}
 use Rattle.rdm_join.specs.Result.{Joined, result_of, ended, or_if_open}
-use Rattle.rdm_join.specs.JoinerStanding.{JoinerStanding, StandsAt, standing_at}
+use Rattle.rdm_join.specs.JoinerStanding.{JoinerStanding}
+use Rattle.rdm_join.specs.body.Standing.{StandsAt, standing_at}
 use Rattle.rdm_join.specs.declared.status.Status.TheVariants.{FailedToSend, NoMemory}
 use Rattle.rdm_wire.specs.declared.request.Request.{Request}
 use Rattle.rdm_wire.specs.declared.device.Device.{Device}
