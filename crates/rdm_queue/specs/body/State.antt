@@ -14,10 +14,9 @@ use Rattle.rdm_wire.specs.declared.request.Request.{Request}
 use Rattle.rdm_wire.specs.declared.device.Device.{Device}
 use Rattle.rdm_agent.specs.Machine.{AgentState, start}
 use Rattle.rdm_agent.specs.declared.search.Search.{Search}
-use Rattle.rdm_agent.specs.declared.search.Search.TheVariants.{Steady}
 use Rattle.rdm_agent.specs.declared.kind.Kind.{Kind}
 use Rattle.rdm_agent.specs.declared.kind.Kind.TheVariants.{Full}
-use Rattle.rdm_log.specs.declared.config.Config.{Config}
+use Rattle.rdm_log.specs.declared.config.Setup.{Setup}
 use Rattle.rdm_queue.specs.declared.pending.Awaited.{Awaited}
 use Rattle.rdm_log.specs.declared.fault.JoinFault.{JoinFault}
 use Rattle.rdm_log.specs.declared.fault.SubmitFault.{SubmitFault}
@@ -77,13 +76,13 @@ pub record QueueState : Type 0 where
   -- for each client the outcomes that it hasn't collected, oldest first
   pub owed : List (List OutcomeValue)
 
--- a queue set up so, before its first call
-abbrev pub first_state : Config → QueueState
-first_state config = record {
-  source = config.source;
-  greatest = config.places;
-  budget = config.budget;
-  search = Steady;
+-- a queue with this set-up, before its first call
+abbrev pub first_state : Setup → QueueState
+first_state setup = record {
+  source = setup.config.source;
+  greatest = setup.config.places;
+  budget = setup.config.budget;
+  search = setup.search;
   places = [];
   paused = false;
   closed = false;
@@ -98,7 +97,7 @@ first_state config = record {
   next_run = 1;
   asked = [];
   run = None;
-  agent = start Full [] config.budget;
+  agent = start Full [] setup.config.budget;
   devices = [];
   devices_run = 0;
   owed = [];
