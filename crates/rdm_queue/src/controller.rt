@@ -1,4 +1,6 @@
 //! The queue of requests and discoveries on one RDM line.
+mod lengths;
+
 use crate::queue::Queue;
 use rdm_agent::{Kind, Search};
 use rdm_join::LineEvent;

@@ -5,6 +5,7 @@ ghost use Rattle.rdm_queue.specs.body.Rings.{NoneWaits, IsFirstInLine};
 ghost use Rattle.rdm_queue.specs.body.Fields.{places_of};
 
 mod ending;
+mod lengths;
 
 use crate::client::{Client, Waiting};
 use crate::pending::{Asked, Awaited, Running};

@@ -3,6 +3,8 @@ ghost use Rattle.std.specs.Prelude.{◌≡◌, if◌then◌else◌};
 ghost use Rattle.rdm_log.specs.log.LogState.{opened};
 ghost use Rattle.rdm_queue.specs.body.SessionInvariant.{SessionAmid, FinishesDue};
 
+mod lengths;
+
 use crate::controller::Controller;
 use crate::copies::{copy_of_frame, copy_of_request};
 use arrayvec::ArrayVec;
