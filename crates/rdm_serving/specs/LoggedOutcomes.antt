@@ -39,12 +39,13 @@ pub record AreLogged (o : Opening) (h : List Entry) (c : ℕ) (told : Outcomes) 
   pub requests : ends_logged o c h ≡ map end_told told.requests.items
   pub discoveries : faults_logged o c h ≡ map (λ (d : Discovered). d.fault) told.discoveries.items
 
--- so was each of these clients, which are numbered from c on
+-- the same of each of these clients, which are numbered from c on
 abbrev pub AllLogged : Opening → List Entry → ℕ → List Outcomes → Type 0
 AllLogged o h c [] = Unit {0}
 AllLogged o h c (told ∷ later) = AreLogged o h c told × AllLogged o h (c + 1) later
 
--- a legal log, which keeps all that clients are promised, says so of these clients
+-- there is a legal log, which keeps all that clients are promised of one, and each of these clients, numbered from 0, was
+-- told of all its requests and discoveries that ended in it
 pub record HasLog (told : List Outcomes) : Type 0 where
   pub opening : Opening
   pub entries : List Entry
