@@ -8,7 +8,7 @@ use Rattle.rdm_log.specs.declared.entry.Entry.{Entry}
 use Rattle.rdm_log.specs.declared.entry.Entry.TheVariants.{Finish, Answer}
 use Rattle.rdm_log.specs.log.Clients.{is_client_of, client_of_request, client_of_discovery}
 use Rattle.rdm_log.specs.log.Legal.{Legal}
-use Rattle.rdm_log.specs.promises.Promised.{Promised}
+use Rattle.rdm_log.specs.promises.Promised.{LegalPromised}
 use Rattle.rdm_serving.specs.declared.outcomes.Outcomes.{Outcomes}
 use Rattle.rdm_serving.specs.declared.outcomes.Discovered.{Discovered}
 
@@ -50,5 +50,5 @@ pub record HasLog (told : List Outcomes) : Type 0 where
   pub opening : Opening
   pub entries : List Entry
   pub legal : Legal opening entries
-  pub promised : Promised opening entries
+  pub promised : LegalPromised opening entries
   pub logged : AllLogged opening entries 0 told

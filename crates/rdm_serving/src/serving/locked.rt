@@ -12,7 +12,7 @@ use rdm_client::{Tells, TellsAsk};
 use rdm_files::{ClientCall, ClientFile};
 use rdm_line::Line;
 use rdm_locked::{CallShare, Exchange, Left, LockedClient, Port};
-use rdm_queue::{AskFault, JoinFault, SubmitFault};
+use rdm_queue::{AskFault, JoinFault, Setup, SubmitFault};
 use rdm_wire::Request;
 use std::alloc::Global;
 use std::sync::Wait;
@@ -45,7 +45,8 @@ pub fn serve_locked<L: Ledger + Send + Sync, X: Line + Send + Drop, R: Threads +
         log,
         turns,
     } = set_up;
-    let port = match Port::<L>::new_by(alloc, search, blank, config, log) {
+    let setup = Setup { config, search };
+    let port = match Port::<L>::new_with(alloc, blank, setup, log) {
         Ok(port) => port,
         Err(_) => return Err(ServeFault::Memory),
     };

@@ -13,9 +13,10 @@ use rdm_client::{Tells, TellsAsk};
 use rdm_files::{ClientCall, ClientFile};
 use rdm_lanes::{
     BlankHistory, Body, ClientEnd, Gate, LanesEnd, OpenFault, RingClient, ViewHistory,
-    WORKER_STOPPED, run_session_by,
+    WORKER_STOPPED, run_session_with,
 };
 use rdm_line::Line;
+use rdm_queue::Setup;
 use std::alloc::Global;
 use std::marker::Brand;
 use std::sync::Wait;
@@ -68,8 +69,9 @@ fn serve_views<J: ViewHistory + Send + Sync, X: Line + Send + Drop, R: Threads +
         return Err(ServeFault::Memory);
     };
     let gate = Stop(AtomicBool::new(false));
-    let ended = run_session_by::<J, _, _, _, _, X, R>(
-        rt, alloc, history, search, config, log, ring, &places, callers, &gate, line, turns,
+    let setup = Setup { config, search };
+    let ended = run_session_with::<J, _, _, _, _, X, R>(
+        rt, alloc, history, setup, log, ring, &places, callers, &gate, line, turns,
     );
     match ended {
         Ok(end) => served(alloc, end),
