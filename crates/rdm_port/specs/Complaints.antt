@@ -3,18 +3,10 @@ use Rattle.std.specs.Prelude.{◌≡◌, ◌≢◌, ◌⊎◌, List, [], ◌∷�
 use Rattle.std.specs.Borrow.{Bor}
 use Rattle.clap.specs.Words.{Text}
 use Rattle.rdm_port.specs.Words.{is_plain, port_named}
-use Rattle.rdm_port.specs.declared.complaint.Command.{Command}
-use Rattle.rdm_port.specs.declared.complaint.Command.TheVariants.{Decode, Encode, Discover, Run}
 use Rattle.rdm_port.specs.declared.complaint.Complaint.{Complaint}
 use Rattle.rdm_port.specs.declared.complaint.Complaint.TheVariants.{Help, Version, NoCommand, UnknownCommand}
 use Rattle.rdm_port.specs.declared.complaint.Complaint.TheVariants.{UnknownOption, Repeated, HasValue, NoPort}
 use Rattle.rdm_port.specs.declared.complaint.Complaint.TheVariants.{UnknownPort, NoArgument, OneTooMany, Words}
-
-abbrev pub command_name : Command → Text
-command_name Decode = codes "decode"
-command_name Encode = codes "encode"
-command_name Discover = codes "discover"
-command_name Run = codes "run"
 
 -- the text is no command's name
 pub record IsNoCommand (text : Text) : Type 0 where

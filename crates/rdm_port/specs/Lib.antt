@@ -2,3 +2,4 @@ pub mod Fault
 pub mod Words
 pub mod Outcome
 pub mod Complaints
+pub mod body

@@ -3,7 +3,8 @@ ghost use Rattle.std.specs.Prelude.{◌≡◌, ◌∷◌, [], List, IfSome, IfNo
 ghost use Rattle.std.specs.Borrow.{Bor};
 ghost use Rattle.clap.specs.Words.{Text};
 ghost use Rattle.rdm_port.specs.Words.{is_plain};
-ghost use Rattle.rdm_port.specs.Complaints.{IsTrueOf, IsTrueAfter, IsNoCommand, command_name};
+ghost use Rattle.rdm_port.specs.Complaints.{IsTrueOf, IsTrueAfter, IsNoCommand};
+ghost use Rattle.rdm_port.specs.body.Texts.{command_name};
 
 use crate::usage::{USAGE, VERSION};
 use std::{fmt, mem};
@@ -199,7 +200,7 @@ impl Given {
         }
     }
 
-    // Takes the next word, or tells what is wrong with it.
+    // Takes the next word, or says what is wrong with it.
     fn take<'a>(&mut self, word: &'a str) -> Option<Complaint<'a>>
         ensures told { IfSome result (IsTrueAfter (command_name self.old.command) (word.entry ∷ [])) }
         ensures kept { self.new.command ≡ self.old.command }
@@ -269,7 +270,7 @@ impl Given {
         }
     }
 
-    // What is wrong where no words are left.
+    // What is wrong if no words are left.
     fn end<'a>(&self) -> Complaint<'a>
         ensures { IsTrueAfter (command_name self.now.command) [] result }
     {

@@ -2,7 +2,8 @@
 ghost use Rattle.std.specs.Prelude.{◌≡◌, ◌⊎◌, IfOk, IfErr};
 ghost use Rattle.serde_json.specs.Errors.{IsMemory};
 ghost use Rattle.rdm_port.specs.Fault.{ReadsScene, SaysScene, IsFileFault, IsTextFault};
-ghost use Rattle.rdm_port.specs.Outcome.{Discovers, answer_bytes, kind_of, search_of};
+ghost use Rattle.rdm_port.specs.Outcome.{Discovers, kind_of, search_of};
+ghost use Rattle.rdm_port.specs.body.Texts.{answer_bytes};
 ghost use Rattle.rdm_serving.specs.Report.{report_text, report_status};
 
 use crate::answer::{Answer, Answered, Refused};
@@ -19,9 +20,9 @@ use serde_json::{Category, Value};
 use std::alloc::Global;
 use std::io::Read;
 
-/// What a run reports of the scene in the reader's file, which is the one at the path. It tells what people should know
-/// of the scene, and then how far it is.
-// It isn't inlined: a run's values are large, and no other answer is to have places for them.
+/// What a run reports of the scene in the reader's file, which is the one at the path. The progress hears what people
+/// should know of the scene, and then how far it is.
+// It isn't inlined: a run's values are large, and no other answer is to have stack for them.
 #[inline(never)]
 pub fn answer_discover<'a, R: Read, P: Progress>(
     alloc: Global,

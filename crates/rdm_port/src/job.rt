@@ -55,14 +55,14 @@ pub enum WordsFault {
     /// The words fit no command.
     #[error("the words fit no command")]
     Words,
-    /// Memory was refused.
+    /// Memory ran out.
     #[error("out of memory")]
     NoMemory,
 }
 
 /// What the words after the program's name ask for, as `clap` reads them: a command's name and its argument. A word
-/// that begins with `-` and isn't `-` alone is an argument only after a word `--` (profile of this project). Err: the
-/// words fit no command, or there was no memory, whichever is met first.
+/// that begins with `-` and isn't `-` alone is an argument only after a word `--`. Err: the
+/// words fit no command, or memory ran out, whichever is met first.
 pub fn parse_words<'a>(alloc: Global, words: &'a [&'a str]) -> Result<Job<'a>, WordsFault>
     ensures job { IfOk result (λ job. Asks (texts_of words.now) job) }
     ensures words { result ≡ Err WordsFault.Words → AsksNothing (texts_of words.now) }

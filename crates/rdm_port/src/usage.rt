@@ -15,7 +15,7 @@ usage: wurstlinen decode HEX
   --incremental  mutes the file's known devices first
   --quick        sweeps first, which takes fewer frames on a large rig
   run            the results of the clients of a session file
-  --port         what the clients share: a session behind a lock (locked), as without this word, or rings (rings)
+  --port         how the clients share the session: with a mutex (locked), the default, or with ring buffers (rings)
 HEX: bytes as pairs of hexadecimal digits. UID: a device, as 7a70:00000001. FILE: JSON; docs/FORMATS.md has its keys.
 examples: wurstlinen decode fefefefefefefeaafa7ffa75aa55aa55aa55ab55ae57eff5
           wurstlinen encode 7a70:00000001

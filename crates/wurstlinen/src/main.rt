@@ -33,7 +33,7 @@ fn obey<T: Runtime + Threads + Wait + Sync>(rt: &T, alloc: Global, args: &[Strin
     }
 }
 
-// Prints the answer on standard output, and the reason of what isn't done on standard error: the complaint, where the
+// Prints the answer on standard output, and the reason of what isn't done on standard error: the complaint, if the
 // words fit no command.
 fn print<T: Runtime + Threads + Wait + Sync>(
     rt: &T,
@@ -63,7 +63,7 @@ fn print_from<R: Read, T: Runtime + Threads + Wait + Sync>(
 ) -> u8 {
     let mut progress = Progressing::new(rt);
     let (status, reason) = carry_out(rt, alloc, job, reader, &mut io::writer(rt), &mut progress);
-    // Where standard error fails too, the status tells of it.
+    // If standard error fails too, the status shows it.
     let _ = match reason {
         Some(Reason::Usage) => tell_usage(rt, complaint),
         Some(reason) => tell(rt, &reason),
@@ -72,7 +72,7 @@ fn print_from<R: Read, T: Runtime + Threads + Wait + Sync>(
     status
 }
 
-// A file that can't be opened: each read of it fails so.
+// A file that can't be opened: each read of it fails with this error.
 #[derive(Clone, Copy, Drop)]
 struct Unopened(io::ErrorKind);
 
