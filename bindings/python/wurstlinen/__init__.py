@@ -13,7 +13,7 @@
 from ._faults import (
     AlreadyOpen, BadClass, BadKind, BadPreamble, BadRange, BadResponseType, BadSearch, BadUid, BroadcastUid,
     BufferTooSmall, Closed, DataTooLong, Fault, Full, HasEnded, InvalidClass, InvalidResponseType, LengthMismatch,
-    LineFailed, LogFull, NoBudget, NoPlaces, NoSuchEntry, NotAsked, NotEnded, NotIdle, NotOpen, NotText,
+    LogFull, NoBudget, NoPlaces, NoSuchEntry, NotAsked, NotEnded, NotIdle, NotOpen, NotText,
     OtherOutcome, OutOfMemory, PacketFault, ParamLengthMismatch, ReplyTooLong, TooManyClients, TooManyDevices,
     TooManyEntries, TooManyPlaces, TooShort, UidDigit, UidFault, UidLength, UidSeparator, UnknownClient,
     WrongChecksum, WrongStart, WrongSubStart)
@@ -26,8 +26,9 @@ from ._types import (
 from ._wire import (
     decode_response, encode_branch, encode_mute, encode_mute_ack, encode_request, encode_response, encode_unmute,
     read_branch_reply, read_command, read_mute_ack, write_branch_reply)
-from ._queue import Client, Controller, Line
+from ._queue import Client, Controller
 from ._agent import DiscoveryAgent
+from .line import Line, LineFailed
 
 __version__ = "0.1.0"
 

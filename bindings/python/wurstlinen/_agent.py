@@ -4,12 +4,12 @@ import ctypes
 import threading
 from typing import Iterable, Optional, Tuple
 
-from ._faults import LineFailed, check, given
+from ._faults import check, given
 from ._library import LIBRARY, DeviceForm, Handle, StartForm, buffer_of, room_for
-from ._queue import Line
 from ._types import (
     DEFAULT_BUDGET, MOST_DEVICES, MOST_FRAME_BYTES, Device, Kind, Operation, RunFault, Search, Uid, devices_of,
     run_fault, whole)
+from .line import Line, LineFailed
 
 
 class DiscoveryAgent:
@@ -35,7 +35,7 @@ class DiscoveryAgent:
         self.dispose()
 
     def __del__(self) -> None:
-        if hasattr(self, "_handle"):
+        if getattr(self, "_handle", None) and self._handle.is_open:
             LIBRARY.wurst_agent_dispose(self._handle)
 
     def dispose(self) -> None:

@@ -13,10 +13,6 @@ class Fault(Exception):
         super().__init__(self.text)
 
 
-class LineFailed(Exception):
-    """A line failed: what its devices saw isn't known. Raised by a line's `exchange`."""
-
-
 class UidFault(Fault, ValueError):
     """A text is no UID."""
 

@@ -151,7 +151,18 @@ def _declared(library):
     return library
 
 
-LIBRARY = _declared(_load())
+class _Library:
+    """The library, which is loaded when its first call is looked up: lines of their own need none."""
+
+    def __getattr__(self, name):
+        if name not in CALLS:
+            raise AttributeError(name)
+        loaded = _declared(_load())
+        self.__dict__.update((each, getattr(loaded, each)) for each in CALLS)
+        return self.__dict__[name]
+
+
+LIBRARY = _Library()
 
 
 def buffer_of(data: bytes):

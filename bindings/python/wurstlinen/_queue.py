@@ -2,24 +2,18 @@
 
 import ctypes
 import threading
-from typing import Optional, Protocol, Tuple, Union
+from typing import Optional, Tuple, Union
 
-from ._faults import LineFailed, check, given
+from ._faults import check, given
 from ._library import LIBRARY, CompletionForm, DeviceForm, EndForm, Handle, Setup, buffer_of, room_for
 from ._types import (
     DEFAULT_BUDGET, MOST_DEVICES, MOST_FRAME_BYTES, MOST_PARAMETER_BYTES, MOST_PLACES, AckType, Completion, Device,
     Discovery, Kind, OutcomeKind, ReplyHead, Request, RequestClass, ResponseClass, Search, Status, Uid, devices_of,
     run_fault, whole)
 from ._wire import form_of_request
+from .line import Line, LineFailed
 
 BUFFER_TOO_SMALL = 14
-
-
-class Line(Protocol):
-    """An RDM line: it sends a frame, and waits for what comes."""
-
-    def exchange(self, frame: bytes) -> bytes:
-        """The bytes that came after the frame; none are silence. Raises LineFailed if the line failed."""
 
 
 class Controller:
@@ -42,7 +36,7 @@ class Controller:
         self.dispose()
 
     def __del__(self) -> None:
-        if hasattr(self, "_handle"):
+        if getattr(self, "_handle", None) and self._handle.is_open:
             LIBRARY.wurst_controller_dispose(self._handle)
 
     def dispose(self) -> None:

@@ -1,5 +1,6 @@
 //! The calls of C on controllers. Each is the library's call of that name, on what the handle holds.
-ghost use Rattle.std.specs.Prelude.{◌≡◌, ◌≢◌, ◌≤◌, ◌<◌, ◌⊎◌, ℕ, List, [], length, take, map, true, false, Some, None, Ok};
+ghost use Rattle.std.specs.Prelude.{◌≡◌, ◌≢◌, ◌≤◌, ◌<◌, ◌⊎◌, ℕ, length, take, map, true, false, Some};
+ghost use Rattle.std.specs.Prelude.{None, Ok};
 ghost use Rattle.std.specs.Prelude.{if◌then◌else◌, nat_lt};
 ghost use Rattle.arrayvec.specs.ArrayVec.{ArrayVec as Bytes};
 ghost use Rattle.rdm_wire.specs.declared.device.Device.{Device};
@@ -9,15 +10,13 @@ ghost use Rattle.rdm_log.specs.declared.outcome.Completion.{Completion};
 ghost use Rattle.rdm_log.specs.declared.outcome.DiscoveryEnd.{DiscoveryEnd};
 ghost use Rattle.rdm_log.specs.declared.outcome.OutcomeKind.TheVariants as kinds;
 ghost use Rattle.rdm_log.specs.log.History.{awaited, is_idle, is_paused, is_closed, can_pause, can_resume};
-ghost use Rattle.rdm_log.specs.log.LogState.{opened};
 ghost use Rattle.rdm_log.specs.log.Runs.{known_devices, devices_run};
 ghost use Rattle.rdm_log.specs.promises.Blocks.{JoinAdds, SubmitAdds, DiscoverAdds, PauseAdds, ResumeAdds, CloseAdds};
 ghost use Rattle.rdm_log.specs.promises.Blocks.{TakeAdds, DeliverAdds, CollectAdds};
 ghost use Rattle.rdm_log.specs.promises.Outcomes.{oldest_kind, request_outcome, discovery_outcome};
-ghost use Rattle.rdm_queue.specs.promises.EachLog.{ForEachLog, AddsToEach};
+ghost use Rattle.rdm_queue.specs.promises.EachLog.{ForEachLog, AddsToEach, IsSetUp};
 ghost use Rattle.rdm_queue.specs.promises.Lengths.{oldest_length};
-ghost use Rattle.rdm_queue.specs.body.Agrees.{StandsAfter};
-ghost use Rattle.rdm_handles.specs.Forms.{setup_status, config_of, search_of, request_status, request_of, kind_of};
+ghost use Rattle.rdm_handles.specs.Forms.{setup_status, setup_of, request_status, request_of, kind_of};
 ghost use Rattle.rdm_handles.specs.Forms.{form_of_completion, form_of_end, form_of_device};
 ghost use Rattle.rdm_handles.specs.Answers.{join_answer, submit_answer, ask_answer, collect_status, oldest_status};
 ghost use Rattle.rdm_handles.specs.Answers.{outcome_kind_of};
@@ -26,8 +25,9 @@ use rdm_handles::status::{
     ALREADY_OPEN, BAD_KIND, BUFFER_TOO_SMALL, DONE, NOT_ASKED, NOT_OPEN, NOTHING, OUT_OF_MEMORY,
     REPLY_TOO_LONG,
 };
-use rdm_handles::{CompletionForC, ControllerHandle, DeviceForC, EndForC, RequestForC, SetupForC};
-use rdm_handles::controllers;
+use rdm_handles::{
+    CompletionForC, ControllerHandle, DeviceForC, EndForC, RequestForC, SetupForC, controllers,
+};
 use rdm_join::LineEvent;
 use std::alloc::Global;
 
@@ -44,8 +44,7 @@ pub extern "C" fn wurst_controller_open(
     ensures opens { handle.old.is_open ≡ false → setup_status setup.now ≡ 0 →
         (result ≡ OUT_OF_MEMORY) ⊎ (result ≡ DONE) }
     ensures opened { result ≡ DONE → (handle.new.is_open ≡ true)
-        × StandsAfter (opened (config_of setup.now)) [] handle.new.value
-        × (handle.new.value.search ≡ search_of setup.now.search) }
+        × IsSetUp (setup_of setup.now) handle.new.value }
     ensures refused { result ≢ DONE → handle.new.is_open ≡ handle.old.is_open }
 {
     if let Some(controller) = handle.take(alloc) {
@@ -82,8 +81,8 @@ pub extern "C" fn wurst_controller_join(
 ) -> u32
     ensures not_open { handle.old.is_open ≡ false → (result ≡ NOT_OPEN) × (client.new ≡ client.old) }
     ensures stays { handle.new.is_open ≡ handle.old.is_open }
-    ensures adds { handle.old.is_open ≡ true → AddsToEach handle.old.value (λ o h.
-        JoinAdds o h places (join_answer result client.new)) handle.new.value }
+    ensures adds { handle.old.is_open ≡ true → AddsToEach handle.old.value (λ k.
+        JoinAdds k.opening k.entries places (join_answer result client.new)) handle.new.value }
     ensures unchanged { handle.old.is_open ≡ true → result ≢ DONE →
         (handle.new.value ≡ handle.old.value) × (client.new ≡ client.old) }
 {
@@ -110,8 +109,8 @@ pub extern "C" fn wurst_controller_submit(
     ensures bad { handle.old.is_open ≡ true → request_status request.now param_bytes.now ≢ 0 →
         result ≡ request_status request.now param_bytes.now }
     ensures adds { handle.old.is_open ≡ true → request_status request.now param_bytes.now ≡ 0 →
-        AddsToEach handle.old.value (λ o h.
-        SubmitAdds o h (record { 0 = client }) (request_of request.now param_bytes.now)
+        AddsToEach handle.old.value (λ k.
+        SubmitAdds k.opening k.entries (record { 0 = client }) (request_of request.now param_bytes.now)
         (submit_answer result number.new (request_of request.now param_bytes.now))) handle.new.value }
     ensures unchanged { handle.old.is_open ≡ true → result ≢ DONE →
         (handle.new.value ≡ handle.old.value) × (number.new ≡ number.old) }
@@ -136,8 +135,8 @@ pub extern "C" fn wurst_controller_discover(
     ensures not_open { handle.old.is_open ≡ false → (result ≡ NOT_OPEN) × (number.new ≡ number.old) }
     ensures stays { handle.new.is_open ≡ handle.old.is_open }
     ensures bad { handle.old.is_open ≡ true → 1 < kind → result ≡ BAD_KIND }
-    ensures adds { handle.old.is_open ≡ true → kind ≤ 1 → AddsToEach handle.old.value (λ o h.
-        DiscoverAdds o h (record { 0 = client }) (kind_of kind) (ask_answer result number.new)) handle.new.value }
+    ensures adds { handle.old.is_open ≡ true → kind ≤ 1 → AddsToEach handle.old.value (λ k.
+        DiscoverAdds k.opening k.entries (record { 0 = client }) (kind_of kind) (ask_answer result number.new)) handle.new.value }
     ensures unchanged { handle.old.is_open ≡ true → result ≢ DONE →
         (handle.new.value ≡ handle.old.value) × (number.new ≡ number.old) }
 {
@@ -151,13 +150,10 @@ pub extern "C" fn wurst_controller_discover(
 
 /// Begins no run and sends no request until `wurst_controller_resume`.
 #[unsafe(no_mangle)]
-pub extern "C" fn wurst_controller_pause(
-    alloc: Global,
-    handle: &mut ControllerHandle,
-) -> u32
+pub extern "C" fn wurst_controller_pause(alloc: Global, handle: &mut ControllerHandle) -> u32
     ensures not_open { handle.old.is_open ≡ false → (result ≡ NOT_OPEN) }
     ensures stays { handle.new.is_open ≡ handle.old.is_open }
-    ensures adds { handle.old.is_open ≡ true → (result ≡ DONE) × AddsToEach handle.old.value PauseAdds handle.new.value }
+    ensures adds { handle.old.is_open ≡ true → (result ≡ DONE) × AddsToEach handle.old.value (λ k. PauseAdds k.opening k.entries) handle.new.value }
     ensures unchanged { handle.old.is_open ≡ true → ForEachLog handle.old.value (λ o h.
         can_pause o h ≡ false → handle.new.value ≡ handle.old.value) }
 {
@@ -171,13 +167,10 @@ pub extern "C" fn wurst_controller_pause(
 
 /// Begins runs and sends requests again.
 #[unsafe(no_mangle)]
-pub extern "C" fn wurst_controller_resume(
-    alloc: Global,
-    handle: &mut ControllerHandle,
-) -> u32
+pub extern "C" fn wurst_controller_resume(alloc: Global, handle: &mut ControllerHandle) -> u32
     ensures not_open { handle.old.is_open ≡ false → (result ≡ NOT_OPEN) }
     ensures stays { handle.new.is_open ≡ handle.old.is_open }
-    ensures adds { handle.old.is_open ≡ true → (result ≡ DONE) × AddsToEach handle.old.value ResumeAdds handle.new.value }
+    ensures adds { handle.old.is_open ≡ true → (result ≡ DONE) × AddsToEach handle.old.value (λ k. ResumeAdds k.opening k.entries) handle.new.value }
     ensures unchanged { handle.old.is_open ≡ true → ForEachLog handle.old.value (λ o h.
         can_resume o h ≡ false → handle.new.value ≡ handle.old.value) }
 {
@@ -191,13 +184,10 @@ pub extern "C" fn wurst_controller_resume(
 
 /// Refuses all later joins, submits and discovers, and sends nothing more.
 #[unsafe(no_mangle)]
-pub extern "C" fn wurst_controller_close(
-    alloc: Global,
-    handle: &mut ControllerHandle,
-) -> u32
+pub extern "C" fn wurst_controller_close(alloc: Global, handle: &mut ControllerHandle) -> u32
     ensures not_open { handle.old.is_open ≡ false → (result ≡ NOT_OPEN) }
     ensures stays { handle.new.is_open ≡ handle.old.is_open }
-    ensures adds { handle.old.is_open ≡ true → (result ≡ DONE) × AddsToEach handle.old.value CloseAdds handle.new.value }
+    ensures adds { handle.old.is_open ≡ true → (result ≡ DONE) × AddsToEach handle.old.value (λ k. CloseAdds k.opening k.entries) handle.new.value }
     ensures unchanged { handle.old.is_open ≡ true → ForEachLog handle.old.value (λ o h.
         is_closed o h ≡ true → handle.new.value ≡ handle.old.value) }
 {
@@ -222,9 +212,9 @@ pub extern "C" fn wurst_controller_take(
     ensures small { handle.old.is_open ≡ true → length frame.old < 257 → result ≡ BUFFER_TOO_SMALL }
     ensures given { handle.old.is_open ≡ true → result ≡ DONE →
         (sent : Bytes ℕ) × (take len.new frame.new ≡ sent.items)
-        × AddsToEach handle.old.value (λ o h. TakeAdds o h (Some sent)) handle.new.value }
+        × AddsToEach handle.old.value (λ k. TakeAdds k.opening k.entries (Some sent)) handle.new.value }
     ensures nothing { handle.old.is_open ≡ true → result ≡ NOTHING →
-        AddsToEach handle.old.value (λ o h. TakeAdds o h None) handle.new.value }
+        AddsToEach handle.old.value (λ k. TakeAdds k.opening k.entries None) handle.new.value }
     ensures statuses { handle.old.is_open ≡ true → (result ≡ BUFFER_TOO_SMALL) ⊎ ((result ≡ NOTHING) ⊎ (result ≡ DONE)) }
     ensures unchanged { handle.old.is_open ≡ true → result ≢ DONE →
         (handle.new.value ≡ handle.old.value) × (len.new ≡ len.old) × (frame.new ≡ frame.old) }
@@ -247,8 +237,8 @@ pub extern "C" fn wurst_controller_deliver(
     ensures not_open { handle.old.is_open ≡ false → (result ≡ NOT_OPEN) }
     ensures stays { handle.new.is_open ≡ handle.old.is_open }
     ensures long { handle.old.is_open ≡ true → 257 < length reply.now → result ≡ REPLY_TOO_LONG }
-    ensures heard { handle.old.is_open ≡ true → result ≡ DONE → AddsToEach handle.old.value (λ o h.
-        DeliverAdds handle.old.value.search o h (Reply (record { items = reply.now })) (Ok tt)) handle.new.value }
+    ensures heard { handle.old.is_open ≡ true → result ≡ DONE → AddsToEach handle.old.value (λ k.
+        DeliverAdds k (Reply (record { items = reply.now })) (Ok tt)) handle.new.value }
     ensures not_asked { handle.old.is_open ≡ true → result ≡ NOT_ASKED → ForEachLog handle.old.value (λ o h. awaited h ≡ false) }
     ensures unchanged { handle.old.is_open ≡ true → result ≢ DONE → handle.new.value ≡ handle.old.value }
 {
@@ -262,14 +252,11 @@ pub extern "C" fn wurst_controller_deliver(
 
 /// Takes it that the line failed at the last frame.
 #[unsafe(no_mangle)]
-pub extern "C" fn wurst_controller_fail(
-    alloc: Global,
-    handle: &mut ControllerHandle,
-) -> u32
+pub extern "C" fn wurst_controller_fail(alloc: Global, handle: &mut ControllerHandle) -> u32
     ensures not_open { handle.old.is_open ≡ false → (result ≡ NOT_OPEN) }
     ensures stays { handle.new.is_open ≡ handle.old.is_open }
-    ensures heard { handle.old.is_open ≡ true → result ≡ DONE → AddsToEach handle.old.value (λ o h.
-        DeliverAdds handle.old.value.search o h Failed (Ok tt)) handle.new.value }
+    ensures heard { handle.old.is_open ≡ true → result ≡ DONE → AddsToEach handle.old.value (λ k.
+        DeliverAdds k Failed (Ok tt)) handle.new.value }
     ensures not_asked { handle.old.is_open ≡ true → result ≡ NOT_ASKED → ForEachLog handle.old.value (λ o h. awaited h ≡ false) }
     ensures unchanged { handle.old.is_open ≡ true → result ≢ DONE → handle.new.value ≡ handle.old.value }
 {
@@ -323,8 +310,8 @@ pub extern "C" fn wurst_controller_next_completion(
         oldest_length o h client ≡ Some completion.new.len) }
     ensures collected { handle.old.is_open ≡ true → result ≡ DONE → (number : ℕ) × (done : Completion)
         × (completion.new ≡ form_of_completion number done)
-        × AddsToEach handle.old.value (λ o h.
-            CollectAdds o h (record { 0 = client }) (Some (request_outcome (number, done)))) handle.new.value
+        × AddsToEach handle.old.value (λ k.
+        CollectAdds k.opening k.entries (record { 0 = client }) (Some (request_outcome (number, done)))) handle.new.value
         × ForEachLog handle.old.value (λ o h. take completion.new.len buffer.new ≡ done.bytes.items) }
     ensures unchanged { handle.old.is_open ≡ true → result ≢ DONE → handle.new.value ≡ handle.old.value }
 {
@@ -354,8 +341,8 @@ pub extern "C" fn wurst_controller_next_discovery(
         oldest_length o h client ≡ Some end.new.count) }
     ensures collected { handle.old.is_open ≡ true → result ≡ DONE → (ended : DiscoveryEnd) × (set : List Device)
         × (end.new ≡ form_of_end ended (length set))
-        × AddsToEach handle.old.value (λ o h.
-            CollectAdds o h (record { 0 = client }) (Some (discovery_outcome ended set))) handle.new.value
+        × AddsToEach handle.old.value (λ k.
+        CollectAdds k.opening k.entries (record { 0 = client }) (Some (discovery_outcome ended set))) handle.new.value
         × ForEachLog handle.old.value (λ o h. take (length set) devices.new ≡ map form_of_device set) }
     ensures unchanged { handle.old.is_open ≡ true → result ≢ DONE → handle.new.value ≡ handle.old.value }
 {

@@ -4,7 +4,9 @@
 //! an argument but its type: each range is tested, and answered by a status.
 #![tactic(auto)]
 
+mod agents;
 mod controllers;
+mod packets;
 
 /// The version of the interface: major times 1,000,000, minor times 1,000 and patch. The file `VERSION` has the same.
 #[unsafe(no_mangle)]

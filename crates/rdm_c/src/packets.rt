@@ -151,12 +151,7 @@ pub extern "C" fn wurst_request_write(
 
 /// Writes the packet that unmutes all devices.
 #[unsafe(no_mangle)]
-pub extern "C" fn wurst_unmute_write(
-    source: u64,
-    tn: u8,
-    frame: &mut [u8],
-    len: &mut usize,
-) -> u32
+pub extern "C" fn wurst_unmute_write(source: u64, tn: u8, frame: &mut [u8], len: &mut usize) -> u32
     ensures status { result ≡ first_of (number_status source) (frame_status (length frame.old)) }
     ensures written { result ≡ DONE → take len.new frame.new ≡ unmute_frame source tn }
     ensures unchanged { result ≢ DONE → (len.new ≡ len.old) × (frame.new ≡ frame.old) }

@@ -18,7 +18,7 @@ use Rattle.rdm_agent.specs.declared.kind.Kind.{Kind}
 use Rattle.rdm_agent.specs.declared.kind.Kind.TheVariants as kinds
 use Rattle.rdm_agent.specs.declared.search.Search.{Search}
 use Rattle.rdm_agent.specs.declared.search.Search.TheVariants as searches
-use Rattle.rdm_log.specs.declared.config.Config.{Config}
+use Rattle.rdm_log.specs.declared.config.Setup.{Setup}
 use Rattle.rdm_log.specs.declared.outcome.Completion.{Completion}
 use Rattle.rdm_log.specs.declared.outcome.DiscoveryEnd.{DiscoveryEnd}
 use Rattle.rdm_handles.specs.Statuses as status
@@ -53,8 +53,11 @@ setup_status s =
     else (if nat_lt 1 s.search then status.bad_search else status.done)))
     else uid_status s.source
 
-abbrev pub config_of : SetupForC → Config
-config_of s = record { source = s.source; places = s.places; budget = s.budget }
+abbrev pub setup_of : SetupForC → Setup
+setup_of s = record {
+  config = record { source = s.source; places = s.places; budget = s.budget };
+  search = search_of s.search;
+}
 
 -- the first fault of a request with these data
 abbrev pub request_status : RequestForC → List ℕ → ℕ

@@ -9,19 +9,17 @@ ghost use Rattle.rdm_log.specs.declared.outcome.Completion.{Completion};
 ghost use Rattle.rdm_log.specs.declared.outcome.DiscoveryEnd.{DiscoveryEnd};
 ghost use Rattle.rdm_log.specs.declared.outcome.OutcomeKind.TheVariants as kinds;
 ghost use Rattle.rdm_log.specs.log.History.{awaited};
-ghost use Rattle.rdm_log.specs.log.LogState.{opened};
 ghost use Rattle.rdm_log.specs.promises.Blocks.{JoinAdds, SubmitAdds, DiscoverAdds, TakeAdds, DeliverAdds, CollectAdds};
 ghost use Rattle.rdm_log.specs.promises.Outcomes.{oldest_kind, request_outcome, discovery_outcome};
-ghost use Rattle.rdm_queue.specs.promises.EachLog.{ForEachLog, AddsToEach};
+ghost use Rattle.rdm_queue.specs.promises.EachLog.{ForEachLog, AddsToEach, IsSetUp};
 ghost use Rattle.rdm_queue.specs.promises.Lengths.{oldest_length};
-ghost use Rattle.rdm_queue.specs.body.Agrees.{StandsAfter};
-ghost use Rattle.rdm_handles.specs.Forms.{setup_status, config_of, search_of, request_status, request_of, kind_of};
+ghost use Rattle.rdm_handles.specs.Forms.{setup_status, setup_of, request_status, request_of, kind_of};
 ghost use Rattle.rdm_handles.specs.Forms.{form_of_completion, form_of_end, form_of_device};
 ghost use Rattle.rdm_handles.specs.Answers.{join_answer, submit_answer, ask_answer, collect_status, oldest_status};
 ghost use Rattle.rdm_handles.specs.Answers.{outcome_kind_of};
 
 use crate::convert::{
-    completion_for_c, config_of, end_for_c, kind_of, put_bytes, put_devices, request_of, search_of,
+    completion_for_c, end_for_c, kind_of, put_bytes, put_devices, request_of, setup_of,
     status_of_ask, status_of_join, status_of_submit,
 };
 use crate::forms::{CompletionForC, DeviceForC, EndForC, RequestForC, SetupForC};
@@ -39,25 +37,20 @@ use std::alloc::Global;
 /// A controller that is set up so.
 /// Err: the status of the setup's first fault, or `OUT_OF_MEMORY`.
 pub fn open(alloc: Global, setup: &SetupForC) -> Result<Controller, u32>
-    ensures opened { IfOk result (λ c. (setup_status setup.now ≡ 0)
-        × StandsAfter (opened (config_of setup.now)) [] c × (c.search ≡ search_of setup.now.search)) }
+    ensures opened { IfOk result (λ c. (setup_status setup.now ≡ 0) × IsSetUp (setup_of setup.now) c) }
     ensures refused { IfErr result (λ fault.
         fault ≡ (if setup_status setup.now == 0 then OUT_OF_MEMORY else setup_status setup.now)) }
 {
-    let config = config_of(setup)?;
-    let Ok(controller) = Controller::new(alloc, config) else {
-        return Err(OUT_OF_MEMORY);
-    };
-    if controller.is_idle() {
-        Ok(controller.with_search(search_of(setup.search)))
-    } else {
-        unreachable!()
+    let setup = setup_of(setup)?;
+    match Controller::new_with(alloc, setup) {
+        Ok(controller) => Ok(controller),
+        Err(_) => Err(OUT_OF_MEMORY),
     }
 }
 
 /// Lets a client join, and writes its number.
 pub fn join(controller: &mut Controller, alloc: Global, places: u8, client: &mut u8) -> u32
-    ensures adds { AddsToEach controller.old (λ o h. JoinAdds o h places (join_answer result client.new))
+    ensures adds { AddsToEach controller.old (λ k. JoinAdds k.opening k.entries places (join_answer result client.new))
         controller.new }
     ensures unchanged { result ≢ DONE → (controller.new ≡ controller.old) × (client.new ≡ client.old) }
 {
@@ -79,8 +72,8 @@ pub fn submit(
     number: &mut u64,
 ) -> u32
     ensures bad { request_status request.now param_bytes.now ≢ 0 → result ≡ request_status request.now param_bytes.now }
-    ensures adds { request_status request.now param_bytes.now ≡ 0 → AddsToEach controller.old (λ o h.
-        SubmitAdds o h (record { 0 = client }) (request_of request.now param_bytes.now)
+    ensures adds { request_status request.now param_bytes.now ≡ 0 → AddsToEach controller.old (λ k.
+        SubmitAdds k.opening k.entries (record { 0 = client }) (request_of request.now param_bytes.now)
         (submit_answer result number.new (request_of request.now param_bytes.now))) controller.new }
     ensures unchanged { result ≢ DONE → (controller.new ≡ controller.old) × (number.new ≡ number.old) }
 {
@@ -100,8 +93,8 @@ pub fn submit(
 /// Accepts a client's discovery, and writes its number.
 pub fn discover(controller: &mut Controller, client: u8, kind: u32, number: &mut u64) -> u32
     ensures bad { 1 < kind → result ≡ BAD_KIND }
-    ensures adds { kind ≤ 1 → AddsToEach controller.old (λ o h.
-        DiscoverAdds o h (record { 0 = client }) (kind_of kind) (ask_answer result number.new)) controller.new }
+    ensures adds { kind ≤ 1 → AddsToEach controller.old (λ k.
+        DiscoverAdds k.opening k.entries (record { 0 = client }) (kind_of kind) (ask_answer result number.new)) controller.new }
     ensures unchanged { result ≢ DONE → (controller.new ≡ controller.old) × (number.new ≡ number.old) }
 {
     if kind > 1 {
@@ -120,8 +113,8 @@ pub fn discover(controller: &mut Controller, client: u8, kind: u32, number: &mut
 pub fn take(controller: &mut Controller, frame: &mut [u8], len: &mut usize) -> u32
     ensures small { length frame.old < 257 → result ≡ BUFFER_TOO_SMALL }
     ensures given { result ≡ DONE → (sent : Bytes ℕ) × (take len.new frame.new ≡ sent.items)
-        × AddsToEach controller.old (λ o h. TakeAdds o h (Some sent)) controller.new }
-    ensures nothing { result ≡ NOTHING → AddsToEach controller.old (λ o h. TakeAdds o h None) controller.new }
+        × AddsToEach controller.old (λ k. TakeAdds k.opening k.entries (Some sent)) controller.new }
+    ensures nothing { result ≡ NOTHING → AddsToEach controller.old (λ k. TakeAdds k.opening k.entries None) controller.new }
     ensures statuses { (result ≡ BUFFER_TOO_SMALL) ⊎ ((result ≡ NOTHING) ⊎ (result ≡ DONE)) }
     ensures unchanged { result ≢ DONE → (controller.new ≡ controller.old) × (len.new ≡ len.old)
         × (frame.new ≡ frame.old) }
@@ -141,8 +134,8 @@ pub fn take(controller: &mut Controller, frame: &mut [u8], len: &mut usize) -> u
 /// Takes the bytes that the line answered; none are silence.
 pub fn deliver(controller: &mut Controller, alloc: Global, reply: &[u8]) -> u32
     ensures long { 257 < length reply.now → result ≡ REPLY_TOO_LONG }
-    ensures heard { result ≡ DONE → AddsToEach controller.old (λ o h.
-        DeliverAdds controller.old.search o h (Reply (record { items = reply.now })) (Ok tt)) controller.new }
+    ensures heard { result ≡ DONE → AddsToEach controller.old (λ k.
+        DeliverAdds k (Reply (record { items = reply.now })) (Ok tt)) controller.new }
     ensures not_asked { result ≡ NOT_ASKED → ForEachLog controller.old (λ o h. awaited h ≡ false) }
     ensures unchanged { result ≢ DONE → controller.new ≡ controller.old }
 {
@@ -156,8 +149,8 @@ pub fn deliver(controller: &mut Controller, alloc: Global, reply: &[u8]) -> u32
 
 /// Takes what the line answered, or that it failed.
 pub fn hear(controller: &mut Controller, alloc: Global, event: LineEvent) -> u32
-    ensures heard { result ≡ DONE → AddsToEach controller.old (λ o h.
-        DeliverAdds controller.old.search o h event (Ok tt)) controller.new }
+    ensures heard { result ≡ DONE → AddsToEach controller.old (λ k.
+        DeliverAdds k event (Ok tt)) controller.new }
     ensures not_asked { result ≡ NOT_ASKED → ForEachLog controller.old (λ o h. awaited h ≡ false) }
     ensures short { result ≢ REPLY_TOO_LONG }
     ensures unchanged { result ≢ DONE → controller.new ≡ controller.old }
@@ -205,8 +198,8 @@ pub fn next_completion(
         oldest_length o h client ≡ Some completion.new.len) }
     ensures collected { result ≡ DONE → (number : ℕ) × (done : Completion)
         × (completion.new ≡ form_of_completion number done)
-        × AddsToEach controller.old (λ o h.
-        CollectAdds o h (record { 0 = client }) (Some (request_outcome (number, done)))) controller.new
+        × AddsToEach controller.old (λ k.
+        CollectAdds k.opening k.entries (record { 0 = client }) (Some (request_outcome (number, done)))) controller.new
         × ForEachLog controller.old (λ o h. take completion.new.len buffer.new ≡ done.bytes.items) }
     ensures unchanged { result ≢ DONE → controller.new ≡ controller.old }
 {
@@ -245,8 +238,8 @@ pub fn next_discovery(
         oldest_length o h client ≡ Some end.new.count) }
     ensures collected { result ≡ DONE → (ended : DiscoveryEnd) × (set : List Device)
         × (end.new ≡ form_of_end ended (length set))
-        × AddsToEach controller.old (λ o h.
-        CollectAdds o h (record { 0 = client }) (Some (discovery_outcome ended set))) controller.new
+        × AddsToEach controller.old (λ k.
+        CollectAdds k.opening k.entries (record { 0 = client }) (Some (discovery_outcome ended set))) controller.new
         × ForEachLog controller.old (λ o h. take (length set) devices.new ≡ map form_of_device set) }
     ensures unchanged { result ≢ DONE → controller.new ≡ controller.old }
 {

@@ -1,7 +1,7 @@
 //! What the structs of C say, and what they are written from.
 ghost use Rattle.std.specs.Prelude.{◌≡◌, ◌≢◌, ◌≤◌, List, length, take, map, IfOk, IfErr, Some};
 ghost use Rattle.rdm_log.specs.log.Config.{IsConfig};
-ghost use Rattle.rdm_handles.specs.Forms.{setup_status, config_of, search_of, uid_status, request_status, request_of};
+ghost use Rattle.rdm_handles.specs.Forms.{setup_status, setup_of, search_of, uid_status, request_status, request_of};
 ghost use Rattle.rdm_handles.specs.Forms.{kind_of, number_of_ack, number_of_class, form_of_completion, form_of_end};
 ghost use Rattle.rdm_handles.specs.Forms.{form_of_device, number_or_0, number_of_fault, corrupt_uid, class_of, form_with_head, uid_of_fault};
 ghost use Rattle.rdm_handles.specs.Answers.{join_fault_of, submit_fault_of, ask_fault_of};
@@ -11,7 +11,9 @@ use crate::status;
 use arrayvec::ArrayVec;
 use rdm_agent::{AgentFault, Kind, Search};
 use rdm_join::ReplyHead;
-use rdm_log::{AskFault, Completion, Config, DiscoveryEnd, JoinFault, MOST_PLACES, SubmitFault};
+use rdm_log::{
+    AskFault, Completion, Config, DiscoveryEnd, JoinFault, MOST_PLACES, Setup, SubmitFault,
+};
 use rdm_wire::{AckType, Device, MOST_PARAMETER_BYTES, ReqClass, Request, RespClass, Uid};
 
 /// The UID of a device's or a controller's own with this number.
@@ -32,9 +34,8 @@ pub fn own_uid(number: u64) -> Result<Uid, u32>
 
 /// How a controller is set up.
 /// Err: the status of its first fault.
-pub fn config_of(setup: &SetupForC) -> Result<Config, u32>
-    ensures ok { IfOk result (λ config. (config ≡ config_of setup.now) × IsConfig config
-        × (setup_status setup.now ≡ 0)) }
+pub fn setup_of(setup: &SetupForC) -> Result<Setup, u32>
+    ensures ok { IfOk result (λ s. (s ≡ setup_of setup.now) × IsConfig s.config × (setup_status setup.now ≡ 0)) }
     ensures err { IfErr result (λ fault. (fault ≡ setup_status setup.now) × (fault ≢ 0)) }
 {
     let source = own_uid(setup.source)?;
@@ -47,10 +48,13 @@ pub fn config_of(setup: &SetupForC) -> Result<Config, u32>
     if setup.search > 1 {
         return Err(status::BAD_SEARCH);
     }
-    Ok(Config {
-        source,
-        places: setup.places,
-        budget: setup.budget,
+    Ok(Setup {
+        config: Config {
+            source,
+            places: setup.places,
+            budget: setup.budget,
+        },
+        search: search_of(setup.search),
     })
 }
 
