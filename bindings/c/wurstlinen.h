@@ -20,7 +20,7 @@
  * UIDs are numbers below 2^48: manufacturer * 2^32 + device. Buffers come as a pointer and a length; `room` is how much
  * there is room for. Strings aren't ended by 0.
  *
- * Memory is allocated by _open, _join, _rotate and _start, and by _deliver for a request's data. The other calls
+ * Memory is allocated by _open, _join and _start, and by _deliver for a request's data. The other calls
  * allocate nothing. */
 #ifndef WURSTLINEN_H
 #define WURSTLINEN_H
@@ -42,7 +42,7 @@ extern "C" {
 #define WURST_MOST_PARAMETER_BYTES 231   /* of a packet's parameter data */
 #define WURST_MOST_JOINED_BYTES 65535    /* of a request's data, all parts together */
 #define WURST_MOST_DEVICES 1024          /* that a discovery finds */
-#define WURST_MOST_CLIENTS 16            /* of a controller or a session */
+#define WURST_MOST_CLIENTS 16            /* of a controller */
 #define WURST_MOST_PLACES 4080           /* of all clients together */
 #define WURST_MOST_DISCOVERIES 4         /* that a client has outstanding */
 #define WURST_BRANCH_REPLY_BYTES 24      /* of a device's reply to a branch, at most */
@@ -50,7 +50,7 @@ extern "C" {
 #define WURST_DEFAULT_BUDGET 384008      /* frames that suffice for 1,024 devices, and as many known ones */
 #define WURST_BROADCAST UINT64_C(0xffffffffffff) /* addresses all devices */
 
-/* How a call ended. */
+/* How a call ended. 13, 24 and 25 aren't used. */
 enum wurst_status {
     WURST_DONE = 0,
     WURST_NOTHING = 1,               /* there is nothing to give */
@@ -65,7 +65,6 @@ enum wurst_status {
     WURST_BAD_CLASS = 10,            /* no such command class or response class */
     WURST_DATA_TOO_LONG = 11,        /* more than 231 bytes of parameter data */
     WURST_REPLY_TOO_LONG = 12,       /* more than 257 bytes of a reply */
-    WURST_TOO_MANY_ENTRIES = 13,     /* more than 1,000,000 free entries */
     WURST_BUFFER_TOO_SMALL = 14,     /* a buffer has no room for what is to be written */
     WURST_OUT_OF_MEMORY = 15,        /* an allocation failed */
     WURST_CLOSED = 16,               /* the queue is closed */
@@ -76,8 +75,6 @@ enum wurst_status {
     WURST_LOG_FULL = 21,             /* fewer than three entries of the log are free */
     WURST_NOT_ASKED = 22,            /* no reply is awaited */
     WURST_OTHER_OUTCOME = 23,        /* the client's oldest outcome is of the other kind */
-    WURST_NO_SUCH_ENTRY = 24,        /* the log has no entry at this index */
-    WURST_NOT_IDLE = 25,             /* the session isn't idle */
     WURST_BAD_RANGE = 26,            /* the lower bound is above the upper one */
     WURST_TOO_MANY_DEVICES = 27,     /* more than 1,024 devices */
     WURST_BAD_PREAMBLE = 28,         /* more than 7 preamble bytes */
@@ -434,17 +431,18 @@ static inline const char *wurst_text(uint32_t status) {
         "a UID is 2^48 or more", "a UID is broadcast", "more than 4,080 places", "the budget is 0",
         "no such search", "no such kind of discovery", "no such class",
         "more than 231 bytes of parameter data", "more than 257 bytes of a reply",
-        "more than 1,000,000 free entries", "the buffer is too small", "out of memory", "the queue is closed",
+        NULL, "the buffer is too small", "out of memory", "the queue is closed",
         "no such client", "sixteen clients have joined", "too few places", "the client's places are taken",
-        "the log is full", "no reply is awaited", "the oldest outcome is of the other kind", "no such entry",
-        "the session isn't idle", "the lower bound is above the upper one", "more than 1,024 devices",
+        "the log is full", "no reply is awaited", "the oldest outcome is of the other kind", NULL,
+        NULL, "the lower bound is above the upper one", "more than 1,024 devices",
         "more than 7 preamble bytes", "no such response type", "the run hasn't ended", "the run has ended",
         "a UID has 13 characters", "a UID has a colon after its first four digits", "a UID has hexadecimal digits",
         "a packet has 26 bytes at least", "a packet begins with the start code cc",
         "a packet has the sub start code 01", "the message length does not fit the bytes",
         "the parameter data length does not fit the message length", "the checksum is wrong",
         "the command class is not that of a response", "there is no such response type", "the bytes aren't UTF-8"};
-    return status < sizeof texts / sizeof texts[0] ? texts[status] : "no such status";
+    const bool is_known = status < sizeof texts / sizeof texts[0] && texts[status] != NULL;
+    return is_known ? texts[status] : "no such status";
 }
 
 #ifdef __cplusplus

@@ -65,8 +65,9 @@ def main() -> int:
               re.findall(r"pub const (\w+): u32 = (\d+);", read("crates", "rdm_handles", "src", "status.rt"))}
     check(source == statuses(header), "the statuses of the source aren't those of the header")
     texts = re.search(r"texts\[\] = \{(.*?)\};", header, re.S).group(1)
-    texts = re.findall(r'"((?:[^"\\]|\\.)*)"', texts)
-    check(len(texts) == len(source), f"{len(texts)} texts for {len(source)} statuses")
+    texts = re.findall(r'"(?:[^"\\]|\\.)*"|NULL', texts)
+    named = {number for number, text in enumerate(texts) if text != "NULL"}
+    check(named == set(source.values()), "not each status has a text")
     for code, fault in _faults._FAULTS.items():
         name = re.sub(r"(?<!^)(?=[A-Z])", "_", fault.__name__).upper()
         check(source.get(name) == code, f"{fault.__name__} isn't the status {code}")

@@ -13,13 +13,13 @@
 from ._faults import (
     AlreadyOpen, BadClass, BadKind, BadPreamble, BadRange, BadResponseType, BadSearch, BadUid, BroadcastUid,
     BufferTooSmall, Closed, DataTooLong, Fault, Full, HasEnded, InvalidClass, InvalidResponseType, LengthMismatch,
-    LogFull, NoBudget, NoPlaces, NoSuchEntry, NotAsked, NotEnded, NotIdle, NotOpen, NotText,
+    LogFull, NoBudget, NoPlaces, NotAsked, NotEnded, NotOpen, NotText,
     OtherOutcome, OutOfMemory, PacketFault, ParamLengthMismatch, ReplyTooLong, TooManyClients, TooManyDevices,
-    TooManyEntries, TooManyPlaces, TooShort, UidDigit, UidFault, UidLength, UidSeparator, UnknownClient,
+    TooManyPlaces, TooShort, UidDigit, UidFault, UidLength, UidSeparator, UnknownClient,
     WrongChecksum, WrongStart, WrongSubStart)
 from ._library import LibraryNotFound, VersionDiffers
 from ._types import (
-    DEFAULT_BUDGET, MOST_CLIENTS, MOST_DEVICES, MOST_FRAME_BYTES, MOST_FREE_ENTRIES, MOST_JOINED_BYTES,
+    DEFAULT_BUDGET, MOST_CLIENTS, MOST_DEVICES, MOST_FRAME_BYTES, MOST_JOINED_BYTES,
     MOST_PARAMETER_BYTES, MOST_PLACES, AckType, BranchReply, BranchReplyKind, Command, CommandKind, Completion,
     Device, Discovery, Kind, MuteAck, Operation, OutcomeKind, ReplyHead, Request, RequestClass, Response,
     ResponseClass, RunFault, RunFaultKind, Search, Status, Uid)

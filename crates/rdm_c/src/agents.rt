@@ -1,5 +1,6 @@
 //! The calls of C on a run of discovery alone. Each is the library's call of that name, on what the handle holds.
-ghost use Rattle.std.specs.Prelude.{◌≡◌, ◌≢◌, ◌++◌, ◌∷◌, ◌+◌, ◌%◌, ◌^◌, ◌⊎◌, ◌==◌, [], length, take, map, true, false};
+ghost use Rattle.std.specs.Prelude.{◌≡◌, ◌≢◌, ◌++◌, ◌∷◌, ◌+◌, ◌%◌, ◌^◌, ◌⊎◌, ◌==◌, [], length, take, map};
+ghost use Rattle.std.specs.Prelude.{true, false};
 ghost use Rattle.std.specs.Prelude.{Some, None, nat_lt, if◌then◌else◌};
 ghost use Rattle.rdm_wire.specs.Frames.{heard_in};
 ghost use Rattle.rdm_agent.specs.Machine.{fed, fault_of};

@@ -136,7 +136,8 @@ pub extern "C" fn wurst_controller_discover(
     ensures stays { handle.new.is_open ≡ handle.old.is_open }
     ensures bad { handle.old.is_open ≡ true → 1 < kind → result ≡ BAD_KIND }
     ensures adds { handle.old.is_open ≡ true → kind ≤ 1 → AddsToEach handle.old.value (λ k.
-        DiscoverAdds k.opening k.entries (record { 0 = client }) (kind_of kind) (ask_answer result number.new)) handle.new.value }
+        DiscoverAdds k.opening k.entries (record { 0 = client }) (kind_of kind) (ask_answer result number.new))
+        handle.new.value }
     ensures unchanged { handle.old.is_open ≡ true → result ≢ DONE →
         (handle.new.value ≡ handle.old.value) × (number.new ≡ number.old) }
 {
@@ -153,7 +154,8 @@ pub extern "C" fn wurst_controller_discover(
 pub extern "C" fn wurst_controller_pause(alloc: Global, handle: &mut ControllerHandle) -> u32
     ensures not_open { handle.old.is_open ≡ false → (result ≡ NOT_OPEN) }
     ensures stays { handle.new.is_open ≡ handle.old.is_open }
-    ensures adds { handle.old.is_open ≡ true → (result ≡ DONE) × AddsToEach handle.old.value (λ k. PauseAdds k.opening k.entries) handle.new.value }
+    ensures adds { handle.old.is_open ≡ true → (result ≡ DONE)
+        × AddsToEach handle.old.value (λ k. PauseAdds k.opening k.entries) handle.new.value }
     ensures unchanged { handle.old.is_open ≡ true → ForEachLog handle.old.value (λ o h.
         can_pause o h ≡ false → handle.new.value ≡ handle.old.value) }
 {
@@ -170,7 +172,8 @@ pub extern "C" fn wurst_controller_pause(alloc: Global, handle: &mut ControllerH
 pub extern "C" fn wurst_controller_resume(alloc: Global, handle: &mut ControllerHandle) -> u32
     ensures not_open { handle.old.is_open ≡ false → (result ≡ NOT_OPEN) }
     ensures stays { handle.new.is_open ≡ handle.old.is_open }
-    ensures adds { handle.old.is_open ≡ true → (result ≡ DONE) × AddsToEach handle.old.value (λ k. ResumeAdds k.opening k.entries) handle.new.value }
+    ensures adds { handle.old.is_open ≡ true → (result ≡ DONE)
+        × AddsToEach handle.old.value (λ k. ResumeAdds k.opening k.entries) handle.new.value }
     ensures unchanged { handle.old.is_open ≡ true → ForEachLog handle.old.value (λ o h.
         can_resume o h ≡ false → handle.new.value ≡ handle.old.value) }
 {
@@ -187,7 +190,8 @@ pub extern "C" fn wurst_controller_resume(alloc: Global, handle: &mut Controller
 pub extern "C" fn wurst_controller_close(alloc: Global, handle: &mut ControllerHandle) -> u32
     ensures not_open { handle.old.is_open ≡ false → (result ≡ NOT_OPEN) }
     ensures stays { handle.new.is_open ≡ handle.old.is_open }
-    ensures adds { handle.old.is_open ≡ true → (result ≡ DONE) × AddsToEach handle.old.value (λ k. CloseAdds k.opening k.entries) handle.new.value }
+    ensures adds { handle.old.is_open ≡ true → (result ≡ DONE)
+        × AddsToEach handle.old.value (λ k. CloseAdds k.opening k.entries) handle.new.value }
     ensures unchanged { handle.old.is_open ≡ true → ForEachLog handle.old.value (λ o h.
         is_closed o h ≡ true → handle.new.value ≡ handle.old.value) }
 {
@@ -207,7 +211,8 @@ pub extern "C" fn wurst_controller_take(
     frame: &mut [u8],
     len: &mut usize,
 ) -> u32
-    ensures not_open { handle.old.is_open ≡ false → (result ≡ NOT_OPEN) × (len.new ≡ len.old) × (frame.new ≡ frame.old) }
+    ensures not_open { handle.old.is_open ≡ false → (result ≡ NOT_OPEN) × (len.new ≡ len.old)
+        × (frame.new ≡ frame.old) }
     ensures stays { handle.new.is_open ≡ handle.old.is_open }
     ensures small { handle.old.is_open ≡ true → length frame.old < 257 → result ≡ BUFFER_TOO_SMALL }
     ensures given { handle.old.is_open ≡ true → result ≡ DONE →
@@ -215,7 +220,8 @@ pub extern "C" fn wurst_controller_take(
         × AddsToEach handle.old.value (λ k. TakeAdds k.opening k.entries (Some sent)) handle.new.value }
     ensures nothing { handle.old.is_open ≡ true → result ≡ NOTHING →
         AddsToEach handle.old.value (λ k. TakeAdds k.opening k.entries None) handle.new.value }
-    ensures statuses { handle.old.is_open ≡ true → (result ≡ BUFFER_TOO_SMALL) ⊎ ((result ≡ NOTHING) ⊎ (result ≡ DONE)) }
+    ensures statuses { handle.old.is_open ≡ true →
+        (result ≡ BUFFER_TOO_SMALL) ⊎ ((result ≡ NOTHING) ⊎ (result ≡ DONE)) }
     ensures unchanged { handle.old.is_open ≡ true → result ≢ DONE →
         (handle.new.value ≡ handle.old.value) × (len.new ≡ len.old) × (frame.new ≡ frame.old) }
 {
@@ -239,7 +245,8 @@ pub extern "C" fn wurst_controller_deliver(
     ensures long { handle.old.is_open ≡ true → 257 < length reply.now → result ≡ REPLY_TOO_LONG }
     ensures heard { handle.old.is_open ≡ true → result ≡ DONE → AddsToEach handle.old.value (λ k.
         DeliverAdds k (Reply (record { items = reply.now })) (Ok tt)) handle.new.value }
-    ensures not_asked { handle.old.is_open ≡ true → result ≡ NOT_ASKED → ForEachLog handle.old.value (λ o h. awaited h ≡ false) }
+    ensures not_asked { handle.old.is_open ≡ true → result ≡ NOT_ASKED →
+        ForEachLog handle.old.value (λ o h. awaited h ≡ false) }
     ensures unchanged { handle.old.is_open ≡ true → result ≢ DONE → handle.new.value ≡ handle.old.value }
 {
     let Some(mut controller) = handle.take(alloc) else {
@@ -257,7 +264,8 @@ pub extern "C" fn wurst_controller_fail(alloc: Global, handle: &mut ControllerHa
     ensures stays { handle.new.is_open ≡ handle.old.is_open }
     ensures heard { handle.old.is_open ≡ true → result ≡ DONE → AddsToEach handle.old.value (λ k.
         DeliverAdds k Failed (Ok tt)) handle.new.value }
-    ensures not_asked { handle.old.is_open ≡ true → result ≡ NOT_ASKED → ForEachLog handle.old.value (λ o h. awaited h ≡ false) }
+    ensures not_asked { handle.old.is_open ≡ true → result ≡ NOT_ASKED →
+        ForEachLog handle.old.value (λ o h. awaited h ≡ false) }
     ensures unchanged { handle.old.is_open ≡ true → result ≢ DONE → handle.new.value ≡ handle.old.value }
 {
     let Some(mut controller) = handle.take(alloc) else {
@@ -279,7 +287,8 @@ pub extern "C" fn wurst_controller_oldest(
     ensures not_open { handle.old.is_open ≡ false → (result ≡ NOT_OPEN) × (kind.new ≡ kind.old) }
     ensures stays { handle.new.is_open ≡ handle.old.is_open }
     ensures same { handle.old.is_open ≡ true → handle.new.value ≡ handle.old.value }
-    ensures status { handle.old.is_open ≡ true → ForEachLog handle.old.value (λ o h. result ≡ oldest_status o h client) }
+    ensures status { handle.old.is_open ≡ true →
+        ForEachLog handle.old.value (λ o h. result ≡ oldest_status o h client) }
     ensures kind { handle.old.is_open ≡ true → result ≡ DONE → ForEachLog handle.old.value (λ o h.
         oldest_kind o h client ≡ Some (outcome_kind_of kind.new)) }
     ensures unchanged { handle.old.is_open ≡ true → result ≢ DONE → kind.new ≡ kind.old }
@@ -302,7 +311,8 @@ pub extern "C" fn wurst_controller_next_completion(
     completion: &mut CompletionForC,
     buffer: &mut [u8],
 ) -> u32
-    ensures not_open { handle.old.is_open ≡ false → (result ≡ NOT_OPEN) × (completion.new ≡ completion.old) × (buffer.new ≡ buffer.old) }
+    ensures not_open { handle.old.is_open ≡ false → (result ≡ NOT_OPEN) × (completion.new ≡ completion.old)
+        × (buffer.new ≡ buffer.old) }
     ensures stays { handle.new.is_open ≡ handle.old.is_open }
     ensures status { handle.old.is_open ≡ true → ForEachLog handle.old.value (λ o h.
         result ≡ collect_status o h client kinds.Request (length buffer.old)) }
@@ -311,7 +321,8 @@ pub extern "C" fn wurst_controller_next_completion(
     ensures collected { handle.old.is_open ≡ true → result ≡ DONE → (number : ℕ) × (done : Completion)
         × (completion.new ≡ form_of_completion number done)
         × AddsToEach handle.old.value (λ k.
-        CollectAdds k.opening k.entries (record { 0 = client }) (Some (request_outcome (number, done)))) handle.new.value
+        CollectAdds k.opening k.entries (record { 0 = client }) (Some (request_outcome (number, done))))
+        handle.new.value
         × ForEachLog handle.old.value (λ o h. take completion.new.len buffer.new ≡ done.bytes.items) }
     ensures unchanged { handle.old.is_open ≡ true → result ≢ DONE → handle.new.value ≡ handle.old.value }
 {
@@ -333,7 +344,8 @@ pub extern "C" fn wurst_controller_next_discovery(
     end: &mut EndForC,
     devices: &mut [DeviceForC],
 ) -> u32
-    ensures not_open { handle.old.is_open ≡ false → (result ≡ NOT_OPEN) × (end.new ≡ end.old) × (devices.new ≡ devices.old) }
+    ensures not_open { handle.old.is_open ≡ false → (result ≡ NOT_OPEN) × (end.new ≡ end.old)
+        × (devices.new ≡ devices.old) }
     ensures stays { handle.new.is_open ≡ handle.old.is_open }
     ensures status { handle.old.is_open ≡ true → ForEachLog handle.old.value (λ o h.
         result ≡ collect_status o h client kinds.Discovery (length devices.old)) }
@@ -363,11 +375,14 @@ pub extern "C" fn wurst_controller_devices(
     devices: &mut [DeviceForC],
     count: &mut usize,
 ) -> u32
-    ensures not_open { handle.old.is_open ≡ false → (result ≡ NOT_OPEN) × (devices.new ≡ devices.old) × (count.new ≡ count.old) }
+    ensures not_open { handle.old.is_open ≡ false → (result ≡ NOT_OPEN) × (devices.new ≡ devices.old)
+        × (count.new ≡ count.old) }
     ensures stays { handle.new.is_open ≡ handle.old.is_open }
     ensures same { handle.old.is_open ≡ true → handle.new.value ≡ handle.old.value }
-    ensures count { handle.old.is_open ≡ true → ForEachLog handle.old.value (λ o h. count.new ≡ length (known_devices o h)) }
-    ensures status { handle.old.is_open ≡ true → result ≡ (if nat_lt (length devices.old) count.new then BUFFER_TOO_SMALL else DONE) }
+    ensures count { handle.old.is_open ≡ true →
+        ForEachLog handle.old.value (λ o h. count.new ≡ length (known_devices o h)) }
+    ensures status { handle.old.is_open ≡ true →
+        result ≡ (if nat_lt (length devices.old) count.new then BUFFER_TOO_SMALL else DONE) }
     ensures written { handle.old.is_open ≡ true → result ≡ DONE → ForEachLog handle.old.value (λ o h.
         take count.new devices.new ≡ map form_of_device (known_devices o h)) }
     ensures unchanged { handle.old.is_open ≡ true → result ≢ DONE → devices.new ≡ devices.old }

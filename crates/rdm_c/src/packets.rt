@@ -14,7 +14,8 @@ ghost use Rattle.rdm_wire.specs.declared.command.Command.{Command};
 ghost use Rattle.rdm_wire.specs.declared.mute_ack.MuteAck.{MuteAck};
 ghost use Rattle.rdm_wire.specs.declared.response.Response.{Response};
 ghost use Rattle.rdm_handles.specs.Forms.{uid_status, request_status, request_of};
-ghost use Rattle.rdm_handles.specs.Packets.{first_of, number_status, frame_status, range_status, read_status, found_status};
+ghost use Rattle.rdm_handles.specs.Packets.{first_of, number_status, frame_status, range_status, read_status};
+ghost use Rattle.rdm_handles.specs.Packets.{found_status};
 ghost use Rattle.rdm_handles.specs.Packets.{response_status, response_of, device_status, device_of, data_status};
 ghost use Rattle.rdm_handles.specs.Packets.{form_of_response, form_of_ack, form_of_command, data_of_command};
 

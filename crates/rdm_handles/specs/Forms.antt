@@ -1,5 +1,6 @@
 -- What the structs of C say, and which status a call answers where one says nothing.
-use Rattle.std.specs.Prelude.{ℕ, ◌^◌, true, false, List, length, Option, Some, None, ◌==◌, is_some, nat_lt, if◌then◌else◌}
+use Rattle.std.specs.Prelude.{ℕ, ◌^◌, true, false, List, length, Option, Some, None, ◌==◌, is_some, nat_lt}
+use Rattle.std.specs.Prelude.{if◌then◌else◌}
 use Rattle.rdm_wire.specs.Uid.{is_broadcast}
 use Rattle.rdm_wire.specs.declared.device.Device.{Device}
 use Rattle.rdm_wire.specs.declared.request.Request.{Request}
@@ -42,7 +43,8 @@ class_of n = if n == 0 then requests.Get else requests.Set
 
 -- the UID of a device or a controller: its own
 abbrev pub uid_status : ℕ → ℕ
-uid_status u = if nat_lt u (2 ^ 48) then (if is_broadcast u then status.broadcast_uid else status.done) else status.bad_uid
+uid_status u = if nat_lt u (2 ^ 48) then (if is_broadcast u then status.broadcast_uid else status.done) else
+    status.bad_uid
 
 -- the first fault of a setup
 abbrev pub setup_status : SetupForC → ℕ

@@ -1,5 +1,6 @@
 -- Packets for C: what its structs say, and which status a call answers where they say nothing.
-use Rattle.std.specs.Prelude.{ℕ, ◌^◌, Bool, true, false, List, [], length, Option, Some, None, Result, Ok, Err, ◌==◌, is_some}
+use Rattle.std.specs.Prelude.{ℕ, ◌^◌, Bool, true, false, List, [], length, Option, Some, None, Result, Ok}
+use Rattle.std.specs.Prelude.{Err, ◌==◌, is_some}
 use Rattle.std.specs.Prelude.{nat_lt, nat_le, if◌then◌else◌}
 use Rattle.rdm_wire.specs.declared.device.Device.{Device}
 use Rattle.rdm_wire.specs.declared.command.Command.{Command}

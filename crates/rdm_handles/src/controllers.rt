@@ -94,7 +94,8 @@ pub fn submit(
 pub fn discover(controller: &mut Controller, client: u8, kind: u32, number: &mut u64) -> u32
     ensures bad { 1 < kind → result ≡ BAD_KIND }
     ensures adds { kind ≤ 1 → AddsToEach controller.old (λ k.
-        DiscoverAdds k.opening k.entries (record { 0 = client }) (kind_of kind) (ask_answer result number.new)) controller.new }
+        DiscoverAdds k.opening k.entries (record { 0 = client }) (kind_of kind) (ask_answer result number.new))
+        controller.new }
     ensures unchanged { result ≢ DONE → (controller.new ≡ controller.old) × (number.new ≡ number.old) }
 {
     if kind > 1 {
@@ -114,7 +115,8 @@ pub fn take(controller: &mut Controller, frame: &mut [u8], len: &mut usize) -> u
     ensures small { length frame.old < 257 → result ≡ BUFFER_TOO_SMALL }
     ensures given { result ≡ DONE → (sent : Bytes ℕ) × (take len.new frame.new ≡ sent.items)
         × AddsToEach controller.old (λ k. TakeAdds k.opening k.entries (Some sent)) controller.new }
-    ensures nothing { result ≡ NOTHING → AddsToEach controller.old (λ k. TakeAdds k.opening k.entries None) controller.new }
+    ensures nothing { result ≡ NOTHING →
+        AddsToEach controller.old (λ k. TakeAdds k.opening k.entries None) controller.new }
     ensures statuses { (result ≡ BUFFER_TOO_SMALL) ⊎ ((result ≡ NOTHING) ⊎ (result ≡ DONE)) }
     ensures unchanged { result ≢ DONE → (controller.new ≡ controller.old) × (len.new ≡ len.old)
         × (frame.new ≡ frame.old) }

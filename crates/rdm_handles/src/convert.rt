@@ -3,7 +3,8 @@ ghost use Rattle.std.specs.Prelude.{◌≡◌, ◌≢◌, ◌≤◌, List, lengt
 ghost use Rattle.rdm_log.specs.log.Config.{IsConfig};
 ghost use Rattle.rdm_handles.specs.Forms.{setup_status, setup_of, search_of, uid_status, request_status, request_of};
 ghost use Rattle.rdm_handles.specs.Forms.{kind_of, number_of_ack, number_of_class, form_of_completion, form_of_end};
-ghost use Rattle.rdm_handles.specs.Forms.{form_of_device, number_or_0, number_of_fault, corrupt_uid, class_of, form_with_head, uid_of_fault};
+ghost use Rattle.rdm_handles.specs.Forms.{form_of_device, number_or_0, number_of_fault, corrupt_uid};
+ghost use Rattle.rdm_handles.specs.Forms.{class_of, form_with_head, uid_of_fault};
 ghost use Rattle.rdm_handles.specs.Answers.{join_fault_of, submit_fault_of, ask_fault_of};
 
 use crate::forms::{CompletionForC, DeviceForC, EndForC, RequestForC, SetupForC};

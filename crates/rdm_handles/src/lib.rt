@@ -1,4 +1,4 @@
-//! What C holds and hands over: handles of controllers, sessions, logs and discoveries, and structs of numbers.
+//! What C holds and hands over: handles of controllers and of runs of discovery, and structs of numbers.
 //!
 //! A handle is 16 bytes in the memory of its C program. It owns a value on the heap while it is open.
 #![tactic(auto)]
@@ -10,10 +10,8 @@ pub mod controllers;
 pub mod convert;
 mod discovery;
 mod forms;
-mod log;
 mod loose;
 pub mod packets;
-mod session;
 pub mod status;
 
 pub use agent::AgentHandle;
@@ -23,5 +21,3 @@ pub use forms::{
     CommandForC, CompletionForC, DeviceForC, EndForC, MuteAckForC, RequestForC, ResponseForC,
     SetupForC, StartForC,
 };
-pub use log::LogHandle;
-pub use session::SessionHandle;

@@ -1,6 +1,7 @@
 //! Packets for C: what its structs say, and what they are written from.
 ghost use Rattle.std.specs.Prelude.{◌≡◌, ◌≢◌, ◌≤◌, length, take, IfOk, IfErr, Some, None};
-ghost use Rattle.rdm_handles.specs.Packets.{number_status, frame_status, response_status, response_of, ack_of, reply_class_of};
+ghost use Rattle.rdm_handles.specs.Packets.{number_status, frame_status, response_status, response_of};
+ghost use Rattle.rdm_handles.specs.Packets.{ack_of, reply_class_of};
 ghost use Rattle.rdm_handles.specs.Packets.{form_of_response, form_of_ack, form_of_command, device_status, device_of};
 ghost use Rattle.rdm_handles.specs.Packets.{data_of_command, packet_status, uid_fault_status, binding_of, data_status};
 ghost use Rattle.rdm_handles.specs.Packets.{number_of_request};

@@ -16,6 +16,7 @@ use denote.RawPtr.{null_ptr}
 use denote.Steps.{nothing}
 use denote.Triple.Walked.{walk_of}
 use Rattle.std.proofs.raw_atomic.Walks.{proved_at, leaves}
+use Rattle.rdm_agent.specs.declared.search.Search.TheVariants.{Steady}
 use Rattle.rdm_queue.specs.body.State.{first_state}
 use Rattle.rdm_handles.proofs.ControllerHandles.{word, handle_in}
 use Rattle.rdm_handles.specs.contracts.controller.ControllerHandle.closed as f
@@ -25,7 +26,7 @@ use Rattle.rdm_handles.proofs.controller.ControllerHandle.closed.Code as code
 pub closed_spec : {M : Type 1} → statement M
 closed_spec 𝓤 𝓛 𝓜 𝓡 wired =
     let H = 𝓛.H in let 𝓣 = tables 𝓤 H 𝓜 𝓡 𝓡.env in let En = f.ended in let c = f.clauses 𝓛 𝓜.mem 𝓡.returns in let fn = code.function in
-    let s = first_state (record { source = 0; places = 0; budget = 0 }) in
+    let s = first_state (record { config = record { source = 0; places = 0; budget = 0 }; search = Steady }) in
     proved_at 𝓛 En tt c 𝓜 𝓡 tt f.Key.name fn (code.unfolded 𝓤 H 𝓜 𝓡 wired) (λ z are.
     let κs = z.0.0 in let Post : Val → SProp 𝓤 = (walk_of 𝓛 En tt c).post z in
     qed 𝓛 ((‵ ftrue ⊛ ‵ (owns (types_at En.signature.params κs) z.0.3 z.0.4)) ∷ raw ((c κs z.0.3).requires z.1) ∷ []) ∵ split ! $
