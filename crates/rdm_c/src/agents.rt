@@ -2,7 +2,6 @@
 ghost use Rattle.std.specs.Prelude.{◌≡◌, ◌≢◌, ◌++◌, ◌∷◌, ◌+◌, ◌%◌, ◌^◌, ◌⊎◌, ◌==◌, [], length, take, map};
 ghost use Rattle.std.specs.Prelude.{true, false};
 ghost use Rattle.std.specs.Prelude.{Some, None, nat_lt, if◌then◌else◌};
-ghost use Rattle.rdm_wire.specs.Frames.{heard_in};
 ghost use Rattle.rdm_agent.specs.Machine.{fed, fault_of};
 ghost use Rattle.rdm_agent.specs.Run.{heard_by, seen_op, IsReport};
 ghost use Rattle.rdm_agent.specs.Calls.{next_op, fits, ended_by_abort, HasRunBy, AfterEach};
@@ -11,7 +10,8 @@ ghost use Rattle.rdm_agent.specs.declared.op.OpReply.{OpReply};
 ghost use Rattle.rdm_agent.specs.declared.op.Op.TheVariants.{End};
 ghost use Rattle.rdm_handles.specs.Forms.{search_of, kind_of, corrupt_uid, number_of_fault, form_of_device};
 ghost use Rattle.rdm_handles.specs.Packets.{first_of, frame_status};
-ghost use Rattle.rdm_handles.specs.Agents.{start_status, known_status, known_set, operation_status, operation_of};
+ghost use Rattle.rdm_handles.specs.Agents.{start_status, known_status, known_set, operation_status};
+ghost use Rattle.rdm_handles.specs.Agents.{operation_of, heard_of};
 
 use rdm_handles::status::{
     ALREADY_OPEN, BUFFER_TOO_SMALL, DONE, HAS_ENDED, NOT_ENDED, NOT_OPEN, OUT_OF_MEMORY,
@@ -100,8 +100,7 @@ pub extern "C" fn wurst_agent_hear(alloc: Global, handle: &mut AgentHandle, repl
     ensures status { handle.old.is_open ≡ true →
         result ≡ (if operation_status (next_op handle.old.value.agent) == 0 then DONE else HAS_ENDED) }
     ensures heard { handle.old.is_open ≡ true → result ≡ DONE →
-        handle.new.value.agent ≡ fed handle.old.value.agent (heard_in
-        (op_frame (next_op handle.old.value.agent) handle.old.value.source handle.old.value.tn) (Some reply.now)) }
+        handle.new.value.agent ≡ heard_of handle.old.value (Some reply.now) }
     ensures has_run { handle.old.is_open ≡ true → result ≡ DONE → (heard : OpReply)
         × (fits heard (next_op handle.old.value.agent) ≡ true)
         × (handle.new.value.agent ≡ fed handle.old.value.agent (heard_by heard))
@@ -115,7 +114,7 @@ pub extern "C" fn wurst_agent_hear(alloc: Global, handle: &mut AgentHandle, repl
     let Some(mut discovery) = handle.take(alloc) else {
         return NOT_OPEN;
     };
-    let status = agents::hear(&mut discovery, Some(reply));
+    let status = agents::hear_reply(&mut discovery, reply);
     handle.put(discovery);
     status
 }
@@ -128,8 +127,7 @@ pub extern "C" fn wurst_agent_fail(alloc: Global, handle: &mut AgentHandle) -> u
     ensures status { handle.old.is_open ≡ true →
         result ≡ (if operation_status (next_op handle.old.value.agent) == 0 then DONE else HAS_ENDED) }
     ensures heard { handle.old.is_open ≡ true → result ≡ DONE →
-        handle.new.value.agent ≡ fed handle.old.value.agent (heard_in
-        (op_frame (next_op handle.old.value.agent) handle.old.value.source handle.old.value.tn) None) }
+        handle.new.value.agent ≡ heard_of handle.old.value None }
     ensures unchanged { handle.old.is_open ≡ true → result ≢ DONE → handle.new.value ≡ handle.old.value }
 {
     let Some(mut discovery) = handle.take(alloc) else {

@@ -1,7 +1,7 @@
 //! The calls of C on controllers. Each is the library's call of that name, on what the handle holds.
 ghost use Rattle.std.specs.Prelude.{◌≡◌, ◌≢◌, ◌≤◌, ◌<◌, ◌⊎◌, ℕ, length, take, map, true, false, Some};
 ghost use Rattle.std.specs.Prelude.{None, Ok};
-ghost use Rattle.std.specs.Prelude.{if◌then◌else◌, nat_lt};
+ghost use Rattle.std.specs.Prelude.{if◌then◌else◌, nat_lt, List};
 ghost use Rattle.arrayvec.specs.ArrayVec.{ArrayVec as Bytes};
 ghost use Rattle.rdm_wire.specs.declared.device.Device.{Device};
 ghost use Rattle.rdm_join.specs.declared.event.LineEvent.TheVariants.{Reply, Failed};

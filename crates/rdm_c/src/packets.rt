@@ -1,7 +1,7 @@
 //! The calls of C that read and write UIDs and packets.
 ghost use Rattle.std.specs.Prelude.{◌≡◌, ◌≢◌, ◌≤◌, ◌↔◌, ◌^◌, ℕ, [], length, take, Some, Ok, IfOk, IfErr, nat_lt};
 ghost use Rattle.std.specs.Prelude.{if◌then◌else◌};
-ghost use Rattle.std.specs.Utf8.{IsUtf8};
+ghost use Rattle.std.specs.Str.{IsUtf8};
 ghost use Rattle.rdm_wire.specs.BranchText.{BranchText, branch_text};
 ghost use Rattle.rdm_wire.specs.CommandFrames.{request_frame, unmute_frame, mute_frame, branch_frame};
 ghost use Rattle.rdm_wire.specs.Commands.{command_read};
@@ -19,6 +19,7 @@ ghost use Rattle.rdm_handles.specs.Packets.{found_status};
 ghost use Rattle.rdm_handles.specs.Packets.{response_status, response_of, device_status, device_of, data_status};
 ghost use Rattle.rdm_handles.specs.Packets.{form_of_response, form_of_ack, form_of_command, data_of_command};
 
+use arrayvec::ArrayVec;
 use rdm_handles::convert::{own_uid, put_bytes, request_of};
 use rdm_handles::packets::{
     ack_for_c, any_uid, command_for_c, device_of, put_data, put_frame, response_for_c, response_of,
@@ -119,8 +120,16 @@ pub extern "C" fn wurst_branch_reply_write(
     if bytes.len() < LONGEST_BRANCH_REPLY {
         return BUFFER_TOO_SMALL;
     }
-    *len = put_bytes(bytes, &write_branch_reply(uid, preamble));
+    *len = put_reply(bytes, &write_branch_reply(uid, preamble));
     DONE
+}
+
+// Writes a reply at the front of a buffer, and tells how many bytes it has.
+fn put_reply(bytes: &mut [u8], reply: &ArrayVec<u8, LONGEST_BRANCH_REPLY>) -> usize
+    requires { 24 ≤ length bytes.old }
+    ensures { take result bytes.new ≡ reply.now.items }
+{
+    put_bytes(bytes, reply)
 }
 
 /// Writes a request's packet.

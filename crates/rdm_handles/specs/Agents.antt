@@ -1,11 +1,16 @@
 -- How a run of discovery alone begins for C, and what it asks.
-use Rattle.std.specs.Prelude.{ℕ, List, [], ◌∷◌, length, ◌==◌, nat_lt, if◌then◌else◌}
+use Rattle.std.specs.Prelude.{ℕ, List, [], ◌∷◌, length, Option, ◌==◌, nat_lt, if◌then◌else◌}
 use Rattle.rdm_wire.specs.Uid.{has, with_uid}
+use Rattle.rdm_wire.specs.Frames.{heard_in}
+use Rattle.rdm_agent.specs.Calls.{next_op}
+use Rattle.rdm_agent.specs.Machine.{AgentState, fed}
+use Rattle.rdm_agent.specs.OpFrames.{op_frame}
 use Rattle.rdm_agent.specs.declared.op.Op.{Op}
 use Rattle.rdm_agent.specs.declared.op.Op.TheVariants as ops
 use Rattle.rdm_handles.specs.Statuses as status
 use Rattle.rdm_handles.specs.Forms.{uid_status}
 use Rattle.rdm_handles.specs.Packets.{first_of}
+use Rattle.rdm_handles.specs.declared.discovery.Discovery.{Discovery}
 use Rattle.rdm_handles.specs.declared.forms.StartForC.{StartForC}
 
 -- the first fault of a start
@@ -43,3 +48,7 @@ operation_of ops.UnmuteAll = 0
 operation_of (ops.Mute u) = 1
 operation_of (ops.Branch range) = 2
 operation_of ops.End = 3
+
+-- the run after what came to the frame that it asks; None: the line failed
+unfoldable pub heard_of : Discovery → Option (List ℕ) → AgentState
+heard_of d answer = fed d.agent (heard_in (op_frame (next_op d.agent) d.source d.tn) answer)

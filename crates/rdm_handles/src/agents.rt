@@ -1,7 +1,6 @@
 //! What calls of C ask of a run of discovery alone, with the statuses that they answer.
 ghost use Rattle.std.specs.Prelude.{◌≡◌, ◌≢◌, ◌++◌, ◌∷◌, ℕ, [], length, take, true, false, IfOk, IfErr, if◌then◌else◌};
-ghost use Rattle.std.specs.Prelude.{◌%◌, ◌^◌, ◌+◌, ◌==◌, option_copied};
-ghost use Rattle.rdm_wire.specs.Frames.{heard_in};
+ghost use Rattle.std.specs.Prelude.{◌%◌, ◌^◌, ◌+◌, ◌==◌, option_copied, Some};
 ghost use Rattle.rdm_agent.specs.Machine.{fed, fault_of};
 ghost use Rattle.rdm_agent.specs.Run.{heard_by, seen_op};
 ghost use Rattle.rdm_agent.specs.Calls.{next_op, fits, ended_by_abort, HasRunBy, AfterEach};
@@ -11,7 +10,7 @@ ghost use Rattle.rdm_agent.specs.declared.op.Op.TheVariants.{End};
 ghost use Rattle.rdm_handles.specs.Forms.{search_of, kind_of, corrupt_uid, number_of_fault};
 ghost use Rattle.rdm_handles.specs.Packets.{first_of, frame_status};
 ghost use Rattle.rdm_handles.specs.Agents.{start_status, known_status, known_set, added_status};
-ghost use Rattle.rdm_handles.specs.Agents.{operation_status, operation_of};
+ghost use Rattle.rdm_handles.specs.Agents.{operation_status, operation_of, heard_of};
 ghost use Rattle.rdm_wire.specs.Uid.{with_uid};
 
 use crate::convert::{corrupt_uid, kind_of, number_of_fault, own_uid, search_of};
@@ -30,7 +29,7 @@ pub fn start(start: &StartForC, known: &[u64]) -> Result<Discovery, u32>
         × HasRunBy (search_of start.now.search) (kind_of start.now.kind) (known_set [] known.now)
         start.now.budget false [] d.agent) }
     ensures refused { IfErr result (λ fault.
-        fault ≡ first_of (start_status start.now) (known_status [] known.now)) }
+        (fault ≡ first_of (start_status start.now) (known_status [] known.now)) × (fault ≢ 0)) }
 {
     let source = source_of(start)?;
     let mut set = UidSet::new();
@@ -128,12 +127,25 @@ fn operation_of(op: &Op) -> u32
     }
 }
 
+/// Takes the bytes that the line answered; none are silence.
+pub fn hear_reply(discovery: &mut Discovery, reply: &[u8]) -> u32
+    ensures status { result ≡ (if operation_status (next_op discovery.old.agent) == 0 then DONE else HAS_ENDED) }
+    ensures heard { result ≡ DONE → discovery.new.agent ≡ heard_of discovery.old (Some reply.now) }
+    ensures has_run { result ≡ DONE → (heard : OpReply) × (fits heard (next_op discovery.old.agent) ≡ true)
+        × (discovery.new.agent ≡ fed discovery.old.agent (heard_by heard))
+        × AfterEach discovery.old.agent (λ run. HasRunBy run.search run.kind run.known run.budget false
+        (run.exchanges ++ seen_op (next_op discovery.old.agent, heard) ∷ []) discovery.new.agent) }
+    ensures numbers { result ≡ DONE → (discovery.new.tn ≡ (discovery.old.tn + 1) % 2 ^ 8)
+        × (discovery.new.source ≡ discovery.old.source) }
+    ensures unchanged { result ≢ DONE → discovery.new ≡ discovery.old }
+{
+    hear(discovery, Some(reply))
+}
+
 /// Takes the bytes that the line answered, or None where it failed.
 pub fn hear(discovery: &mut Discovery, answer: Option<&[u8]>) -> u32
     ensures status { result ≡ (if operation_status (next_op discovery.old.agent) == 0 then DONE else HAS_ENDED) }
-    ensures heard { result ≡ DONE → discovery.new.agent ≡ fed discovery.old.agent
-        (heard_in (op_frame (next_op discovery.old.agent) discovery.old.source discovery.old.tn)
-        (option_copied answer.entry)) }
+    ensures heard { result ≡ DONE → discovery.new.agent ≡ heard_of discovery.old (option_copied answer.entry) }
     ensures has_run { result ≡ DONE → (reply : OpReply) × (fits reply (next_op discovery.old.agent) ≡ true)
         × (discovery.new.agent ≡ fed discovery.old.agent (heard_by reply))
         × AfterEach discovery.old.agent (λ run. HasRunBy run.search run.kind run.known run.budget false
