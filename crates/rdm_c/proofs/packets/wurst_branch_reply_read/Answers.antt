@@ -1,4 +1,4 @@
-use Rattle.std.proofs.Common.{◌≡◌, ℕ, refl, ◌∙◌}
+use Rattle.std.proofs.Common.{◌≡◌, refl, ◌∙◌}
 use Rattle.rdm_wire.specs.declared.branch.BranchReply.{BranchReply}
 use Rattle.rdm_wire.specs.declared.branch.BranchReply.TheVariants.{One, Collision}
 use Rattle.rdm_c.proofs.packets.wurst_branch_reply_read.Goals as goal
