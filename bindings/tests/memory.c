@@ -77,7 +77,6 @@ static void refuses_each(void) {
         const uint32_t status = one_request(&lacked_memory);
         CHECK(blocks == 0);
         CHECK(status == WURST_OUT_OF_MEMORY || status == WURST_DONE);
-        CHECK(lacked_memory || left > 0);
         allocations++;
     }
     left = SIZE_MAX;
