@@ -7,11 +7,10 @@ mod rig;
 
 use crate::rig::{DEVICE_LABEL, rig};
 use arrayvec::ArrayVec;
-use rdm_agent::{DEFAULT_BUDGET, Kind};
-use rdm_join::LineEvent;
-use rdm_line::{Line, SimLine};
-use rdm_queue::{Config, Log, Outcome, Session};
-use rdm_wire::{ReqClass, Request, Uid};
+use rdm::{
+    Config, DEFAULT_BUDGET, Kind, Line, LineEvent, Log, Outcome, ReqClass, Request, Session,
+    SimLine, Uid,
+};
 use std::alloc::Global;
 use std::process::ExitCode;
 
