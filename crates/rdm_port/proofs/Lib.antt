@@ -1,3 +1,4 @@
 pub mod WordsLemmas
 mod ComplaintLemmas
 mod LineLemmas
+mod LineWordLemmas

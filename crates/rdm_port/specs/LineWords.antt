@@ -16,17 +16,22 @@ line_streams name =
     (record (new_rule (codes "line")) { long = Some (codes "line"); required = true }))
     (record (new_rule (codes "replies")) { long = Some (codes "replies") })
 
--- the command that discovers the devices of a line
+-- the command that discovers the devices of a line, with the UIDs that it needs
+abbrev pub line_devices : App
+line_devices =
+    with_rule
+    (with_rule
+    (line_streams (codes "discover"))
+    (record (new_rule (codes "source")) { long = Some (codes "source"); required = true }))
+    (record (new_rule (codes "known")) { long = Some (codes "known"); action = Some Append })
+
+-- the same with its other options
 abbrev pub line_discover : App
 line_discover =
     with_rule
     (with_rule
     (with_rule
-    (with_rule
-    (with_rule
-    (line_streams (codes "discover"))
-    (record (new_rule (codes "source")) { long = Some (codes "source"); required = true }))
-    (record (new_rule (codes "known")) { long = Some (codes "known"); action = Some Append }))
+    line_devices
     (record (new_rule (codes "budget")) { long = Some (codes "budget") }))
     (record (new_rule (codes "incremental")) { long = Some (codes "incremental"); action = Some SetTrue }))
     (record (new_rule (codes "quick")) { long = Some (codes "quick"); action = Some SetTrue })

@@ -367,7 +367,10 @@ fn write_complaint<W: fmt::Write>(
             write!(f, "the option {option} of {command} is missing")
         }
         Complaint::UnknownBudget(text) => {
-            write!(f, "--budget is a whole number from 1 to 1000000000, not {text:?}")
+            write!(
+                f,
+                "--budget is a whole number from 1 to 1000000000, not {text:?}"
+            )
         }
         Complaint::NoText => write!(f, "one of the words is no UTF-8 text"),
         _ => write!(f, "the words fit no command"),

@@ -97,7 +97,10 @@ fn reply_commands<'a>(alloc: Global) -> Result<Command<'a>, AllocError>
 }
 
 /// The command line with one more command.
-pub(crate) fn with_command<'a>(line: Command<'a>, command: Command<'a>) -> Result<Command<'a>, AllocError>
+pub(crate) fn with_command<'a>(
+    line: Command<'a>,
+    command: Command<'a>,
+) -> Result<Command<'a>, AllocError>
     requires { (fields_of command).has_globals ≡ false }
     ensures { IfOk result (λ r. app_of r ≡ with_subcommand (app_of line.entry) (app_of command.entry).top) }
 {

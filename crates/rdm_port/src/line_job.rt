@@ -1,10 +1,10 @@
 //! What arguments ask for on a line of the caller's own.
-ghost use Rattle.std.specs.Prelude.{◌≡◌, ◌≤◌, ◌<◌, ℕ, IfOk, IfSome, IfNone, Some, Err, false, codes, length};
+ghost use Rattle.std.specs.Prelude.{◌≡◌, ◌≤◌, ◌<◌, ℕ, IfOk, IfErr, IfSome, IfNone, Some, None, Err, false, codes, length};
 ghost use Rattle.clap.specs.Words.{app_of, found_of, rows_of, subcommand_rows_of, first_of};
 ghost use Rattle.clap.specs.declared.builder.command.Command.TheViews.{out-Command as fields_of};
 ghost use Rattle.rdm_port.specs.Words.{texts_of};
 ghost use Rattle.rdm_port.specs.LineWords.{AsksOnLine, AsksNothingOnLine, IsGivenOnLine, IsDiscoveryOf};
-ghost use Rattle.rdm_port.specs.LineWords.{IsBudget, line_commands, line_discover, line_streams, texts_given};
+ghost use Rattle.rdm_port.specs.LineWords.{IsBudget, line_commands, line_discover, line_devices, line_streams, texts_given};
 
 use crate::job::{WordsFault, bare, fault_of, has_flag, with_command};
 use clap::{Arg, ArgAction, ArgMatches, Command};
@@ -65,12 +65,6 @@ fn line_discover<'a>(alloc: Global) -> Result<Command<'a>, AllocError>
     ensures app { IfOk result (λ command. app_of command ≡ line_discover) }
     ensures local { IfOk result (λ command. (fields_of command).has_globals ≡ false) }
 {
-    let source = Arg::new(alloc, "source")
-        .long("source")
-        .required(true);
-    let known = Arg::new(alloc, "known")
-        .long("known")
-        .action(ArgAction::Append);
     let budget = Arg::new(alloc, "budget").long("budget");
     let incremental = Arg::new(alloc, "incremental")
         .long("incremental")
@@ -78,12 +72,22 @@ fn line_discover<'a>(alloc: Global) -> Result<Command<'a>, AllocError>
     let quick = Arg::new(alloc, "quick")
         .long("quick")
         .action(ArgAction::SetTrue);
-    line_streams(alloc, "discover")?
-        .arg(source)?
-        .arg(known)?
+    line_devices(alloc)?
         .arg(budget)?
         .arg(incremental)?
         .arg(quick)
+}
+
+// The command with the UIDs that it needs.
+fn line_devices<'a>(alloc: Global) -> Result<Command<'a>, AllocError>
+    ensures app { IfOk result (λ command. app_of command ≡ line_devices) }
+    ensures local { IfOk result (λ command. (fields_of command).has_globals ≡ false) }
+{
+    let source = Arg::new(alloc, "source").long("source").required(true);
+    let known = Arg::new(alloc, "known")
+        .long("known")
+        .action(ArgAction::Append);
+    line_streams(alloc, "discover")?.arg(source)?.arg(known)
 }
 
 // A command with the streams of a line.
@@ -115,19 +119,18 @@ fn given_on_line<'a>(
 }
 
 // The discovery that these arguments say. Err: they say none, or there was no memory.
-fn discovery_of<'a>(
-    alloc: Global,
-    given: &ArgMatches<'a>,
-) -> Result<LineDiscovery<'a>, WordsFault>
+fn discovery_of<'a>(alloc: Global, given: &ArgMatches<'a>) -> Result<LineDiscovery<'a>, WordsFault>
     ensures ok { IfOk result (IsDiscoveryOf (rows_of (found_of given.now))) }
     ensures words { result ≡ Err WordsFault.Words
         → (job : LineDiscovery) → IsDiscoveryOf (rows_of (found_of given.now)) job → ⊥ }
 {
-    let Some(out) = given.get_str("line") else {
-        return Err(WordsFault::Words);
+    let out = match text_of(given, "line") {
+        Ok(out) => out,
+        Err(fault) => return Err(fault),
     };
-    let Some(source) = given.get_str("source") else {
-        return Err(WordsFault::Words);
+    let source = match text_of(given, "source") {
+        Ok(source) => source,
+        Err(fault) => return Err(fault),
     };
     let Some(budget) = budget_of(given) else {
         return Err(WordsFault::Words);
@@ -143,6 +146,17 @@ fn discovery_of<'a>(
             budget,
         }),
         Err(fault) => Err(fault),
+    }
+}
+
+// The value of an option that has to be given. Err: it isn't.
+fn text_of<'a>(given: &ArgMatches<'a>, name: &str) -> Result<&'a str, WordsFault>
+    ensures ok { IfOk result (λ text. first_of name.now (rows_of (found_of given.now)) ≡ Some text.now) }
+    ensures none { IfErr result (λ _. first_of name.now (rows_of (found_of given.now)) ≡ None) }
+{
+    match given.get_str(name) {
+        Some(text) => Ok(text),
+        None => Err(WordsFault::Words),
     }
 }
 
@@ -179,14 +193,12 @@ fn known_of<'a>(alloc: Global, given: &ArgMatches<'a>) -> Result<Vec<&'a str>, W
         → MOST_DEVICES < length (texts_given (codes "known") (rows_of (found_of given.now))) }
 {
     let mut known = Vec::new(alloc);
-    let Some(texts) = given.get_strs("known") else {
-        return Ok(known);
-    };
-    if MOST_DEVICES < texts.len() {
-        return Err(WordsFault::Words);
-    }
-    match known.extend_from_slice(texts) {
-        Ok(()) => Ok(known),
-        Err(_) => Err(WordsFault::NoMemory),
+    match given.get_strs("known") {
+        None => Ok(known),
+        Some(texts) if MOST_DEVICES < texts.len() => Err(WordsFault::Words),
+        Some(texts) => match known.extend_from_slice(texts) {
+            Ok(()) => Ok(known),
+            Err(_) => Err(WordsFault::NoMemory),
+        },
     }
 }

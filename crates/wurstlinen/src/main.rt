@@ -14,9 +14,9 @@ use rdm_port::{
     complaint_of, parse_line_words, parse_words, tell, tell_usage,
 };
 use std::alloc::{AllocError, Global};
+use std::fs::File;
 use std::io::Read;
 use std::process::ExitCode;
-use std::fs::File;
 use std::rt::{Files, Runtime};
 use std::sync::Wait;
 use std::thread::Threads;
@@ -30,7 +30,11 @@ fn main(rt: HostRuntime) -> ExitCode {
     ExitCode::from(status)
 }
 
-fn obey<T: Runtime + Threads + Wait + Sync + Files<File = File>>(rt: &T, alloc: Global, args: &[String]) -> u8
+fn obey<T: Runtime + Threads + Wait + Sync + Files<File = File>>(
+    rt: &T,
+    alloc: Global,
+    args: &[String],
+) -> u8
 where
     T::Dir: Send,
 {
@@ -41,7 +45,11 @@ where
 }
 
 // Words that fit no command on a simulated line may fit one on a line of the caller's own.
-fn obey_words<T: Runtime + Threads + Wait + Sync + Files<File = File>>(rt: &T, alloc: Global, words: &[&str]) -> u8
+fn obey_words<T: Runtime + Threads + Wait + Sync + Files<File = File>>(
+    rt: &T,
+    alloc: Global,
+    words: &[&str],
+) -> u8
 where
     T::Dir: Send,
 {
@@ -55,7 +63,11 @@ where
 }
 
 // Prints the answer of a discovery on a line on standard output, and the reason of what isn't done on standard error.
-fn print_on_line<T: Runtime + Threads + Wait + Sync + Files<File = File>>(rt: &T, alloc: Global, job: &LineDiscovery<'_>) -> u8
+fn print_on_line<T: Runtime + Threads + Wait + Sync + Files<File = File>>(
+    rt: &T,
+    alloc: Global,
+    job: &LineDiscovery<'_>,
+) -> u8
 where
     T::Dir: Send,
 {

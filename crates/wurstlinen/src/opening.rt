@@ -2,13 +2,11 @@
 use rdm_line::StreamLine;
 use rdm_port::{Opens, Unopened};
 use std::alloc::Global;
-use std::fs;
 use std::fs::{File, OpenOptions};
-use std::io;
 use std::io::{BufReader, ErrorKind};
 use std::rt::Files;
-use std::thread;
 use std::thread::Threads;
+use std::{fs, io, thread};
 
 /// A line over two open files.
 pub type TextLine = StreamLine<BufReader<File>, File>;
