@@ -69,6 +69,8 @@ class Fixture:
         """What it sends after a command for it that isn't a branch; no bytes if it doesn't answer."""
         if command.pid != Pid.DISC_UN_MUTE:
             self._unmutes = 0
+        if command.command_class != CommandClass.GET or self._parted != _identity(command):
+            self._parted = None
         if command.command_class == CommandClass.DISCOVERY:
             response = self._discovered(command)
         elif command.command_class in (CommandClass.GET, CommandClass.SET):
@@ -108,8 +110,6 @@ class Fixture:
 
     def _requested(self, command: Packet, now: float) -> Packet:
         """The answer to a GET or a SET."""
-        if command.command_class != CommandClass.GET or self._parted != _identity(command):
-            self._parted = None
         try:
             return self._accepted(command, now)
         except Refused as refused:
