@@ -18,6 +18,8 @@ OTHER = 0x9ABC00000002
 ACK, TIMER, NACK = ResponseType.ACK, ResponseType.ACK_TIMER, ResponseType.NACK_REASON
 UNKNOWN_PID, FORMAT, CLASS, RANGE, FULL, SUB_DEVICE = (
     bytes.fromhex(text) for text in ("0000", "0001", "0005", "0006", "0007", "0009"))
+BRANCH = Packet(ALL_DEVICES, 1, 0, 1, 0, 0, 0x10, 0x0001, bytes(6) + b"\xff" * 5 + b"\xfe").encode()
+TWO = [{"uid": "1234:00000001"}, {"uid": "1234:00000002", "preamble": 0}]
 WASH: Dict[str, Any] = {
     "manufacturer": "Maker", "model": "Wash 7", "model_id": "0203", "category": "0102", "software": "2.5",
     "software_id": "00020005", "label": "Left", "address": 17, "personality": 2,
@@ -242,21 +244,20 @@ class Discovery(TestCase):
         self.assertEqual(mute.command_class, 0x11)
 
     def test_colliding_replies(self) -> None:
-        devices = [{"uid": "1234:00000001"}, {"uid": "1234:00000002", "preamble": 0}]
-        branch = Packet(ALL_DEVICES, 1, 0, 1, 0, 0, 0x10, 0x0001, bytes(6) + b"\xff" * 5 + b"\xfe").encode()
-        one_reply, short = "fefefefefefefeaabb57be75aa55aa55aa55ab55ae57fefd", "aabb57be75aa55aa55aa55ab57ae57"
-        ored = Rig(scene(devices=devices)).exchange(branch)
-        first = Rig(scene(devices=devices[:1])).exchange(branch)
-        second = Rig(scene(devices=devices[1:])).exchange(branch)
-        self.assertEqual((first, second), (one_reply, short))
-        wanted = bytes(a | b for a, b in zip(first, second.ljust(len(first), b"\x00")))
-        self.assertEqual(ored, wanted)
-        listed = Rig(scene(devices=devices, collisions=["or", {"uid": "ffff:ffffffff"}, {"bytes": "00ff"}]))
-        self.assertEqual([listed.exchange(branch) for _ in range(4)][0::2], [wanted, b"\x00\xff"])
-        self.assertEqual(listed.exchange(branch), b"\x00\xff")
-        garbled = Rig(scene(devices=devices, rig={"collide": "garbled"}))
-        replies = [garbled.exchange(branch) for _ in range(50)]
-        self.assertEqual(len(set(replies)), 50)
+        first = bytes.fromhex("fefefefefefefeaa" "ba57be75" "aa55aa55aa55ab55" "ae57eb55")
+        second = bytes.fromhex("aa" "ba57be75" "aa55aa55aa55aa57" "ae57ea57")
+        both = bytes(a | b for a, b in zip(first, second.ljust(len(first), b"\x00")))
+        replies = [Rig(scene(devices=devices)).exchange(BRANCH) for devices in (TWO[:1], TWO[1:], TWO)]
+        self.assertEqual(replies, [first, second, both])
+        spelled = "fefefefefefefeaa" + "ff" * 12 + "ab5ffef5"
+        collisions = [{"bytes": "00ff"}, {"uid": "ffff:ffffffff"}, "or"]
+        listed = Rig(scene(devices=TWO, collisions=collisions))
+        self.assertEqual([listed.exchange(BRANCH) for _ in range(4)], [b"\x00\xff", bytes.fromhex(spelled), both, both])
+
+    def test_garbled_replies(self) -> None:
+        rig = Rig(scene(devices=TWO, rig={"collide": "garbled"}))
+        replies = [rig.exchange(BRANCH) for _ in range(50)]
+        self.assertGreater(len(set(replies)), 40)
         self.assertTrue(all(1 <= len(reply) <= 40 for reply in replies))
 
     def test_what_is_no_branch_for_all_is_silence(self) -> None:
