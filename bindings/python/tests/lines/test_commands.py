@@ -24,7 +24,8 @@ ENVIRONMENT = {**os.environ, "PYTHONPATH": str(PACKAGE), "PYTHONDONTWRITEBYTECOD
 
 
 def run(*arguments: str, text: str = "") -> "subprocess.CompletedProcess[str]":
-    return subprocess.run([*COMMAND, *arguments], input=text, capture_output=True, text=True, env=ENVIRONMENT, check=False)
+    command = [*COMMAND, *arguments]
+    return subprocess.run(command, input=text, capture_output=True, text=True, env=ENVIRONMENT, check=False)
 
 
 def run_adapter(*arguments: str, program: Optional[str] = None) -> "subprocess.CompletedProcess[str]":
@@ -49,7 +50,8 @@ class Arguments(TestCase):
     def test_a_line_that_is_not_there_ends_with_1(self) -> None:
         for line, reason in (("enttec:/dev/none", "/dev/none can't be opened"), ("rig:/none", "No such file"),
                              ("text:/none", "/none can't be opened"), ("exec:/none", "can't be started"),
-                             ("serial:/dev/none", "'serial' is no kind of line"), (f"rig:{ROOT}/VERSION", "isn't JSON")):
+                             ("serial:/dev/none", "'serial' is no kind of line"),
+                             (f"rig:{ROOT}/README.md", "isn't JSON")):
             result = run("bridge", "--line", line)
             self.assertEqual((result.returncode, result.stdout), (1, ""))
             self.assertRegex(result.stderr, f"^wurstlinen: .*{reason}")

@@ -36,7 +36,8 @@ def received(data: bytes, status: int = 0) -> bytes:
 class Script(threading.Thread):
     """An adapter that answers each RDM message with the next of these bytes, and keeps what it was sent."""
 
-    def __init__(self, *answers: bytes, serial: bytes = b"\x04\x03\x02\x01", firmware: bytes = b"\x04\x02\x09\x01\x28") -> None:
+    def __init__(self, *answers: bytes, serial: bytes = b"\x04\x03\x02\x01",
+                 firmware: bytes = b"\x04\x02\x09\x01\x28") -> None:
         super().__init__(daemon=True)
         self.sent: List[Message] = []
         self._answers = list(answers)

@@ -155,8 +155,9 @@ class Parts(TestCase):
         rig = Rig(one(part=4, **{**WASH, "label": "abcdefgh"}))
         controller = Controller(rig)
         for _ in range(2):
-            for pid, wanted, exchanges in ((0x0082, "6162636465666768", 2), (0x00F0, "0011", 1), (0x0081, "4d616b6572", 2),
-                                           (0x0060, "010002030102000200050" "00c020200110000" "02", 5)):
+            for pid, wanted, exchanges in ((0x0082, "6162636465666768", 2), (0x00F0, "0011", 1),
+                                           (0x0081, "4d616b6572", 2),
+                                           (0x0060, "01000203010200020005" "000c02020011000002", 5)):
                 before = rig.exchanges
                 self.assertEqual(controller.get(LAMP, pid).data.hex(), wanted)
                 self.assertEqual(rig.exchanges - before, exchanges)
@@ -351,7 +352,8 @@ class Files(TestCase):
          "devices[0].rig.label: a text of at most 32 ASCII characters is expected"),
         ({"devices": [{"uid": "1234:00000001", "rig": {"personality": 2}}]},
          "devices[0].rig.personality: a whole number from 1 to 1 is expected"),
-        ({"collisions": [{"uid": "1234:00000001", "bytes": "00"}]}, "collisions[0]: one of 'uid' and 'bytes' is expected"),
+        ({"collisions": [{"uid": "1234:00000001", "bytes": "00"}]},
+         "collisions[0]: one of 'uid' and 'bytes' is expected"),
         ({"losses": [-1]}, "losses[0]: a whole number from 0 to 18446744073709551615 is expected"),
         ({"rig": {"loss": 1.5}}, "rig.loss: a share from 0 to 1 is expected"),
         ({"rig": {"collide": "xor"}}, "rig.collide: one of these is expected: or, garbled"),

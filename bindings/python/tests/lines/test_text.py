@@ -82,8 +82,8 @@ class FarEnds(TestCase):
         self.assertEqual(line.frames, [FRAME] * 3)
 
     def test_what_is_no_frame_fails(self) -> None:
-        for text in (b"\n", b"00\n", b"00" * 25 + b"\n", b"00" * 258 + b"\n", b"zz" * 26 + b"\n", b"00" * 99999 + b"\n"):
-            self.assertEqual(self.served(ListLine(), text), b"failed\n")
+        for text in (b"", b"00", b"00" * 25, b"00" * 258, b"zz" * 26, b"00" * 99999):
+            self.assertEqual(self.served(ListLine(), text + b"\n"), b"failed\n")
 
     def test_a_line_that_was_cut_off_is_no_frame(self) -> None:
         line = ListLine()
