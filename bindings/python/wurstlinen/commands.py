@@ -28,6 +28,14 @@ DEFAULT_BUDGET = 384_008
 MOST_BUDGET = 1_000_000_000
 MOST_DATA_BYTES = 231
 ALL_SUB_DEVICES = 0xFFFF
+# The faults of a run, by their numbers.
+RUN_FAULTS = {
+    1: "the branch of {uid} alone was answered, but showed no new device",
+    2: "more than 1024 devices answered",
+    3: "the run has used up its budget of frames",
+    4: "the line failed",
+    5: "the run was aborted",
+}
 
 
 class WatchedLine:
@@ -122,7 +130,8 @@ def run_discover(chosen: argparse.Namespace) -> int:
     if fault is None:
         return DONE
     found = ", ".join(str(each.uid) for each in devices) or "none"
-    return fail(f"{watched.failure or fault.kind.name}; devices found until then: {found}")
+    reason = watched.failure or RUN_FAULTS[fault.kind].format(uid=fault.uid)
+    return fail(f"{reason}; devices found until then: {found}")
 
 
 def run_get(chosen: argparse.Namespace) -> int:
@@ -150,7 +159,7 @@ def run_request(chosen: argparse.Namespace, is_set: bool) -> int:
     print(completion_text(completion))
     if completion.status == Status.COMPLETED or (is_set and completion.status == Status.WAS_BROADCAST):
         return DONE
-    return fail(str(watched.failure or completion.status.name))
+    return fail(str(watched.failure or completion.status.name.lower().replace("_", " ")))
 
 
 def run_bridge(chosen: argparse.Namespace) -> int:

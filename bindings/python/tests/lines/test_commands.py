@@ -179,7 +179,7 @@ class WithTheLibrary(TestCase):
     def test_a_fault(self) -> None:
         result = run("discover", "--budget", "5", "--line", f"rig:{FIVE}")
         self.assertEqual((result.returncode, result.stdout), (1, "fault 3\nframes 5\n"))
-        self.assertRegex(result.stderr, "^wurstlinen: EXHAUSTED")
+        self.assertRegex(result.stderr, "^wurstlinen: the run has used up its budget of frames; devices found until then: none$")
 
     def test_get_and_set(self) -> None:
         self.assertEqual(self.lines("get", UIDS[0], "0082"), [f"0 00 {b'Front left'.hex()}"])
@@ -194,7 +194,7 @@ class WithTheLibrary(TestCase):
     def test_an_absent_device(self) -> None:
         result = run("get", "1234:00000009", "0060", "--line", f"rig:{FIVE}")
         self.assertEqual((result.returncode, result.stdout), (1, "3\n"))
-        self.assertRegex(result.stderr, "^wurstlinen: TIMEOUT")
+        self.assertRegex(result.stderr, "^wurstlinen: timeout$")
 
     def test_a_line_that_fails(self) -> None:
         for arguments, printed in ((["get", UIDS[0], "0060"], "2\n"), (["discover"], "fault 4\nframes 1\n")):

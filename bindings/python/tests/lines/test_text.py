@@ -148,7 +148,8 @@ class Openings(TestCase):
     def test_what_is_not_there_is_not_made(self) -> None:
         with folder() as place:
             os.mkfifo(place / "frames")
-            for text in ("text:{0}/none", "text:{0}/none,{0}/frames", "text:{0}/frames,{0}/none"):
+            for text in ("text:{0}/none", "text:{0}/none,{0}/frames", "text:{0}/frames,{0}/none",
+                         "text:{0}/frames"):
                 with self.assertRaises(LineFailed):
                     open_line(text.format(place))
             self.assertEqual(os.listdir(place), ["frames"])

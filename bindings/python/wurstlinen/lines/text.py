@@ -1,13 +1,16 @@
 """Lines as text (docs/FORMATS.md, "A line as text"): both the controller's end and the far end."""
 from __future__ import annotations
 
+import errno
 import os
+import queue
 import shlex
+import stat
 import subprocess
 import sys
+import threading
 import tty
-from concurrent.futures import ThreadPoolExecutor
-from typing import BinaryIO, Optional, Sequence
+from typing import BinaryIO, Optional, Sequence, Tuple, Union
 
 from ..line import MOST_REPLY_BYTES, Line, LineFailed
 from .base import OpenLine
@@ -41,16 +44,12 @@ class TextLine(OpenLine):
         try:
             if replies is None:
                 reader = _opened(frames, os.O_RDWR)
-                return cls(os.fdopen(os.dup(reader), "wb"), os.fdopen(reader, "rb"))
-            # What isn't there is found before a FIFO waits for the far end.
-            os.stat(frames)
-            os.stat(replies)
-            with ThreadPoolExecutor(1) as threads:
-                writer = threads.submit(_opened, frames, os.O_WRONLY)
-                reader = _opened(replies, os.O_RDONLY)
-                return cls(os.fdopen(writer.result(), "wb"), os.fdopen(reader, "rb"))
+                writer = os.dup(reader)
+            else:
+                writer, reader = _opened_at_once(frames, replies)
         except OSError as error:
             raise LineFailed(f"{error.filename} can't be opened: {error.strerror}") from error
+        return cls(os.fdopen(writer, "wb"), os.fdopen(reader, "rb"))
 
     @classmethod
     def run(cls, command: Sequence[str]) -> TextLine:
@@ -129,10 +128,35 @@ def parse_hex(text: bytes) -> Optional[bytes]:
 
 def _opened(path: str, flags: int) -> int:
     """Opens a file; a terminal device becomes raw, so that it doesn't send back what is written to it."""
+    if flags & os.O_RDWR and stat.S_ISFIFO(os.stat(path).st_mode):
+        raise OSError(errno.EINVAL, "a FIFO goes one way, so the replies need another", path)
     file = os.open(path, flags | os.O_NOCTTY | os.O_CLOEXEC)
     if os.isatty(file):
         tty.setraw(file)
     return file
+
+
+def _opened_at_once(frames: str, replies: str) -> Tuple[int, int]:
+    """Opens both files, each of which may be a FIFO that waits for the far end to open it."""
+    # What isn't there is found before anything waits.
+    os.stat(frames)
+    os.stat(replies)
+    opened: "queue.SimpleQueue[Union[int, OSError]]" = queue.SimpleQueue()
+
+    def open_frames() -> None:
+        try:
+            opened.put(_opened(frames, os.O_WRONLY))
+        except OSError as error:
+            opened.put(error)
+
+    # An interrupt mustn't wait for this thread.
+    threading.Thread(target=open_frames, daemon=True).start()
+    reader = _opened(replies, os.O_RDONLY)
+    writer = opened.get()
+    if isinstance(writer, OSError):
+        os.close(reader)
+        raise writer
+    return writer, reader
 
 
 def _read(frames: BinaryIO) -> Optional[bytes]:
