@@ -8,6 +8,7 @@ import signal
 import sys
 import tempfile
 import unittest
+from dataclasses import replace
 from pathlib import Path
 from types import FrameType
 from typing import Any, Iterator, List, Optional, Set, Tuple
@@ -24,6 +25,8 @@ SECONDS = 60
 SOURCE = 0x7A7000000100
 LAST_DEVICE_PART = 0xFFFFFFFE
 MANUFACTURERS = (0x1234, 0x454E, 0x9ABC)
+ENTTEC = 0x454E
+ANSWER_SECONDS = 5.0
 # How many seeds a test with losses has, and how many if it has 40 fixtures.
 SEEDS = int(os.environ.get("LINE_SEEDS", "3"))
 SEEDS_OF_LARGE_RIGS = min(SEEDS, 5)
@@ -94,9 +97,16 @@ def folder() -> Iterator[Path]:
 
 @contextlib.contextmanager
 def adapter(line: Line, widget: Widget = Widget()) -> Iterator[Tuple[EnttecPro, Emulator]]:
-    """A driver on an emulated adapter with this line behind it."""
-    with folder() as locks, Emulator(line, widget) as emulator, EnttecPro(emulator.path, locks) as driver:
-        yield driver, emulator
+    """A driver on an emulated adapter with this line behind it.
+
+    The adapter says who made it, which a USB Pro doesn't, so that the driver needn't wait for it. That, and the time
+    that it has for its answers, are for busy machines.
+    """
+    if widget.manufacturer is None:
+        widget = replace(widget, manufacturer=ENTTEC)
+    with folder() as locks, Emulator(line, widget) as emulator:
+        with EnttecPro(emulator.path, locks, ANSWER_SECONDS) as driver:
+            yield driver, emulator
 
 
 class ListLine:

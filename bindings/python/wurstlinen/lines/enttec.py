@@ -50,16 +50,18 @@ class BranchEnd(Enum):
 class EnttecPro(OpenLine):
     """The adapter on this serial device, port 1.
 
-    An exchange opens the device again if it was closed, or if it was unplugged.
+    An exchange opens the device again if it was closed, or if it was unplugged. Questions about the adapter itself are
+    given `answer_seconds` for their answer.
     """
 
-    def __init__(self, path: str, lock_folder: Path = LOCK_FOLDER) -> None:
+    def __init__(self, path: str, lock_folder: Path = LOCK_FOLDER, answer_seconds: float = ANSWER_SECONDS) -> None:
         self.path = path
         self.serial = 0
         # None if the adapter doesn't say.
         self.firmware: Optional[Tuple[int, int]] = None
         self.branch_end = BranchEnd.UNKNOWN
         self._lock_folder = lock_folder
+        self._answer_seconds = answer_seconds
         self._terminal: Optional[Terminal] = None
         self._reader = MessageReader()
         self._messages: Deque[Message] = deque()
@@ -112,11 +114,11 @@ class EnttecPro(OpenLine):
 
     def _meet(self) -> None:
         """Asks for the serial number, the firmware and the maker."""
-        serial = self._ask(Label.SERIAL_NUMBER, b"", SERIAL_NUMBER_BYTES, ANSWER_SECONDS)
+        serial = self._ask(Label.SERIAL_NUMBER, b"", SERIAL_NUMBER_BYTES, self._answer_seconds)
         if serial is None:
             raise LineFailed(f"{self.path} doesn't answer as a USB Pro does")
         self.serial = int.from_bytes(serial[:SERIAL_NUMBER_BYTES], "little")
-        parameters = self._ask(Label.PARAMETERS, ANY_USER_MEMORY, LEAST_PARAMETERS_BYTES, ANSWER_SECONDS)
+        parameters = self._ask(Label.PARAMETERS, ANY_USER_MEMORY, LEAST_PARAMETERS_BYTES, self._answer_seconds)
         self.firmware = (parameters[1], parameters[0]) if parameters else None
         maker = self._ask_id(Label.MANUFACTURER)
         self.source = (maker or ENTTEC) << 32 | self.serial
@@ -133,7 +135,7 @@ class EnttecPro(OpenLine):
             raise LineFailed(f"{self.path} is a DMXking without RDM (device {device})")
 
     def _ask_id(self, label: Label) -> Optional[int]:
-        answer = self._ask(label, b"", ID_BYTES, ANSWER_SECONDS)
+        answer = self._ask(label, b"", ID_BYTES, self._answer_seconds)
         return int.from_bytes(answer[:ID_BYTES], "little") if answer else None
 
     def _ask(self, label: Label, data: bytes, least: int, seconds: float) -> Optional[bytes]:
