@@ -20,6 +20,7 @@ from .packets import is_whole_packet
 
 READ_BYTES = 4096
 PIECE_SECONDS = 0.0005
+SECONDS_TO_END = 5.0
 GOOD_STATUS = 0
 BREAK_TIME = 9
 MARK_TIME = 1
@@ -84,8 +85,8 @@ class Emulator:
     def __exit__(self, kind: Optional[Type[BaseException]], error: Optional[BaseException],
                  trace: Optional[TracebackType]) -> None:
         os.close(self._waker)
-        self._thread.join()
-        os.close(self._wake)
+        # A line that hangs, or a driver that doesn't read, mustn't hold up the end.
+        self._thread.join(SECONDS_TO_END)
 
     def wait(self) -> None:
         """Waits until the adapter has gone."""
@@ -104,8 +105,8 @@ class Emulator:
             # Somebody has closed the terminal's other end for good.
             pass
         finally:
-            os.close(self._other)
-            os.close(self._own)
+            for descriptor in (self._other, self._own, self._wake):
+                os.close(descriptor)
 
     def _answer(self, message: Message) -> None:
         if self._is_gone or self._hangs():

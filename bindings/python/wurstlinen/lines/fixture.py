@@ -13,6 +13,8 @@ from .parameters import Parameters, Refused
 from .scene import DeviceKeys, Lie
 
 UNMUTES_TO_OBEY = 3
+# No exchange is the next after this one.
+NEVER = -2
 EXTRA_BYTES = b"\x55\xaa\x00\xff"
 SHORT_BYTES = 12
 TENTHS = 10.0
@@ -36,14 +38,17 @@ class Fixture:
         self._lies = keys.fixture.lies
         self._reply = self._own_branch_reply()
         self._branches = 0
+        # How many unmutes came in a row, and the exchange of the last one.
         self._unmutes = 0
+        self._unmuted_at = NEVER
         # Of two parameters with the same PID the first answers.
         self._listed = {pid: parts for pid, parts in reversed(keys.params)}
         self._positions: Dict[int, int] = {}
         queue_pids = () if keys.fixture.timer is None else (Pid.QUEUED_MESSAGE, Pid.STATUS_MESSAGES)
         self._parameters = Parameters(keys.fixture, (*self._listed, *queue_pids))
-        # The GET that is answered in parts, and what is left of its answer.
-        self._parted: Optional[Tuple[int, bytes]] = None
+        # The GET that is answered in parts, the exchange of its last part, and what is left of its answer.
+        self._parted: Optional[Tuple[int, int, bytes]] = None
+        self._parted_at = NEVER
         self._rest = b""
         self._queue: Deque[Queued] = deque()
         self._last_message: Optional[Packet] = None
@@ -53,28 +58,28 @@ class Fixture:
         keys = self._keys
         return keys.arrives <= exchange and (keys.leaves is None or exchange < keys.leaves)
 
+    @property
+    def stays(self) -> bool:
+        """Whether it never leaves."""
+        return self._keys.leaves is None
+
     def branch_reply(self, low: int, high: int) -> bytes:
-        """What it sends after a branch of this range; no bytes if it doesn't answer."""
-        self._unmutes = 0
-        self._parted = None
-        is_in_range = low <= self.uid <= high or Lie.ANSWERS_ALL in self._lies
-        if self.is_muted or not is_in_range or Lie.HIDES in self._lies:
+        """What it sends after a branch of this range while it is unmuted; no bytes if it doesn't answer."""
+        if not low <= self.uid <= high and Lie.ANSWERS_ALL not in self._lies or Lie.HIDES in self._lies:
             return b""
         self._branches += 1
         if Lie.EVERY_OTHER in self._lies and self._branches % 2:
             return b""
         return self._reply
 
-    def respond(self, command: Packet, now: float) -> bytes:
+    def respond(self, command: Packet, exchange: int, now: float) -> bytes:
         """What it sends after a command for it that isn't a branch; no bytes if it doesn't answer."""
-        if command.pid != Pid.DISC_UN_MUTE:
-            self._unmutes = 0
-        if command.command_class != CommandClass.GET or self._parted != _identity(command):
+        if exchange != self._parted_at + 1 or self._parted != _identity(command):
             self._parted = None
         if command.command_class == CommandClass.DISCOVERY:
-            response = self._discovered(command)
+            response = self._discovered(command, exchange)
         elif command.command_class in (CommandClass.GET, CommandClass.SET):
-            response = self._requested(command, now)
+            response = self._requested(command, exchange, now)
         else:
             response = None
         if response is None or is_broadcast(command.destination):
@@ -92,14 +97,15 @@ class Fixture:
             reply = reply[:SHORT_BYTES]
         return reply + (EXTRA_BYTES if Lie.ADDS_BYTES in self._lies else b"")
 
-    def _discovered(self, command: Packet) -> Optional[Packet]:
+    def _discovered(self, command: Packet, exchange: int) -> Optional[Packet]:
         """E1.20, discovery mute and un-mute."""
         if command.pid == Pid.DISC_MUTE:
             if Lie.IGNORES_MUTES in self._lies:
                 return None
             self.is_muted = Lie.STAYS_UNMUTED not in self._lies
         elif command.pid == Pid.DISC_UN_MUTE:
-            self._unmutes += 1
+            self._unmutes = self._unmutes + 1 if exchange == self._unmuted_at + 1 else 1
+            self._unmuted_at = exchange
             if Lie.UNMUTES_LATE not in self._lies or self._unmutes >= UNMUTES_TO_OBEY:
                 self.is_muted = False
         else:
@@ -108,14 +114,14 @@ class Fixture:
         data = self._keys.control.to_bytes(2, "big") + (b"" if binding is None else binding.to_bytes(6, "big"))
         return command.answer(self.uid, ResponseType.ACK, data)
 
-    def _requested(self, command: Packet, now: float) -> Packet:
+    def _requested(self, command: Packet, exchange: int, now: float) -> Packet:
         """The answer to a GET or a SET."""
         try:
-            return self._accepted(command, now)
+            return self._accepted(command, exchange, now)
         except Refused as refused:
             return self._nack(command, refused.reason)
 
-    def _accepted(self, command: Packet, now: float) -> Packet:
+    def _accepted(self, command: Packet, exchange: int, now: float) -> Packet:
         keys = self._keys.fixture
         if keys.nack is not None:
             return self._nack(command, keys.nack)
@@ -126,13 +132,13 @@ class Fixture:
         if keys.timer is not None and command.pid in (Pid.QUEUED_MESSAGE, Pid.STATUS_MESSAGES):
             return self._message(command, now)
         if self._parted is not None:
-            return self._part(command)
+            return self._part(command, exchange)
         is_get = command.command_class == CommandClass.GET
         handle = self._parameters.get if is_get else self._parameters.set
         self._rest = handle(command.pid, command.data)
         if keys.timer is not None:
             return self._postpone(command, keys.timer, now)
-        return self._part(command) if is_get else command.answer(self.uid, ResponseType.ACK, self._rest)
+        return self._part(command, exchange) if is_get else command.answer(self.uid, ResponseType.ACK, self._rest)
 
     def _nack(self, command: Packet, reason: int) -> Packet:
         return command.answer(self.uid, ResponseType.NACK_REASON, reason.to_bytes(2, "big"))
@@ -147,11 +153,12 @@ class Fixture:
         kind = ResponseType.ACK if is_last else ResponseType.ACK_OVERFLOW
         return command.answer(self.uid, kind, parts[position])
 
-    def _part(self, command: Packet) -> Packet:
-        """The next part of an answer. Any other command makes the next GET begin it anew."""
+    def _part(self, command: Packet, exchange: int) -> Packet:
+        """The next part of an answer. Any exchange between two GETs makes the answer begin anew."""
         size = self._keys.fixture.part
         part, self._rest = self._rest[:size], self._rest[size:]
         self._parted = _identity(command) if self._rest else None
+        self._parted_at = exchange
         kind = ResponseType.ACK_OVERFLOW if self._rest else ResponseType.ACK
         return command.answer(self.uid, kind, part)
 
@@ -188,5 +195,5 @@ class Fixture:
         return ready.response
 
 
-def _identity(command: Packet) -> Tuple[int, bytes]:
-    return command.pid, command.data
+def _identity(command: Packet) -> Tuple[int, int, bytes]:
+    return command.command_class, command.pid, command.data

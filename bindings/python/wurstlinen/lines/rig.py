@@ -14,7 +14,7 @@ from ..line import MOST_REPLY_BYTES, LineFailed
 from .base import OpenLine
 from .fixture import Fixture
 from .packets import (
-    ALL_DEVICES, MOST_PREAMBLE_BYTES, Packet, addresses, decode_packet, encode_branch_reply,
+    ALL_DEVICES, MOST_PREAMBLE_BYTES, Packet, addresses, decode_packet, encode_branch_reply, is_broadcast,
 )
 from .scene import Collide, Scene, read_scene
 
@@ -34,6 +34,8 @@ class Rig(OpenLine):
         self.scene = scene if isinstance(scene, Scene) else read_scene(scene)
         self.source = self.scene.source
         self.fixtures = [Fixture(keys) for keys in self.scene.devices]
+        self._by_uid = {fixture.uid: fixture for fixture in self.fixtures}
+        self._all_stay = all(fixture.is_present(0) and fixture.stays for fixture in self.fixtures)
         # How many exchanges were made, and how many replies were lost.
         self.exchanges = 0
         self.lost = 0
@@ -58,20 +60,29 @@ class Rig(OpenLine):
         command = decode_packet(frame)
         if command is None:
             return b""
-        present = [fixture for fixture in self.fixtures if fixture.is_present(number)]
         if command.is_branch:
-            return self._branched(command, present)
+            return self._branched(command, number)
         now = self._clock()
-        replies = [fixture.respond(command, now) for fixture in present if addresses(command.destination, fixture.uid)]
-        return next((reply for reply in replies if reply), b"")
+        if is_broadcast(command.destination):
+            for fixture in self._present(number):
+                if addresses(command.destination, fixture.uid):
+                    fixture.respond(command, number, now)
+            return b""
+        fixture = self._by_uid.get(command.destination)
+        return fixture.respond(command, number, now) if fixture and fixture.is_present(number) else b""
 
-    def _branched(self, command: Packet, present: Sequence[Fixture]) -> bytes:
+    def _present(self, number: int) -> Sequence[Fixture]:
+        """The fixtures that are on the line at an exchange."""
+        return self.fixtures if self._all_stay else [each for each in self.fixtures if each.is_present(number)]
+
+    def _branched(self, command: Packet, number: int) -> bytes:
         """E1.20, discovery unique branch: all answer at once, and the wire carries what comes of it."""
         if command.destination != ALL_DEVICES or len(command.data) != BRANCH_DATA_BYTES:
             return b""
         low = int.from_bytes(command.data[:UID_BYTES], "big")
         high = int.from_bytes(command.data[UID_BYTES:], "big")
-        replies = [reply for reply in (fixture.branch_reply(low, high) for fixture in present) if reply]
+        unmuted = [fixture for fixture in self._present(number) if not fixture.is_muted]
+        replies = [reply for reply in (fixture.branch_reply(low, high) for fixture in unmuted) if reply]
         if len(replies) > 1:
             return self._collided(replies)
         return replies[0] if replies else b""
