@@ -1,6 +1,8 @@
 """The driver of the USB Pro on an emulated one, and on a scripted one that says exactly these bytes."""
 from __future__ import annotations
 
+import errno
+import fcntl
 import os
 import subprocess
 import sys
@@ -25,6 +27,8 @@ REPLY = Packet(1, LAMP, 0, 0, 0, 0, 0x21, 0x0082, b"Lamp").encode()
 BRANCH = Packet(ALL_DEVICES, 1, 0, 1, 0, 0, 0x10, 0x0001, bytes(6) + b"\xff" * 6).encode()
 UNMUTE = Packet(ALL_DEVICES, 1, 0, 1, 0, 0, 0x10, 0x0003).encode()
 DMXKING = 0x6A6B
+# Linux: whether TIOCEXCL is in force.
+TIOCGEXCL = 0x80045440
 # Two seconds on a busy machine.
 SLOW = 10.0
 END = Message(Label.RDM_END).encode()
@@ -33,6 +37,18 @@ END = Message(Label.RDM_END).encode()
 def received(data: bytes, status: int = 0) -> bytes:
     """A message of what came from the line."""
     return Message(Label.RECEIVED, bytes([status]) + data).encode()
+
+
+def is_exclusive(path: str) -> bool:
+    """Whether a terminal is kept for one program. Root may open it all the same, and is told."""
+    try:
+        descriptor = os.open(path, os.O_RDWR | os.O_NOCTTY)
+    except OSError as error:
+        return error.errno == errno.EBUSY
+    try:
+        return any(fcntl.ioctl(descriptor, TIOCGEXCL, bytes(4)))
+    finally:
+        os.close(descriptor)
 
 
 class Script(threading.Thread):
@@ -142,6 +158,13 @@ class Locks(TestCase):
                 driver.open()
             self.assertEqual(os.listdir(locks), [])
 
+    def test_no_other_program_may_open_it(self) -> None:
+        with folder() as locks, Emulator(ListLine()) as emulator:
+            self.assertFalse(is_exclusive(emulator.path))
+            with EnttecPro(emulator.path, locks):
+                self.assertTrue(is_exclusive(emulator.path))
+            self.assertFalse(is_exclusive(emulator.path))
+
     def test_a_stale_lock_is_replaced(self) -> None:
         ended = subprocess.Popen([sys.executable, "-c", ""])
         ended.wait()
@@ -188,6 +211,18 @@ class Exchanges(TestCase):
     def test_bytes_that_are_no_good_response_end_with_label_12(self) -> None:
         for data, status in ((REPLY, 1), (REPLY[:-1], 0), (REPLY + b"\x00", 0), (b"\xcc", 0), (b"\xcc\x01\x03", 2)):
             self.check(GET, received(data, status) + END, data)
+
+    def test_the_end_of_such_bytes_is_awaited(self) -> None:
+        script = Script(received(REPLY, 1))
+        with folder() as locks, EnttecPro(script.path, locks) as driver:
+            threading.Timer(0.3, script.say, [END]).start()
+            began = time.monotonic()
+            self.assertEqual(driver.exchange(GET), REPLY)
+            self.assertGreater(time.monotonic() - began, 0.2)
+
+    def test_the_first_of_such_bytes_count(self) -> None:
+        self.check(GET, received(b"\xcc\x01") + received(b"\xcc\x02") + END, b"\xcc\x01")
+        self.check(GET, received(b"\xcc\x01") + received(REPLY), REPLY)
 
     def test_messages_that_are_no_reply_are_ignored(self) -> None:
         dmx, empty, status_alone = received(bytes(513)), Message(Label.RECEIVED).encode(), received(b"")
@@ -267,6 +302,7 @@ class BranchEnds(TestCase):
                 self.assertEqual(self.learned(widget, 3)[0], BranchEnd.SENT, widget)
 
     def test_new_firmware_without_ends_is_learned(self) -> None:
+        self.assertEqual(self.learned(Widget((4, 15)), 2)[0], BranchEnd.UNKNOWN)
         end, seconds = self.learned(Widget((4, 15)), 20)
         self.assertEqual(end, BranchEnd.NOT_SENT)
         self.assertLess(seconds, 0.1)
