@@ -12,6 +12,7 @@ import tty
 import unittest
 from pathlib import Path
 from typing import Dict, List, Tuple
+from unittest import mock
 
 from common import ANSWER_SECONDS, ListLine, TestCase, adapter, folder, one, random_scene, scene, uids_of
 from search import Controller, discover
@@ -247,6 +248,15 @@ class Exchanges(TestCase):
         script = Script(received(REPLY) + END + END + b"\x7e\x05\xff", END, received(REPLY))
         with folder() as locks, EnttecPro(script.path, locks) as driver:
             self.assertEqual([driver.exchange(GET) for _ in range(3)], [REPLY, b"", REPLY])
+
+    def test_after_an_exchange_that_was_interrupted_the_past_is_settled(self) -> None:
+        script = Script(b"", received(REPLY))
+        with folder() as locks, EnttecPro(script.path, locks) as driver:
+            with mock.patch("wurstlinen.lines.terminal.Terminal.read_until", side_effect=[b"", KeyboardInterrupt]):
+                with self.assertRaises(KeyboardInterrupt):
+                    driver.exchange(GET)
+            self.assertEqual(driver.exchange(GET), REPLY)
+        self.assertEqual([message.label for message in script.sent[3:]], [7, 10, 7])
 
     def test_without_an_end_what_came_counts_after_two_seconds(self) -> None:
         began = time.monotonic()

@@ -65,7 +65,7 @@ class EnttecPro(OpenLine):
         self._terminal: Optional[Terminal] = None
         self._reader = MessageReader()
         self._messages: Deque[Message] = deque()
-        # An exchange had no end, or perhaps none: what comes next may still belong to it.
+        # The last exchange has had no end yet: what comes next may still belong to it.
         self._is_in_doubt = False
         # The last exchange was a branch that was answered, and had no end until now.
         self._may_end_late = False
@@ -99,6 +99,7 @@ class EnttecPro(OpenLine):
         if self._is_in_doubt:
             self._settle()
         self._drop_what_is_left()
+        self._is_in_doubt = True
         if is_branch_frame(frame):
             self._send(Label.SEND_BRANCH, frame)
             return self._branch_reply()
@@ -165,12 +166,12 @@ class EnttecPro(OpenLine):
             if message is None:
                 return self._without_end(kept)
             if message.label == Label.RDM_END:
-                return kept
+                return self._ended(kept)
             if message.label != Label.RECEIVED or message.data[1:2] != bytes([START_CODE]):
                 continue
             reply = message.data[1:MOST_REPLY_BYTES + 1]
             if message.data[0] == GOOD and is_whole_packet(reply):
-                return reply
+                return self._ended(reply)
             kept = kept or reply
 
     def _branch_reply(self) -> bytes:
@@ -181,25 +182,28 @@ class EnttecPro(OpenLine):
             if message is None:
                 return self._without_end(b"")
             if message.label == Label.RDM_END:
-                return b""
+                return self._ended(b"")
             if message.label == Label.RECEIVED and message.data:
                 reply = _branch_bytes(message.data)
-                self._await_branch_end(end)
-                return reply
+                return self._ended(reply) if self._has_branch_end(end) else reply
 
-    def _await_branch_end(self, end: float) -> None:
-        """Waits for the end of an answered branch, as far as it is known to come or may come."""
+    def _has_branch_end(self, end: float) -> bool:
+        """Waits for the end of an answered branch, as far as it is known to come or may come.
+
+        It is False if the end may still come.
+        """
         self._may_end_late = True
         if self.branch_end is BranchEnd.NOT_SENT:
-            return
+            return True
         if self.branch_end is BranchEnd.UNKNOWN:
             end = min(end, time.monotonic() + self._seconds_to_learn())
         while self._may_end_late:
             message = self._next(end)
             if message is None:
                 self._miss_branch_end()
-                return
+                return False
             self._note_late_end(message)
+        return True
 
     def _seconds_to_learn(self) -> float:
         """Firmware that OLA takes to send no end is awaited shortly; any other as long as an exchange may take."""
@@ -208,7 +212,6 @@ class EnttecPro(OpenLine):
 
     def _miss_branch_end(self) -> None:
         """No end came in time. The next exchange finds out first whether it is only late."""
-        self._is_in_doubt = True
         self._branches_without_end += 1
         if self.branch_end is BranchEnd.UNKNOWN and self._branches_without_end == BRANCHES_TO_LEARN:
             self.branch_end = BranchEnd.NOT_SENT
@@ -219,9 +222,13 @@ class EnttecPro(OpenLine):
             self.branch_end = BranchEnd.SENT
             self._may_end_late = False
 
+    def _ended(self, reply: bytes) -> bytes:
+        """An exchange has ended, so all that comes later belongs to another one."""
+        self._is_in_doubt = False
+        return reply
+
     def _without_end(self, kept: bytes) -> bytes:
         """The time is over: what came counts, and if nothing did the exchange has failed."""
-        self._is_in_doubt = True
         if not kept:
             raise LineFailed(f"{self.path} didn't end an exchange within {EXCHANGE_SECONDS:.0f} seconds")
         return kept
