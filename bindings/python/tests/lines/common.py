@@ -55,7 +55,8 @@ def _too_long(number: int, frame: Optional[FrameType]) -> None:
 def needs_library(test: Any) -> Any:
     """Skips a test if the C library can't be loaded."""
     try:
-        from wurstlinen import Controller  # noqa: F401
+        from wurstlinen import Controller, Uid
+        Controller(Uid.from_number(SOURCE)).dispose()
         return test
     except ImportError:
         return unittest.skip("needs the C library")(test)
