@@ -4,6 +4,7 @@ from __future__ import annotations
 import errno
 import fcntl
 import os
+import random
 import subprocess
 import sys
 import threading
@@ -50,6 +51,19 @@ def is_exclusive(path: str) -> bool:
         return any(fcntl.ioctl(descriptor, TIOCGEXCL, bytes(4)))
     finally:
         os.close(descriptor)
+
+
+def hostile(chance: random.Random) -> bytes:
+    """Messages of any kind with any bytes between them, up to the end of an exchange."""
+    data = b""
+    for _ in range(chance.randrange(6)):
+        label = chance.choice((3, 5, 5, 5, 7, 9, 10, 11, 77, 129, chance.randrange(256)))
+        start = chance.choice((b"", b"\x00", b"\x00\xcc", b"\x01\xcc\x01", b"\x7e"))
+        content = start + chance.randbytes(chance.randrange(300))
+        between = chance.randbytes(chance.randrange(20)).replace(b"\x7e", b"\xe7")
+        if label != Label.RDM_END:
+            data += between + Message(label, content).encode()
+    return data + END
 
 
 class Script(threading.Thread):
@@ -257,6 +271,16 @@ class Exchanges(TestCase):
                     driver.exchange(GET)
             self.assertEqual(driver.exchange(GET), REPLY)
         self.assertEqual([message.label for message in script.sent[3:]], [7, 10, 7])
+
+    def test_any_messages_and_any_bytes_between_them(self) -> None:
+        chance = random.Random(1)
+        answers = [hostile(chance) for _ in range(300)]
+        script = Script(*answers)
+        with folder() as locks, EnttecPro(script.path, locks) as driver:
+            for answer in answers:
+                reply = driver.exchange(chance.choice((GET, BRANCH, UNMUTE)))
+                self.assertLessEqual(len(reply), 257)
+                self.assertIn(reply, answer)
 
     def test_without_an_end_what_came_counts_after_two_seconds(self) -> None:
         began = time.monotonic()

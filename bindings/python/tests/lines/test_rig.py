@@ -1,10 +1,11 @@
 """A rig's fixtures against E1.20's tables, with bytes that were calculated by hand."""
 from __future__ import annotations
 
+import random
 import unittest
 from typing import Any, Dict, List, Tuple
 
-from common import LOSSES, ROOT, SEEDS, Collide, TestCase, one, random_scene, scene, uids_of
+from common import LOSSES, ROOT, SEEDS, SOURCE, Collide, TestCase, one, random_scene, scene, uids_of
 from search import TIMEOUT, Answer, Controller, Corrupt, discover
 from wurstlinen.line import LineFailed
 from wurstlinen.lines import Rig, SceneFault
@@ -269,6 +270,25 @@ class Discovery(TestCase):
             self.assertEqual(rig.exchange(packet.encode()), b"")
         for frame in (b"", b"\xcc", bytes(26), bytes(257)):
             self.assertEqual(rig.exchange(frame), b"")
+
+    def test_any_command_has_a_response_or_none(self) -> None:
+        chance = random.Random(1)
+        devices = [{"uid": "1234:00000001", "rig": WASH}, {"uid": "1234:00000002", "rig": {"timer": 0, "part": 1}}]
+        rig = Rig(scene(devices=devices))
+        answered = 0
+        for _ in range(20_000):
+            command = Packet(chance.choice((LAMP, LAMP + 1, ALL_DEVICES, 0x1234FFFFFFFF)), SOURCE, chance.randrange(256),
+                             1, 0, chance.choice((0, 0, 0, 1, 0xFFFF)), chance.choice((0x10, 0x20, 0x20, 0x30, 0x21)),
+                             chance.choice((*Pid, 0x8000, 2, 3)), chance.randbytes(chance.choice((0, 1, 1, 2, 32, 231))))
+            reply = rig.exchange(command.encode())
+            if reply and not command.is_branch:
+                answered += 1
+                response = decode_packet(reply)
+                assert response is not None
+                self.assertEqual((response.source, response.destination), (command.destination, SOURCE))
+                self.assertEqual(response.transaction, command.transaction)
+                self.assertLessEqual(response.port_or_type, 3)
+        self.assertGreater(answered, 5000)
 
     def test_fixtures_come_and_leave(self) -> None:
         rig = Rig(scene(devices=[{"uid": "1234:00000001", "until": 2}, {"uid": "9abc:00000002", "from": 2}]))
