@@ -40,6 +40,16 @@ class Clock:
         return self.now
 
 
+def any_command(chance: random.Random) -> Packet:
+    """A good packet, with contents by chance."""
+    target = chance.choice((LAMP, LAMP + 1, ALL_DEVICES, 0x1234FFFFFFFF))
+    sub_device = chance.choice((0, 0, 0, 1, 0xFFFF))
+    command_class = chance.choice((0x10, 0x20, 0x20, 0x30, 0x21))
+    pid = chance.choice((*Pid, 0x8000, 2, 3))
+    data = chance.randbytes(chance.choice((0, 1, 1, 2, 32, 231)))
+    return Packet(target, SOURCE, chance.randrange(256), 1, 0, sub_device, command_class, pid, data)
+
+
 class Parameters(TestCase):
     def setUp(self) -> None:
         self.controller = Controller(Rig(one(**WASH)))
@@ -277,9 +287,7 @@ class Discovery(TestCase):
         rig = Rig(scene(devices=devices))
         answered = 0
         for _ in range(20_000):
-            command = Packet(chance.choice((LAMP, LAMP + 1, ALL_DEVICES, 0x1234FFFFFFFF)), SOURCE, chance.randrange(256),
-                             1, 0, chance.choice((0, 0, 0, 1, 0xFFFF)), chance.choice((0x10, 0x20, 0x20, 0x30, 0x21)),
-                             chance.choice((*Pid, 0x8000, 2, 3)), chance.randbytes(chance.choice((0, 1, 1, 2, 32, 231))))
+            command = any_command(chance)
             reply = rig.exchange(command.encode())
             if reply and not command.is_branch:
                 answered += 1
