@@ -58,7 +58,7 @@ class Syntax(TestCase):
             parsed(path)
 
     def test_nothing_is_too_long(self) -> None:
-        for path in files():
+        for path in [*own_files(), *Path(__file__).parent.glob("*.py"), ROOT / "check_lines"]:
             lines = path.read_text().splitlines()
             self.assertLessEqual(len(lines), MOST_LINES_OF_A_FILE, path)
             self.assertLessEqual(max(map(len, lines), default=0), MOST_COLUMNS, path)
