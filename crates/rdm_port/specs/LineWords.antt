@@ -25,14 +25,16 @@ line_devices =
     (record (new_rule (codes "source")) { long = Some (codes "source"); required = true }))
     (record (new_rule (codes "known")) { long = Some (codes "known"); action = Some Append })
 
--- the same with its other options
+-- the same with its budget
+abbrev pub line_budget : App
+line_budget = with_rule line_devices (record (new_rule (codes "budget")) { long = Some (codes "budget") })
+
+-- the whole command
 abbrev pub line_discover : App
 line_discover =
     with_rule
     (with_rule
-    (with_rule
-    line_devices
-    (record (new_rule (codes "budget")) { long = Some (codes "budget") }))
+    line_budget
     (record (new_rule (codes "incremental")) { long = Some (codes "incremental"); action = Some SetTrue }))
     (record (new_rule (codes "quick")) { long = Some (codes "quick"); action = Some SetTrue })
 

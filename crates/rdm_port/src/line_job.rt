@@ -4,7 +4,8 @@ ghost use Rattle.clap.specs.Words.{app_of, found_of, rows_of, subcommand_rows_of
 ghost use Rattle.clap.specs.declared.builder.command.Command.TheViews.{out-Command as fields_of};
 ghost use Rattle.rdm_port.specs.Words.{texts_of};
 ghost use Rattle.rdm_port.specs.LineWords.{AsksOnLine, AsksNothingOnLine, IsGivenOnLine, IsDiscoveryOf};
-ghost use Rattle.rdm_port.specs.LineWords.{IsBudget, line_commands, line_discover, line_devices, line_streams, texts_given};
+ghost use Rattle.rdm_port.specs.LineWords.{IsBudget, line_commands, line_discover, line_budget, line_devices};
+ghost use Rattle.rdm_port.specs.LineWords.{line_streams, texts_given};
 
 use crate::job::{WordsFault, bare, fault_of, has_flag, with_command};
 use clap::{Arg, ArgAction, ArgMatches, Command};
@@ -65,17 +66,22 @@ fn line_discover<'a>(alloc: Global) -> Result<Command<'a>, AllocError>
     ensures app { IfOk result (λ command. app_of command ≡ line_discover) }
     ensures local { IfOk result (λ command. (fields_of command).has_globals ≡ false) }
 {
-    let budget = Arg::new(alloc, "budget").long("budget");
     let incremental = Arg::new(alloc, "incremental")
         .long("incremental")
         .action(ArgAction::SetTrue);
     let quick = Arg::new(alloc, "quick")
         .long("quick")
         .action(ArgAction::SetTrue);
-    line_devices(alloc)?
-        .arg(budget)?
-        .arg(incremental)?
-        .arg(quick)
+    line_budget(alloc)?.arg(incremental)?.arg(quick)
+}
+
+// The command with its budget.
+fn line_budget<'a>(alloc: Global) -> Result<Command<'a>, AllocError>
+    ensures app { IfOk result (λ command. app_of command ≡ line_budget) }
+    ensures local { IfOk result (λ command. (fields_of command).has_globals ≡ false) }
+{
+    let budget = Arg::new(alloc, "budget").long("budget");
+    line_devices(alloc)?.arg(budget)
 }
 
 // The command with the UIDs that it needs.
