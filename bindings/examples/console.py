@@ -1,0 +1,71 @@
+"""A console: it discovers the fixtures of a line, asks each for its label, and renames one. The line is simulated here."""
+
+import wurstlinen
+from wurstlinen import (
+    AckType, CommandKind, Controller, Device, RequestClass, Response, ResponseClass, Status, Uid, encode_mute_ack,
+    encode_response, read_command, write_branch_reply)
+
+DEVICE_LABEL = 0x0082
+
+
+class Fixture:
+    def __init__(self, uid: Uid, label: bytes) -> None:
+        self.uid, self.label, self.is_muted = uid, label, False
+
+
+class SimulatedLine:
+    """A line in memory: `exchange` gives what its fixtures answer."""
+
+    def __init__(self, *fixtures: Fixture) -> None:
+        self.fixtures = fixtures
+
+    def exchange(self, frame: bytes) -> bytes:
+        asked = read_command(frame)
+        if asked is None:
+            return b""
+        if asked.kind == CommandKind.BRANCH:
+            return self.branched(asked)
+        replies = [self.answer(fixture, asked) for fixture in self.fixtures]
+        return b"".join(replies)
+
+    def branched(self, asked) -> bytes:
+        replies = [write_branch_reply(fixture.uid) for fixture in self.fixtures
+                   if not fixture.is_muted and asked.lo <= fixture.uid <= asked.hi]
+        # Replies at the same time overlap.
+        return bytes(map(lambda *same: sum(same) & 0xFF, *replies)) if replies else b""
+
+    def answer(self, fixture: Fixture, asked) -> bytes:
+        if asked.kind == CommandKind.UNMUTE:
+            fixture.is_muted = False
+        if asked.target != fixture.uid:
+            return b""
+        if asked.kind == CommandKind.MUTE:
+            fixture.is_muted = True
+            return encode_mute_ack(Device(fixture.uid), asked.source, asked.tn)
+        is_set = asked.request.request_class == RequestClass.SET
+        if is_set:
+            fixture.label = asked.request.data
+        return encode_response(Response(
+            fixture.uid, asked.source, asked.tn, AckType.ACK, ResponseClass.SET if is_set else ResponseClass.GET,
+            asked.request.pid, b"" if is_set else fixture.label))
+
+
+def main() -> None:
+    line = SimulatedLine(Fixture(Uid(0x1234, 1), b"Stage left"), Fixture(Uid(0x1234, 2), b"Stage right"))
+    with Controller(Uid.parse("7a70:00000100")) as controller:
+        client = controller.join(16)
+        client.discover()
+        controller.run(line)
+        devices = client.next_discovery().devices
+        client.set(devices[0].uid, DEVICE_LABEL, b"Front")
+        for device in devices:
+            client.get(device.uid, DEVICE_LABEL)
+        controller.run(line)
+        assert client.next_completion().status == Status.COMPLETED
+        for device in devices:
+            print(device.uid, client.next_completion().data.decode("ascii"))
+        print("wurstlinen", wurstlinen.__version__)
+
+
+if __name__ == "__main__":
+    main()

@@ -1,0 +1,35 @@
+"""Wurstlinen: a controller for RDM (ANSI E1.20), over the C library libwurstlinen.
+
+    import wurstlinen
+
+    with wurstlinen.Controller(wurstlinen.Uid.parse("7a70:00000001")) as controller:
+        client = controller.join(4)
+        client.discover()
+        controller.run(line)              # line has a method exchange(frame: bytes) -> bytes
+        for device in client.next_discovery().devices:
+            print(device.uid)
+"""
+
+from ._faults import (
+    AlreadyOpen, BadClass, BadKind, BadPreamble, BadRange, BadResponseType, BadSearch, BadUid, BroadcastUid,
+    BufferTooSmall, Closed, DataTooLong, Fault, Full, HasEnded, InvalidClass, InvalidResponseType, LengthMismatch,
+    LogFull, NoBudget, NoPlaces, NotAsked, NotEnded, NotOpen, NotText,
+    OtherOutcome, OutOfMemory, PacketFault, ParamLengthMismatch, ReplyTooLong, TooManyClients, TooManyDevices,
+    TooManyPlaces, TooShort, UidDigit, UidFault, UidLength, UidSeparator, UnknownClient,
+    WrongChecksum, WrongStart, WrongSubStart)
+from ._library import LibraryNotFound, VersionDiffers
+from ._types import (
+    DEFAULT_BUDGET, MOST_CLIENTS, MOST_DEVICES, MOST_FRAME_BYTES, MOST_JOINED_BYTES,
+    MOST_PARAMETER_BYTES, MOST_PLACES, AckType, BranchReply, BranchReplyKind, Command, CommandKind, Completion,
+    Device, Discovery, Kind, MuteAck, Operation, OutcomeKind, ReplyHead, Request, RequestClass, Response,
+    ResponseClass, RunFault, RunFaultKind, Search, Status, Uid)
+from ._wire import (
+    decode_response, encode_branch, encode_mute, encode_mute_ack, encode_request, encode_response, encode_unmute,
+    read_branch_reply, read_command, read_mute_ack, write_branch_reply)
+from ._queue import Client, Controller
+from ._agent import DiscoveryAgent
+from .line import Line, LineFailed
+
+__version__ = "0.1.0"
+
+__all__ = sorted(name for name in globals() if not name.startswith("_"))

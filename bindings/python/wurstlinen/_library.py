@@ -1,0 +1,176 @@
+"""Finds libwurstlinen, and declares its calls for ctypes."""
+
+import ctypes
+import os
+from ctypes import POINTER, c_bool, c_size_t, c_uint8, c_uint16, c_uint32, c_uint64, c_void_p
+
+VERSION = 1000
+NAME = "libwurstlinen.so.0"
+
+
+class LibraryNotFound(ImportError):
+    """The shared library isn't where it is looked for."""
+
+
+class VersionDiffers(ImportError):
+    """The shared library has another version than this package."""
+
+
+class Handle(ctypes.Structure):
+    _fields_ = [("at", c_void_p), ("is_open", c_bool)]
+
+
+class Setup(ctypes.Structure):
+    _fields_ = [("source", c_uint64), ("budget", c_uint64), ("search", c_uint32), ("places", c_uint16)]
+
+
+class RequestForm(ctypes.Structure):
+    _fields_ = [("target", c_uint64), ("command_class", c_uint32), ("sub_device", c_uint16), ("pid", c_uint16)]
+
+
+class CompletionForm(ctypes.Structure):
+    _fields_ = [("number", c_uint64), ("len", c_size_t), ("status", c_uint32), ("ack", c_uint32),
+                ("response_class", c_uint32), ("sub_device", c_uint16), ("pid", c_uint16), ("has_head", c_bool)]
+
+
+class EndForm(ctypes.Structure):
+    _fields_ = [("number", c_uint64), ("run", c_uint64), ("corrupt", c_uint64), ("count", c_size_t),
+                ("fault", c_uint32)]
+
+
+class DeviceForm(ctypes.Structure):
+    _fields_ = [("uid", c_uint64), ("binding", c_uint64), ("control", c_uint16), ("has_binding", c_bool)]
+
+
+class ResponseForm(ctypes.Structure):
+    _fields_ = [("source", c_uint64), ("dest", c_uint64), ("len", c_size_t), ("ack", c_uint32),
+                ("response_class", c_uint32), ("sub_device", c_uint16), ("pid", c_uint16), ("tn", c_uint8),
+                ("count", c_uint8)]
+
+
+class CommandForm(ctypes.Structure):
+    _fields_ = [("source", c_uint64), ("target", c_uint64), ("lo", c_uint64), ("hi", c_uint64), ("len", c_size_t),
+                ("kind", c_uint32), ("command_class", c_uint32), ("sub_device", c_uint16), ("pid", c_uint16),
+                ("tn", c_uint8)]
+
+
+class MuteAckForm(ctypes.Structure):
+    _fields_ = [("binding", c_uint64), ("control", c_uint16), ("has_binding", c_bool)]
+
+
+class StartForm(ctypes.Structure):
+    _fields_ = [("source", c_uint64), ("budget", c_uint64), ("kind", c_uint32), ("search", c_uint32),
+                ("tn", c_uint8)]
+
+
+_BYTES = POINTER(c_uint8)
+_LENGTH = POINTER(c_size_t)
+_HANDLE = POINTER(Handle)
+
+# Each call, with the types of its arguments. All answer a status but _dispose.
+CALLS = {
+    "wurst_version": [],
+    "wurst_controller_open": [_HANDLE, POINTER(Setup)],
+    "wurst_controller_dispose": [_HANDLE],
+    "wurst_controller_join": [_HANDLE, c_uint8, POINTER(c_uint8)],
+    "wurst_controller_submit": [_HANDLE, c_uint8, POINTER(RequestForm), _BYTES, c_size_t, POINTER(c_uint64)],
+    "wurst_controller_discover": [_HANDLE, c_uint8, c_uint32, POINTER(c_uint64)],
+    "wurst_controller_pause": [_HANDLE],
+    "wurst_controller_resume": [_HANDLE],
+    "wurst_controller_close": [_HANDLE],
+    "wurst_controller_take": [_HANDLE, _BYTES, c_size_t, _LENGTH],
+    "wurst_controller_deliver": [_HANDLE, _BYTES, c_size_t],
+    "wurst_controller_fail": [_HANDLE],
+    "wurst_controller_oldest": [_HANDLE, c_uint8, POINTER(c_uint32)],
+    "wurst_controller_next_completion": [_HANDLE, c_uint8, POINTER(CompletionForm), _BYTES, c_size_t],
+    "wurst_controller_next_discovery": [_HANDLE, c_uint8, POINTER(EndForm), POINTER(DeviceForm), c_size_t],
+    "wurst_controller_devices": [_HANDLE, POINTER(DeviceForm), c_size_t, _LENGTH],
+    "wurst_controller_devices_run": [_HANDLE, POINTER(c_uint64)],
+    "wurst_controller_is_idle": [_HANDLE, POINTER(c_bool)],
+    "wurst_controller_is_paused": [_HANDLE, POINTER(c_bool)],
+    "wurst_controller_is_closed": [_HANDLE, POINTER(c_bool)],
+    "wurst_controller_awaits": [_HANDLE, POINTER(c_bool)],
+    "wurst_uid_read": [_BYTES, c_size_t, POINTER(c_uint64)],
+    "wurst_uid_write": [c_uint64, _BYTES, c_size_t],
+    "wurst_branch_reply_read": [_BYTES, c_size_t, POINTER(c_uint32), POINTER(c_uint64)],
+    "wurst_branch_reply_write": [c_uint64, c_uint8, _BYTES, c_size_t, _LENGTH],
+    "wurst_request_write": [POINTER(RequestForm), _BYTES, c_size_t, c_uint64, c_uint8, _BYTES, c_size_t, _LENGTH],
+    "wurst_unmute_write": [c_uint64, c_uint8, _BYTES, c_size_t, _LENGTH],
+    "wurst_mute_write": [c_uint64, c_uint64, c_uint8, _BYTES, c_size_t, _LENGTH],
+    "wurst_branch_write": [c_uint64, c_uint64, c_uint64, c_uint8, _BYTES, c_size_t, _LENGTH],
+    "wurst_response_read": [_BYTES, c_size_t, POINTER(ResponseForm), _BYTES, c_size_t],
+    "wurst_response_write": [POINTER(ResponseForm), _BYTES, c_size_t, _BYTES, c_size_t, _LENGTH],
+    "wurst_mute_ack_read": [c_uint64, c_uint64, c_uint8, _BYTES, c_size_t, POINTER(MuteAckForm)],
+    "wurst_mute_ack_write": [POINTER(DeviceForm), c_uint64, c_uint8, _BYTES, c_size_t, _LENGTH],
+    "wurst_command_read": [_BYTES, c_size_t, POINTER(CommandForm), _BYTES, c_size_t],
+    "wurst_agent_start": [_HANDLE, POINTER(StartForm), POINTER(c_uint64), c_size_t],
+    "wurst_agent_dispose": [_HANDLE],
+    "wurst_agent_next": [_HANDLE, POINTER(c_uint32), _BYTES, c_size_t, _LENGTH],
+    "wurst_agent_hear": [_HANDLE, _BYTES, c_size_t],
+    "wurst_agent_fail": [_HANDLE],
+    "wurst_agent_stop": [_HANDLE],
+    "wurst_agent_devices": [_HANDLE, POINTER(DeviceForm), c_size_t, _LENGTH],
+    "wurst_agent_fault": [_HANDLE, POINTER(c_uint32), POINTER(c_uint64)],
+    "wurst_agent_frames": [_HANDLE, POINTER(c_uint64)],
+}
+
+
+def _places():
+    """Where the library may be: as the environment says, or else beside the package or in PREFIX/lib."""
+    named = os.environ.get("WURSTLINEN_LIBRARY")
+    if named:
+        return [named]
+    here = os.path.dirname(os.path.abspath(__file__))
+    # The package is in PREFIX/lib/python3/site-packages/wurstlinen.
+    lib = os.path.dirname(os.path.dirname(os.path.dirname(here)))
+    return [os.path.join(here, NAME), os.path.join(lib, NAME)]
+
+
+def _load():
+    places = _places()
+    for place in places:
+        if os.path.exists(place):
+            try:
+                return ctypes.CDLL(place)
+            except OSError as why:
+                raise LibraryNotFound(f"{place} can't be loaded: {why}") from None
+    raise LibraryNotFound(f"{NAME} is not at " + " or ".join(places) + "; WURSTLINEN_LIBRARY may name another file")
+
+
+def _declared(library):
+    for name, arguments in CALLS.items():
+        try:
+            call = getattr(library, name)
+        except AttributeError:
+            raise VersionDiffers(f"the library has no call {name}") from None
+        call.argtypes = arguments
+        call.restype = None if name.endswith("_dispose") else c_uint32
+    found = library.wurst_version()
+    if found != VERSION:
+        raise VersionDiffers(f"the library's version is {found}, and this package's is {VERSION}")
+    return library
+
+
+class _Library:
+    """The library, which is loaded when its first call is looked up: lines of their own need none."""
+
+    def __getattr__(self, name):
+        if name not in CALLS:
+            raise AttributeError(name)
+        loaded = _declared(_load())
+        self.__dict__.update((each, getattr(loaded, each)) for each in CALLS)
+        return self.__dict__[name]
+
+
+LIBRARY = _Library()
+
+
+def buffer_of(data: bytes):
+    """Bytes for a call, never null, and how many there are."""
+    # One byte more, so that an empty buffer has an address.
+    return (c_uint8 * (len(data) + 1)).from_buffer_copy(bytes(data) + b"\0"), len(data)
+
+
+def room_for(count: int):
+    """A buffer for this many bytes."""
+    return (c_uint8 * max(count, 1))()

@@ -1,0 +1,314 @@
+"""Values: UIDs, requests, outcomes."""
+
+import ctypes
+import enum
+import functools
+from dataclasses import dataclass
+from typing import ClassVar, Optional, Tuple
+
+from ._faults import BadUid, check
+from ._library import LIBRARY, DeviceForm, buffer_of, room_for
+
+MOST_FRAME_BYTES = 257
+MOST_PARAMETER_BYTES = 231
+MOST_JOINED_BYTES = 65535
+MOST_DEVICES = 1024
+MOST_CLIENTS = 16
+MOST_PLACES = 4080
+DEFAULT_BUDGET = 384_008
+
+
+def whole(value: int, bits: int, what: str) -> int:
+    """The number, if it is a whole one of this many bits."""
+    number = int(value)
+    if number != value or not 0 <= number < 1 << bits:
+        raise ValueError(f"{what} is not from 0 to {(1 << bits) - 1}: {value}")
+    return number
+
+
+@functools.total_ordering
+class Uid:
+    """A UID: 16 bits of manufacturer and 32 of device."""
+
+    __slots__ = ("_number",)
+    ALL: ClassVar["Uid"]
+
+    def __init__(self, manufacturer: int, device: int) -> None:
+        number = whole(manufacturer, 16, "manufacturer") << 32 | whole(device, 32, "device")
+        object.__setattr__(self, "_number", number)
+
+    def __setattr__(self, name: str, value: object) -> None:
+        raise AttributeError("a UID doesn't change")
+
+    @classmethod
+    def from_number(cls, number: int) -> "Uid":
+        """The UID of this number, below 2^48."""
+        if not 0 <= number < 1 << 48:
+            raise BadUid()
+        return cls(number >> 32, number & 0xFFFFFFFF)
+
+    @classmethod
+    def parse(cls, text: str) -> "Uid":
+        """The UID that a text spells, as 7a70:00000001. Raises UidLength, UidSeparator or UidDigit."""
+        buffer, length = buffer_of(text.encode("utf-8", "surrogatepass"))
+        number = ctypes.c_uint64()
+        check(LIBRARY.wurst_uid_read(buffer, length, number))
+        return cls.from_number(number.value)
+
+    @property
+    def number(self) -> int:
+        return self._number
+
+    @property
+    def manufacturer(self) -> int:
+        return self._number >> 32
+
+    @property
+    def device(self) -> int:
+        return self._number & 0xFFFFFFFF
+
+    @property
+    def is_broadcast(self) -> bool:
+        """Whether it addresses many devices."""
+        return self.device == 0xFFFFFFFF
+
+    def __str__(self) -> str:
+        text = room_for(13)
+        check(LIBRARY.wurst_uid_write(self._number, text, 13))
+        return bytes(text).decode("ascii")
+
+    def __repr__(self) -> str:
+        return f"Uid.parse('{self}')"
+
+    def __eq__(self, other: object) -> bool:
+        return isinstance(other, Uid) and self._number == other._number
+
+    def __lt__(self, other: "Uid") -> bool:
+        if not isinstance(other, Uid):
+            return NotImplemented
+        return self._number < other._number
+
+    def __hash__(self) -> int:
+        return hash(self._number)
+
+
+Uid.ALL = Uid(0xFFFF, 0xFFFFFFFF)
+
+
+class Status(enum.IntEnum):
+    """How a request ended."""
+
+    COMPLETED = 0
+    WAS_BROADCAST = 1
+    FAILED_TO_SEND = 2
+    TIMEOUT = 3
+    INVALID_RESPONSE = 4
+    TOO_SHORT = 5
+    WRONG_START = 6
+    WRONG_SUB_START = 7
+    LENGTH_MISMATCH = 8
+    PARAM_LENGTH_MISMATCH = 9
+    CHECKSUM = 10
+    INVALID_CLASS = 11
+    INVALID_RESPONSE_TYPE = 12
+    TRANSACTION_MISMATCH = 13
+    SUB_DEVICE_MISMATCH = 14
+    SOURCE_MISMATCH = 15
+    DEST_MISMATCH = 16
+    CLASS_MISMATCH = 17
+    NO_MEMORY = 18
+
+
+class AckType(enum.IntEnum):
+    """How a device responded."""
+
+    ACK = 0
+    TIMER = 1
+    NACK = 2
+    OVERFLOW = 3
+
+
+class RequestClass(enum.IntEnum):
+    GET = 0
+    SET = 1
+
+
+class ResponseClass(enum.IntEnum):
+    DISCOVERY = 0
+    GET = 1
+    SET = 2
+
+
+class Kind(enum.IntEnum):
+    """What a discovery starts from."""
+
+    FULL = 0
+    INCREMENTAL = 1
+
+
+class Search(enum.IntEnum):
+    """How discovery runs search."""
+
+    STEADY = 0
+    QUICK = 1
+
+
+class OutcomeKind(enum.IntEnum):
+    REQUEST = 0
+    DISCOVERY = 1
+
+
+class RunFaultKind(enum.IntEnum):
+    """Why a run ended early."""
+
+    CORRUPT = 1
+    TOO_MANY = 2
+    EXHAUSTED = 3
+    LINE_FAILED = 4
+    ABORTED = 5
+
+
+class Operation(enum.IntEnum):
+    """What a run asks."""
+
+    UNMUTE = 0
+    MUTE = 1
+    BRANCH = 2
+
+
+class CommandKind(enum.IntEnum):
+    UNMUTE = 0
+    BRANCH = 1
+    MUTE = 2
+    REQUEST = 3
+
+
+class BranchReplyKind(enum.IntEnum):
+    SILENT = 0
+    ONE = 1
+    COLLISION = 2
+
+
+@dataclass(frozen=True)
+class Request:
+    """A request to a device, or to many."""
+
+    target: Uid
+    pid: int
+    data: bytes = b""
+    sub_device: int = 0
+    request_class: RequestClass = RequestClass.GET
+
+
+@dataclass(frozen=True)
+class ReplyHead:
+    """What the last reply of a completed request says beside its data."""
+
+    ack: AckType
+    response_class: ResponseClass
+    pid: int
+    sub_device: int
+
+
+@dataclass(frozen=True)
+class Completion:
+    """How a request ended. `head` is there with COMPLETED alone."""
+
+    number: int
+    status: Status
+    head: Optional[ReplyHead]
+    data: bytes
+
+
+@dataclass(frozen=True)
+class Device:
+    """A device, with the control field and the binding UID of its first acknowledgement in a run."""
+
+    uid: Uid
+    control: int = 0
+    binding: Optional[Uid] = None
+
+
+@dataclass(frozen=True)
+class RunFault:
+    """Why a run ended early. `uid` is there with CORRUPT alone."""
+
+    kind: RunFaultKind
+    uid: Optional[Uid] = None
+
+
+@dataclass(frozen=True)
+class Discovery:
+    """How a discovery ended, and the devices that its run found."""
+
+    number: int
+    run: int
+    fault: Optional[RunFault]
+    devices: Tuple[Device, ...]
+
+
+@dataclass(frozen=True)
+class Response:
+    """A device's response."""
+
+    source: Uid
+    dest: Uid
+    tn: int
+    ack: AckType
+    response_class: ResponseClass
+    pid: int
+    data: bytes = b""
+    sub_device: int = 0
+    count: int = 0
+
+
+@dataclass(frozen=True)
+class MuteAck:
+    """What a device says when it acknowledges a mute."""
+
+    control: int
+    binding: Optional[Uid] = None
+
+
+@dataclass(frozen=True)
+class BranchReply:
+    """What came after a branch. `uid` is there with ONE alone."""
+
+    kind: BranchReplyKind
+    uid: Optional[Uid] = None
+
+
+@dataclass(frozen=True)
+class Command:
+    """A controller's command. `target` is a mute's, `lo` and `hi` are a branch's."""
+
+    kind: CommandKind
+    source: Uid
+    tn: int
+    target: Optional[Uid] = None
+    lo: Optional[Uid] = None
+    hi: Optional[Uid] = None
+    request: Optional[Request] = None
+
+
+def uid_if(there: bool, number: int) -> Optional[Uid]:
+    return Uid.from_number(number) if there else None
+
+
+def run_fault(fault: int, corrupt: int) -> Optional[RunFault]:
+    if fault == 0:
+        return None
+    return RunFault(RunFaultKind(fault), uid_if(fault == RunFaultKind.CORRUPT, corrupt))
+
+
+def devices_of(forms, count: int) -> Tuple[Device, ...]:
+    return tuple(
+        Device(Uid.from_number(form.uid), form.control, uid_if(form.has_binding, form.binding))
+        for form in forms[:count]
+    )
+
+
+def form_of_device(device: Device) -> DeviceForm:
+    binding = device.binding
+    number = 0 if binding is None else binding.number
+    return DeviceForm(device.uid.number, number, whole(device.control, 16, "control field"), binding is not None)

@@ -1,0 +1,407 @@
+/* Each call of the C library: worked examples, and what it refuses. */
+#include "tests.h"
+
+/* The sizes that the library has; its own proof says the same of them. */
+_Static_assert(sizeof(struct wurst_controller) == 16, "handles have 16 bytes");
+_Static_assert(sizeof(struct wurst_agent) == 16, "handles have 16 bytes");
+_Static_assert(sizeof(struct wurst_setup) == 24, "wurst_setup");
+_Static_assert(sizeof(struct wurst_request) == 16, "wurst_request");
+_Static_assert(sizeof(struct wurst_completion) == 40, "wurst_completion");
+_Static_assert(sizeof(struct wurst_end) == 40, "wurst_end");
+_Static_assert(sizeof(struct wurst_device) == 24, "wurst_device");
+_Static_assert(sizeof(struct wurst_response) == 40, "wurst_response");
+_Static_assert(sizeof(struct wurst_command) == 56, "wurst_command");
+_Static_assert(sizeof(struct wurst_mute_ack) == 16, "wurst_mute_ack");
+_Static_assert(sizeof(struct wurst_start) == 32, "wurst_start");
+
+static uint8_t frame[WURST_MOST_FRAME_BYTES], reply[WURST_MOST_FRAME_BYTES + 1], buffer[WURST_MOST_JOINED_BYTES];
+static struct wurst_device devices[WURST_MOST_DEVICES];
+static struct wurst_completion done;
+static struct wurst_end end;
+static size_t len;
+static uint64_t number;
+static uint32_t kind;
+static bool answered;
+
+static void opens(void) {
+    struct wurst_controller queue = {0};
+    struct wurst_setup bad = setup;
+    bad.source = UINT64_C(0x1000000000000);
+    CHECK(wurst_controller_open(&queue, &bad) == WURST_BAD_UID);
+    bad.source = UINT64_C(0x7a70ffffffff);
+    CHECK(wurst_controller_open(&queue, &bad) == WURST_BROADCAST_UID);
+    bad = setup;
+    bad.places = 4081;
+    CHECK(wurst_controller_open(&queue, &bad) == WURST_TOO_MANY_PLACES);
+    bad = setup;
+    bad.budget = 0;
+    CHECK(wurst_controller_open(&queue, &bad) == WURST_NO_BUDGET);
+    bad = setup;
+    bad.search = 2;
+    CHECK(wurst_controller_open(&queue, &bad) == WURST_BAD_SEARCH);
+    CHECK(!queue.is_open);
+    CHECK(wurst_controller_open(&queue, &setup) == WURST_DONE);
+    CHECK(wurst_controller_open(&queue, &setup) == WURST_ALREADY_OPEN);
+    wurst_controller_dispose(&queue);
+    CHECK(!queue.is_open);
+    wurst_controller_dispose(&queue);
+    CHECK(wurst_controller_open(&queue, &setup) == WURST_DONE);
+    wurst_controller_dispose(&queue);
+}
+
+static void is_closed_handle(void) {
+    struct wurst_controller queue = {0};
+    uint8_t client = 0;
+    CHECK(wurst_controller_join(&queue, 1, &client) == WURST_NOT_OPEN);
+    CHECK(wurst_controller_submit(&queue, 0, &device_info, no_bytes, 0, &number) == WURST_NOT_OPEN);
+    CHECK(wurst_controller_discover(&queue, 0, 0, &number) == WURST_NOT_OPEN);
+    CHECK(wurst_controller_pause(&queue) == WURST_NOT_OPEN);
+    CHECK(wurst_controller_resume(&queue) == WURST_NOT_OPEN);
+    CHECK(wurst_controller_close(&queue) == WURST_NOT_OPEN);
+    CHECK(wurst_controller_take(&queue, frame, sizeof frame, &len) == WURST_NOT_OPEN);
+    CHECK(wurst_controller_deliver(&queue, reply, 0) == WURST_NOT_OPEN);
+    CHECK(wurst_controller_fail(&queue) == WURST_NOT_OPEN);
+    CHECK(wurst_controller_oldest(&queue, 0, &kind) == WURST_NOT_OPEN);
+    CHECK(wurst_controller_next_completion(&queue, 0, &done, buffer, sizeof buffer) == WURST_NOT_OPEN);
+    CHECK(wurst_controller_next_discovery(&queue, 0, &end, devices, WURST_MOST_DEVICES) == WURST_NOT_OPEN);
+    CHECK(wurst_controller_devices(&queue, devices, WURST_MOST_DEVICES, &len) == WURST_NOT_OPEN);
+    CHECK(wurst_controller_devices_run(&queue, &number) == WURST_NOT_OPEN);
+    CHECK(wurst_controller_is_idle(&queue, &answered) == WURST_NOT_OPEN);
+    CHECK(wurst_controller_is_paused(&queue, &answered) == WURST_NOT_OPEN);
+    CHECK(wurst_controller_is_closed(&queue, &answered) == WURST_NOT_OPEN);
+    CHECK(wurst_controller_awaits(&queue, &answered) == WURST_NOT_OPEN);
+}
+
+static void serves_a_request(void) {
+    struct wurst_controller queue = {0};
+    uint8_t client = 99;
+    CHECK(wurst_controller_open(&queue, &setup) == WURST_DONE);
+    CHECK(wurst_controller_join(&queue, 11, &client) == WURST_NO_PLACES && client == 99);
+    CHECK(wurst_controller_join(&queue, 1, &client) == WURST_DONE && client == 0);
+    CHECK(wurst_controller_take(&queue, frame, sizeof frame, &len) == WURST_NOTHING);
+    number = 99;
+    CHECK(wurst_controller_submit(&queue, client, &device_info, no_bytes, 0, &number) == WURST_DONE && number == 0);
+    CHECK(wurst_controller_submit(&queue, client, &device_info, no_bytes, 0, &number) == WURST_FULL && number == 0);
+    CHECK(wurst_controller_take(&queue, frame, 256, &len) == WURST_BUFFER_TOO_SMALL);
+    CHECK(wurst_controller_take(&queue, frame, sizeof frame, &len) == WURST_DONE);
+    /* E1.20, packet format: its sum is 029e. */
+    CHECK(is_same(frame, len, "cc0118 123400000007 7a7000000001 00 01 00 0000 20 0060 00 029e"));
+    CHECK(wurst_controller_take(&queue, frame, sizeof frame, &len) == WURST_NOTHING);
+    CHECK(wurst_controller_awaits(&queue, &answered) == WURST_DONE && answered);
+    CHECK(wurst_controller_deliver(&queue, reply, 258) == WURST_REPLY_TOO_LONG);
+    CHECK(wurst_controller_awaits(&queue, &answered) == WURST_DONE && answered);
+    CHECK(wurst_controller_deliver(&queue, reply, answer(frame, 0, (const uint8_t *)"four", 4, reply)) == WURST_DONE);
+    CHECK(wurst_controller_deliver(&queue, reply, 0) == WURST_NOT_ASKED);
+    CHECK(wurst_controller_oldest(&queue, client, &kind) == WURST_DONE && kind == WURST_REQUEST_OUTCOME);
+    CHECK(wurst_controller_next_discovery(&queue, client, &end, devices, 0) == WURST_OTHER_OUTCOME);
+    done.len = 0;
+    CHECK(wurst_controller_next_completion(&queue, client, &done, buffer, 3) == WURST_BUFFER_TOO_SMALL);
+    CHECK(done.len == 4);
+    CHECK(wurst_controller_next_completion(&queue, client, &done, buffer, 4) == WURST_DONE);
+    CHECK(done.number == 0 && done.len == 4 && done.status == WURST_COMPLETED && done.has_head);
+    CHECK(done.ack == WURST_ACK && done.response_class == WURST_GET_RESPONSE && done.pid == 0x0060);
+    CHECK(done.sub_device == 0 && memcmp(buffer, "four", 4) == 0);
+    CHECK(wurst_controller_next_completion(&queue, client, &done, buffer, 4) == WURST_NOTHING);
+    CHECK(wurst_controller_is_idle(&queue, &answered) == WURST_DONE && answered);
+    wurst_controller_dispose(&queue);
+}
+
+static void joins_parts(void) {
+    struct wurst_controller queue = {0};
+    uint8_t client = 0, part[231];
+    memset(part, 7, sizeof part);
+    CHECK(wurst_controller_open(&queue, &setup) == WURST_DONE);
+    CHECK(wurst_controller_join(&queue, 1, &client) == WURST_DONE);
+    CHECK(wurst_controller_submit(&queue, client, &device_info, no_bytes, 0, &number) == WURST_DONE);
+    for (int i = 0; i < 3; i++) {
+        CHECK(wurst_controller_take(&queue, frame, sizeof frame, &len) == WURST_DONE);
+        CHECK(wurst_controller_deliver(&queue, reply, answer(frame, i < 2 ? 3 : 0, part, 231, reply)) == WURST_DONE);
+    }
+    CHECK(wurst_controller_next_completion(&queue, client, &done, buffer, 692) == WURST_BUFFER_TOO_SMALL);
+    CHECK(done.len == 693);
+    CHECK(wurst_controller_next_completion(&queue, client, &done, buffer, 693) == WURST_DONE && done.len == 693);
+    wurst_controller_dispose(&queue);
+}
+
+static void refuses(void) {
+    struct wurst_controller queue = {0};
+    struct wurst_request bad = device_info;
+    uint8_t client = 0;
+    CHECK(wurst_controller_open(&queue, &setup) == WURST_DONE);
+    CHECK(wurst_controller_join(&queue, 2, &client) == WURST_DONE);
+    bad.target = UINT64_C(0x1000000000000);
+    CHECK(wurst_controller_submit(&queue, client, &bad, no_bytes, 0, &number) == WURST_BAD_UID);
+    bad = device_info;
+    bad.command_class = 2;
+    CHECK(wurst_controller_submit(&queue, client, &bad, no_bytes, 0, &number) == WURST_BAD_CLASS);
+    CHECK(wurst_controller_submit(&queue, client, &device_info, buffer, 232, &number) == WURST_DATA_TOO_LONG);
+    CHECK(wurst_controller_submit(&queue, 1, &device_info, no_bytes, 0, &number) == WURST_UNKNOWN_CLIENT);
+    CHECK(wurst_controller_discover(&queue, client, 2, &number) == WURST_BAD_KIND);
+    CHECK(wurst_controller_discover(&queue, 1, 0, &number) == WURST_UNKNOWN_CLIENT);
+    CHECK(wurst_controller_oldest(&queue, 1, &kind) == WURST_UNKNOWN_CLIENT);
+    CHECK(wurst_controller_oldest(&queue, client, &kind) == WURST_NOTHING);
+    CHECK(wurst_controller_next_completion(&queue, 1, &done, buffer, 0) == WURST_UNKNOWN_CLIENT);
+    CHECK(wurst_controller_next_discovery(&queue, 1, &end, devices, 0) == WURST_UNKNOWN_CLIENT);
+    CHECK(wurst_controller_next_discovery(&queue, client, &end, devices, 0) == WURST_NOTHING);
+    CHECK(wurst_controller_fail(&queue) == WURST_NOT_ASKED);
+    for (int i = 0; i < 4; i++) {
+        CHECK(wurst_controller_discover(&queue, client, 0, &number) == WURST_DONE);
+    }
+    CHECK(wurst_controller_discover(&queue, client, 0, &number) == WURST_FULL);
+    for (int i = 1; i < 16; i++) {
+        CHECK(wurst_controller_join(&queue, 0, &client) == WURST_DONE && client == i);
+    }
+    CHECK(wurst_controller_join(&queue, 0, &client) == WURST_TOO_MANY_CLIENTS);
+    wurst_controller_dispose(&queue);
+}
+
+static void pauses_and_closes(void) {
+    struct wurst_controller queue = {0};
+    uint8_t client = 0;
+    CHECK(wurst_controller_open(&queue, &setup) == WURST_DONE);
+    CHECK(wurst_controller_join(&queue, 4, &client) == WURST_DONE);
+    CHECK(wurst_controller_pause(&queue) == WURST_DONE);
+    CHECK(wurst_controller_is_paused(&queue, &answered) == WURST_DONE && answered);
+    CHECK(wurst_controller_submit(&queue, client, &device_info, no_bytes, 0, &number) == WURST_DONE);
+    CHECK(wurst_controller_take(&queue, frame, sizeof frame, &len) == WURST_NOTHING);
+    CHECK(wurst_controller_resume(&queue) == WURST_DONE);
+    CHECK(wurst_controller_is_paused(&queue, &answered) == WURST_DONE && !answered);
+    CHECK(wurst_controller_take(&queue, frame, sizeof frame, &len) == WURST_DONE);
+    CHECK(wurst_controller_fail(&queue) == WURST_DONE);
+    CHECK(wurst_controller_next_completion(&queue, client, &done, buffer, 0) == WURST_DONE);
+    CHECK(done.status == WURST_FAILED_TO_SEND && !done.has_head && done.len == 0);
+    CHECK(wurst_controller_submit(&queue, client, &device_info, no_bytes, 0, &number) == WURST_DONE && number == 1);
+    CHECK(wurst_controller_discover(&queue, client, 0, &number) == WURST_DONE && number == 0);
+    CHECK(wurst_controller_close(&queue) == WURST_DONE);
+    CHECK(wurst_controller_is_closed(&queue, &answered) == WURST_DONE && answered);
+    CHECK(wurst_controller_submit(&queue, client, &device_info, no_bytes, 0, &number) == WURST_CLOSED);
+    CHECK(wurst_controller_discover(&queue, client, 0, &number) == WURST_CLOSED);
+    CHECK(wurst_controller_join(&queue, 0, &client) == WURST_CLOSED);
+    CHECK(wurst_controller_next_completion(&queue, client, &done, buffer, 0) == WURST_DONE);
+    CHECK(done.number == 1 && done.status == WURST_FAILED_TO_SEND);
+    CHECK(wurst_controller_next_completion(&queue, client, &done, buffer, 0) == WURST_OTHER_OUTCOME);
+    CHECK(wurst_controller_next_discovery(&queue, client, &end, devices, 0) == WURST_DONE);
+    CHECK(end.number == 0 && end.run == 0 && end.fault == WURST_ABORTED && end.count == 0);
+    wurst_controller_dispose(&queue);
+}
+
+/* A line with one device: its reply to a frame. */
+static size_t one_device(uint8_t *to_reply) {
+    static const uint8_t control[2] = {0, 4};
+    /* E1.20, discovery unique branch: 7 preamble bytes, the separator, 1234:00000007 and its sum, each byte as two. */
+    static const char branch[] = "fefefefefefefe aa ba57 be75 aa55 aa55 aa55 af57 ae57 ef57";
+    static bool muted;
+    uint64_t lo = 0, hi = 0;
+    if (frame[21] == 0 && frame[22] == 3) {
+        muted = false;
+    } else if (frame[22] == 2 && memcmp(frame + 3, "\x12\x34\x00\x00\x00\x07", 6) == 0) {
+        muted = true;
+        return answer(frame, 0, control, 2, to_reply);
+    } else if (frame[22] == 1 && !muted) {
+        for (int i = 0; i < 6; i++) {
+            lo = lo << 8 | frame[24 + i];
+            hi = hi << 8 | frame[30 + i];
+        }
+        if (lo <= device_info.target && device_info.target <= hi) {
+            return bytes_of(branch, to_reply);
+        }
+    }
+    return 0;
+}
+
+static void discovers(void) {
+    struct wurst_controller queue = {0};
+    uint8_t client = 0;
+    CHECK(wurst_controller_open(&queue, &setup) == WURST_DONE);
+    CHECK(wurst_controller_join(&queue, 0, &client) == WURST_DONE);
+    CHECK(wurst_controller_discover(&queue, client, WURST_FULL_DISCOVERY, &number) == WURST_DONE && number == 0);
+    while (wurst_controller_take(&queue, frame, sizeof frame, &len) == WURST_DONE) {
+        CHECK(wurst_controller_deliver(&queue, reply, one_device(reply)) == WURST_DONE);
+    }
+    CHECK(wurst_controller_oldest(&queue, client, &kind) == WURST_DONE && kind == WURST_DISCOVERY_OUTCOME);
+    CHECK(wurst_controller_next_completion(&queue, client, &done, buffer, 0) == WURST_OTHER_OUTCOME);
+    CHECK(wurst_controller_next_discovery(&queue, client, &end, devices, 0) == WURST_BUFFER_TOO_SMALL);
+    CHECK(end.count == 1);
+    CHECK(wurst_controller_next_discovery(&queue, client, &end, devices, 1) == WURST_DONE);
+    CHECK(end.number == 0 && end.run == 1 && end.fault == WURST_NO_FAULT && end.count == 1);
+    CHECK(devices[0].uid == device_info.target && devices[0].control == 4 && !devices[0].has_binding);
+    CHECK(wurst_controller_devices(&queue, devices, 0, &len) == WURST_BUFFER_TOO_SMALL && len == 1);
+    devices[0].uid = 0;
+    CHECK(wurst_controller_devices(&queue, devices, 1, &len) == WURST_DONE && len == 1);
+    CHECK(devices[0].uid == device_info.target);
+    CHECK(wurst_controller_devices_run(&queue, &number) == WURST_DONE && number == 1);
+    wurst_controller_dispose(&queue);
+}
+
+static void reads_and_writes_uids(void) {
+    uint64_t uid = 5;
+    uint8_t text[13];
+    CHECK(wurst_uid_read((const uint8_t *)"7A70:0000000a", 13, &uid) == WURST_DONE);
+    CHECK(uid == UINT64_C(0x7a700000000a));
+    CHECK(wurst_uid_read((const uint8_t *)"7a70:0000000", 12, &uid) == WURST_UID_LENGTH);
+    CHECK(wurst_uid_read((const uint8_t *)"7a70.00000001", 13, &uid) == WURST_UID_SEPARATOR);
+    CHECK(wurst_uid_read((const uint8_t *)"7a70:0000000g", 13, &uid) == WURST_UID_DIGIT);
+    CHECK(wurst_uid_read((const uint8_t *)"7a70:000000\xff\xff", 13, &uid) == WURST_NOT_TEXT);
+    CHECK(uid == UINT64_C(0x7a700000000a));
+    CHECK(wurst_uid_write(uid, text, sizeof text) == WURST_DONE && memcmp(text, "7a70:0000000a", 13) == 0);
+    CHECK(wurst_uid_write(uid, text, 12) == WURST_BUFFER_TOO_SMALL);
+    CHECK(wurst_uid_write(UINT64_C(0x1000000000000), text, 13) == WURST_BAD_UID);
+}
+
+static void reads_and_writes_branch_replies(void) {
+    static const char text[] = "fefefefefefefe aa ba57 be75 aa55 aa55 aa55 af57 ae57 ef57";
+    uint64_t uid = 0;
+    len = bytes_of(text, buffer);
+    CHECK(wurst_branch_reply_read(buffer, len, &kind, &uid) == WURST_DONE);
+    CHECK(kind == WURST_ONE && uid == device_info.target);
+    CHECK(wurst_branch_reply_read(buffer, 0, &kind, &uid) == WURST_DONE && kind == WURST_SILENT);
+    CHECK(wurst_branch_reply_read(buffer + 9, len - 9, &kind, &uid) == WURST_DONE && kind == WURST_COLLISION);
+    CHECK(wurst_branch_reply_write(uid, 7, reply, 24, &len) == WURST_DONE && is_same(reply, len, text));
+    CHECK(wurst_branch_reply_write(uid, 0, reply, 24, &len) == WURST_DONE && is_same(reply, len, text + 15));
+    CHECK(wurst_branch_reply_write(uid, 8, reply, 24, &len) == WURST_BAD_PREAMBLE);
+    CHECK(wurst_branch_reply_write(uid, 7, reply, 23, &len) == WURST_BUFFER_TOO_SMALL);
+    CHECK(wurst_branch_reply_write(UINT64_C(0x1000000000000), 7, reply, 24, &len) == WURST_BAD_UID);
+}
+
+static void writes_commands(void) {
+    const uint64_t source = setup.source, uid = device_info.target, far = UINT64_C(0x1000000000000);
+    CHECK(wurst_request_write(&device_info, no_bytes, 0, source, 0, frame, 257, &len) == WURST_DONE);
+    CHECK(is_same(frame, len, "cc0118 123400000007 7a7000000001 00 01 00 0000 20 0060 00 029e"));
+    CHECK(wurst_request_write(&device_info, no_bytes, 0, far, 0, frame, 257, &len) == WURST_BAD_UID);
+    CHECK(wurst_request_write(&device_info, no_bytes, 0, source, 0, frame, 256, &len) == WURST_BUFFER_TOO_SMALL);
+    CHECK(wurst_unmute_write(source, 1, frame, 257, &len) == WURST_DONE);
+    CHECK(is_same(frame, len, "cc0118 ffffffffffff 7a7000000001 01 01 00 0000 10 0003 00 07df"));
+    CHECK(wurst_unmute_write(far, 1, frame, 257, &len) == WURST_BAD_UID);
+    CHECK(wurst_mute_write(uid, source, 2, frame, 257, &len) == WURST_DONE);
+    CHECK(is_same(frame, len, "cc0118 123400000007 7a7000000001 02 01 00 0000 10 0002 00 0232"));
+    CHECK(wurst_mute_write(WURST_BROADCAST, source, 2, frame, 257, &len) == WURST_BROADCAST_UID);
+    CHECK(wurst_mute_write(uid, far, 2, frame, 257, &len) == WURST_BAD_UID);
+    CHECK(wurst_branch_write(0, uid, source, 3, frame, 257, &len) == WURST_DONE);
+    CHECK(is_same(frame, len, "cc0124 ffffffffffff 7a7000000001 03 01 00 0000 10 0001 0c "
+                              "000000000000 123400000007 0844"));
+    CHECK(wurst_branch_write(uid, 0, source, 3, frame, 257, &len) == WURST_BAD_RANGE);
+    CHECK(wurst_branch_write(far, 0, source, 3, frame, 257, &len) == WURST_BAD_UID);
+}
+
+static void reads_commands(void) {
+    struct wurst_command command;
+    CHECK(wurst_mute_write(device_info.target, setup.source, 9, frame, 257, &len) == WURST_DONE);
+    CHECK(wurst_command_read(frame, len, &command, buffer, 230) == WURST_BUFFER_TOO_SMALL);
+    CHECK(wurst_command_read(frame, len, &command, buffer, 231) == WURST_DONE);
+    CHECK(command.kind == WURST_MUTE && command.target == device_info.target && command.tn == 9);
+    CHECK(command.source == setup.source && command.len == 0 && command.lo == 0 && command.hi == 0);
+    frame[len - 1]++;
+    CHECK(wurst_command_read(frame, len, &command, buffer, 231) == WURST_NOTHING);
+    CHECK(wurst_request_write(&device_info, (const uint8_t *)"ab", 2, setup.source, 4, frame, 257, &len) == WURST_DONE);
+    CHECK(wurst_command_read(frame, len, &command, buffer, 231) == WURST_DONE && command.kind == WURST_REQUEST);
+    CHECK(command.len == 2 && memcmp(buffer, "ab", 2) == 0 && command.pid == 0x0060 && command.command_class == 0);
+    CHECK(wurst_branch_write(3, 5, setup.source, 4, frame, 257, &len) == WURST_DONE);
+    CHECK(wurst_command_read(frame, len, &command, buffer, 231) == WURST_DONE && command.kind == WURST_BRANCH);
+    CHECK(command.lo == 3 && command.hi == 5);
+}
+
+static void reads_and_writes_responses(void) {
+    struct wurst_response response, again;
+    struct wurst_mute_ack ack;
+    size_t written = 0;
+    struct wurst_device device = {device_info.target, UINT64_C(0x123400000001), 4, true};
+    CHECK(wurst_request_write(&device_info, no_bytes, 0, setup.source, 5, frame, 257, &len) == WURST_DONE);
+    len = answer(frame, 2, (const uint8_t *)"\0\6", 2, reply);
+    CHECK(wurst_response_read(reply, len, &response, buffer, 230) == WURST_BUFFER_TOO_SMALL);
+    CHECK(wurst_response_read(reply, len, &response, buffer, 231) == WURST_DONE);
+    CHECK(response.source == device_info.target && response.dest == setup.source && response.tn == 5);
+    CHECK(response.ack == WURST_NACK && response.response_class == WURST_GET_RESPONSE && response.len == 2);
+    CHECK(wurst_response_write(&response, buffer, 2, frame, 257, &written) == WURST_DONE);
+    CHECK(written == len && memcmp(frame, reply, len) == 0);
+    CHECK(wurst_response_read(reply, 25, &again, buffer, 231) == WURST_TOO_SHORT);
+    reply[len - 1]++;
+    CHECK(wurst_response_read(reply, len, &again, buffer, 231) == WURST_WRONG_CHECKSUM);
+    reply[23]++;
+    CHECK(wurst_response_read(reply, len, &again, buffer, 231) == WURST_PARAM_LENGTH_MISMATCH);
+    reply[2] = 23;
+    CHECK(wurst_response_read(reply, len, &again, buffer, 231) == WURST_LENGTH_MISMATCH);
+    reply[1]++;
+    CHECK(wurst_response_read(reply, len, &again, buffer, 231) == WURST_WRONG_SUB_START);
+    reply[0]++;
+    CHECK(wurst_response_read(reply, len, &again, buffer, 231) == WURST_WRONG_START);
+    again = response;
+    again.ack = 4;
+    CHECK(wurst_response_write(&again, buffer, 2, frame, 257, &len) == WURST_BAD_RESPONSE_TYPE);
+    again.ack = 0;
+    again.response_class = 3;
+    CHECK(wurst_response_write(&again, buffer, 2, frame, 257, &len) == WURST_BAD_CLASS);
+    CHECK(wurst_response_write(&response, buffer, 232, frame, 257, &len) == WURST_DATA_TOO_LONG);
+    CHECK(wurst_mute_ack_write(&device, setup.source, 6, frame, 257, &len) == WURST_DONE);
+    CHECK(is_same(frame, len, "cc0120 7a7000000001 123400000007 06 00 00 0000 11 0002 08 0004 123400000001 0291"));
+    CHECK(wurst_mute_ack_read(device.uid, setup.source, 6, frame, len, &ack) == WURST_DONE);
+    CHECK(ack.control == 4 && ack.has_binding && ack.binding == device.binding);
+    CHECK(wurst_mute_ack_read(device.uid, setup.source, 7, frame, len, &ack) == WURST_NOTHING);
+    device.uid = WURST_BROADCAST;
+    CHECK(wurst_mute_ack_write(&device, setup.source, 6, frame, 257, &len) == WURST_BROADCAST_UID);
+}
+
+static void runs_an_agent(void) {
+    struct wurst_agent agent = {0};
+    struct wurst_start start = {UINT64_C(0x7a7000000001), 1000, WURST_FULL_DISCOVERY, WURST_STEADY, 250};
+    const uint64_t known[2] = {device_info.target, WURST_BROADCAST};
+    uint32_t operation = 9, fault = 9;
+    uint64_t corrupt = 9;
+    CHECK(wurst_agent_next(&agent, &operation, frame, 257, &len) == WURST_NOT_OPEN);
+    CHECK(wurst_agent_hear(&agent, reply, 0) == WURST_NOT_OPEN && wurst_agent_fail(&agent) == WURST_NOT_OPEN);
+    CHECK(wurst_agent_stop(&agent) == WURST_NOT_OPEN);
+    CHECK(wurst_agent_fault(&agent, &fault, &corrupt) == WURST_NOT_OPEN);
+    CHECK(wurst_agent_frames(&agent, &number) == WURST_NOT_OPEN);
+    CHECK(wurst_agent_devices(&agent, devices, 1, &len) == WURST_NOT_OPEN);
+    CHECK(wurst_agent_start(&agent, &start, known, 2) == WURST_BROADCAST_UID);
+    start.kind = 2;
+    CHECK(wurst_agent_start(&agent, &start, known, 0) == WURST_BAD_KIND);
+    start.kind = WURST_INCREMENTAL;
+    start.search = 2;
+    CHECK(wurst_agent_start(&agent, &start, known, 0) == WURST_BAD_SEARCH);
+    start.search = WURST_STEADY;
+    CHECK(wurst_agent_start(&agent, &start, known, 1) == WURST_DONE);
+    CHECK(wurst_agent_start(&agent, &start, known, 1) == WURST_ALREADY_OPEN);
+    CHECK(wurst_agent_next(&agent, &operation, frame, 256, &len) == WURST_BUFFER_TOO_SMALL);
+    CHECK(wurst_agent_next(&agent, &operation, frame, 257, &len) == WURST_DONE && operation == WURST_UNMUTE_ALL);
+    CHECK(is_same(frame, len, "cc0118 ffffffffffff 7a7000000001 fa 01 00 0000 10 0003 00 08d8"));
+    CHECK(wurst_agent_fault(&agent, &fault, &corrupt) == WURST_NOT_ENDED);
+    while (wurst_agent_next(&agent, &operation, frame, 257, &len) == WURST_DONE) {
+        CHECK(wurst_agent_hear(&agent, reply, one_device(reply)) == WURST_DONE);
+    }
+    CHECK(wurst_agent_hear(&agent, reply, 0) == WURST_HAS_ENDED && wurst_agent_fail(&agent) == WURST_HAS_ENDED);
+    CHECK(wurst_agent_fault(&agent, &fault, &corrupt) == WURST_DONE && fault == WURST_NO_FAULT && corrupt == 0);
+    CHECK(wurst_agent_devices(&agent, devices, 0, &len) == WURST_BUFFER_TOO_SMALL && len == 1);
+    CHECK(wurst_agent_devices(&agent, devices, 1, &len) == WURST_DONE && devices[0].uid == device_info.target);
+    /* Three unmutes, the mute of the known device, and five silences. */
+    CHECK(wurst_agent_frames(&agent, &number) == WURST_DONE && number == 9);
+    wurst_agent_dispose(&agent);
+    wurst_agent_dispose(&agent);
+    CHECK(!agent.is_open);
+    start.kind = WURST_FULL_DISCOVERY;
+    CHECK(wurst_agent_start(&agent, &start, known, 0) == WURST_DONE);
+    CHECK(wurst_agent_stop(&agent) == WURST_DONE);
+    CHECK(wurst_agent_fault(&agent, &fault, &corrupt) == WURST_DONE && fault == WURST_ABORTED);
+    wurst_agent_dispose(&agent);
+    CHECK(wurst_agent_start(&agent, &start, known, 0) == WURST_DONE && wurst_agent_fail(&agent) == WURST_DONE);
+    CHECK(wurst_agent_fault(&agent, &fault, &corrupt) == WURST_DONE && fault == WURST_LINE_FAILED);
+    wurst_agent_dispose(&agent);
+}
+
+int main(void) {
+    CHECK(wurst_version() == WURST_VERSION);
+    CHECK(strcmp(wurst_text(WURST_NOT_TEXT), "the bytes aren't UTF-8") == 0);
+    opens();
+    is_closed_handle();
+    serves_a_request();
+    joins_parts();
+    refuses();
+    pauses_and_closes();
+    discovers();
+    reads_and_writes_uids();
+    reads_and_writes_branch_replies();
+    writes_commands();
+    reads_commands();
+    reads_and_writes_responses();
+    runs_an_agent();
+    return report();
+}

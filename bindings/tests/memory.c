@@ -1,0 +1,129 @@
+/* The heap: each allocation refused in turn, and 1,000,000 requests with memory as at the start. This program has a heap
+ * of its own in place of heap.c. */
+#include "tests.h"
+#include <stdlib.h>
+
+struct block {
+    bool is_there;
+    unsigned char *at;
+};
+
+struct block rattle_alloc(size_t size, size_t align);
+struct block rattle_realloc(unsigned char *at, size_t kept, size_t size, size_t align);
+void rattle_dealloc(unsigned char *at);
+
+static unsigned char no_block;
+static size_t blocks = 0;
+/* How many allocations are left before one fails; SIZE_MAX: none fails. */
+static size_t left = SIZE_MAX;
+
+static struct block given(void *at) {
+    struct block block = {at != NULL, at != NULL ? at : &no_block};
+    return block;
+}
+
+static bool is_refused(void) {
+    if (left == SIZE_MAX) {
+        return false;
+    }
+    return left-- == 0;
+}
+
+struct block rattle_alloc(size_t size, size_t align) {
+    if (is_refused()) {
+        return given(NULL);
+    }
+    blocks++;
+    return given(malloc(size > 0 ? size : align));
+}
+
+struct block rattle_realloc(unsigned char *at, size_t kept, size_t size, size_t align) {
+    (void)kept;
+    return given(is_refused() ? NULL : realloc(at, size > 0 ? size : align));
+}
+
+void rattle_dealloc(unsigned char *at) {
+    blocks--;
+    free(at);
+}
+
+static uint8_t frame[257], reply[258], data[64];
+static size_t len;
+
+/* One request from open to dispose. The first status that isn't DONE, or that of the request if it isn't COMPLETED. */
+static uint32_t one_request(bool *lacked_memory) {
+    struct wurst_controller queue = {0};
+    struct wurst_completion done = {0};
+    uint8_t client = 0;
+    uint64_t number;
+    uint32_t status = wurst_controller_open(&queue, &setup);
+    if (status == WURST_DONE) status = wurst_controller_join(&queue, 10, &client);
+    if (status == WURST_DONE) status = wurst_controller_submit(&queue, client, &device_info, no_bytes, 0, &number);
+    if (status == WURST_DONE) status = wurst_controller_take(&queue, frame, sizeof frame, &len);
+    if (status == WURST_DONE) {
+        status = wurst_controller_deliver(&queue, reply, answer(frame, 0, (const uint8_t *)"four", 4, reply));
+    }
+    if (status == WURST_DONE) status = wurst_controller_next_completion(&queue, client, &done, data, sizeof data);
+    *lacked_memory = status == WURST_OUT_OF_MEMORY || done.status == WURST_NO_MEMORY;
+    wurst_controller_dispose(&queue);
+    return status;
+}
+
+static void refuses_each(void) {
+    size_t allocations = 0;
+    bool lacked_memory = true;
+    while (lacked_memory) {
+        left = allocations;
+        const uint32_t status = one_request(&lacked_memory);
+        CHECK(blocks == 0);
+        CHECK(status == WURST_OUT_OF_MEMORY || status == WURST_DONE);
+        CHECK(lacked_memory || left > 0);
+        allocations++;
+    }
+    left = SIZE_MAX;
+    printf("allocations of a controller with one request: %zu\n", allocations - 1);
+    CHECK(allocations > 5);
+}
+
+static void refuses_an_agent(void) {
+    const struct wurst_start start = {setup.source, 1000, WURST_FULL_DISCOVERY, WURST_STEADY, 0};
+    struct wurst_agent agent = {0};
+    left = 0;
+    CHECK(wurst_agent_start(&agent, &start, (const uint64_t *)frame, 0) == WURST_OUT_OF_MEMORY);
+    CHECK(!agent.is_open && blocks == 0);
+    left = SIZE_MAX;
+    CHECK(wurst_agent_start(&agent, &start, (const uint64_t *)frame, 0) == WURST_DONE && blocks == 1);
+    wurst_agent_dispose(&agent);
+    CHECK(blocks == 0);
+}
+
+static void serves_a_million(void) {
+    struct wurst_controller queue = {0};
+    struct wurst_completion done;
+    uint8_t client = 0;
+    uint64_t number = 0;
+    size_t completed = 0, before;
+    CHECK(wurst_controller_open(&queue, &setup) == WURST_DONE);
+    CHECK(wurst_controller_join(&queue, 10, &client) == WURST_DONE);
+    before = blocks;
+    for (uint64_t i = 0; i < 1000000; i++) {
+        if (wurst_controller_submit(&queue, client, &device_info, no_bytes, 0, &number) != WURST_DONE || number != i) {
+            break;
+        }
+        wurst_controller_take(&queue, frame, sizeof frame, &len);
+        wurst_controller_deliver(&queue, reply, answer(frame, 0, (const uint8_t *)"four", 4, reply));
+        wurst_controller_next_completion(&queue, client, &done, data, sizeof data);
+        completed += done.status == WURST_COMPLETED && done.len == 4 && done.number == i;
+    }
+    CHECK(completed == 1000000);
+    CHECK(blocks == before);
+    wurst_controller_dispose(&queue);
+    CHECK(blocks == 0);
+}
+
+int main(void) {
+    refuses_each();
+    refuses_an_agent();
+    serves_a_million();
+    return report();
+}

@@ -1,0 +1,344 @@
+"""Tests of the Python package, with packets that are made here by the rules of E1.20."""
+
+import gc
+import os
+import subprocess
+import sys
+import threading
+import unittest
+
+import wurstlinen
+from wurstlinen import (
+    AckType, BranchReply, BranchReplyKind, CommandKind, Completion, Controller, Device, Discovery, DiscoveryAgent,
+    Kind, LineFailed, MuteAck, Operation, OutcomeKind, ReplyHead, Request, RequestClass, Response, ResponseClass,
+    RunFault, RunFaultKind, Search, Status, Uid)
+
+SOURCE = Uid(0x7A70, 1)
+DEVICE = Uid(0x1234, 7)
+
+
+def packet(dest: Uid, source: Uid, tn: int, port: int, command_class: int, pid: int, data: bytes = b"",
+           count: int = 0, sub_device: int = 0) -> bytes:
+    """E1.20, packet format."""
+    head = bytes([0xCC, 1, 24 + len(data)]) + dest.number.to_bytes(6, "big") + source.number.to_bytes(6, "big")
+    head += bytes([tn, port, count]) + sub_device.to_bytes(2, "big") + bytes([command_class]) + pid.to_bytes(2, "big")
+    head += bytes([len(data)]) + data
+    return head + (sum(head) & 0xFFFF).to_bytes(2, "big")
+
+
+def twice(data: bytes) -> bytes:
+    return b"".join(bytes([byte | 0xAA, byte | 0x55]) for byte in data)
+
+
+def branch_reply(uid: Uid, preamble: int = 7) -> bytes:
+    """E1.20, discovery unique branch."""
+    encoded = twice(uid.number.to_bytes(6, "big"))
+    return b"\xfe" * preamble + b"\xaa" + encoded + twice((sum(encoded) & 0xFFFF).to_bytes(2, "big"))
+
+
+class Fixtures:
+    """A line whose devices answer by those rules."""
+
+    def __init__(self, *uids: Uid) -> None:
+        self.muted = {uid: False for uid in uids}
+        self.failing = False
+
+    def exchange(self, frame: bytes) -> bytes:
+        if self.failing:
+            raise LineFailed()
+        target, command_class, pid = frame[3:9], frame[20], int.from_bytes(frame[21:23], "big")
+        source, tn = Uid.from_number(int.from_bytes(frame[9:15], "big")), frame[15]
+        if pid == 1:
+            lo, hi = (int.from_bytes(frame[at:at + 6], "big") for at in (24, 30))
+            replies = [branch_reply(uid) for uid, muted in self.muted.items() if not muted and lo <= uid.number <= hi]
+            return replies[0] if len(replies) == 1 else b"\x55" * (20 if replies else 0)
+        if pid == 3:
+            self.muted = {uid: False for uid in self.muted}
+        for uid in self.muted:
+            if uid.number.to_bytes(6, "big") == target:
+                if pid == 2:
+                    self.muted[uid] = True
+                    return packet(source, uid, tn, 0, 0x11, 2, b"\0\4")
+                return packet(source, uid, tn, 0, command_class + 1, pid, b"four")
+        return b""
+
+
+class Uids(unittest.TestCase):
+    def test_texts(self) -> None:
+        self.assertEqual(str(Uid.parse("7A70:0000000A")), "7a70:0000000a")
+        self.assertEqual(Uid.parse("1234:00000007"), DEVICE)
+        self.assertEqual(repr(DEVICE), "Uid.parse('1234:00000007')")
+        for text, fault in [("7a70", wurstlinen.UidLength), ("7a70.00000001", wurstlinen.UidSeparator),
+                            ("7a70:0000000g", wurstlinen.UidDigit)]:
+            with self.assertRaises(fault) as raised:
+                Uid.parse(text)
+            self.assertIsInstance(raised.exception, ValueError)
+
+    def test_numbers(self) -> None:
+        self.assertEqual((DEVICE.number, DEVICE.manufacturer, DEVICE.device), (0x123400000007, 0x1234, 7))
+        self.assertTrue(Uid.ALL.is_broadcast and not DEVICE.is_broadcast and DEVICE < SOURCE)
+        self.assertEqual(len({DEVICE, Uid(0x1234, 7)}), 1)
+        with self.assertRaises(wurstlinen.BadUid):
+            Uid.from_number(1 << 48)
+        with self.assertRaises(ValueError):
+            Uid(0x10000, 0)
+        with self.assertRaises(AttributeError):
+            DEVICE.number = 3
+
+
+class Wire(unittest.TestCase):
+    def test_commands(self) -> None:
+        request = Request(DEVICE, 0x0082, b"Front", 3, RequestClass.SET)
+        frames = {
+            wurstlinen.encode_request(request, SOURCE, 9):
+                packet(DEVICE, SOURCE, 9, 1, 0x30, 0x0082, b"Front", sub_device=3),
+            wurstlinen.encode_unmute(SOURCE, 1): packet(Uid.ALL, SOURCE, 1, 1, 0x10, 3),
+            wurstlinen.encode_mute(DEVICE, SOURCE, 2): packet(DEVICE, SOURCE, 2, 1, 0x10, 2),
+            wurstlinen.encode_branch(Uid(0, 0), DEVICE, SOURCE, 3):
+                packet(Uid.ALL, SOURCE, 3, 1, 0x10, 1, bytes(6) + DEVICE.number.to_bytes(6, "big")),
+        }
+        for frame, wanted in frames.items():
+            self.assertEqual(frame, wanted)
+        kinds = [wurstlinen.read_command(frame).kind for frame in frames]
+        self.assertEqual(kinds, [CommandKind.REQUEST, CommandKind.UNMUTE, CommandKind.MUTE, CommandKind.BRANCH])
+        read = wurstlinen.read_command(list(frames)[0])
+        self.assertEqual((read.request, read.source, read.tn, read.target), (request, SOURCE, 9, DEVICE))
+        read = wurstlinen.read_command(list(frames)[3])
+        self.assertEqual((read.lo, read.hi), (Uid(0, 0), DEVICE))
+        self.assertIsNone(wurstlinen.read_command(b"noise"))
+
+    def test_responses(self) -> None:
+        wire = packet(SOURCE, DEVICE, 9, 2, 0x21, 0x0060, b"\0\6", count=4)
+        read = wurstlinen.decode_response(wire + b"more")
+        self.assertEqual(read, Response(DEVICE, SOURCE, 9, AckType.NACK, ResponseClass.GET, 0x60, b"\0\6", 0, 4))
+        self.assertEqual(wurstlinen.encode_response(read), wire)
+        for bytes_, fault in [(wire[:25], wurstlinen.TooShort), (b"\0" + wire[1:], wurstlinen.WrongStart),
+                              (b"\xcc\0" + wire[2:], wurstlinen.WrongSubStart),
+                              (wire[:-1], wurstlinen.LengthMismatch), (wire[:-1] + b"\0", wurstlinen.WrongChecksum)]:
+            with self.assertRaises(fault):
+                wurstlinen.decode_response(bytes_)
+        with self.assertRaises(wurstlinen.InvalidClass):
+            wurstlinen.decode_response(packet(SOURCE, DEVICE, 9, 0, 0x20, 0x0060))
+        with self.assertRaises(wurstlinen.InvalidResponseType):
+            wurstlinen.decode_response(packet(SOURCE, DEVICE, 9, 4, 0x21, 0x0060))
+
+    def test_discovery(self) -> None:
+        self.assertEqual(wurstlinen.write_branch_reply(DEVICE), branch_reply(DEVICE))
+        self.assertEqual(wurstlinen.read_branch_reply(branch_reply(DEVICE, 3)),
+                         BranchReply(BranchReplyKind.ONE, DEVICE))
+        self.assertEqual(wurstlinen.read_branch_reply(b""), BranchReply(BranchReplyKind.SILENT))
+        self.assertEqual(wurstlinen.read_branch_reply(b"\0" * 300), BranchReply(BranchReplyKind.COLLISION))
+        acked = Device(DEVICE, 4, Uid(0x1234, 1))
+        wire = packet(SOURCE, DEVICE, 5, 0, 0x11, 2, b"\0\4" + (0x123400000001).to_bytes(6, "big"))
+        self.assertEqual(wurstlinen.encode_mute_ack(acked, SOURCE, 5), wire)
+        self.assertEqual(wurstlinen.read_mute_ack(DEVICE, SOURCE, 5, wire), MuteAck(4, Uid(0x1234, 1)))
+        self.assertIsNone(wurstlinen.read_mute_ack(DEVICE, SOURCE, 6, wire))
+
+    def test_ranges(self) -> None:
+        with self.assertRaises(ValueError):
+            wurstlinen.encode_request(Request(DEVICE, 70000), SOURCE, 0)
+        with self.assertRaises(wurstlinen.DataTooLong):
+            wurstlinen.encode_request(Request(DEVICE, 0x82, bytes(232)), SOURCE, 0)
+        with self.assertRaises(wurstlinen.BroadcastUid):
+            wurstlinen.encode_mute(Uid.ALL, SOURCE, 0)
+        with self.assertRaises(wurstlinen.BadRange):
+            wurstlinen.encode_branch(SOURCE, DEVICE, SOURCE, 0)
+
+
+class Queue(unittest.TestCase):
+    def test_a_request(self) -> None:
+        with Controller(SOURCE, 10) as controller:
+            client = controller.join(2)
+            self.assertEqual((client.get(DEVICE, 0x0060), client.set(Uid(0x1234, 8), 0x0082, b"x")), (0, 1))
+            self.assertFalse(controller.is_idle())
+            frame = controller.take()
+            self.assertEqual(frame, packet(DEVICE, SOURCE, 0, 1, 0x20, 0x0060))
+            self.assertTrue(controller.awaits() and controller.take() is None)
+            with self.assertRaises(wurstlinen.ReplyTooLong):
+                controller.deliver(bytes(258))
+            controller.deliver(packet(SOURCE, DEVICE, 0, 0, 0x21, 0x0060, b"four"))
+            self.assertEqual(controller.run(Fixtures(DEVICE)), 1)
+            self.assertEqual(client.oldest(), OutcomeKind.REQUEST)
+            with self.assertRaises(wurstlinen.OtherOutcome):
+                client.next_discovery()
+            head = ReplyHead(AckType.ACK, ResponseClass.GET, 0x60, 0)
+            self.assertEqual(client.next_completion(), Completion(0, Status.COMPLETED, head, b"four"))
+            self.assertEqual(client.next_outcome(), Completion(1, Status.TIMEOUT, None, b""))
+            self.assertIsNone(client.next_outcome())
+            self.assertTrue(controller.is_idle())
+
+    def test_long_data(self) -> None:
+        with Controller(SOURCE) as controller:
+            client = controller.join(1)
+            client.get(DEVICE, 0x0050)
+            for tn in range(5):
+                self.assertEqual(controller.take()[15], tn)
+                controller.deliver(packet(SOURCE, DEVICE, tn, 0 if tn == 4 else 3, 0x21, 0x50, bytes([tn]) * 231))
+            data = client.next_completion().data
+            self.assertEqual(data, b"".join(bytes([tn]) * 231 for tn in range(5)))
+
+    def test_discoveries(self) -> None:
+        line = Fixtures(DEVICE, Uid(0x1234, 8), Uid(0x4321, 1))
+        for search in Search:
+            with Controller(SOURCE, search=search) as controller:
+                client = controller.join(0)
+                self.assertEqual(client.discover(), 0)
+                controller.run(line)
+                found = client.next_outcome()
+                devices = tuple(Device(uid, 4) for uid in sorted(line.muted))
+                self.assertEqual(found, Discovery(0, 1, None, devices))
+                self.assertEqual((controller.devices(), controller.devices_run()), (devices, 1))
+                line.failing = True
+                client.discover(Kind.INCREMENTAL)
+                controller.run(line)
+                line.failing = False
+                self.assertEqual(client.next_discovery().fault, RunFault(RunFaultKind.LINE_FAILED))
+
+    def test_refusals(self) -> None:
+        for fault, made in [(wurstlinen.BroadcastUid, lambda: Controller(Uid.ALL)),
+                            (wurstlinen.TooManyPlaces, lambda: Controller(SOURCE, 4081)),
+                            (wurstlinen.NoBudget, lambda: Controller(SOURCE, budget=0)),
+                            (ValueError, lambda: Controller(SOURCE, -1))]:
+            with self.assertRaises(fault):
+                made()
+        controller = Controller(SOURCE, 1)
+        with self.assertRaises(wurstlinen.NoPlaces):
+            controller.join(2)
+        client = controller.join(1)
+        with self.assertRaises(wurstlinen.NotAsked):
+            controller.fail()
+        client.get(DEVICE, 1)
+        with self.assertRaises(wurstlinen.Full) as raised:
+            client.get(DEVICE, 1)
+        self.assertEqual((raised.exception.code, str(raised.exception)), (20, "the client's places are taken"))
+        controller.pause()
+        self.assertTrue(controller.is_paused() and controller.take() is None)
+        controller.resume()
+        controller.close()
+        self.assertTrue(controller.is_closed())
+        self.assertEqual(client.next_completion().status, Status.FAILED_TO_SEND)
+        with self.assertRaises(wurstlinen.Closed):
+            client.get(DEVICE, 1)
+        controller.dispose()
+        controller.dispose()
+        with self.assertRaises(wurstlinen.NotOpen):
+            controller.take()
+
+    def test_other_exceptions_pass(self) -> None:
+        class Broken:
+            def exchange(self, frame: bytes) -> bytes:
+                raise OSError("gone")
+
+        with Controller(SOURCE) as controller:
+            controller.join(1).get(DEVICE, 1)
+            with self.assertRaises(OSError):
+                controller.run(Broken())
+            self.assertTrue(controller.awaits())
+            controller.fail()
+
+    def test_two_threads(self) -> None:
+        with Controller(SOURCE) as controller:
+            clients = [controller.join(4) for _ in range(2)]
+            finished, over = [0, 0], threading.Event()
+
+            def ask(at: int) -> None:
+                asked = 0
+                while finished[at] < 300:
+                    if asked < 300:
+                        try:
+                            clients[at].get(DEVICE, 0x0060)
+                            asked += 1
+                        except wurstlinen.Full:
+                            pass
+                    done = clients[at].next_completion()
+                    finished[at] += done is not None and done.data == b"four"
+
+            def serve() -> None:
+                line = Fixtures(DEVICE)
+                while not over.is_set():
+                    controller.run(line)
+
+            threads = [threading.Thread(target=ask, args=(at,)) for at in range(2)]
+            server = threading.Thread(target=serve)
+            for thread in threads + [server]:
+                thread.start()
+            for thread in threads:
+                thread.join()
+            over.set()
+            server.join()
+            self.assertEqual(finished, [300, 300])
+
+
+class Agents(unittest.TestCase):
+    def test_a_run(self) -> None:
+        line = Fixtures(DEVICE, Uid(0x4321, 1))
+        with DiscoveryAgent(SOURCE, first_tn=255) as agent:
+            self.assertEqual(agent.next(), (Operation.UNMUTE, packet(Uid.ALL, SOURCE, 255, 1, 0x10, 3)))
+            with self.assertRaises(wurstlinen.NotEnded):
+                agent.fault()
+            agent.hear(b"")
+            self.assertEqual(agent.next()[1][15], 0)
+            self.assertEqual(agent.run(line), (Device(DEVICE, 4), Device(Uid(0x4321, 1), 4)))
+            self.assertIsNone(agent.fault())
+            with self.assertRaises(wurstlinen.HasEnded):
+                agent.hear(b"")
+
+    def test_known(self) -> None:
+        with DiscoveryAgent(SOURCE, Kind.INCREMENTAL, [DEVICE]) as agent:
+            self.assertEqual(agent.run(Fixtures(DEVICE)), (Device(DEVICE, 4),))
+            # Three unmutes, a mute and five silences.
+            self.assertEqual(agent.frames(), 9)
+        with self.assertRaises(wurstlinen.TooManyDevices):
+            DiscoveryAgent(SOURCE, Kind.INCREMENTAL, [Uid(1, device) for device in range(1025)])
+
+    def test_ends(self) -> None:
+        with DiscoveryAgent(SOURCE, budget=2) as agent:
+            self.assertEqual(agent.run(Fixtures()), ())
+            self.assertEqual(agent.fault(), RunFault(RunFaultKind.EXHAUSTED))
+        with DiscoveryAgent(SOURCE) as agent:
+            agent.stop()
+            self.assertEqual(agent.fault(), RunFault(RunFaultKind.ABORTED))
+        with DiscoveryAgent(SOURCE) as agent:
+            agent.fail()
+            self.assertEqual((agent.next(), agent.fault().kind), (None, RunFaultKind.LINE_FAILED))
+
+
+class Memory(unittest.TestCase):
+    def test_objects_free_themselves(self) -> None:
+        def used() -> int:
+            gc.collect()
+            with open("/proc/self/statm", encoding="ascii") as file:
+                return int(file.read().split()[1])
+
+        def make(count: int) -> None:
+            for _ in range(count):
+                Controller(SOURCE).join(100)
+                DiscoveryAgent(SOURCE)
+
+        make(50)
+        before = used()
+        make(500)
+        self.assertLess(used() - before, 1000)
+
+
+class Loading(unittest.TestCase):
+    def load(self, library: str) -> str:
+        done = subprocess.run([sys.executable, "-c", "import wurstlinen; str(wurstlinen.Uid(1, 2))"],
+                              env={**os.environ, "WURSTLINEN_LIBRARY": library}, capture_output=True, text=True)
+        return done.stderr.strip().splitlines()[-1] if done.returncode else ""
+
+    def test_no_library(self) -> None:
+        self.assertIn("LibraryNotFound: libwurstlinen.so.0 is not at /nowhere", self.load("/nowhere"))
+
+    def test_another_library(self) -> None:
+        self.assertIn("VersionDiffers: the library has no call wurst_version", self.load(ctypes_library()))
+
+
+def ctypes_library() -> str:
+    """Some library that isn't this one."""
+    with open("/proc/self/maps", encoding="ascii") as file:
+        return next(line.split()[-1] for line in file if "/libc" in line or "/libm" in line)
+
+
+if __name__ == "__main__":
+    unittest.main()

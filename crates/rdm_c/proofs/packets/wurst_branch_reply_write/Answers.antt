@@ -1,0 +1,7 @@
+use Rattle.std.proofs.Common.{ap, ◌∙◌}
+use Rattle.rdm_wire.specs.BranchText.{branch_text}
+use Rattle.rdm_c.proofs.packets.wurst_branch_reply_write.Goals as goal
+
+pub returns-clause-written : goal.returns-clause-written
+returns-clause-written c done =
+    c.put_reply.ensures ∙ (c.write_branch_reply.ensures.text ∙ ap (λ u. branch_text u c.args.preamble) c.in-Ok.ensures.ok.0)

@@ -1,0 +1,18 @@
+use Rattle.std.proofs.Common.{◌≡◌, ℕ, Ok, Err, refl, ◌∙◌}
+use Rattle.std.specs.Prelude.{Result}
+use Rattle.rdm_wire.specs.UidText.{UidText}
+use Rattle.rdm_wire.specs.declared.uid.UidFault.{UidFault}
+use Rattle.rdm_c.proofs.packets.wurst_uid_read.Goals as goal
+
+pub returns-in-Ok-parse-clause-all : goal.returns-in-Ok-parse-clause-all
+returns-in-Ok-parse-clause-all c u utf8 text =
+    let reads : UidText c.in-Ok.text.now u = rw c.in-Ok.ensures.cases.0 text in
+    let is : ◌≡◌ {A = Result ℕ UidFault} (Ok c.in-Ok-parse.read) (Ok u) = (c.in-Ok-parse.ensures.ok u).1 reads in
+    let same : c.in-Ok-parse.read ≡ u = cc in
+    (refl, c.number.ensures.value ∙ same)
+
+pub returns-in-Err-clause-all : goal.returns-in-Err-clause-all
+returns-in-Err-clause-all c u utf8 text = absurd (no ((c.in-Err.ensures.ok u).1 (rw c.in-Ok.ensures.cases.0 text)))
+  where
+    no : ◌≡◌ {A = Result ℕ UidFault} (Err c.in-Err.fault) (Ok u) → ⊥
+    no is = cc

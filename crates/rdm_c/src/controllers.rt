@@ -1,0 +1,496 @@
+//! The calls of C on controllers. Each is the library's call of that name, on what the handle holds.
+ghost use Rattle.std.specs.Prelude.{◌≡◌, ◌≢◌, ◌≤◌, ◌<◌, ◌⊎◌, ℕ, length, take, map, true, false, Some};
+ghost use Rattle.std.specs.Prelude.{None, Ok};
+ghost use Rattle.std.specs.Prelude.{if◌then◌else◌, nat_lt, List};
+ghost use Rattle.arrayvec.specs.ArrayVec.{ArrayVec as Bytes};
+ghost use Rattle.rdm_wire.specs.declared.device.Device.{Device};
+ghost use Rattle.rdm_join.specs.declared.event.LineEvent.TheVariants.{Reply, Failed};
+ghost use Rattle.rdm_log.specs.declared.entry.ClientId.{ClientId};
+ghost use Rattle.rdm_log.specs.declared.outcome.Completion.{Completion};
+ghost use Rattle.rdm_log.specs.declared.outcome.DiscoveryEnd.{DiscoveryEnd};
+ghost use Rattle.rdm_log.specs.declared.outcome.OutcomeKind.TheVariants as kinds;
+ghost use Rattle.rdm_log.specs.log.History.{awaited, is_idle, is_paused, is_closed, can_pause, can_resume};
+ghost use Rattle.rdm_log.specs.log.Runs.{known_devices, devices_run};
+ghost use Rattle.rdm_log.specs.promises.Blocks.{JoinAdds, SubmitAdds, DiscoverAdds, PauseAdds, ResumeAdds, CloseAdds};
+ghost use Rattle.rdm_log.specs.promises.Blocks.{TakeAdds, DeliverAdds, CollectAdds};
+ghost use Rattle.rdm_log.specs.promises.Outcomes.{oldest_kind, request_outcome, discovery_outcome};
+ghost use Rattle.rdm_queue.specs.promises.EachLog.{ForEachLog, AddsToEach, IsSetUp};
+ghost use Rattle.rdm_queue.specs.promises.Lengths.{oldest_length};
+ghost use Rattle.rdm_handles.specs.Forms.{setup_status, setup_of, request_status, request_of, kind_of};
+ghost use Rattle.rdm_handles.specs.Forms.{form_of_completion, form_of_end, form_of_device};
+ghost use Rattle.rdm_handles.specs.Answers.{join_answer, submit_answer, ask_answer, collect_status, oldest_status};
+ghost use Rattle.rdm_handles.specs.Answers.{outcome_kind_of};
+
+use rdm_handles::status::{
+    ALREADY_OPEN, BAD_KIND, BUFFER_TOO_SMALL, DONE, NOT_ASKED, NOT_OPEN, NOTHING, OUT_OF_MEMORY,
+    REPLY_TOO_LONG,
+};
+use rdm_handles::{
+    CompletionForC, ControllerHandle, DeviceForC, EndForC, RequestForC, SetupForC, controllers,
+};
+use rdm_join::LineEvent;
+use std::alloc::Global;
+
+/// Opens a handle: a controller that is set up so, without clients.
+#[unsafe(no_mangle)]
+pub extern "C" fn wurst_controller_open(
+    alloc: Global,
+    handle: &mut ControllerHandle,
+    setup: &SetupForC,
+) -> u32
+    ensures already { handle.old.is_open ≡ true → (result ≡ ALREADY_OPEN) × (handle.new.is_open ≡ true)
+        × (handle.new.value ≡ handle.old.value) }
+    ensures bad { handle.old.is_open ≡ false → setup_status setup.now ≢ 0 → result ≡ setup_status setup.now }
+    ensures opens { handle.old.is_open ≡ false → setup_status setup.now ≡ 0 →
+        (result ≡ OUT_OF_MEMORY) ⊎ (result ≡ DONE) }
+    ensures opened { result ≡ DONE → (handle.new.is_open ≡ true)
+        × IsSetUp (setup_of setup.now) handle.new.value }
+    ensures refused { result ≢ DONE → handle.new.is_open ≡ handle.old.is_open }
+{
+    if let Some(controller) = handle.take(alloc) {
+        handle.put(controller);
+        return ALREADY_OPEN;
+    }
+    let controller = match controllers::open(alloc, setup) {
+        Ok(controller) => controller,
+        Err(fault) => return fault,
+    };
+    let Ok(boxed) = Box::new(alloc, controller) else {
+        return OUT_OF_MEMORY;
+    };
+    handle.put(boxed);
+    DONE
+}
+
+/// Ends the controller of an open handle and frees its memory; the handle is closed then. Without effect on a closed
+/// one.
+#[unsafe(no_mangle)]
+pub extern "C" fn wurst_controller_dispose(alloc: Global, handle: &mut ControllerHandle)
+    ensures closed { handle.new.is_open ≡ false }
+{
+    drop(handle.take(alloc));
+}
+
+/// Lets a client join with this many places, and writes its number.
+#[unsafe(no_mangle)]
+pub extern "C" fn wurst_controller_join(
+    alloc: Global,
+    handle: &mut ControllerHandle,
+    places: u8,
+    client: &mut u8,
+) -> u32
+    ensures not_open { handle.old.is_open ≡ false → (result ≡ NOT_OPEN) × (client.new ≡ client.old) }
+    ensures stays { handle.new.is_open ≡ handle.old.is_open }
+    ensures adds { handle.old.is_open ≡ true → AddsToEach handle.old.value (λ k.
+        JoinAdds k.opening k.entries places (join_answer result client.new)) handle.new.value }
+    ensures unchanged { handle.old.is_open ≡ true → result ≢ DONE →
+        (handle.new.value ≡ handle.old.value) × (client.new ≡ client.old) }
+{
+    let Some(mut controller) = handle.take(alloc) else {
+        return NOT_OPEN;
+    };
+    let status = controllers::join(&mut controller, alloc, places, client);
+    handle.put(controller);
+    status
+}
+
+/// Accepts a client's request with these parameter data, and writes its number.
+#[unsafe(no_mangle)]
+pub extern "C" fn wurst_controller_submit(
+    alloc: Global,
+    handle: &mut ControllerHandle,
+    client: u8,
+    request: &RequestForC,
+    param_bytes: &[u8],
+    number: &mut u64,
+) -> u32
+    ensures not_open { handle.old.is_open ≡ false → (result ≡ NOT_OPEN) × (number.new ≡ number.old) }
+    ensures stays { handle.new.is_open ≡ handle.old.is_open }
+    ensures bad { handle.old.is_open ≡ true → request_status request.now param_bytes.now ≢ 0 →
+        result ≡ request_status request.now param_bytes.now }
+    ensures adds { handle.old.is_open ≡ true → request_status request.now param_bytes.now ≡ 0 →
+        AddsToEach handle.old.value (λ k.
+        SubmitAdds k.opening k.entries (record { 0 = client }) (request_of request.now param_bytes.now)
+        (submit_answer result number.new (request_of request.now param_bytes.now))) handle.new.value }
+    ensures unchanged { handle.old.is_open ≡ true → result ≢ DONE →
+        (handle.new.value ≡ handle.old.value) × (number.new ≡ number.old) }
+{
+    let Some(mut controller) = handle.take(alloc) else {
+        return NOT_OPEN;
+    };
+    let status = controllers::submit(&mut controller, client, request, param_bytes, number);
+    handle.put(controller);
+    status
+}
+
+/// Accepts a client's discovery, 0 full or 1 incremental, and writes its number.
+#[unsafe(no_mangle)]
+pub extern "C" fn wurst_controller_discover(
+    alloc: Global,
+    handle: &mut ControllerHandle,
+    client: u8,
+    kind: u32,
+    number: &mut u64,
+) -> u32
+    ensures not_open { handle.old.is_open ≡ false → (result ≡ NOT_OPEN) × (number.new ≡ number.old) }
+    ensures stays { handle.new.is_open ≡ handle.old.is_open }
+    ensures bad { handle.old.is_open ≡ true → 1 < kind → result ≡ BAD_KIND }
+    ensures adds { handle.old.is_open ≡ true → kind ≤ 1 → AddsToEach handle.old.value (λ k.
+        DiscoverAdds k.opening k.entries (record { 0 = client }) (kind_of kind) (ask_answer result number.new))
+        handle.new.value }
+    ensures unchanged { handle.old.is_open ≡ true → result ≢ DONE →
+        (handle.new.value ≡ handle.old.value) × (number.new ≡ number.old) }
+{
+    let Some(mut controller) = handle.take(alloc) else {
+        return NOT_OPEN;
+    };
+    let status = controllers::discover(&mut controller, client, kind, number);
+    handle.put(controller);
+    status
+}
+
+/// Begins no run and sends no request until `wurst_controller_resume`.
+#[unsafe(no_mangle)]
+pub extern "C" fn wurst_controller_pause(alloc: Global, handle: &mut ControllerHandle) -> u32
+    ensures not_open { handle.old.is_open ≡ false → (result ≡ NOT_OPEN) }
+    ensures stays { handle.new.is_open ≡ handle.old.is_open }
+    ensures adds { handle.old.is_open ≡ true → (result ≡ DONE)
+        × AddsToEach handle.old.value (λ k. PauseAdds k.opening k.entries) handle.new.value }
+    ensures unchanged { handle.old.is_open ≡ true → ForEachLog handle.old.value (λ o h.
+        can_pause o h ≡ false → handle.new.value ≡ handle.old.value) }
+{
+    let Some(mut controller) = handle.take(alloc) else {
+        return NOT_OPEN;
+    };
+    controller.pause();
+    handle.put(controller);
+    DONE
+}
+
+/// Begins runs and sends requests again.
+#[unsafe(no_mangle)]
+pub extern "C" fn wurst_controller_resume(alloc: Global, handle: &mut ControllerHandle) -> u32
+    ensures not_open { handle.old.is_open ≡ false → (result ≡ NOT_OPEN) }
+    ensures stays { handle.new.is_open ≡ handle.old.is_open }
+    ensures adds { handle.old.is_open ≡ true → (result ≡ DONE)
+        × AddsToEach handle.old.value (λ k. ResumeAdds k.opening k.entries) handle.new.value }
+    ensures unchanged { handle.old.is_open ≡ true → ForEachLog handle.old.value (λ o h.
+        can_resume o h ≡ false → handle.new.value ≡ handle.old.value) }
+{
+    let Some(mut controller) = handle.take(alloc) else {
+        return NOT_OPEN;
+    };
+    controller.resume();
+    handle.put(controller);
+    DONE
+}
+
+/// Refuses all later joins, submits and discovers, and sends nothing more.
+#[unsafe(no_mangle)]
+pub extern "C" fn wurst_controller_close(alloc: Global, handle: &mut ControllerHandle) -> u32
+    ensures not_open { handle.old.is_open ≡ false → (result ≡ NOT_OPEN) }
+    ensures stays { handle.new.is_open ≡ handle.old.is_open }
+    ensures adds { handle.old.is_open ≡ true → (result ≡ DONE)
+        × AddsToEach handle.old.value (λ k. CloseAdds k.opening k.entries) handle.new.value }
+    ensures unchanged { handle.old.is_open ≡ true → ForEachLog handle.old.value (λ o h.
+        is_closed o h ≡ true → handle.new.value ≡ handle.old.value) }
+{
+    let Some(mut controller) = handle.take(alloc) else {
+        return NOT_OPEN;
+    };
+    controller.close();
+    handle.put(controller);
+    DONE
+}
+
+/// Writes the next frame for the line at the front of a buffer of 257 bytes, and how many bytes it has.
+#[unsafe(no_mangle)]
+pub extern "C" fn wurst_controller_take(
+    alloc: Global,
+    handle: &mut ControllerHandle,
+    frame: &mut [u8],
+    len: &mut usize,
+) -> u32
+    ensures not_open { handle.old.is_open ≡ false → (result ≡ NOT_OPEN) × (len.new ≡ len.old)
+        × (frame.new ≡ frame.old) }
+    ensures stays { handle.new.is_open ≡ handle.old.is_open }
+    ensures small { handle.old.is_open ≡ true → length frame.old < 257 → result ≡ BUFFER_TOO_SMALL }
+    ensures given { handle.old.is_open ≡ true → result ≡ DONE →
+        (sent : Bytes ℕ) × (take len.new frame.new ≡ sent.items)
+        × AddsToEach handle.old.value (λ k. TakeAdds k.opening k.entries (Some sent)) handle.new.value }
+    ensures nothing { handle.old.is_open ≡ true → result ≡ NOTHING →
+        AddsToEach handle.old.value (λ k. TakeAdds k.opening k.entries None) handle.new.value }
+    ensures statuses { handle.old.is_open ≡ true →
+        (result ≡ BUFFER_TOO_SMALL) ⊎ ((result ≡ NOTHING) ⊎ (result ≡ DONE)) }
+    ensures unchanged { handle.old.is_open ≡ true → result ≢ DONE →
+        (handle.new.value ≡ handle.old.value) × (len.new ≡ len.old) × (frame.new ≡ frame.old) }
+{
+    let Some(mut controller) = handle.take(alloc) else {
+        return NOT_OPEN;
+    };
+    let status = controllers::take(&mut controller, frame, len);
+    handle.put(controller);
+    status
+}
+
+/// Takes the bytes that the line answered to the last frame; none are silence.
+#[unsafe(no_mangle)]
+pub extern "C" fn wurst_controller_deliver(
+    alloc: Global,
+    handle: &mut ControllerHandle,
+    reply: &[u8],
+) -> u32
+    ensures not_open { handle.old.is_open ≡ false → (result ≡ NOT_OPEN) }
+    ensures stays { handle.new.is_open ≡ handle.old.is_open }
+    ensures long { handle.old.is_open ≡ true → 257 < length reply.now → result ≡ REPLY_TOO_LONG }
+    ensures heard { handle.old.is_open ≡ true → result ≡ DONE → AddsToEach handle.old.value (λ k.
+        DeliverAdds k (Reply (record { items = reply.now })) (Ok tt)) handle.new.value }
+    ensures not_asked { handle.old.is_open ≡ true → result ≡ NOT_ASKED →
+        ForEachLog handle.old.value (λ o h. awaited h ≡ false) }
+    ensures unchanged { handle.old.is_open ≡ true → result ≢ DONE → handle.new.value ≡ handle.old.value }
+{
+    let Some(mut controller) = handle.take(alloc) else {
+        return NOT_OPEN;
+    };
+    let status = controllers::deliver(&mut controller, alloc, reply);
+    handle.put(controller);
+    status
+}
+
+/// Takes it that the line failed at the last frame.
+#[unsafe(no_mangle)]
+pub extern "C" fn wurst_controller_fail(alloc: Global, handle: &mut ControllerHandle) -> u32
+    ensures not_open { handle.old.is_open ≡ false → (result ≡ NOT_OPEN) }
+    ensures stays { handle.new.is_open ≡ handle.old.is_open }
+    ensures heard { handle.old.is_open ≡ true → result ≡ DONE → AddsToEach handle.old.value (λ k.
+        DeliverAdds k Failed (Ok tt)) handle.new.value }
+    ensures not_asked { handle.old.is_open ≡ true → result ≡ NOT_ASKED →
+        ForEachLog handle.old.value (λ o h. awaited h ≡ false) }
+    ensures unchanged { handle.old.is_open ≡ true → result ≢ DONE → handle.new.value ≡ handle.old.value }
+{
+    let Some(mut controller) = handle.take(alloc) else {
+        return NOT_OPEN;
+    };
+    let status = controllers::hear(&mut controller, alloc, LineEvent::Failed);
+    handle.put(controller);
+    status
+}
+
+/// Writes of which kind a client's oldest outcome is: 0 a request's, 1 a discovery's.
+#[unsafe(no_mangle)]
+pub extern "C" fn wurst_controller_oldest(
+    alloc: Global,
+    handle: &mut ControllerHandle,
+    client: u8,
+    kind: &mut u32,
+) -> u32
+    ensures not_open { handle.old.is_open ≡ false → (result ≡ NOT_OPEN) × (kind.new ≡ kind.old) }
+    ensures stays { handle.new.is_open ≡ handle.old.is_open }
+    ensures same { handle.old.is_open ≡ true → handle.new.value ≡ handle.old.value }
+    ensures status { handle.old.is_open ≡ true →
+        ForEachLog handle.old.value (λ o h. result ≡ oldest_status o h client) }
+    ensures kind { handle.old.is_open ≡ true → result ≡ DONE → ForEachLog handle.old.value (λ o h.
+        oldest_kind o h client ≡ Some (outcome_kind_of kind.new)) }
+    ensures unchanged { handle.old.is_open ≡ true → result ≢ DONE → kind.new ≡ kind.old }
+{
+    let Some(controller) = handle.take(alloc) else {
+        return NOT_OPEN;
+    };
+    let status = controllers::oldest(&controller, client, kind);
+    handle.put(controller);
+    status
+}
+
+/// Collects a client's oldest outcome where that is a request's, and writes how it ended, with its data at the front of
+/// a buffer. `BUFFER_TOO_SMALL` writes how many bytes it needs into `len`.
+#[unsafe(no_mangle)]
+pub extern "C" fn wurst_controller_next_completion(
+    alloc: Global,
+    handle: &mut ControllerHandle,
+    client: u8,
+    completion: &mut CompletionForC,
+    buffer: &mut [u8],
+) -> u32
+    ensures not_open { handle.old.is_open ≡ false → (result ≡ NOT_OPEN) × (completion.new ≡ completion.old)
+        × (buffer.new ≡ buffer.old) }
+    ensures stays { handle.new.is_open ≡ handle.old.is_open }
+    ensures status { handle.old.is_open ≡ true → ForEachLog handle.old.value (λ o h.
+        result ≡ collect_status o h client kinds.Request (length buffer.old)) }
+    ensures needed { handle.old.is_open ≡ true → result ≡ BUFFER_TOO_SMALL → ForEachLog handle.old.value (λ o h.
+        oldest_length o h client ≡ Some completion.new.len) }
+    ensures collected { handle.old.is_open ≡ true → result ≡ DONE → (number : ℕ) × (done : Completion)
+        × (completion.new ≡ form_of_completion number done)
+        × AddsToEach handle.old.value (λ k.
+        CollectAdds k.opening k.entries (record { 0 = client }) (Some (request_outcome (number, done))))
+        handle.new.value
+        × ForEachLog handle.old.value (λ o h. take completion.new.len buffer.new ≡ done.bytes.items) }
+    ensures unchanged { handle.old.is_open ≡ true → result ≢ DONE → handle.new.value ≡ handle.old.value }
+{
+    let Some(mut controller) = handle.take(alloc) else {
+        return NOT_OPEN;
+    };
+    let status = controllers::next_completion(&mut controller, client, completion, buffer);
+    handle.put(controller);
+    status
+}
+
+/// Collects a client's oldest outcome where that is a discovery's, and writes how it ended, with its devices at the
+/// front of a buffer. `BUFFER_TOO_SMALL` writes how many devices it needs into `count`.
+#[unsafe(no_mangle)]
+pub extern "C" fn wurst_controller_next_discovery(
+    alloc: Global,
+    handle: &mut ControllerHandle,
+    client: u8,
+    end: &mut EndForC,
+    devices: &mut [DeviceForC],
+) -> u32
+    ensures not_open { handle.old.is_open ≡ false → (result ≡ NOT_OPEN) × (end.new ≡ end.old)
+        × (devices.new ≡ devices.old) }
+    ensures stays { handle.new.is_open ≡ handle.old.is_open }
+    ensures status { handle.old.is_open ≡ true → ForEachLog handle.old.value (λ o h.
+        result ≡ collect_status o h client kinds.Discovery (length devices.old)) }
+    ensures needed { handle.old.is_open ≡ true → result ≡ BUFFER_TOO_SMALL → ForEachLog handle.old.value (λ o h.
+        oldest_length o h client ≡ Some end.new.count) }
+    ensures collected { handle.old.is_open ≡ true → result ≡ DONE → (ended : DiscoveryEnd) × (set : List Device)
+        × (end.new ≡ form_of_end ended (length set))
+        × AddsToEach handle.old.value (λ k.
+        CollectAdds k.opening k.entries (record { 0 = client }) (Some (discovery_outcome ended set))) handle.new.value
+        × ForEachLog handle.old.value (λ o h. take (length set) devices.new ≡ map form_of_device set) }
+    ensures unchanged { handle.old.is_open ≡ true → result ≢ DONE → handle.new.value ≡ handle.old.value }
+{
+    let Some(mut controller) = handle.take(alloc) else {
+        return NOT_OPEN;
+    };
+    let status = controllers::next_discovery(&mut controller, client, end, devices);
+    handle.put(controller);
+    status
+}
+
+/// Writes the devices of the last run without fault at the front of a buffer, and how many there are; with
+/// `BUFFER_TOO_SMALL` only that.
+#[unsafe(no_mangle)]
+pub extern "C" fn wurst_controller_devices(
+    alloc: Global,
+    handle: &mut ControllerHandle,
+    devices: &mut [DeviceForC],
+    count: &mut usize,
+) -> u32
+    ensures not_open { handle.old.is_open ≡ false → (result ≡ NOT_OPEN) × (devices.new ≡ devices.old)
+        × (count.new ≡ count.old) }
+    ensures stays { handle.new.is_open ≡ handle.old.is_open }
+    ensures same { handle.old.is_open ≡ true → handle.new.value ≡ handle.old.value }
+    ensures count { handle.old.is_open ≡ true →
+        ForEachLog handle.old.value (λ o h. count.new ≡ length (known_devices o h)) }
+    ensures status { handle.old.is_open ≡ true →
+        result ≡ (if nat_lt (length devices.old) count.new then BUFFER_TOO_SMALL else DONE) }
+    ensures written { handle.old.is_open ≡ true → result ≡ DONE → ForEachLog handle.old.value (λ o h.
+        take count.new devices.new ≡ map form_of_device (known_devices o h)) }
+    ensures unchanged { handle.old.is_open ≡ true → result ≢ DONE → devices.new ≡ devices.old }
+{
+    let Some(controller) = handle.take(alloc) else {
+        return NOT_OPEN;
+    };
+    let status = controllers::devices(controller.devices(), devices, count);
+    handle.put(controller);
+    status
+}
+
+/// Writes the number of the run that found the devices; 0 before the first.
+#[unsafe(no_mangle)]
+pub extern "C" fn wurst_controller_devices_run(
+    alloc: Global,
+    handle: &mut ControllerHandle,
+    run: &mut u64,
+) -> u32
+    ensures not_open { handle.old.is_open ≡ false → (result ≡ NOT_OPEN) × (run.new ≡ run.old) }
+    ensures stays { handle.new.is_open ≡ handle.old.is_open }
+    ensures same { handle.old.is_open ≡ true → (result ≡ DONE) × (handle.new.value ≡ handle.old.value) }
+    ensures answer { handle.old.is_open ≡ true → ForEachLog handle.old.value (λ o h. run.new ≡ devices_run o h) }
+{
+    let Some(controller) = handle.take(alloc) else {
+        return NOT_OPEN;
+    };
+    *run = controller.devices_run();
+    handle.put(controller);
+    DONE
+}
+
+/// Writes whether nothing waits, is under way, is asked or is uncollected.
+#[unsafe(no_mangle)]
+pub extern "C" fn wurst_controller_is_idle(
+    alloc: Global,
+    handle: &mut ControllerHandle,
+    answer: &mut bool,
+) -> u32
+    ensures not_open { handle.old.is_open ≡ false → (result ≡ NOT_OPEN) × (answer.new ≡ answer.old) }
+    ensures stays { handle.new.is_open ≡ handle.old.is_open }
+    ensures same { handle.old.is_open ≡ true → (result ≡ DONE) × (handle.new.value ≡ handle.old.value) }
+    ensures answer { handle.old.is_open ≡ true → ForEachLog handle.old.value (λ o h. answer.new ≡ is_idle h) }
+{
+    let Some(controller) = handle.take(alloc) else {
+        return NOT_OPEN;
+    };
+    *answer = controller.is_idle();
+    handle.put(controller);
+    DONE
+}
+
+/// Writes whether sending is paused.
+#[unsafe(no_mangle)]
+pub extern "C" fn wurst_controller_is_paused(
+    alloc: Global,
+    handle: &mut ControllerHandle,
+    answer: &mut bool,
+) -> u32
+    ensures not_open { handle.old.is_open ≡ false → (result ≡ NOT_OPEN) × (answer.new ≡ answer.old) }
+    ensures stays { handle.new.is_open ≡ handle.old.is_open }
+    ensures same { handle.old.is_open ≡ true → (result ≡ DONE) × (handle.new.value ≡ handle.old.value) }
+    ensures answer { handle.old.is_open ≡ true → ForEachLog handle.old.value (λ o h. answer.new ≡ is_paused o h) }
+{
+    let Some(controller) = handle.take(alloc) else {
+        return NOT_OPEN;
+    };
+    *answer = controller.is_paused();
+    handle.put(controller);
+    DONE
+}
+
+/// Writes whether the queue is closed.
+#[unsafe(no_mangle)]
+pub extern "C" fn wurst_controller_is_closed(
+    alloc: Global,
+    handle: &mut ControllerHandle,
+    answer: &mut bool,
+) -> u32
+    ensures not_open { handle.old.is_open ≡ false → (result ≡ NOT_OPEN) × (answer.new ≡ answer.old) }
+    ensures stays { handle.new.is_open ≡ handle.old.is_open }
+    ensures same { handle.old.is_open ≡ true → (result ≡ DONE) × (handle.new.value ≡ handle.old.value) }
+    ensures answer { handle.old.is_open ≡ true → ForEachLog handle.old.value (λ o h. answer.new ≡ is_closed o h) }
+{
+    let Some(controller) = handle.take(alloc) else {
+        return NOT_OPEN;
+    };
+    *answer = controller.is_closed();
+    handle.put(controller);
+    DONE
+}
+
+/// Writes whether a reply is awaited.
+#[unsafe(no_mangle)]
+pub extern "C" fn wurst_controller_awaits(
+    alloc: Global,
+    handle: &mut ControllerHandle,
+    answer: &mut bool,
+) -> u32
+    ensures not_open { handle.old.is_open ≡ false → (result ≡ NOT_OPEN) × (answer.new ≡ answer.old) }
+    ensures stays { handle.new.is_open ≡ handle.old.is_open }
+    ensures same { handle.old.is_open ≡ true → (result ≡ DONE) × (handle.new.value ≡ handle.old.value) }
+    ensures answer { handle.old.is_open ≡ true → ForEachLog handle.old.value (λ o h. answer.new ≡ awaited h) }
+{
+    let Some(controller) = handle.take(alloc) else {
+        return NOT_OPEN;
+    };
+    *answer = controller.awaits();
+    handle.put(controller);
+    DONE
+}

@@ -1,0 +1,28 @@
+-- What is told of a client's oldest outcome is what a collect gives.
+use Rattle.std.proofs.Common.{◌≡◌, ℕ, List, length, Option, Some, None, refl, ap, ◌∙◌}
+use Rattle.std.specs.Prelude.{option_map, option_and_then, unwrap_or}
+use Rattle.rdm_log.specs.declared.entry.Opening.{Opening}
+use Rattle.rdm_log.specs.declared.entry.Entry.{Entry}
+use Rattle.rdm_join.specs.declared.joiner.ReplyHead.{ReplyHead}
+use Rattle.rdm_join.specs.Statuses.{number_of_status}
+use Rattle.rdm_log.specs.declared.outcome.Completion.{Completion}
+use Rattle.rdm_log.specs.declared.outcome.Outcome.{Outcome}
+use Rattle.rdm_log.specs.promises.Blocks.{IsOldest}
+use Rattle.rdm_log.specs.promises.Outcomes.{outcome_value}
+use Rattle.rdm_queue.specs.promises.Lengths.{length_of_value, answer_length, oldest_length}
+use Rattle.rdm_handles.specs.Forms.{form_with_head, form_of_completion}
+
+-- its length is that which was told
+pub told_length : (o : Opening) (h : List Entry) (c : ℕ) (outcome : Outcome) → IsOldest o h c outcome → oldest_length o h c ≡ Some (length_of_value (outcome_value outcome))
+told_length o h c outcome is = ap (λ e. option_and_then (answer_length h) e) is.oldest ∙ ap (λ v. option_map length_of_value v) is.told
+
+pub needed_is : (o : Opening) (h : List Entry) (c : ℕ) (outcome : Outcome) (told : Option ℕ) → told ≡ oldest_length o h c → IsOldest o h c outcome → unwrap_or told 0 ≡ length_of_value (outcome_value outcome)
+needed_is o h c outcome told is oldest = ap (λ n. unwrap_or n 0) (is ∙ told_length o h c outcome oldest)
+
+-- with and without a head
+form_len : (number len status : ℕ) (head : Option ReplyHead) → (form_with_head number len status head).len ≡ len
+form_len number len status None = refl
+form_len number len status (Some head) = refl
+
+pub completion_len : (number : ℕ) (done : Completion) → (form_of_completion number done).len ≡ length done.bytes.items
+completion_len number done = form_len number (length done.bytes.items) (number_of_status done.status) done.reply

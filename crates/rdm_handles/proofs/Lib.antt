@@ -1,0 +1,5 @@
+pub mod AnswerLemmas
+pub mod FormLemmas
+pub mod Pointers
+pub mod ControllerHandles
+pub mod AgentHandles

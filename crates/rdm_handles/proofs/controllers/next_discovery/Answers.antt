@@ -1,0 +1,24 @@
+use Rattle.std.proofs.Common.{◌≡◌, ◌≤◌, length, take, map, refl, ap, sym, ◌∙◌, arith}
+use Rattle.rdm_log.specs.declared.outcome.Outcome.{Outcome}
+use Rattle.rdm_log.specs.log.LogState.{LogState}
+use Rattle.rdm_log.specs.promises.Blocks.{IsOldest}
+use Rattle.rdm_log.specs.promises.Outcomes.{discovery_outcome}
+use Rattle.rdm_handles.specs.Forms.{form_of_end, form_of_device}
+use Rattle.rdm_handles.proofs.AnswerLemmas.{needed_is}
+use Rattle.rdm_handles.proofs.controllers.next_discovery.Goals as goal
+
+pub returns-clause-collected : goal.returns-clause-collected
+returns-clause-collected c done = (
+  c.in-Some.ended,
+  c.next_discovery.new.set,
+  c.end_for_c.ensures ∙ ap (λ n. form_of_end c.in-Some.ended n) c.len.ensures.value,
+  c.in-Some.ensures.adds,
+  λ o h after.
+      let k : LogState = record { opening = o; entries = h; room = 0; search = c.args.controller.now.search } in
+      let outcome : Outcome = discovery_outcome c.in-Some.ended c.next_discovery.new.set in
+      let is : IsOldest o h c.args.client outcome = (c.in-Some.ensures.adds.each k refl after).adds.0 in
+      let needs : c.unwrap_or-needed.result ≡ length c.next_discovery.new.set = c.unwrap_or-needed.ensures ∙ needed_is o h c.args.client outcome c.oldest_length.result (c.oldest_length.ensures o h after) is in
+      let same : length c.as_slice.result.now ≡ length c.next_discovery.new.set = ap (λ devices. length devices) c.as_slice.ensures.value in
+      let fits : length c.as_slice.result.now ≤ length c.args.devices.now = omega (arith, needs, same, c.if-needed-devices.false) in
+      ap (λ n. take n c.put_devices.new.buffer) (sym same) ∙ (c.put_devices.ensures.front fits ∙ ap (λ devices. map form_of_device devices) c.as_slice.ensures.value),
+)

@@ -1,0 +1,94 @@
+-- What a status says a call of the queue has answered, and which status a collect answers.
+use Rattle.std.specs.Prelude.{ℕ, List, Option, Some, None, Result, Ok, Err, ◌==◌, nat_le, nat_lt, unwrap_or}
+use Rattle.std.specs.Prelude.{if◌then◌else◌}
+use Rattle.rdm_wire.specs.declared.request.Request.{Request}
+use Rattle.rdm_log.specs.declared.entry.ClientId.{ClientId}
+use Rattle.rdm_log.specs.declared.entry.Opening.{Opening}
+use Rattle.rdm_log.specs.declared.entry.Entry.{Entry}
+use Rattle.rdm_log.specs.declared.fault.JoinFault.{JoinFault}
+use Rattle.rdm_log.specs.declared.fault.JoinFault.TheVariants as joins
+use Rattle.rdm_log.specs.declared.fault.SubmitFault.{SubmitFault}
+use Rattle.rdm_log.specs.declared.fault.SubmitFault.TheVariants as submits
+use Rattle.rdm_log.specs.declared.fault.AskFault.{AskFault}
+use Rattle.rdm_log.specs.declared.fault.AskFault.TheVariants as asks
+use Rattle.rdm_log.specs.declared.outcome.OutcomeKind.{OutcomeKind}
+use Rattle.rdm_log.specs.declared.outcome.OutcomeKind.TheVariants as kinds
+use Rattle.rdm_log.specs.log.History.{next_client}
+use Rattle.rdm_log.specs.promises.Outcomes.{oldest_kind}
+use Rattle.rdm_queue.specs.promises.Lengths.{oldest_length}
+use Rattle.rdm_handles.specs.Statuses as status
+
+-- the fault of a join that a status names
+abbrev pub join_fault_of : ℕ → Option JoinFault
+join_fault_of s =
+    if s == status.closed then Some joins.Closed
+    else (if s == status.too_many_clients then Some joins.TooManyClients
+    else (if s == status.no_places then Some joins.NoPlaces
+    else (if s == status.out_of_memory then Some joins.NoMemory
+    else (if s == status.log_full then Some joins.LogFull else None))))
+
+-- the fault of a submit that a status names
+abbrev pub submit_fault_of : ℕ → Option SubmitFault
+submit_fault_of s =
+    if s == status.closed then Some submits.Closed
+    else (if s == status.unknown_client then Some submits.UnknownClient
+    else (if s == status.full then Some submits.Full
+    else (if s == status.log_full then Some submits.LogFull else None)))
+
+-- the fault of a discover that a status names
+abbrev pub ask_fault_of : ℕ → Option AskFault
+ask_fault_of s =
+    if s == status.closed then Some asks.Closed
+    else (if s == status.unknown_client then Some asks.UnknownClient
+    else (if s == status.full then Some asks.Full
+    else (if s == status.log_full then Some asks.LogFull else None)))
+
+abbrev pub ok_or : {E : Type 0} {A : Type 0} → Option E → A → Result A E
+ok_or None x = Ok x
+ok_or (Some fault) x = Err fault
+
+-- what a join of this status answered: its fault, or else the client of this number
+abbrev pub join_answer : ℕ → ℕ → Result ClientId JoinFault
+join_answer s client = ok_or (join_fault_of s) (record { 0 = client })
+
+abbrev pub with_request : Request → Option SubmitFault → ℕ → Result ℕ (SubmitFault × Request)
+with_request request None number = Ok number
+with_request request (Some fault) number = Err (fault, request)
+
+-- what a submit of this status answered: its fault with the request, or else this number
+abbrev pub submit_answer : ℕ → ℕ → Request → Result ℕ (SubmitFault × Request)
+submit_answer s number request = with_request request (submit_fault_of s) number
+
+-- what a discover of this status answered: its fault, or else this number
+abbrev pub ask_answer : ℕ → ℕ → Result ℕ AskFault
+ask_answer s number = ok_or (ask_fault_of s) number
+
+-- 0 a request's, 1 a discovery's
+abbrev pub outcome_kind_of : ℕ → OutcomeKind
+outcome_kind_of n = if n == 0 then kinds.Request else kinds.Discovery
+
+-- of a call that looks at a client's oldest outcome: no such client, no outcome, or there is one
+abbrev pub status_of_some : {A : Type 0} → Option A → ℕ
+status_of_some None = status.nothing
+status_of_some (Some x) = status.done
+
+abbrev pub oldest_status : Opening → List Entry → ℕ → ℕ
+oldest_status o h c =
+    if nat_le (next_client o h) c then status.unknown_client else status_of_some (oldest_kind o h c)
+
+-- of a collect of the first kind, where the oldest is of the second
+abbrev pub status_of_kind : OutcomeKind → OutcomeKind → ℕ → ℕ
+status_of_kind kinds.Request kinds.Request s = s
+status_of_kind kinds.Discovery kinds.Discovery s = s
+status_of_kind _ _ s = status.other_outcome
+
+-- of a collect of this kind, with room for this many bytes or devices: nothing is there, or another kind, or more
+abbrev pub status_of_oldest : OutcomeKind → Option OutcomeKind → ℕ → ℕ → ℕ
+status_of_oldest kind None needed room = status.nothing
+status_of_oldest kind (Some oldest) needed room =
+    status_of_kind kind oldest (if nat_lt room needed then status.buffer_too_small else status.done)
+
+abbrev pub collect_status : Opening → List Entry → ℕ → OutcomeKind → ℕ → ℕ
+collect_status o h c kind room =
+    if nat_le (next_client o h) c then status.unknown_client
+    else status_of_oldest kind (oldest_kind o h c) (unwrap_or (oldest_length o h c) 0) room

@@ -1,0 +1,10 @@
+-- The logic's descriptions of what handles hold.
+use denote.RattleType.{RattleType}
+use Rattle.rdm_queue.specs.contracts.controller.Controller as controller
+use Rattle.rdm_handles.specs.contracts.discovery.Discovery as discovery
+
+abbrev pub controller_row : RattleType
+controller_row = controller.the_row
+
+abbrev pub discovery_row : RattleType
+discovery_row = discovery.the_row

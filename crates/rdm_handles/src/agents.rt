@@ -1,0 +1,180 @@
+//! What calls of C ask of a run of discovery alone, with the statuses that they answer.
+ghost use Rattle.std.specs.Prelude.{◌≡◌, ◌≢◌, ◌++◌, ◌∷◌, ℕ, [], length, take, true, false, IfOk, IfErr, if◌then◌else◌};
+ghost use Rattle.std.specs.Prelude.{◌%◌, ◌^◌, ◌+◌, ◌==◌, option_copied, Some};
+ghost use Rattle.rdm_agent.specs.Machine.{fed, fault_of};
+ghost use Rattle.rdm_agent.specs.Run.{heard_by, seen_op};
+ghost use Rattle.rdm_agent.specs.Calls.{next_op, fits, ended_by_abort, HasRunBy, AfterEach};
+ghost use Rattle.rdm_agent.specs.OpFrames.{op_frame};
+ghost use Rattle.rdm_agent.specs.declared.op.OpReply.{OpReply};
+ghost use Rattle.rdm_agent.specs.declared.op.Op.TheVariants.{End};
+ghost use Rattle.rdm_handles.specs.Forms.{search_of, kind_of, corrupt_uid, number_of_fault};
+ghost use Rattle.rdm_handles.specs.Packets.{first_of, frame_status};
+ghost use Rattle.rdm_handles.specs.Agents.{start_status, known_status, known_set, added_status};
+ghost use Rattle.rdm_handles.specs.Agents.{operation_status, operation_of, heard_of};
+ghost use Rattle.rdm_wire.specs.Uid.{with_uid};
+
+use crate::convert::{corrupt_uid, kind_of, number_of_fault, own_uid, search_of};
+use crate::discovery::Discovery;
+use crate::forms::StartForC;
+use crate::packets::put_frame;
+use crate::status::{BAD_KIND, BAD_SEARCH, DONE, HAS_ENDED, NOT_ENDED, NOTHING, TOO_MANY_DEVICES};
+use rdm_agent::{Agent, Op};
+use rdm_wire::{Uid, UidSet};
+
+/// A run that begins so, which knows devices of these UIDs.
+/// Err: the status of the first fault, of the start before those of the UIDs.
+pub fn start(start: &StartForC, known: &[u64]) -> Result<Discovery, u32>
+    ensures begun { IfOk result (λ d. (first_of (start_status start.now) (known_status [] known.now) ≡ 0)
+        × (d.source ≡ start.now.source) × (d.tn ≡ start.now.tn)
+        × HasRunBy (search_of start.now.search) (kind_of start.now.kind) (known_set [] known.now)
+        start.now.budget false [] d.agent) }
+    ensures refused { IfErr result (λ fault.
+        (fault ≡ first_of (start_status start.now) (known_status [] known.now)) × (fault ≢ 0)) }
+{
+    let source = source_of(start)?;
+    let mut set = UidSet::new();
+    let fault = add_known(&mut set, known);
+    if fault != DONE {
+        return Err(fault);
+    }
+    Ok(Discovery {
+        agent: Agent::start_by(
+            search_of(start.search),
+            kind_of(start.kind),
+            &set,
+            start.budget,
+        ),
+        source,
+        tn: start.tn,
+    })
+}
+
+// The UID of the controller, or the status of the start's first fault.
+fn source_of(start: &StartForC) -> Result<Uid, u32>
+    ensures ok { IfOk result (λ u. (u ≡ start.now.source) × (start_status start.now ≡ 0)) }
+    ensures err { IfErr result (λ fault. (fault ≡ start_status start.now) × (fault ≢ 0)) }
+{
+    let source = own_uid(start.source)?;
+    if start.kind > 1 {
+        return Err(BAD_KIND);
+    }
+    if start.search > 1 {
+        return Err(BAD_SEARCH);
+    }
+    Ok(source)
+}
+
+// Puts the UIDs into the set, one after another, up to the first fault; its status.
+fn add_known(set: &mut UidSet, known: &[u64]) -> u32
+    ensures status { result ≡ known_status set.old known.now }
+    ensures added { result ≡ DONE → set.new ≡ known_set set.old known.now }
+{
+    'adding: for i in 0..known.len() {
+        let fault = add_uid(set, known[i]);
+        if fault != DONE {
+            return fault;
+        }
+    }
+    DONE
+}
+
+// Puts a UID into the set; its status.
+fn add_uid(set: &mut UidSet, number: u64) -> u32
+    ensures status { result ≡ added_status set.old number }
+    ensures added { result ≡ DONE → set.new ≡ with_uid number set.old }
+{
+    let uid = match own_uid(number) {
+        Ok(uid) => uid,
+        Err(fault) => return fault,
+    };
+    match set.insert(uid) {
+        Ok(_) => DONE,
+        Err(_) => TOO_MANY_DEVICES,
+    }
+}
+
+/// Writes what the run asks next, 0 an unmute of all, 1 a mute, 2 a branch, and its frame at the front of a buffer of
+/// 257 bytes.
+pub fn next(discovery: &Discovery, operation: &mut u32, frame: &mut [u8], len: &mut usize) -> u32
+    ensures status { result ≡ first_of (operation_status (next_op discovery.now.agent))
+        (frame_status (length frame.old)) }
+    ensures frame { result ≡ DONE → take len.new frame.new
+        ≡ op_frame (next_op discovery.now.agent) discovery.now.source discovery.now.tn }
+    ensures operation { result ≡ DONE → operation.new ≡ operation_of (next_op discovery.now.agent) }
+    ensures unchanged { result ≢ DONE → (operation.new ≡ operation.old) × (len.new ≡ len.old)
+        × (frame.new ≡ frame.old) }
+{
+    let op = discovery.agent.next();
+    if op == Op::End {
+        return NOTHING;
+    }
+    let status = put_frame(frame, &op.frame(discovery.source, discovery.tn), len);
+    if status == DONE {
+        *operation = operation_of(&op);
+    }
+    status
+}
+
+// The number of an operation.
+fn operation_of(op: &Op) -> u32
+    ensures { result ≡ operation_of op.now }
+{
+    match op {
+        Op::UnmuteAll => 0,
+        Op::Mute(_) => 1,
+        Op::Branch(_) => 2,
+        Op::End => 3,
+    }
+}
+
+/// Takes the bytes that the line answered; none are silence.
+pub fn hear_reply(discovery: &mut Discovery, reply: &[u8]) -> u32
+    ensures status { result ≡ (if operation_status (next_op discovery.old.agent) == 0 then DONE else HAS_ENDED) }
+    ensures heard { result ≡ DONE → discovery.new.agent ≡ heard_of discovery.old (Some reply.now) }
+    ensures has_run { result ≡ DONE → (heard : OpReply) × (fits heard (next_op discovery.old.agent) ≡ true)
+        × (discovery.new.agent ≡ fed discovery.old.agent (heard_by heard))
+        × AfterEach discovery.old.agent (λ run. HasRunBy run.search run.kind run.known run.budget false
+        (run.exchanges ++ seen_op (next_op discovery.old.agent, heard) ∷ []) discovery.new.agent) }
+    ensures numbers { result ≡ DONE → (discovery.new.tn ≡ (discovery.old.tn + 1) % 2 ^ 8)
+        × (discovery.new.source ≡ discovery.old.source) }
+    ensures unchanged { result ≢ DONE → discovery.new ≡ discovery.old }
+{
+    hear(discovery, Some(reply))
+}
+
+/// Takes the bytes that the line answered, or None where it failed.
+pub fn hear(discovery: &mut Discovery, answer: Option<&[u8]>) -> u32
+    ensures status { result ≡ (if operation_status (next_op discovery.old.agent) == 0 then DONE else HAS_ENDED) }
+    ensures heard { result ≡ DONE → discovery.new.agent ≡ heard_of discovery.old (option_copied answer.entry) }
+    ensures has_run { result ≡ DONE → (reply : OpReply) × (fits reply (next_op discovery.old.agent) ≡ true)
+        × (discovery.new.agent ≡ fed discovery.old.agent (heard_by reply))
+        × AfterEach discovery.old.agent (λ run. HasRunBy run.search run.kind run.known run.budget false
+        (run.exchanges ++ seen_op (next_op discovery.old.agent, reply) ∷ []) discovery.new.agent) }
+    ensures numbers { result ≡ DONE → (discovery.new.tn ≡ (discovery.old.tn + 1) % 2 ^ 8)
+        × (discovery.new.source ≡ discovery.old.source) }
+    ensures unchanged { result ≢ DONE → discovery.new ≡ discovery.old }
+{
+    let op = discovery.agent.next();
+    if op == Op::End {
+        return HAS_ENDED;
+    }
+    let reply = op.read_reply(discovery.source, discovery.tn, answer);
+    discovery.agent.hear(reply);
+    discovery.tn = discovery.tn.wrapping_add(1);
+    DONE
+}
+
+/// Writes why the run ended early: its number, 0 where it didn't, and the UID that it names, or 0.
+pub fn fault(discovery: &Discovery, fault: &mut u32, corrupt: &mut u64) -> u32
+    ensures status { result ≡ (if operation_status (next_op discovery.now.agent) == 0 then NOT_ENDED else DONE) }
+    ensures fault { result ≡ DONE → (fault.new ≡ number_of_fault (fault_of discovery.now.agent.phase))
+        × (corrupt.new ≡ corrupt_uid (fault_of discovery.now.agent.phase)) }
+    ensures unchanged { result ≢ DONE → (fault.new ≡ fault.old) × (corrupt.new ≡ corrupt.old) }
+{
+    if discovery.agent.next() != Op::End {
+        return NOT_ENDED;
+    }
+    *fault = number_of_fault(discovery.agent.fault());
+    *corrupt = corrupt_uid(discovery.agent.fault());
+    DONE
+}

@@ -1,0 +1,179 @@
+//! The structs that C and Rattle hand one another. They hold numbers and flags.
+use std::mem::size_of;
+
+/// How a controller or a session is set up.
+#[repr(C)]
+#[derive(Clone, Copy)]
+pub struct SetupForC {
+    /// The controller's own UID, which isn't broadcast.
+    pub source: u64,
+    /// How many frames a discovery may take, from 1.
+    pub budget: u64,
+    /// How its runs search: 0 steadily, 1 quickly.
+    pub search: u32,
+    /// The places of all clients together, 0 to 4,080.
+    pub places: u16,
+}
+
+/// A request but its parameter data.
+#[repr(C)]
+#[derive(Clone, Copy)]
+pub struct RequestForC {
+    /// The device's UID, or a broadcast one.
+    pub target: u64,
+    /// 0 GET, 1 SET.
+    pub command_class: u32,
+    /// The sub-device: 0 is the root, `ffff` all of them.
+    pub sub_device: u16,
+    /// The parameter's identifier.
+    pub pid: u16,
+}
+
+/// How a request ended, but its data.
+#[repr(C)]
+#[derive(Clone, Copy)]
+pub struct CompletionForC {
+    /// The request's number.
+    pub number: u64,
+    /// How many bytes of data there are.
+    pub len: usize,
+    /// How it ended: the number of its status, 0 to 18.
+    pub status: u32,
+    /// Of the last reply, 0 ACK, 1 ACK_TIMER, 2 NACK, 3 ACK_OVERFLOW; 0 where there is no head.
+    pub ack: u32,
+    /// Of the last reply, 0 discovery, 1 GET, 2 SET; 0 where there is no head.
+    pub response_class: u32,
+    /// The last reply's sub-device; 0 where there is no head.
+    pub sub_device: u16,
+    /// The last reply's parameter; 0 where there is no head.
+    pub pid: u16,
+    /// Whether there is a last reply: with status 0 alone.
+    pub has_head: bool,
+}
+
+/// How a discovery ended, but its devices.
+#[repr(C)]
+#[derive(Clone, Copy)]
+pub struct EndForC {
+    /// The discovery's number.
+    pub number: u64,
+    /// The run that served it; 0 where none was begun for it.
+    pub run: u64,
+    /// The UID of fault 1; else 0.
+    pub corrupt: u64,
+    /// How many devices there are.
+    pub count: usize,
+    /// Why the run ended early: 0 it didn't, 1 to 5 the number of its fault.
+    pub fault: u32,
+}
+
+/// A device, with what it said of itself.
+#[repr(C)]
+#[derive(Clone, Copy)]
+pub struct DeviceForC {
+    /// Its UID.
+    pub uid: u64,
+    /// Its binding UID; 0 where it gave none.
+    pub binding: u64,
+    /// Its control field.
+    pub control: u16,
+    /// Whether it gave a binding UID.
+    pub has_binding: bool,
+}
+
+/// A response but its parameter data.
+#[repr(C)]
+#[derive(Clone, Copy)]
+pub struct ResponseForC {
+    /// The device's UID.
+    pub source: u64,
+    /// The UID of the controller that it answers.
+    pub dest: u64,
+    /// How many bytes of parameter data there are.
+    pub len: usize,
+    /// 0 ACK, 1 ACK_TIMER, 2 NACK, 3 ACK_OVERFLOW.
+    pub ack: u32,
+    /// 0 discovery, 1 GET, 2 SET.
+    pub response_class: u32,
+    /// The sub-device.
+    pub sub_device: u16,
+    /// The parameter's identifier.
+    pub pid: u16,
+    /// The transaction number of the command that it answers.
+    pub tn: u8,
+    /// How many messages wait in the device's queue.
+    pub count: u8,
+}
+
+/// A command but its parameter data. What its kind doesn't have is 0.
+#[repr(C)]
+#[derive(Clone, Copy)]
+pub struct CommandForC {
+    /// The controller's UID.
+    pub source: u64,
+    /// The UID that a mute or a request goes to.
+    pub target: u64,
+    /// The lower bound of a branch.
+    pub lo: u64,
+    /// The upper bound of a branch.
+    pub hi: u64,
+    /// How many bytes of parameter data a request has.
+    pub len: usize,
+    /// 0 unmute, 1 branch, 2 mute, 3 request.
+    pub kind: u32,
+    /// Of a request, 0 GET, 1 SET.
+    pub command_class: u32,
+    /// A request's sub-device.
+    pub sub_device: u16,
+    /// A request's parameter.
+    pub pid: u16,
+    /// The transaction number.
+    pub tn: u8,
+}
+
+/// What a device says when it acknowledges a mute.
+#[repr(C)]
+#[derive(Clone, Copy)]
+pub struct MuteAckForC {
+    /// Its binding UID; 0 where it gave none.
+    pub binding: u64,
+    /// Its control field.
+    pub control: u16,
+    /// Whether it gave a binding UID.
+    pub has_binding: bool,
+}
+
+/// How a run of discovery alone begins.
+#[repr(C)]
+#[derive(Clone, Copy)]
+pub struct StartForC {
+    /// The UID of the controller whose frames they are, which isn't broadcast.
+    pub source: u64,
+    /// How many exchanges the run may make.
+    pub budget: u64,
+    /// 0 full, 1 incremental.
+    pub kind: u32,
+    /// How it searches: 0 steadily, 1 quickly.
+    pub search: u32,
+    /// The transaction number of its first frame.
+    pub tn: u8,
+}
+
+// What the header says of their sizes.
+const _: () = prove!(size_of::<SetupForC>() == 24);
+
+const _: () = prove!(size_of::<RequestForC>() == 16);
+
+const _: () = prove!(size_of::<CompletionForC>() == 40);
+
+const _: () = prove!(size_of::<EndForC>() == 40);
+
+const _: () = prove!(size_of::<DeviceForC>() == 24);
+
+const _: () = prove!(size_of::<ResponseForC>() == 40);
+
+const _: () = prove!(size_of::<CommandForC>() == 56);
+
+const _: () = prove!(size_of::<MuteAckForC>() == 16);
+
+const _: () = prove!(size_of::<StartForC>() == 32);

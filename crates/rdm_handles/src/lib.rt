@@ -1,0 +1,23 @@
+//! What C holds and hands over: handles of controllers and of runs of discovery, and structs of numbers.
+//!
+//! A handle is 16 bytes in the memory of its C program. It owns a value on the heap while it is open.
+#![tactic(auto)]
+
+mod agent;
+pub mod agents;
+mod controller;
+pub mod controllers;
+pub mod convert;
+mod discovery;
+mod forms;
+mod loose;
+pub mod packets;
+pub mod status;
+
+pub use agent::AgentHandle;
+pub use controller::ControllerHandle;
+pub use discovery::Discovery;
+pub use forms::{
+    CommandForC, CompletionForC, DeviceForC, EndForC, MuteAckForC, RequestForC, ResponseForC,
+    SetupForC, StartForC,
+};

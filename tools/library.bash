@@ -1,0 +1,43 @@
+# The C library: how it is built from its proved archive, and put into a folder. For the scripts in the folder above.
+# shellcheck shell=bash
+
+# The shared object's version of the interface. It changes if programs have to be compiled again.
+soname=libwurstlinen.so.0
+
+# Proves and builds the archive, unless it is up to date. rt prints what it does.
+build_archive() {
+    (cd "$1/crates/rdm_c" && rt lib)
+}
+
+# Makes libwurstlinen.a and the shared object in a folder, from the archive of rdm_c.
+make_library() {
+    local root="$1" archive="$2" folder="$3"
+    cc -std=c11 -O2 -fPIC -Wall -Wextra -c "$root/bindings/c/heap.c" -o "$folder/heap.o" || return
+    printf '{ global: wurst_*; local: *; };\n' > "$folder/exports"
+    cc -shared -Wl,-soname,"$soname" -Wl,--version-script="$folder/exports" -o "$folder/$soname" \
+        -Wl,--whole-archive "$archive" -Wl,--no-whole-archive "$folder/heap.o" || return
+    cp "$archive" "$folder/libwurstlinen.a" && ar rs "$folder/libwurstlinen.a" "$folder/heap.o" || return
+    rm "$folder/heap.o" "$folder/exports"
+}
+
+# Puts the library, its headers and the Python package below a prefix.
+install_library() {
+    local root="$1" folder="$2" prefix="$3" python="$3/lib/python3/site-packages"
+    mkdir -p "$prefix/lib/pkgconfig" "$prefix/include" "$python" || return
+    cp "$folder/libwurstlinen.a" "$folder/$soname" "$prefix/lib/" || return
+    ln -sfT "$soname" "$prefix/lib/libwurstlinen.so" || return
+    cp "$root/bindings/c/wurstlinen.h" "$root/bindings/cpp/wurstlinen.hpp" "$prefix/include/" || return
+    rm -rf "$python/wurstlinen" && cp -r "$root/bindings/python/wurstlinen" "$python/" || return
+    find "$python/wurstlinen" -name __pycache__ -prune -exec rm -r {} +
+    cat > "$prefix/lib/pkgconfig/wurstlinen.pc" << END
+prefix=$prefix
+libdir=\${prefix}/lib
+includedir=\${prefix}/include
+
+Name: wurstlinen
+Description: A controller for RDM (ANSI E1.20)
+Version: $(cat "$root/VERSION")
+Libs: -L\${libdir} -lwurstlinen
+Cflags: -I\${includedir}
+END
+}
