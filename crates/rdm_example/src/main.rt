@@ -7,11 +7,10 @@ mod rig;
 
 use crate::rig::{DEVICE_LABEL, rig};
 use arrayvec::ArrayVec;
-use rdm_agent::{DEFAULT_BUDGET, Kind};
-use rdm_join::LineEvent;
-use rdm_line::{Line, SimLine};
-use rdm_queue::{Config, Log, Outcome, Session};
-use rdm_wire::{ReqClass, Request, Uid};
+use rdm::{
+    AgentFault, Config, DEFAULT_BUDGET, Kind, Line, LineEvent, Log, Outcome, ReqClass, Request,
+    Session, SimLine, Uid,
+};
 use std::alloc::Global;
 use std::process::ExitCode;
 
@@ -63,18 +62,23 @@ fn serve(alloc: Global, session: &mut Session, line: &mut SimLine) -> Option<()>
     None
 }
 
-// Prints an outcome. A discovery's set is complete only if its run had no fault.
 fn report(rt: &HostRuntime, client: &str, outcome: Outcome) -> Option<()> {
     match outcome {
         Outcome::Request { done, .. } => {
             println!(rt; "{client}: {:?}, {} bytes", done.status, done.bytes.len()).ok()
         }
-        Outcome::Discovery { done, .. } => match done.fault {
-            None => println!(rt; "{client}: {} fixtures in run {}", done.set.len(), done.run).ok(),
-            Some(fault) => {
-                eprintln!(rt; "{client}: run {} ended early: {fault}", done.run).ok()?;
-                None
+        Outcome::Discovery { done, .. } => {
+            let (run, found) = (done.run, done.set.len());
+            match done.fault {
+                None => println!(rt; "{client}: {found} fixtures in run {run}").ok(),
+                Some(fault) => give_up(rt, client, run, fault),
             }
-        },
+        }
     }
+}
+
+// The set of a run with a fault isn't complete.
+fn give_up(rt: &HostRuntime, client: &str, run: u64, fault: AgentFault) -> Option<()> {
+    eprintln!(rt; "{client}: run {run} ended early: {fault}").ok()?;
+    None
 }

@@ -17,7 +17,8 @@ use Rattle.rdm_log.specs.log.LogState.{LogState, is_full_log, free_entries}
 use Rattle.rdm_log.proofs.LogLemmas.PushLemmas.{accepts_same, asks_same, sends_same, finishes_same, answered_same, awaited-push, is_closed-push, is_paused-push}
 use Rattle.rdm_log.proofs.LogLemmas.RunLemmas.{open_run_same, last_run_same, asked_before_same}
 use Rattle.rdm_log.proofs.LogLemmas.RoomLemmas.{added, added_by, taken_block}
-use Rattle.rdm_lanes.specs.Lines.{NoExchange, SameSwitches, OnlyCollects, is_collect}
+use Rattle.rdm_lanes.specs.body.Quiet.{NoExchange, OnlyCollects, is_collect}
+use Rattle.rdm_lanes.specs.Lines.{SameSwitches}
 use Rattle.rdm_lanes.proofs.ListLemmas.{all_follow}
 use Rattle.rdm_lanes.proofs.FoundLemmas.{quiet_views}
 use Rattle.rdm_lanes.proofs.LineLemmas.{is_off_line, is_switch, line_off, switches_stay, grown_join, grown_same}

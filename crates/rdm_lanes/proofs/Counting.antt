@@ -12,7 +12,7 @@ use Rattle.rdm_lanes.specs.declared.call.ClientCall.TheVariants.{Leave}
 use Rattle.rdm_lanes.specs.declared.ring_outcome.RingOutcome.{RingOutcome}
 use Rattle.rdm_lanes.specs.Calls.{is_work, work_in}
 use Rattle.rdm_lanes.specs.Told.{value_in, values_in}
-use Rattle.rdm_lanes.specs.Counts.{IsCounted}
+use Rattle.rdm_lanes.specs.body.Counts.{IsCounted}
 
 -- an item more in a ring
 pub work_more : (xs : List ClientCall) (x : ClientCall) → is_work x ≡ true → work_in (xs ++ x ∷ []) ≡ work_in xs ++ x ∷ []

@@ -14,7 +14,8 @@ use Rattle.rdm_lanes.specs.declared.call.ClientCall.TheVariants.{Submit, Discove
 use Rattle.rdm_lanes.specs.declared.ring_outcome.RingOutcome.{RingOutcome}
 use Rattle.rdm_lanes.specs.declared.lane.Lane.{Lane}
 use Rattle.rdm_lanes.specs.declared.ends.ClientEnd.{ClientEnd}
-use Rattle.rdm_lanes.specs.Calls.{is_work, work_in, leave_if}
+use Rattle.rdm_lanes.specs.Calls.{is_work, work_in}
+use Rattle.rdm_lanes.specs.body.Leaves.{leave_if}
 use Rattle.rdm_lanes.specs.Told.{value_in, values_in}
 use Rattle.rdm_lanes.specs.Pairs.{ArePair}
 use Rattle.rdm_lanes.specs.Lanes.{Fits, AllFit, AllHaveLeft, is_leave}

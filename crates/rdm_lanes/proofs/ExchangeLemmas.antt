@@ -18,9 +18,11 @@ use Rattle.rdm_log.specs.promises.Blocks.{GrowsBy, TakeLogs, DeliverAdds, AllRes
 use Rattle.rdm_log.proofs.LogLemmas.Grows.{front}
 use Rattle.rdm_log.proofs.LogLemmas.PushLemmas.{awaited-push}
 use Rattle.rdm_log.proofs.LogLemmas.LegalFacts.{legal_facts, sent_evenly}
-use Rattle.rdm_lanes.specs.Lines.{exchanges, exchange_count, Exchanged, NoExchange, SameSwitches, NoCallLost, IsBetweenTurns}
-use Rattle.rdm_lanes.specs.Serving.{IsOnlyTold}
-use Rattle.rdm_lanes.specs.Views.{views_found, GainOneAtMost}
+use Rattle.rdm_lanes.specs.Lines.{exchanges, exchange_count, Exchanged, SameSwitches, NoCallLost, IsBetweenTurns}
+use Rattle.rdm_lanes.specs.body.Quiet.{NoExchange}
+use Rattle.rdm_lanes.specs.body.Serving.{IsOnlyTold}
+use Rattle.rdm_lanes.specs.Views.{views_found}
+use Rattle.rdm_lanes.specs.body.Gains.{GainOneAtMost}
 use Rattle.rdm_lanes.proofs.FoundLemmas.{exchange_views}
 use Rattle.rdm_lanes.proofs.LaneLemmas.{waits, waits_join}
 use Rattle.rdm_lanes.proofs.LineLemmas.{traded_one, exchanges_off, results_off, results_no_join, results_no_switch, joins_stay, switches_stay, awaited_off, none_lost_grows, rightly_without, results_no_refusal, grown_join}

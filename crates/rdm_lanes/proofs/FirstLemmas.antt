@@ -22,9 +22,9 @@ use Rattle.rdm_lanes.specs.declared.ring_outcome.RingOutcome.{RingOutcome}
 use Rattle.rdm_lanes.specs.Told.{values_in, uncollected_values}
 use Rattle.rdm_lanes.specs.Lanes.{AllFit}
 use Rattle.rdm_lanes.specs.Ends.{end_got, AllAgree}
-use Rattle.rdm_lanes.specs.Opened.{AreNewWith}
-use Rattle.rdm_lanes.specs.Views.{last_view_run, last_number, is_last, with_run, with_found, runs_found, view_of, views_found, all_views}
-use Rattle.rdm_lanes.specs.Publishing.{NoneLater, AreShownFirst}
+use Rattle.rdm_lanes.specs.body.Opening.{AreNewWith}
+use Rattle.rdm_lanes.specs.Views.{last_view_run, last_number, is_last, with_run, with_found, runs_found, view_of, all_views}
+use Rattle.rdm_lanes.specs.body.Showing.{NoneLater, AreShownFirst}
 use Rattle.rdm_lanes.specs.ViewsRead.{AllShownFirst}
 use Rattle.rdm_lanes.proofs.EndLemmas.{get_map, within_get}
 use Rattle.rdm_lanes.proofs.FoundLemmas.{is_last_true, adds_found}

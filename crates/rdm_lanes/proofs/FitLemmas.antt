@@ -39,7 +39,7 @@ use Rattle.rdm_lanes.specs.declared.lane.Lane.{Lane}
 use Rattle.rdm_lanes.specs.Calls.{call_by, calls_by, refused_call, work_in}
 use Rattle.rdm_lanes.specs.Told.{told_values, uncollected_values, values_in, value_in}
 use Rattle.rdm_lanes.specs.Lanes.{FitsBut, Fits, is_leave}
-use Rattle.rdm_lanes.specs.Serving.{MayTell, MayMake, CanTakeSubmit, CanTakeDiscover, AfterSubmit, AfterSubmitFault, AfterDiscover, AfterAskFault}
+use Rattle.rdm_lanes.specs.body.Serving.{MayTell, MayMake, CanTakeSubmit, CanTakeDiscover, AfterSubmit, AfterSubmitFault, AfterDiscover, AfterAskFault}
 use Rattle.rdm_lanes.proofs.LineLemmas.{is_quiet}
 use Rattle.rdm_lanes.proofs.GrowthLemmas.{tells, told_grows, uncollected_grows, collected_same, accepts_by_split, asks_by_split}
 

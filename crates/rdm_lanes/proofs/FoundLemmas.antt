@@ -37,7 +37,8 @@ use Rattle.rdm_log.proofs.LogLemmas.AskFacts.{AskFacts, ask_facts, unanswered_nu
 use Rattle.rdm_log.proofs.LogLemmas.RunLemmas.{not_sent, last_begun, last_run_same, last_run_sent, begun_same, served_stays, entries_before_run_stays, run_exchanges_same}
 use Rattle.rdm_log.proofs.LogLemmas.RunFacts.{open_is, is_open, run_facts, any_from_place}
 use Rattle.rdm_log.proofs.PromiseLemmas.OutcomeLemmas.{exchanges_kept, last_is_answered}
-use Rattle.rdm_lanes.specs.Views.{opening_view, last_view, last_view_run, last_number, is_last, with_run, with_found, runs_found, view_of, views_found, all_views, GainOneAtMost}
+use Rattle.rdm_lanes.specs.Views.{opening_view, last_view, last_view_run, last_number, is_last, with_run, with_found, runs_found, view_of, views_found, all_views}
+use Rattle.rdm_lanes.specs.body.Gains.{GainOneAtMost}
 use Rattle.rdm_lanes.proofs.ListLemmas.{all_follow, map_agree}
 use Rattle.rdm_lanes.proofs.LineLemmas.{is_off_line, AllOffLine, results_off, sends_off, cames_off}
 

@@ -6,7 +6,7 @@ use prog.Atomic.{either}
 use Rattle.logbook.specs.Pages.{Cell, cell, keeps, no_nib, step, Moves, Goes}
 use Rattle.rdm_client.specs.declared.view.DeviceView.{DeviceView}
 use Rattle.rdm_lanes.specs.Views.{last_view_run, AreViews}
-use Rattle.rdm_lanes.specs.History.{IsKept, Adds}
+use Rattle.rdm_lanes.specs.body.History.{IsKept, Adds}
 use Rattle.rdm_lanes.proofs.Fronts.{prefix_whole}
 use Rattle.rdm_lanes.proofs.ViewFacts.{views_more}
 

@@ -17,8 +17,8 @@ use Rattle.rdm_lanes.specs.declared.call.ClientCall.{ClientCall}
 use Rattle.rdm_lanes.specs.declared.lane.Lane.{Lane}
 use Rattle.rdm_lanes.specs.Told.{told_values, uncollected_values, values_in}
 use Rattle.rdm_lanes.specs.Lanes.{FitsBut, Fits, AllFit, SameLane, SameLanes, lane_places}
-use Rattle.rdm_lanes.specs.Lines.{NoExchange}
-use Rattle.rdm_lanes.specs.Serving.{IsOnlyTold}
+use Rattle.rdm_lanes.specs.body.Quiet.{NoExchange}
+use Rattle.rdm_lanes.specs.body.Serving.{IsOnlyTold}
 use Rattle.rdm_lanes.proofs.GrowthLemmas.{Untouched, calls_untouched, told_grows, uncollected_grows, requests_untouched, asks_untouched, tells_untouched, no_collects}
 
 -- a block that doesn't touch a client

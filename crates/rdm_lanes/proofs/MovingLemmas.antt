@@ -2,9 +2,10 @@
 use Rattle.std.proofs.Common.{◌≢◌, ℕ}
 use Rattle.rdm_log.specs.log.LogState.{LogState}
 use Rattle.rdm_lanes.specs.declared.lane.Lane.{Lane}
-use Rattle.rdm_lanes.specs.Lines.{OnlyCollects, IsBetweenTurns}
+use Rattle.rdm_lanes.specs.body.Quiet.{OnlyCollects}
+use Rattle.rdm_lanes.specs.Lines.{IsBetweenTurns}
 use Rattle.rdm_lanes.specs.Lanes.{Fits, SameLane}
-use Rattle.rdm_lanes.specs.Serving.{IsOnlyTold}
+use Rattle.rdm_lanes.specs.body.Serving.{IsOnlyTold}
 use Rattle.rdm_lanes.proofs.LaneLemmas.{waits_join, waits_same, same_lane_join}
 use Rattle.rdm_lanes.proofs.CollectLemmas.{collects_none, collects_join}
 

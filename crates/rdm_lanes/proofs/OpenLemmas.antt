@@ -14,7 +14,7 @@ use Rattle.rdm_log.specs.declared.config.Setup.{Setup}
 use Rattle.rdm_log.specs.declared.entry.ClientId.{ClientId}
 use Rattle.rdm_log.specs.declared.entry.Opening.{Opening}
 use Rattle.rdm_log.specs.declared.entry.Entry.{Entry}
-use Rattle.rdm_log.specs.declared.entry.Entry.TheVariants.{Join, Answer, Refuse}
+use Rattle.rdm_log.specs.declared.entry.Entry.TheVariants.{Join, Refuse}
 use Rattle.rdm_log.specs.declared.fault.JoinFault.{JoinFault}
 use Rattle.rdm_log.specs.declared.fault.JoinFault.TheVariants as join_faults
 use Rattle.rdm_log.specs.log.Entries.{joins, accepts, asks, finishes, answers, sends, cames, traded, collectors}
@@ -31,19 +31,20 @@ use Rattle.rdm_lanes.specs.declared.ring_outcome.RingOutcome.{RingOutcome}
 use Rattle.rdm_lanes.specs.declared.client.RingClient.{RingClient}
 use Rattle.rdm_lanes.specs.declared.lane.Lane.{Lane}
 use Rattle.rdm_lanes.specs.Calls.{work_in, calls_by}
-use Rattle.rdm_lanes.specs.Counts.{IsCounted}
+use Rattle.rdm_lanes.specs.body.Counts.{IsCounted}
 use Rattle.rdm_lanes.specs.Told.{told_values, uncollected_values, values_in}
 use Rattle.rdm_lanes.specs.Lines.{exchanges, IsBetweenTurns}
 use Rattle.rdm_lanes.specs.Lanes.{Fits, AllFit, lane_places}
 use Rattle.rdm_lanes.specs.Pairs.{Rings, ArePair, client_rings, ClientsPair}
 use Rattle.rdm_lanes.specs.declared.fault.OpenFault.TheVariants.{TooManyClients, NoPlaces}
-use Rattle.rdm_lanes.specs.Opened.{places_fault, IsFullFor, join_entries, opened_with, IsNewWith, AreNew, AreNewWith, HoldNothing}
+use Rattle.rdm_lanes.specs.Opened.{places_fault, IsFullFor, join_entries, opened_with, AreNew}
+use Rattle.rdm_lanes.specs.body.Opening.{IsNewWith, AreNewWith, HoldNothing}
 use Rattle.rdm_lanes.proofs.LaneLemmas.{waits, fits_waits}
 use Rattle.rdm_lanes.proofs.LineLemmas.{AllQuiet, NoSwitch, quiet_all_off, served_quiet, exchanges_off, awaited_off, closed_stays, paused_stays, is_refusal, rightly_without}
 use Rattle.rdm_lanes.proofs.GrowthLemmas.{Untouched, calls_untouched}
 use Rattle.rdm_log.specs.log.Entries.{answered_of}
 use Rattle.rdm_lanes.specs.Views.{opening_view, runs_found, views_found, all_views}
-use Rattle.rdm_lanes.specs.Publishing.{Publishing, NoneLater, Publishes}
+use Rattle.rdm_lanes.specs.body.Showing.{Publishing, NoneLater, Publishes}
 use Rattle.rdm_lanes.proofs.FoundLemmas.{quiet_views}
 use Rattle.rdm_lanes.proofs.ShowingLemmas.{showing_all}
 use Rattle.rdm_lanes.proofs.ViewFacts.{none_later_opening}

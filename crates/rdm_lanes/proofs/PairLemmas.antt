@@ -13,7 +13,8 @@ use Rattle.rdm_lanes.specs.declared.ends.ClientEnd.{ClientEnd}
 use Rattle.rdm_lanes.specs.Clients.{SameClient}
 use Rattle.rdm_lanes.specs.Lanes.{SameLane, SameLanes}
 use Rattle.rdm_lanes.specs.Ends.{end_rings, PairUp}
-use Rattle.rdm_lanes.specs.Pairs.{Rings, ArePair, RingsPair, SameRings, client_rings, ClientsPair}
+use Rattle.rdm_lanes.specs.Pairs.{Rings, ArePair, RingsPair, client_rings, ClientsPair}
+use Rattle.rdm_lanes.specs.body.Seats.{SameRings}
 use Rattle.rdm_lanes.proofs.EndLemmas.{map_get}
 use Rattle.rdm_lanes.proofs.LaneLemmas.{get-set, same_lanes}
 

@@ -1,7 +1,7 @@
 -- What is put up for publication.
 use Rattle.std.proofs.Common.{◌≡◌, ◌<◌, List, [], ◌∷◌, ◌++◌, length, fold, arith, length-append}
 use Rattle.rdm_client.specs.declared.view.DeviceView.{DeviceView}
-use Rattle.rdm_lanes.specs.Publishing.{AreAll}
+use Rattle.rdm_lanes.specs.body.Showing.{AreAll}
 
 pub all_put : (added next : List DeviceView) (pending : List (List DeviceView)) → next ≡ added → AreAll added pending → AreAll added (pending ++ next ∷ [])
 all_put added next [] is all = (is, tt)

@@ -14,7 +14,8 @@ use Rattle.rdm_lanes.specs.declared.ring_outcome.RingOutcome.{RingOutcome}
 use Rattle.rdm_lanes.specs.declared.ends.ClientEnd.{ClientEnd}
 use Rattle.rdm_lanes.specs.Told.{value_in, values_in}
 use Rattle.rdm_lanes.specs.Views.{opening_view, last_view, last_view_run, RisesAbove, AreViews, all_views, found_after, last_found}
-use Rattle.rdm_lanes.specs.Publishing.{Publishing, Publishes, IsPublished, BeginOne}
+use Rattle.rdm_lanes.specs.body.Showing.{Publishing, Publishes}
+use Rattle.rdm_lanes.specs.Publishing.{IsPublished, BeginOne}
 use Rattle.rdm_lanes.specs.ViewsRead.{AllViewsRead}
 use Rattle.rdm_lanes.proofs.Fronts.{prefix_shorter}
 

@@ -20,7 +20,7 @@ use Rattle.rdm_log.specs.promises.Blocks.{GrowsBy, SubmitLogs, SubmitAdds, Disco
 use Rattle.rdm_lanes.specs.declared.call.ClientCall.TheVariants.{Submit, Discover}
 use Rattle.rdm_lanes.specs.declared.lane.Lane.{Lane}
 use Rattle.rdm_lanes.specs.Lanes.{FitsBut}
-use Rattle.rdm_lanes.specs.Serving.{MayTell, MayMake}
+use Rattle.rdm_lanes.specs.body.Serving.{MayTell, MayMake}
 use Rattle.rdm_lanes.proofs.LineLemmas.{AllRightly}
 use Rattle.rdm_lanes.proofs.FitLemmas.{submit_adds, ask_adds}
 

@@ -12,7 +12,8 @@ use Rattle.rdm_lanes.specs.declared.ends.ClientEnd.{ClientEnd}
 use Rattle.rdm_lanes.specs.Clients.{SameClient}
 use Rattle.rdm_lanes.specs.Lanes.{SameLane, SameLanes}
 use Rattle.rdm_lanes.specs.Ends.{end_rings}
-use Rattle.rdm_lanes.specs.Pairs.{Rings, ArePair, client_rings, seat_rings, SeatsPair, SameSeats}
+use Rattle.rdm_lanes.specs.Pairs.{Rings, ArePair, client_rings}
+use Rattle.rdm_lanes.specs.body.Seats.{seat_rings, SeatsPair, SameSeats}
 use Rattle.rdm_lanes.proofs.EndLemmas.{get_map, map_get}
 
 -- a first element that was removed

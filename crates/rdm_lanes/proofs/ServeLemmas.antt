@@ -16,7 +16,7 @@ use Rattle.rdm_lanes.specs.declared.call.ClientCall.TheVariants.{Submit, Discove
 use Rattle.rdm_lanes.specs.declared.lane.Lane.{Lane}
 use Rattle.rdm_lanes.specs.Calls.{is_work, work_in}
 use Rattle.rdm_lanes.specs.Lanes.{FitsBut, Fits, is_leave}
-use Rattle.rdm_lanes.specs.Serving.{LooksForSlot}
+use Rattle.rdm_lanes.specs.body.Serving.{LooksForSlot}
 use Rattle.rdm_lanes.proofs.Counting.{work_more, leave_more}
 
 -- the front item, once it is popped

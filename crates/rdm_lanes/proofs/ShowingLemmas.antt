@@ -6,9 +6,10 @@ use Rattle.rdm_client.specs.declared.view.DeviceView.{DeviceView}
 use Rattle.rdm_log.specs.declared.entry.Entry.{Entry}
 use Rattle.rdm_log.specs.log.LogState.{LogState, grown}
 use Rattle.rdm_log.specs.log.Runs.{known_devices, devices_run}
-use Rattle.rdm_lanes.specs.Lines.{NoExchange}
-use Rattle.rdm_lanes.specs.Views.{opening_view, last_view, last_view_run, views_found, all_views, GainOneAtMost}
-use Rattle.rdm_lanes.specs.Publishing.{Publishing, NoneLater, IsShowing, Publishes, AllPublished}
+use Rattle.rdm_lanes.specs.body.Quiet.{NoExchange}
+use Rattle.rdm_lanes.specs.Views.{opening_view, last_view, last_view_run, views_found, all_views}
+use Rattle.rdm_lanes.specs.body.Gains.{GainOneAtMost}
+use Rattle.rdm_lanes.specs.body.Showing.{Publishing, NoneLater, IsShowing, Publishes, AllPublished}
 use Rattle.rdm_lanes.proofs.ViewFacts.{last_added, none_later_more}
 use Rattle.rdm_lanes.proofs.FoundLemmas.{last_known}
 

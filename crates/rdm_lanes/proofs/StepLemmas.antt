@@ -21,8 +21,9 @@ use Rattle.rdm_log.specs.log.History.{is_closed, can_pause, can_resume}
 use Rattle.rdm_log.specs.log.LogState.{LogState, grown, is_full_log}
 use Rattle.rdm_log.specs.log.Legal.{Legal, MayFollow}
 use Rattle.rdm_log.specs.promises.Blocks.{GrowsBy, UnlessFull, SubmitLogs, SubmitAdds, DiscoverLogs, DiscoverAdds, PauseLogs, ResumeLogs, CloseAdds, CloseAddsWhere, CollectAdds, is_result, AllResults}
-use Rattle.rdm_lanes.specs.Lines.{NoExchange, SameSwitches, IsBetweenTurns, OnlyCollects}
-use Rattle.rdm_lanes.specs.Serving.{IsOnlyTold}
+use Rattle.rdm_lanes.specs.body.Quiet.{NoExchange, OnlyCollects}
+use Rattle.rdm_lanes.specs.Lines.{SameSwitches, IsBetweenTurns}
+use Rattle.rdm_lanes.specs.body.Serving.{IsOnlyTold}
 use Rattle.rdm_lanes.proofs.ListLemmas.{all_follow}
 use Rattle.rdm_lanes.proofs.GrowthLemmas.{touches, Untouched}
 use Rattle.rdm_lanes.proofs.LaneLemmas.{waits}

@@ -1,11 +1,11 @@
 -- Views, whose runs rise.
-use Rattle.std.proofs.Common.{◌≡◌, ◌<◌, ◌≤◌, ℕ, zero, suc, List, [], ◌∷◌, ◌++◌, Some, None, slice_get, refl, ap, subst, fold, inl, inr, arith}
+use Rattle.std.proofs.Common.{◌≡◌, ◌<◌, ◌≤◌, zero, suc, List, [], ◌∷◌, ◌++◌, Some, None, slice_get, refl, ap, subst, fold, inl, inr, arith}
 use Rattle.std.specs.Prelude.{◌⊎◌}
 use Rattle.std.proofs.lemmas.Grind.{fold-append}
 use Rattle.rdm_client.specs.declared.view.DeviceView.{DeviceView}
 use Rattle.rdm_log.proofs.LogLemmas.Places.{IsPushed, slice_get-push}
 use Rattle.rdm_lanes.specs.Views.{opening_view, last_view, last_view_run, RisesAbove, AreViews}
-use Rattle.rdm_lanes.specs.Publishing.{NoneLater}
+use Rattle.rdm_lanes.specs.body.Showing.{NoneLater}
 
 -- the view that was added is the last
 pub last_added : (views : List DeviceView) (v : DeviceView) → last_view (views ++ v ∷ []) ≡ v

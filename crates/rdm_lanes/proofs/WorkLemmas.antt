@@ -4,7 +4,8 @@ use mathlib.Core.List.{IsPrefix}
 use Rattle.rdm_client.specs.declared.view.DeviceView.{DeviceView}
 use Rattle.rdm_line.specs.Events.{Exchange}
 use Rattle.rdm_lanes.specs.declared.worker.Worker.{Worker}
-use Rattle.rdm_lanes.specs.Lines.{NoExchange, SameSwitches, OnlyCollects, Exchanged, exchange_count}
+use Rattle.rdm_lanes.specs.body.Quiet.{NoExchange, OnlyCollects}
+use Rattle.rdm_lanes.specs.Lines.{SameSwitches, Exchanged, exchange_count}
 use Rattle.rdm_lanes.specs.Lanes.{SameLanes}
 use Rattle.rdm_lanes.proofs.LaneLemmas.{same_lanes, same_lanes_join}
 use Rattle.rdm_lanes.proofs.LineLemmas.{line_same, line_join, switches_same, switches_join}

@@ -20,10 +20,6 @@ is_work Leave = false
 unfoldable pub work_in : List ClientCall → List ClientCall
 work_in items = filter is_work items
 
--- nothing, or the leave of a client that has left
-abbrev pub leave_if : Bool → List ClientCall
-leave_if left = if left then Leave ∷ [] else []
-
 -- the call that was refused; a join isn't one of a client
 abbrev pub refused_call : Call → Option ClientCall
 refused_call (calls.Submit request) = Some (Submit request)

@@ -1,17 +1,15 @@
 -- The exchanges in a log, and the steps of the line that made them.
-use Rattle.std.specs.Prelude.{◌≡◌, ℕ, Bool, true, false, ◌||◌, List, ◌∷◌, ◌++◌, length, map, Option, Some, nat_le}
-use Rattle.std.specs.List.{AllByRecursion}
+use Rattle.std.specs.Prelude.{◌≡◌, ℕ, Bool, true, false, ◌||◌, List, ◌∷◌, ◌++◌, length, map, Option, nat_le}
 use Rattle.rdm_line.specs.Events.{Exchange, Makes}
 use Rattle.rdm_log.specs.declared.entry.Call.{Call}
 use Rattle.rdm_log.specs.declared.entry.Cause.{Cause}
 use Rattle.rdm_log.specs.declared.entry.ClientId.{ClientId}
 use Rattle.rdm_log.specs.declared.entry.Opening.{Opening}
 use Rattle.rdm_log.specs.declared.entry.Entry.{Entry}
-use Rattle.rdm_log.specs.declared.entry.Entry.TheVariants.{Collect, Refuse}
+use Rattle.rdm_log.specs.declared.entry.Entry.TheVariants.{Refuse}
 use Rattle.rdm_log.specs.log.Entries.{Traded, traded, joins}
 use Rattle.rdm_log.specs.log.History.{awaited, is_closed, is_paused, next_request, next_ask}
 use Rattle.rdm_log.specs.log.LogState.{LogState, grown}
-use Rattle.rdm_lanes.specs.Views.{views_found}
 
 -- a frame and what came for it
 abbrev pub exchange_of : Traded → Exchange
@@ -36,29 +34,10 @@ pub record Exchanged {L : Type 0} (step : L → Exchange → L → Type 0) (befo
   pub added : exchanges new.entries ≡ exchanges old.entries ++ made
   pub steps : Makes L step before made after
 
--- the log grew; the line was asked nothing, nobody joined, and no view was added
-pub record NoExchange (old new : LogState) : Type 0 where
-  pub block : List Entry
-  pub grows : new ≡ grown old block
-  pub nobody_joined : joins new.entries ≡ joins old.entries
-  pub same : exchanges new.entries ≡ exchanges old.entries
-  pub same_views : views_found new.entries ≡ views_found old.entries
-
 -- nobody paused, resumed or closed
 pub record SameSwitches (old new : LogState) : Type 0 where
   pub paused : is_paused new.opening new.entries ≡ is_paused old.opening old.entries
   pub closed : is_closed new.opening new.entries ≡ is_closed old.opening old.entries
-
--- an entry of a collect
-abbrev pub is_collect : Entry → Bool
-is_collect (Collect c) = true
-is_collect _ = false
-
--- outcomes were collected, and nothing else happened
-pub record OnlyCollects (old new : LogState) : Type 0 where
-  pub block : List Entry
-  pub each : AllByRecursion (λ e. is_collect e ≡ true) block
-  pub grows : new ≡ grown old block
 
 -- a call is refused only where the queue is closed, or the numbers of requests or of discoveries have run out
 abbrev pub may_refuse : Opening → List Entry → Bool

@@ -1,12 +1,11 @@
 -- Outcomes on their way to a client, and what a log tells it.
-use Rattle.std.specs.Prelude.{◌≡◌, ℕ, ◌<◌, List, [], ◌++◌, length, map, Option, Some, None, Box}
+use Rattle.std.specs.Prelude.{◌≡◌, ℕ, List, [], ◌++◌, map, Option, Some, None, Box}
 use Rattle.rdm_wire.specs.declared.device.Device.{Device}
 use Rattle.rdm_log.specs.declared.entry.Opening.{Opening}
 use Rattle.rdm_log.specs.declared.entry.Entry.{Entry}
 use Rattle.rdm_log.specs.declared.outcome.Outcome.{Outcome}
 use Rattle.rdm_log.specs.declared.outcome.Outcome.TheVariants as outcomes
 use Rattle.rdm_log.specs.log.Clients.{uncollected}
-use Rattle.rdm_client.specs.Desks.{Held}
 use Rattle.rdm_log.specs.promises.Outcomes.{OutcomeValue, outcome_value, outcome_of, told}
 use Rattle.rdm_lanes.specs.declared.ring_outcome.RingOutcome.{RingOutcome}
 use Rattle.rdm_lanes.specs.declared.ring_outcome.RingOutcome.TheVariants.{Request, Discovery}
@@ -41,9 +40,3 @@ uncollected_values o c h = map (outcome_of h) (uncollected o c h)
 -- these outcomes, and then those that aren't collected, are all that client c is told
 abbrev pub TellsAll : Opening → ℕ → List Entry → List OutcomeValue → Type 0
 TellsAll o c h values = map (λ (v : OutcomeValue). Some v) values ++ uncollected_values o c h ≡ told_values o c h
-
-module _ {C A : Type 0} where
-  -- a callback of the outcome's kind is held
-  abbrev pub HoldsFor : Held C A → RingOutcome → Type 0
-  HoldsFor desk (Request number done) = 0 < length desk.requests
-  HoldsFor desk (Discovery number run fault set) = 0 < length desk.asks

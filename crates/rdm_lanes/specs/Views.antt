@@ -1,5 +1,5 @@
 -- Published device views: the list of them, and how it goes on.
-use Rattle.std.specs.Prelude.{◌≡◌, ◌⊎◌, ℕ, ◌<◌, ◌==◌, Bool, false, List, [], ◌∷◌, ◌++◌, fold, map, Option, Some, None}
+use Rattle.std.specs.Prelude.{◌≡◌, ℕ, ◌<◌, ◌==◌, Bool, false, List, [], ◌∷◌, ◌++◌, fold, map, Option, Some, None}
 use Rattle.std.specs.Prelude.{nat_lt, if◌then◌else◌}
 use Rattle.rdm_wire.specs.declared.device.Device.{Device}
 use Rattle.rdm_agent.specs.declared.fault.AgentFault.{AgentFault}
@@ -66,11 +66,6 @@ views_found h = map (view_of h) (runs_found h)
 -- the opening view, and those
 abbrev pub all_views : List Entry → List DeviceView
 all_views h = opening_view ∷ views_found h
-
--- what the views have become: what they were, or one of a later run more
-abbrev pub GainOneAtMost : List DeviceView → List DeviceView → Type 0
-GainOneAtMost before after = (after ≡ before)
-    ⊎ ((v : DeviceView) × (after ≡ before ++ v ∷ []) × (last_view_run (opening_view ∷ before) < v.run))
 
 -- the later of two views, by run; the first, where they are of one run
 abbrev pub later_view : DeviceView → DeviceView → DeviceView

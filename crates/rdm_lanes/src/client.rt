@@ -1,7 +1,7 @@
 //! A client of the rings.
 ghost use Rattle.std.specs.Prelude.{◌≡◌, ◌+◌, length};
 ghost use Rattle.rtrb.specs.Ring.{received as popped};
-ghost use Rattle.rdm_lanes.specs.Counts.{IsCounted};
+ghost use Rattle.rdm_lanes.specs.body.Counts.{IsCounted};
 ghost use Rattle.rdm_lanes.specs.Told.{values_in};
 ghost use Rattle.rdm_lanes.specs.Views.{last_found};
 

@@ -1,6 +1,6 @@
 //! What is left of a client.
 ghost use Rattle.std.specs.Prelude.{◌≡◌, ◌+◌, length};
-ghost use Rattle.rdm_lanes.specs.Counts.{IsCounted};
+ghost use Rattle.rdm_lanes.specs.body.Counts.{IsCounted};
 ghost use Rattle.rdm_lanes.specs.Views.{last_view_run};
 
 use crate::call::ClientCall;

@@ -3,7 +3,7 @@
 ghost use Rattle.std.specs.Prelude.{◌≡◌, ◌+◌, ◌<◌, ◌≤◌, ◌^◌, ◌++◌, ◌∷◌, ◌⊎◌, [], length, MatchBool};
 ghost use mathlib.Core.List.{IsPrefix};
 ghost use Rattle.rdm_lanes.specs.Views.{opening_view, last_view_run, AreViews};
-ghost use Rattle.rdm_lanes.specs.History.{head_of};
+ghost use Rattle.rdm_lanes.specs.body.History.{head_of};
 
 use logbook::{Gain, Offer, Plain, Play, Rule, Seen, Start, Word};
 use rdm_client::DeviceView;
@@ -16,7 +16,7 @@ impl Rule<DeviceView, u64> for Rising {
     ghost use Rattle.std.specs.Prelude.{[], ◌∷◌};
     ghost use base.Fml.{ftrue};
     ghost use Rattle.rdm_lanes.specs.Views.{opening_view};
-    ghost use Rattle.rdm_lanes.specs.History.{IsKept};
+    ghost use Rattle.rdm_lanes.specs.body.History.{IsKept};
 
     ghost holds = { λ cells log. IsKept cells log };
 
@@ -44,7 +44,7 @@ impl Gain<DeviceView, u64> for Nothing {
 pub struct Add;
 
 impl Play<DeviceView, u64> for Add {
-    ghost use Rattle.rdm_lanes.specs.History.{Adds};
+    ghost use Rattle.rdm_lanes.specs.body.History.{Adds};
 
     ghost then = { Adds };
 }
@@ -117,7 +117,7 @@ pub struct Book<J: ViewHistory> {
 impl<J: ViewHistory> Model for Book<J> {
     ghost use Rattle.std.specs.Prelude.{◌≡◌};
     ghost use Rattle.logbook.specs.Pages.{Book as Pages};
-    ghost use Rattle.rdm_lanes.specs.History.{head_of};
+    ghost use Rattle.rdm_lanes.specs.body.History.{head_of};
 
     ghost Value = { Pages };
 

@@ -1,9 +1,10 @@
 //! How the worker moves outcomes to a client's ring.
 ghost use Rattle.std.specs.Prelude.{◌≢◌, ◌<◌, ℕ};
 ghost use Rattle.rtrb.specs.Ring.{known_free};
-ghost use Rattle.rdm_lanes.specs.Lines.{OnlyCollects, IsBetweenTurns};
+ghost use Rattle.rdm_lanes.specs.body.Quiet.{OnlyCollects};
+ghost use Rattle.rdm_lanes.specs.Lines.{IsBetweenTurns};
 ghost use Rattle.rdm_lanes.specs.Lanes.{Fits, SameLane};
-ghost use Rattle.rdm_lanes.specs.Serving.{IsOnlyTold};
+ghost use Rattle.rdm_lanes.specs.body.Serving.{IsOnlyTold};
 
 use crate::lane::Lane;
 use crate::ring_outcome::RingOutcome;

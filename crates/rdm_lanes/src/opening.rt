@@ -3,7 +3,8 @@ ghost use Rattle.std.specs.Prelude.{◌≡◌, [], ◌∷◌, length, OnOk, IfOk
 ghost use Rattle.rdm_log.specs.log.Config.{IsConfig};
 ghost use Rattle.rdm_log.specs.log.Legal.{Legal};
 ghost use Rattle.rdm_log.specs.log.LogState.{blank_log};
-ghost use Rattle.rdm_lanes.specs.Opened.{opened_with, join_entries, IsNewWith, AreNewWith, HoldNothing};
+ghost use Rattle.rdm_lanes.specs.Opened.{opened_with, join_entries};
+ghost use Rattle.rdm_lanes.specs.body.Opening.{IsNewWith, AreNewWith, HoldNothing};
 ghost use Rattle.rdm_lanes.specs.Opened.{IsFullFor, IsLaterFault};
 ghost use Rattle.rdm_lanes.specs.Views.{opening_view};
 

@@ -3,7 +3,7 @@ ghost use Rattle.std.specs.Prelude.{◌≡◌, ◌<◌, ◌≤◌, ◌^◌, ◌+
 ghost use mathlib.Core.List.{IsPrefix};
 ghost use Rattle.left_right.specs.Handles.{published, pending};
 ghost use Rattle.rdm_lanes.specs.Views.{opening_view, last_view_run};
-ghost use Rattle.rdm_lanes.specs.Publishing.{AreAll};
+ghost use Rattle.rdm_lanes.specs.body.Showing.{AreAll};
 
 use crate::history::{BlankHistory, Book, Front, ViewHistory};
 use left_right::{Absorb, ReadHandle, WriteHandle};
@@ -100,7 +100,7 @@ pub struct Publisher<
 impl<J: ViewHistory, T: Absorb<Shown<J>, State = [DeviceView; 0]> + Drop, R: Wait + Drop> Model
     for Publisher<J, T, R> {
     ghost use Rattle.left_right.specs.Handles.{published, pending};
-    ghost use Rattle.rdm_lanes.specs.Publishing.{Publishing, IsPublishing};
+    ghost use Rattle.rdm_lanes.specs.body.Showing.{Publishing, IsPublishing};
 
     ghost Value = { Publishing };
 

@@ -1,8 +1,9 @@
 //! Room for what a session hands back, and bodies beside their clients.
 ghost use Rattle.std.specs.Prelude.{◌≡◌, ◌≤◌, [], length, map, vec_capacity, IfSome};
 ghost use Rattle.rdm_lanes.specs.Ends.{end_rings};
-ghost use Rattle.rdm_lanes.specs.Pairs.{client_rings, seat_rings};
-ghost use Rattle.rdm_lanes.specs.Rooms.{HasRoomFor};
+ghost use Rattle.rdm_lanes.specs.Pairs.{client_rings};
+ghost use Rattle.rdm_lanes.specs.body.Seats.{seat_rings};
+ghost use Rattle.rdm_lanes.specs.body.Rooms.{HasRoomFor};
 
 use crate::client::RingClient;
 use crate::ends::ClientEnd;

@@ -4,10 +4,11 @@ ghost use Rattle.rtrb.specs.Ring.{known_items};
 ghost use Rattle.rdm_log.specs.log.History.{places};
 ghost use Rattle.rdm_log.specs.log.LogState.{is_full_log};
 ghost use Rattle.rdm_lanes.specs.declared.call.ClientCall.TheVariants.{Submit, Discover};
-ghost use Rattle.rdm_lanes.specs.Lines.{NoExchange, SameSwitches, IsBetweenTurns};
+ghost use Rattle.rdm_lanes.specs.body.Quiet.{NoExchange};
+ghost use Rattle.rdm_lanes.specs.Lines.{SameSwitches, IsBetweenTurns};
 ghost use Rattle.rdm_lanes.specs.Lanes.{Fits, FitsBut, SameLane};
-ghost use Rattle.rdm_lanes.specs.Serving.{IsOnlyTold, MayTell, MayMake, LooksForSlot};
-ghost use Rattle.rdm_lanes.specs.Serving.{AfterSubmit, AfterDiscover, CanTakeSubmit, CanTakeDiscover};
+ghost use Rattle.rdm_lanes.specs.body.Serving.{IsOnlyTold, MayTell, MayMake, LooksForSlot};
+ghost use Rattle.rdm_lanes.specs.body.Serving.{AfterSubmit, AfterDiscover, CanTakeSubmit, CanTakeDiscover};
 
 use crate::call::ClientCall;
 use crate::lane::Lane;

@@ -2,7 +2,8 @@
 ghost use Rattle.std.specs.Prelude.{◌≡◌, ◌<◌, length, drop, Some, None};
 ghost use Rattle.rdm_client.specs.Desks.{settled, without_oldest, Called};
 ghost use Rattle.rdm_lanes.specs.declared.ring_outcome.RingOutcome.TheVariants.{Discovery};
-ghost use Rattle.rdm_lanes.specs.Told.{outcome_in, devices_in, HoldsFor};
+ghost use Rattle.rdm_lanes.specs.Told.{outcome_in, devices_in};
+ghost use Rattle.rdm_lanes.specs.body.Holding.{HoldsFor};
 
 use crate::ring_outcome::RingOutcome;
 use rdm_agent::AgentFault;

@@ -5,7 +5,7 @@ ghost use Rattle.rdm_log.specs.log.MaySend.{NoSend};
 ghost use Rattle.rdm_client.specs.declared.worker_end.WorkerEnd.TheVariants.{AllLeft, Turns, LogFull as FullLog};
 ghost use Rattle.rdm_lanes.specs.Lines.{Exchanged, SameSwitches, exchange_count};
 ghost use Rattle.rdm_lanes.specs.Lanes.{SameLanes, AllHaveLeft};
-ghost use Rattle.rdm_lanes.specs.Pairs.{SameSeats};
+ghost use Rattle.rdm_lanes.specs.body.Seats.{SameSeats};
 ghost use Rattle.rdm_lanes.specs.Workers.{session_of, lanes_of, operator_has_left, HasPublishedAll};
 
 use crate::body::{Body, Gate, WORKER_STOPPED};

@@ -10,7 +10,7 @@ ghost use Rattle.rdm_lanes.specs.Lines.{Exchanged, SameSwitches, IsBetweenTurns,
 ghost use Rattle.rdm_lanes.specs.Lanes.{AllFit};
 ghost use Rattle.rdm_lanes.specs.Ends.{AllAgree, AllRead};
 ghost use Rattle.rdm_lanes.specs.Pairs.{ClientsPair};
-ghost use Rattle.rdm_lanes.specs.Rooms.{HasRoomFor};
+ghost use Rattle.rdm_lanes.specs.body.Rooms.{HasRoomFor};
 ghost use Rattle.rdm_lanes.specs.Workers.{session_of, lanes_of};
 ghost use Rattle.rdm_lanes.specs.Views.{all_views};
 ghost use Rattle.rdm_lanes.specs.Publishing.{IsPublished};

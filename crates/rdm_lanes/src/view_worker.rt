@@ -1,5 +1,5 @@
 //! The worker, which has the session and one end of each ring, and publishes views of the devices.
-ghost use Rattle.rdm_lanes.specs.Publishing.{Publishes, AreShownFirst};
+ghost use Rattle.rdm_lanes.specs.body.Showing.{Publishes, AreShownFirst};
 
 use crate::history::ViewHistory;
 use crate::publishing::{Publisher, Shown};

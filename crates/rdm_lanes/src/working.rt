@@ -3,9 +3,11 @@ ghost use Rattle.std.specs.Prelude.{◌≡◌, ◌<◌, ◌≤◌, ◌+◌, true
 ghost use Rattle.rdm_log.specs.log.LogState.{is_full_log};
 ghost use Rattle.rdm_log.specs.log.MaySend.{NoSend};
 ghost use Rattle.rdm_line.specs.Events.{event_of};
-ghost use Rattle.rdm_lanes.specs.Lines.{Exchanged, NoExchange, SameSwitches, OnlyCollects, exchange_count};
+ghost use Rattle.rdm_lanes.specs.Lines.{Exchanged, SameSwitches, exchange_count};
+ghost use Rattle.rdm_lanes.specs.body.Quiet.{NoExchange, OnlyCollects};
 ghost use Rattle.rdm_lanes.specs.Lanes.{SameLanes, AllHaveLeft};
-ghost use Rattle.rdm_lanes.specs.Views.{views_found, GainOneAtMost};
+ghost use Rattle.rdm_lanes.specs.Views.{views_found};
+ghost use Rattle.rdm_lanes.specs.body.Gains.{GainOneAtMost};
 ghost use Rattle.rdm_lanes.specs.declared.working.Attempt.TheVariants.{NothingToSend, LogFull as NoRoom};
 
 use crate::call::OperatorCall;

@@ -15,7 +15,8 @@ use Rattle.rdm_log.specs.log.Entries.{Sending, came_of, sending_of, traded_of, c
 use Rattle.rdm_log.specs.log.Legal.{Legal}
 use Rattle.rdm_log.proofs.LogLemmas.LegalFacts.{legal_facts}
 use Rattle.rdm_log.specs.promises.Headline.{Begins}
-use Rattle.rdm_locked.specs.Exchanges.{frames_in, in_log, in_record, exchanges_in, recorded, Records}
+use Rattle.rdm_locked.specs.body.Frames.{frames_in}
+use Rattle.rdm_locked.specs.Exchanges.{in_log, in_record, exchanges_in, recorded, Records}
 use Rattle.rdm_line.specs.Events.{Makes, Exchange as LineExchange}
 use Rattle.rdm_locked.specs.declared.exchange.Exchange.{Exchange}
 

@@ -2,8 +2,7 @@
 use Rattle.std.specs.Prelude.{◌≡◌, ℕ, ◌≤◌, List, ◌++◌, length, map}
 use Rattle.rdm_line.specs.Events.{Makes, Exchange as LineExchange}
 use Rattle.rdm_log.specs.declared.entry.Entry.{Entry}
-use Rattle.arrayvec.specs.ArrayVec.{ArrayVec}
-use Rattle.rdm_log.specs.log.Entries.{Traded, traded, sends}
+use Rattle.rdm_log.specs.log.Entries.{Traded, traded}
 use Rattle.rdm_locked.specs.declared.exchange.Exchange.{Exchange}
 
 -- a frame of a log with what came for it, as an exchange of the line
@@ -18,10 +17,6 @@ in_record x = (x.frame, x.event)
 -- awaited has no exchange yet
 abbrev pub exchanges_in : List Entry → List LineExchange
 exchanges_in h = map in_log (traded h)
-
--- the frames that were sent
-abbrev pub frames_in : List Entry → List (ArrayVec ℕ)
-frames_in h = map (λ s. s.frame) (sends h)
 
 -- those of a record
 abbrev pub recorded : List Exchange → List LineExchange

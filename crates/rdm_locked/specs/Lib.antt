@@ -2,3 +2,4 @@ pub mod Calls
 pub mod Collects
 pub mod Exchanges
 pub mod Turns
+pub mod body

@@ -4,7 +4,8 @@ ghost use Rattle.std.specs.Bool.{Decides};
 ghost use Rattle.rdm_log.specs.log.Entries.{cames};
 ghost use Rattle.rdm_log.specs.log.Legal.{Legal};
 ghost use Rattle.rdm_log.specs.promises.Headline.{Begins};
-ghost use Rattle.rdm_locked.specs.Exchanges.{exchanges_in, frames_in, recorded};
+ghost use Rattle.rdm_locked.specs.Exchanges.{exchanges_in, recorded};
+ghost use Rattle.rdm_locked.specs.body.Frames.{frames_in};
 
 use rdm_join::LineEvent;
 use rdm_queue::{Entry, Log};

@@ -1,2 +1,4 @@
 pub mod WordsLemmas
 mod ComplaintLemmas
+mod LineLemmas
+mod LineWordLemmas

@@ -3,3 +3,5 @@ pub mod Words
 pub mod Outcome
 pub mod Complaints
 pub mod body
+pub mod LineWords
+pub mod LineOutcome

@@ -6,6 +6,7 @@ ghost use Rattle.rdm_port.specs.Words.{is_plain};
 ghost use Rattle.rdm_port.specs.Complaints.{IsTrueOf, IsTrueAfter, IsNoCommand};
 ghost use Rattle.rdm_port.specs.body.Texts.{command_name};
 
+use crate::line_complaint::{complaint_on_line, has_line};
 use crate::usage::{USAGE, VERSION};
 use std::{fmt, mem};
 
@@ -45,6 +46,17 @@ pub enum Complaint<'a> {
     },
     /// This one is one too many.
     OneTooMany(&'a str),
+    /// This option has no value.
+    NoValue(&'static str),
+    /// The command's option is missing.
+    NoOption {
+        /// The command's name.
+        command: &'static str,
+        /// The option.
+        option: &'static str,
+    },
+    /// `--budget` has this value.
+    UnknownBudget(&'a str),
     /// One of them is no text.
     NoText,
     /// Anything else.
@@ -63,6 +75,7 @@ pub fn complaint_of<'a>(words: &[&'a str]) -> Complaint<'a>
         return Complaint::NoCommand;
     };
     match Command::named(name) {
+        Some(Command::Discover) if has_line(rest) => complaint_on_line(rest),
         Some(command) => complaint_after(command, rest),
         None => Complaint::UnknownCommand(name),
     }
@@ -287,8 +300,8 @@ impl Given {
     }
 }
 
-// Whether a word is no argument. A hyphen alone is one.
-fn is_option(word: &str) -> bool
+/// Whether a word is no argument. A hyphen alone is one.
+pub(crate) fn is_option(word: &str) -> bool
     ensures { IsTrue result → is_plain word.now ≡ false }
 {
     word.starts_with('-') && word != "-"
@@ -349,6 +362,16 @@ fn write_complaint<W: fmt::Write>(
             write!(f, "the {argument} of {command} is missing")
         }
         Complaint::OneTooMany(word) => write!(f, "{word:?} is one word too many"),
+        Complaint::NoValue(option) => write!(f, "the value of {option} is missing"),
+        Complaint::NoOption { command, option } => {
+            write!(f, "the option {option} of {command} is missing")
+        }
+        Complaint::UnknownBudget(text) => {
+            write!(
+                f,
+                "--budget is a whole number from 1 to 1000000000, not {text:?}"
+            )
+        }
         Complaint::NoText => write!(f, "one of the words is no UTF-8 text"),
         _ => write!(f, "the words fit no command"),
     }

@@ -53,7 +53,8 @@ pub fn answer_discover<'a, R: Read, P: Progress>(
     answered(alloc, &run)
 }
 
-fn kind_of(incremental: bool) -> Kind
+/// The kind of a run.
+pub(crate) fn kind_of(incremental: bool) -> Kind
     ensures { result ≡ kind_of incremental }
 {
     if incremental {
@@ -63,7 +64,8 @@ fn kind_of(incremental: bool) -> Kind
     }
 }
 
-fn search_of(quick: bool) -> Search
+/// How a run searches.
+pub(crate) fn search_of(quick: bool) -> Search
     ensures { result ≡ search_of quick }
 {
     if quick { Search::Quick } else { Search::Steady }
@@ -141,8 +143,8 @@ fn cut_short<'a>(bytes: &[u8]) -> Reason<'a> {
     }
 }
 
-// What is printed of a run; with a fault, what it found until then is the reason.
-fn answered<'a>(alloc: Global, run: &Discovery) -> Result<Answered<'a>, Refused<'a>>
+/// What is printed of a run; with a fault, what it found until then is the reason.
+pub(crate) fn answered<'a>(alloc: Global, run: &Discovery) -> Result<Answered<'a>, Refused<'a>>
     ensures text { IfOk result (λ a. answer_bytes a.text ≡ report_text run.now.found run.now.frames) }
     ensures status { IfOk result (λ a. a.status ≡ report_status run.now.found) }
     ensures memory { IfErr result (λ e. e.0 ≡ Fault.Memory) }

@@ -96,16 +96,19 @@ fn reply_commands<'a>(alloc: Global) -> Result<Command<'a>, AllocError>
     with_command(command, encode)
 }
 
-// The command line with one more command.
-fn with_command<'a>(line: Command<'a>, command: Command<'a>) -> Result<Command<'a>, AllocError>
+/// The command line with one more command.
+pub(crate) fn with_command<'a>(
+    line: Command<'a>,
+    command: Command<'a>,
+) -> Result<Command<'a>, AllocError>
     requires { (fields_of command).has_globals ≡ false }
     ensures { IfOk result (λ r. app_of r ≡ with_subcommand (app_of line.entry) (app_of command.entry).top) }
 {
     line.subcommand(command)
 }
 
-// The program's command line, before its commands.
-fn bare<'a>(alloc: Global) -> Command<'a>
+/// The program's command line, before its commands.
+pub(crate) fn bare<'a>(alloc: Global) -> Command<'a>
     ensures app { app_of result ≡ bare }
     ensures local { (fields_of result).has_globals ≡ false }
 {
@@ -177,8 +180,8 @@ fn given<'a>(matches: &ArgMatches<'a>) -> Option<Job<'a>>
     }
 }
 
-// Whether a flag was given: `clap` gives it the text of a truth value.
-fn has_flag(given: &ArgMatches<'_>, flag: &str) -> bool
+/// Whether a flag was given: `clap` gives it the text of a truth value.
+pub(crate) fn has_flag(given: &ArgMatches<'_>, flag: &str) -> bool
     ensures { result ≡ is_set flag.now (rows_of (found_of given.now)) }
 {
     match given.get_str(flag) {
@@ -207,8 +210,8 @@ fn port_named(name: &str) -> Option<PortKind>
     }
 }
 
-// Why words weren't taken.
-fn fault_of(error: &Error) -> WordsFault
+/// Why words weren't taken.
+pub(crate) fn fault_of(error: &Error) -> WordsFault
     ensures words { result ≡ WordsFault.Words → kind_of error.now ≢ ErrorKind.OutOfMemory }
     ensures memory { result ≡ WordsFault.NoMemory → kind_of error.now ≡ ErrorKind.OutOfMemory }
 {

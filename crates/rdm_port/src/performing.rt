@@ -20,7 +20,8 @@ use std::io::{ErrorKind, Read, Write};
 use std::sync::Wait;
 use std::thread::Threads;
 
-const NOT_WRITTEN: u8 = 1;
+/// The status if the writer failed.
+pub(crate) const NOT_WRITTEN: u8 = 1;
 
 /// Prints what answers a command line, and gives its status:
 /// - 0 if it is done;
@@ -128,9 +129,9 @@ fn answer<'a, R: Read, P: Progress + Send, T: Threads + Wait + Sync>(
     }
 }
 
-// Writes the bytes. Err: the writer failed with this error, or takes nothing more. The writer's own `write_all` doesn't say what it
-// wrote if it fails.
-fn write_all<W: Write>(writer: &mut W, bytes: &[u8]) -> Result<(), ErrorKind>
+/// Writes the bytes. Err: the writer failed with this error, or takes nothing more. The writer's own `write_all` doesn't
+/// say what it wrote if it fails.
+pub(crate) fn write_all<W: Write>(writer: &mut W, bytes: &[u8]) -> Result<(), ErrorKind>
     ensures all { OnOk result (Appends (W.contents writer.old) (W.contents writer.new) bytes.now) }
     ensures some { OnErr result (IsCutShort (W.contents writer.old) (W.contents writer.new) bytes.now) }
 {

@@ -58,6 +58,10 @@ pub enum Reason<'a> {
     Discoveries(Vec<Outcomes>),
     /// The answer couldn't be written.
     Unwritten(ErrorKind),
+    /// The text of this option spells no device's UID.
+    NoDevice(&'static str, &'a str),
+    /// The stream at this path can't be opened.
+    Unopened(&'a str, ErrorKind),
 }
 
 impl<'a> Reason<'a> {
@@ -137,6 +141,11 @@ impl fmt::Display for Reason<'_> {
             Reason::Fault(fault, found) => write_fault(f, *fault, found),
             Reason::Discoveries(outcomes) => write_discoveries(f, outcomes),
             Reason::Unwritten(kind) => write!(f, "the answer can't be written: {kind}"),
+            Reason::NoDevice(option, text) => {
+                write!(f, "{option} {text:?}: ")?;
+                write_no_device(f, text)
+            }
+            Reason::Unopened(path, kind) => write_unopened(f, path, *kind),
         }
     }
 }
@@ -171,6 +180,14 @@ fn write_no_uid<W: fmt::Write>(f: &mut fmt::Formatter<W>, text: &str) -> fmt::Re
     }
 }
 
+// What a text lacks of a device's UID. A UID that isn't a device's is a broadcast one.
+fn write_no_device<W: fmt::Write>(f: &mut fmt::Formatter<W>, text: &str) -> fmt::Result {
+    match Uid::parse(text) {
+        Ok(_) => write!(f, "a broadcast UID is no device's own"),
+        Err(_) => write_no_uid(f, text),
+    }
+}
+
 // The first character that is no hexadecimal digit, and its index; the one at the index of a colon doesn't count.
 fn no_digit(text: &str, colon_at: Option<usize>) -> Option<(usize, char)> {
     text.chars()
@@ -202,6 +219,20 @@ fn write_unreadable<W: fmt::Write>(
         }
         ErrorKind::IsADirectory => write!(f, "{path:?} can't be read: it is a folder"),
         kind => write!(f, "the file {path:?} can't be read: {kind}"),
+    }
+}
+
+fn write_unopened<W: fmt::Write>(
+    f: &mut fmt::Formatter<W>,
+    path: &str,
+    kind: ErrorKind,
+) -> fmt::Result {
+    match kind {
+        ErrorKind::NotFound | ErrorKind::PermissionDenied | ErrorKind::NotADirectory => {
+            write_unreadable(f, path, kind)
+        }
+        ErrorKind::IsADirectory => write!(f, "{path:?} can't be opened: it is a folder"),
+        kind => write!(f, "{path:?} can't be opened: {kind}"),
     }
 }
 

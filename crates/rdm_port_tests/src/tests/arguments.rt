@@ -1,65 +1,69 @@
 //! What arguments ask for, where only values show it.
 use super::program::{Due, status_of};
 use rdm_port::{Complaint, Job, PortKind, USAGE, WordsFault, complaint_of, parse_words};
+use std::alloc::Global;
+use std::fmt::Display;
 use std::io;
-use std::test::Fail;
+use std::process::Abort;
+use std::sync::Wait;
+use std::thread::Threads;
+
+// The arguments ask for a session of the file `file` over this port.
+fn names(rt: &impl Abort, alloc: Global, words: &[&str], port: PortKind) {
+    let job = Job::Run { file: "file", port };
+    assert!(rt; parse_words(alloc, words) == Ok(job));
+}
 
 // Both ports print the same.
 #[test]
 fn arguments_name_their_port(rt: HostRuntime) {
-    let rows: [(&[&str], PortKind); 5] = [
-        (&["run", "file"], PortKind::Locked),
-        (&["run", "file", "--port", "locked"], PortKind::Locked),
-        (&["run", "--port=locked", "file"], PortKind::Locked),
-        (&["run", "file", "--port", "rings"], PortKind::Rings),
-        (&["run", "--port=rings", "file"], PortKind::Rings),
-    ];
-    for (words, port) in rows {
-        let job = Job::Run { file: "file", port };
-        assert_eq!(rt; parse_words(rt.alloc(), words), Ok(job), "{words:?}");
-    }
+    use PortKind::{Locked, Rings};
+    let alloc = rt.alloc();
+    names(&rt, alloc, &["run", "file"], Locked);
+    names(&rt, alloc, &["run", "file", "--port", "locked"], Locked);
+    names(&rt, alloc, &["run", "--port=locked", "file"], Locked);
+    names(&rt, alloc, &["run", "file", "--port", "rings"], Rings);
+    names(&rt, alloc, &["run", "--port=rings", "file"], Rings);
+}
+
+// The arguments, which name no file, print this.
+fn prints<T: Threads + Wait + Abort + Sync>(rt: &T, alloc: Global, words: &[&str], due: Due<'_>) {
+    let mut written = Vec::new(alloc);
+    let status = status_of(rt, alloc, words, &mut io::empty(), &mut written);
+    assert!(rt; written.as_slice() == due.0.as_bytes() && status == due.1);
 }
 
 // No command line has such arguments.
 #[test]
 fn arguments_have_null_characters(rt: HostRuntime) {
+    let alloc = rt.alloc();
     let no_hex = ("fault: hex\n", 1);
-    let no_uid = ("fault: uid\n", 1);
+    prints(&rt, alloc, &["decode", "fe\u{0}\u{0}"], no_hex);
+    prints(&rt, alloc, &["decode", "--", "fe\u{0}\u{0}"], no_hex);
+    prints(&rt, alloc, &["decode", "\u{0}\u{0}"], no_hex);
+    prints(&rt, alloc, &["decode", "--", "\u{0}\u{0}"], no_hex);
+    let (no_uid, text) = (("fault: uid\n", 1), "\u{0}\u{0}\u{0}\u{0}:00000001");
+    prints(&rt, alloc, &["encode", text], no_uid);
+    prints(&rt, alloc, &["encode", "--", text], no_uid);
     let no_words = ("fault: command line\n", 2);
-    let rows: [(&[&str], Due<'_>); 8] = [
-        (&["decode", "fe\u{0}\u{0}"], no_hex),
-        (&["decode", "--", "fe\u{0}\u{0}"], no_hex),
-        (&["decode", "\u{0}\u{0}"], no_hex),
-        (&["decode", "--", "\u{0}\u{0}"], no_hex),
-        (&["encode", "\u{0}\u{0}\u{0}\u{0}:00000001"], no_uid),
-        (&["encode", "--", "\u{0}\u{0}\u{0}\u{0}:00000001"], no_uid),
-        (&["\u{0}"], no_words),
-        (&["decode\u{0}", "fe"], no_words),
-    ];
-    for (words, (line, due)) in rows {
-        let mut written = Vec::new(rt.alloc());
-        let status = status_of(&rt, rt.alloc(), words, &mut io::empty(), &mut written);
-        assert_eq!(rt; written.as_slice(), line.as_bytes(), "{words:?}");
-        assert_eq!(rt; status, due, "{words:?}");
-    }
+    prints(&rt, alloc, &["\u{0}"], no_words);
+    prints(&rt, alloc, &["decode\u{0}", "fe"], no_words);
+}
+
+// What this says.
+fn says<D: Display>(rt: &impl Abort, alloc: Global, shown: &D, text: &str) {
+    let said = format!(in alloc; "{shown}").expect(rt, "memory");
+    assert!(rt; said.as_str() == text, "{text}");
 }
 
 // The first complaint is about arguments that fit a command: no other one is true of them.
 #[test]
-fn faults_of_arguments_say_what_is_wrong(rt: HostRuntime) -> Result<(), Fail> {
+fn faults_of_arguments_say_what_is_wrong(rt: HostRuntime) {
     let alloc = rt.alloc();
     let complaint = complaint_of(&["decode", "00"]);
-    assert_eq!(rt; complaint, Complaint::Words);
-    assert_eq!(rt;
-        format!(in alloc; "{complaint}")?.as_str(),
-        format!(in alloc; "the words fit no command\n{USAGE}")?.as_str()
-    );
-    let rows = [
-        (WordsFault::Words, "the words fit no command"),
-        (WordsFault::NoMemory, "out of memory"),
-    ];
-    for (fault, text) in rows {
-        assert_eq!(rt; format!(in alloc; "{fault}")?.as_str(), text);
-    }
-    Ok(())
+    assert!(rt; complaint == Complaint::Words);
+    let usage = format!(in alloc; "the words fit no command\n{USAGE}").expect(&rt, "memory");
+    says(&rt, alloc, &complaint, &usage);
+    says(&rt, alloc, &WordsFault::Words, "the words fit no command");
+    says(&rt, alloc, &WordsFault::NoMemory, "out of memory");
 }

@@ -7,8 +7,8 @@ use rdm_port::{Discovered, Outcomes};
 use rdm_queue::{Completion, Config, Log, Session};
 use rdm_serving::are_logged;
 use rdm_wire::{ReqClass, Request, Uid};
-use std::alloc::{AllocError, Global};
-use std::test::Fail;
+use std::alloc::Global;
+use std::process::Abort;
 
 // A session of one client, whose request failed to be sent, and whose discovery ended as the line failed.
 fn session_of_one(alloc: Global) -> Option<Session> {
@@ -37,52 +37,59 @@ fn session_of_one(alloc: Global) -> Option<Session> {
 
 // Outcomes of a client: a request with this status and these data, and a discovery with this fault.
 fn outcomes(
+    rt: &impl Abort,
     alloc: Global,
     status: Status,
     data: &[u8],
     fault: Option<AgentFault>,
-) -> Result<Outcomes, AllocError> {
+) -> Outcomes {
     let mut outcomes = Outcomes::new(alloc);
     let done = Completion {
         status,
         reply: None,
-        bytes: Vec::from_slice(alloc, data)?,
+        bytes: Vec::from_slice(alloc, data).expect(rt, "memory"),
     };
-    outcomes.requests.push(Told { tag: 0, done })?;
-    let uids = Vec::new(alloc);
-    outcomes.discoveries.push(Discovered {
+    assert!(rt; outcomes.requests.push(Told { tag: 0, done }).is_ok());
+    let discovered = Discovered {
         tag: 1,
         fault,
-        uids,
-    })?;
-    Ok(outcomes)
+        uids: Vec::new(alloc),
+    };
+    assert!(rt; outcomes.discoveries.push(discovered).is_ok());
+    outcomes
 }
 
-// Outcomes with another end, missing ones, and those of a client too many.
+// Whether these outcomes are those of the session's log.
+fn are_of(rt: &impl Abort, alloc: Global, session: &Session, told: &[Outcomes], same: bool) {
+    assert!(rt; are_logged(alloc, session.log(), told) == Ok(same));
+}
+
+const FAILED: Option<AgentFault> = Some(AgentFault::LineFailed);
+
+// Outcomes with another end.
 #[test]
-fn outcomes_that_the_log_has_not_are_found_out(rt: HostRuntime) -> Result<(), Fail> {
+fn outcomes_that_the_log_has_not_are_found_out(rt: HostRuntime) {
     let alloc = rt.alloc();
-    let failed = Some(AgentFault::LineFailed);
-    let session = session_of_one(alloc).ok_or("a session")?;
-    let rows: [(Status, &[u8], Option<AgentFault>, bool); 4] = [
-        (Status::FailedToSend, b"", failed, true),
-        (Status::Timeout, b"", failed, false),
-        (Status::FailedToSend, b"x", failed, false),
-        (Status::FailedToSend, b"", None, false),
-    ];
-    for (status, data, fault, same) in rows {
-        let told = [outcomes(alloc, status, data, fault)?];
-        assert_eq!(rt; are_logged(alloc, session.log(), &told), Ok(same));
-    }
-    let missing = [Outcomes::new(alloc)];
-    assert_eq!(rt; are_logged(alloc, session.log(), &missing), Ok(false));
+    let session = session_of_one(alloc).expect(&rt, "a session");
+    let told = [outcomes(&rt, alloc, Status::FailedToSend, b"", FAILED)];
+    are_of(&rt, alloc, &session, &told, true);
+    let other_status = [outcomes(&rt, alloc, Status::Timeout, b"", FAILED)];
+    are_of(&rt, alloc, &session, &other_status, false);
+    let other_data = [outcomes(&rt, alloc, Status::FailedToSend, b"x", FAILED)];
+    are_of(&rt, alloc, &session, &other_data, false);
+    let other_fault = [outcomes(&rt, alloc, Status::FailedToSend, b"", None)];
+    are_of(&rt, alloc, &session, &other_fault, false);
+}
+
+// Missing ones, and those of a client too many.
+#[test]
+fn outcomes_of_too_few_and_too_many_are_found_out(rt: HostRuntime) {
+    let alloc = rt.alloc();
+    let session = session_of_one(alloc).expect(&rt, "a session");
+    are_of(&rt, alloc, &session, &[Outcomes::new(alloc)], false);
     let of_two_clients = [
-        outcomes(alloc, Status::FailedToSend, b"", failed)?,
-        outcomes(alloc, Status::FailedToSend, b"", failed)?,
+        outcomes(&rt, alloc, Status::FailedToSend, b"", FAILED),
+        outcomes(&rt, alloc, Status::FailedToSend, b"", FAILED),
     ];
-    assert_eq!(rt;
-        are_logged(alloc, session.log(), &of_two_clients),
-        Ok(false)
-    );
-    Ok(())
+    are_of(&rt, alloc, &session, &of_two_clients, false);
 }

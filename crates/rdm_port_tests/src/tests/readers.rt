@@ -8,7 +8,6 @@ use std::io;
 use std::io::{ErrorKind, Read};
 use std::process::Abort;
 use std::sync::Wait;
-use std::test::Fail;
 use std::thread::Threads;
 
 const NO_FILE: Due<'static> = ("fault: file\n", 1);
@@ -67,12 +66,10 @@ fn reads<T: Threads + Wait + Abort + Sync>(
     let fails_at = reader.fails_at;
     let mut written = Vec::new(alloc);
     let status = status_of(rt, alloc, words, &mut reader, &mut written);
-    assert_eq!(rt;
-        written.as_slice(),
-        due.0.as_bytes(),
-        "{words:?} {fails_at}"
+    assert!(rt;
+        written.as_slice() == due.0.as_bytes() && status == due.1,
+        "{fails_at}"
     );
-    assert_eq!(rt; status, due.1, "{words:?} {fails_at}");
 }
 
 // The file is read byte by byte, and once more, which shows its end. A reader that fails until then is reported,
@@ -108,25 +105,32 @@ fn a_reader_of_a_session_fails(rt: HostRuntime) {
 }
 
 // The reason names the file as the arguments do.
-#[test]
-fn reports_which_file_is_not_read(rt: HostRuntime) -> Result<(), Fail> {
-    for command in ["discover", "run"] {
-        let words = [command, "no_file.json"];
-        let job = parse_words(rt.alloc(), &words);
-        let mut written = Vec::new(rt.alloc());
-        let mut reader = FailingReader::new(SCENE_FILE.as_bytes(), 20, 1);
-        let (_, reason) = carry_out(&rt, rt.alloc(), job, &mut reader, &mut written, &mut Silent);
-        let reason = reason.ok_or("a reason")?;
-        assert_eq!(rt;
-            format!(in rt.alloc(); "{reason}")?.as_str(),
-            "the file \"no_file.json\" can't be read: unexpected end of file"
-        );
-        assert!(rt;
-            matches!(
-                reason,
-                Reason::Unreadable("no_file.json", ErrorKind::UnexpectedEof)
-            )
-        );
+fn tells_the_file<T: Threads + Wait + Abort + Sync>(rt: &T, alloc: Global, command: &str) {
+    let words = [command, "no_file.json"];
+    let job = parse_words(alloc, &words);
+    let mut written = Vec::new(alloc);
+    let mut reader = FailingReader::new(SCENE_FILE.as_bytes(), 20, 1);
+    let (_, reason) = carry_out(rt, alloc, job, &mut reader, &mut written, &mut Silent);
+    match reason {
+        Some(reason) => tells(rt, alloc, &reason),
+        None => panic!(rt; "a reason"),
     }
-    Ok(())
+}
+
+fn tells(rt: &impl Abort, alloc: Global, reason: &Reason<'_>) {
+    let said = format!(in alloc; "{reason}").expect(rt, "memory");
+    let text = "the file \"no_file.json\" can't be read: unexpected end of file";
+    assert!(rt; said.as_str() == text);
+    assert!(rt;
+        matches!(
+            reason,
+            Reason::Unreadable("no_file.json", ErrorKind::UnexpectedEof)
+        )
+    );
+}
+
+#[test]
+fn reports_which_file_is_not_read(rt: HostRuntime) {
+    tells_the_file(&rt, rt.alloc(), "discover");
+    tells_the_file(&rt, rt.alloc(), "run");
 }

@@ -4,21 +4,21 @@ use rdm_join::{LineEvent, LineReply};
 use rdm_line::TapeLine;
 use rdm_port::{Discovery, Progress, Remark, Silent, discover, report};
 use rdm_wire::{Uid, UidSet};
-use std::alloc::{AllocError, Global};
-use std::test::Fail;
+use std::alloc::Global;
+use std::process::Abort;
 
 // So many silences, and then so many replies that spell nobody.
-fn tape(alloc: Global, silences: usize, noises: usize) -> Result<TapeLine, AllocError> {
+fn tape(rt: &impl Abort, alloc: Global, silences: usize, noises: usize) -> TapeLine {
     let mut events = Vec::new(alloc);
     for _ in 0..silences {
-        events.push(LineEvent::Reply(LineReply::new()))?;
+        assert!(rt; events.push(LineEvent::Reply(LineReply::new())).is_ok());
     }
     for _ in 0..noises {
         let mut reply = LineReply::new();
         reply.push(0xff);
-        events.push(LineEvent::Reply(reply))?;
+        assert!(rt; events.push(LineEvent::Reply(reply)).is_ok());
     }
-    Ok(TapeLine::new(events))
+    TapeLine::new(events)
 }
 
 // A run that mutes these devices first.
@@ -40,20 +40,21 @@ fn run<P: Progress>(line: &mut TapeLine, known: &UidSet, progress: &mut P) -> Di
     )
 }
 
+// What a run reports that finds nobody, over so many silences and noises.
+fn ends(rt: &impl Abort, alloc: Global, silences: usize, noises: usize, text: &str) {
+    let mut line = tape(rt, alloc, silences, noises);
+    let run = run(&mut line, &UidSet::new(), &mut Silent);
+    let said = report(alloc, &run).expect(rt, "memory");
+    assert!(rt; said.as_slice() == text.as_bytes(), "{text}");
+    assert!(rt; matches!(&run.found, Err((_, found)) if found.is_empty()));
+}
+
 // A line that answers each branch is corrupt, and a tape that ends fails.
 #[test]
-fn runs_end_on_a_tape(rt: HostRuntime) -> Result<(), Fail> {
-    let rows = [
-        (3, 60, "fault 1 0000:00000000\nframes 52\n"),
-        (0, 0, "fault 4\nframes 1\n"),
-    ];
-    for (silences, noises, text) in rows {
-        let mut line = tape(rt.alloc(), silences, noises)?;
-        let run = run(&mut line, &UidSet::new(), &mut Silent);
-        assert_eq!(rt; report(rt.alloc(), &run)?.as_slice(), text.as_bytes());
-        assert!(rt; matches!(&run.found, Err((_, found)) if found.is_empty()));
-    }
-    Ok(())
+fn runs_end_on_a_tape(rt: HostRuntime) {
+    let corrupt = "fault 1 0000:00000000\nframes 52\n";
+    ends(&rt, rt.alloc(), 3, 60, corrupt);
+    ends(&rt, rt.alloc(), 0, 0, "fault 4\nframes 1\n");
 }
 
 // How many exchanges a run had made each time that it reported.
@@ -68,19 +69,23 @@ impl Progress for Reports {
     }
 }
 
-// Three unmutes, five mutes of each of 400 known devices that aren't there, and five branches of the whole range.
-#[test]
-fn every_thousandth_exchange_is_reported(rt: HostRuntime) -> Result<(), Fail> {
+// So many devices that aren't there.
+fn absent(rt: &impl Abort, count: u32) -> UidSet {
     let mut known = UidSet::new();
-    for device in 1..401u32 {
+    for device in 0..count {
         let uid = Uid::new(0x1234, device);
         assert!(rt; !uid.is_broadcast() && known.insert(uid).is_ok());
     }
-    let mut line = tape(rt.alloc(), 2008, 0)?;
+    known
+}
+
+// Three unmutes, five mutes of each of 400 known devices that aren't there, and five branches of the whole range.
+#[test]
+fn every_thousandth_exchange_is_reported(rt: HostRuntime) {
+    let known = absent(&rt, 400);
+    let mut line = tape(&rt, rt.alloc(), 2008, 0);
     let mut reports = Reports(Vec::new(rt.alloc()));
     let run = run(&mut line, &known, &mut reports);
-    assert!(rt; run.found.is_ok());
-    assert_eq!(rt; run.frames, 2008);
-    assert_eq!(rt; reports.0.as_slice(), [1000, 2000].as_slice());
-    Ok(())
+    assert!(rt; run.found.is_ok() && run.frames == 2008);
+    assert!(rt; reports.0.as_slice() == [1000, 2000].as_slice());
 }

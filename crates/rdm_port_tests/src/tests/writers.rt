@@ -72,8 +72,8 @@ fn fails_at_each_byte<T: Threads + Wait + Abort + Sync>(
         };
         let status = status_of(rt, alloc, row.words, &mut reader, &mut writer);
         let wanted = if fails_at == whole.len() { due } else { 1 };
-        assert_eq!(rt; writer.taken.as_slice(), &whole[..fails_at], "{text}");
-        assert_eq!(rt; status, wanted, "{text} {fails_at}");
+        let is_written = writer.taken.as_slice() == &whole[..fails_at];
+        assert!(rt; is_written && status == wanted, "{text} {fails_at}");
     }
 }
 

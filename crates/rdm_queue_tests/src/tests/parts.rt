@@ -1,8 +1,8 @@
 //! Requests whose answers come in parts.
 use super::checks::{check, check_eq};
 use super::packets::{
-    ACK, ACK_OVERFLOW, accepts, answers, are_all, collected, collects, completes, delivers, pauses,
-    reply, reply_of, sends, session_of_one, silence, takes_none, with_parts,
+    ACK, ACK_OVERFLOW, accepts, answers, are_all, collected, collects, delivers, pauses, reply,
+    reply_of, sends, session_of_one, silence, takes_none, with_parts,
 };
 use rdm_join::{LineEvent, ReplyHead, Status};
 use rdm_queue::{Completion, Session};
@@ -89,27 +89,6 @@ fn a_failed_line_ends_the_request(rt: HostRuntime) {
     let mut session = with_parts(&rt, rt.alloc(), 0, 0);
     answers(&rt, rt.alloc(), &mut session, LineEvent::Failed);
     collects(&rt, &mut session, 0, Status::FailedToSend);
-}
-
-#[test]
-fn the_last_of_512_parts_ends_the_request(rt: HostRuntime) {
-    let mut session = with_parts(&rt, rt.alloc(), 512, 0);
-    takes_none(&rt, &mut session);
-    collects(&rt, &mut session, 0, Status::InvalidResponse);
-}
-
-#[test]
-fn a_last_reply_follows_511_parts(rt: HostRuntime) {
-    let mut session = with_parts(&rt, rt.alloc(), 511, 0);
-    answers(&rt, rt.alloc(), &mut session, reply(&rt, 255, ACK, 0));
-    completes(&rt, &mut session, 0, 0);
-}
-
-#[test]
-fn joins_65535_bytes(rt: HostRuntime) {
-    let mut session = with_parts(&rt, rt.alloc(), 283, MOST);
-    answers(&rt, rt.alloc(), &mut session, reply(&rt, 27, ACK, 162));
-    completes(&rt, &mut session, 0, 65535);
 }
 
 #[test]

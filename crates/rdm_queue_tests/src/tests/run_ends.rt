@@ -1,12 +1,12 @@
 //! How runs end, and what they then report.
 use super::checks::{check, check_eq};
 use super::lines::{
-    Came, asks_next, discovers, event, exchanges, first_device, knows, repeats, run_of_one, serves,
-    session_for_runs, session_with_budget,
+    Came, asks_next, discovers, event, exchanges, first_device, knows, repeats, session_for_runs,
+    session_with_budget,
 };
 use super::packets::{
-    ACK, CLIENT, accepts, asks_for, collects, delivers, holds, is_done, reply, sends, silence,
-    taken, takes_none,
+    CLIENT, accepts, asks_for, collects, delivers, holds, is_done, sends, silence, taken,
+    takes_none,
 };
 use arrayvec::ArrayVec;
 use rdm_agent::{AgentFault, Kind};
@@ -64,62 +64,6 @@ fn a_close_ends_the_run_then_requests_then_discoveries(rt: HostRuntime) {
     is_done(&rt, &mut session);
 }
 
-// Both discoveries have this fault, and exactly these devices.
-fn tells_both(rt: &impl Abort, session: &mut Session, fault: &Option<AgentFault>, devices: &[Uid]) {
-    discovers(rt, session, 0, 1, *fault, devices);
-    discovers(rt, session, 1, 1, *fault, devices);
-}
-
-// A run that fails at this exchange of ten, and the request after it.
-fn fails_in_run(rt: &impl Abort, alloc: Global, session: &mut Session, place: u8) {
-    let (run, number) = (run_of_one(), place.wrapping_add(1));
-    let before = run
-        .get(..usize::from(place))
-        .expect(rt, "a place in the run");
-    serves(rt, alloc, session, 0, before);
-    exchanges(rt, alloc, session, place, Came::Failure);
-    asks_next(rt, session, REQUEST, number);
-    delivers(rt, alloc, session, reply(rt, number, ACK, 1));
-    let failed = Some(AgentFault::LineFailed);
-    if place < 5 {
-        tells_both(rt, session, &failed, &[]);
-    } else {
-        tells_both(rt, session, &failed, &[first_device()]);
-    }
-    check_eq(rt, session.devices().len(), 0);
-    collects(rt, session, 0, Status::Completed);
-}
-
-// A run without a failure, and the request after it, which fails.
-fn fails_after_run(rt: &impl Abort, alloc: Global, session: &mut Session) {
-    serves(rt, alloc, session, 0, &run_of_one());
-    asks_next(rt, session, REQUEST, 10);
-    delivers(rt, alloc, session, LineEvent::Failed);
-    tells_both(rt, session, &None, &[first_device()]);
-    check_eq(rt, session.devices().len(), 1);
-    collects(rt, session, 0, Status::FailedToSend);
-}
-
-// A failure at this exchange, of the run or of the request after it.
-fn fails_at(rt: &impl Abort, alloc: Global, place: u8) {
-    let mut session = session_for_runs(rt, alloc);
-    accepts(rt, &mut session, 0);
-    asks_for(rt, &mut session, Kind::Full, Ok(0));
-    asks_for(rt, &mut session, Kind::Incremental, Ok(1));
-    if place < 10 {
-        fails_in_run(rt, alloc, &mut session, place);
-    } else {
-        fails_after_run(rt, alloc, &mut session);
-    }
-}
-
-#[test]
-fn a_failure_comes_at_each_exchange(rt: HostRuntime) {
-    for place in 0..=10 {
-        fails_at(&rt, rt.alloc(), place);
-    }
-}
-
 #[test]
 fn a_budget_ends_a_run(rt: HostRuntime) {
     let mut session = session_with_budget(&rt, rt.alloc(), 7);
@@ -129,25 +73,6 @@ fn a_budget_ends_a_run(rt: HostRuntime) {
     discovers(&rt, &mut session, 0, 1, Some(AgentFault::Exhausted), &[]);
     check_eq(&rt, session.devices_run(), 0);
     asks_next(&rt, &mut session, REQUEST, 7);
-}
-
-#[test]
-fn noise_everywhere_is_corrupt(rt: HostRuntime) {
-    let mut session = session_for_runs(&rt, rt.alloc());
-    asks_for(&rt, &mut session, Kind::Full, Ok(0));
-    repeats(&rt, rt.alloc(), &mut session, 0, 52, &Came::Noise);
-    let corrupt = Some(AgentFault::Corrupt(Uid::new(0, 0)));
-    discovers(&rt, &mut session, 0, 1, corrupt, &[]);
-}
-
-#[test]
-fn eight_frames_suffice_for_an_empty_line(rt: HostRuntime) {
-    let mut session = session_with_budget(&rt, rt.alloc(), 8);
-    asks_for(&rt, &mut session, Kind::Full, Ok(0));
-    repeats(&rt, rt.alloc(), &mut session, 0, 8, &Came::Nothing);
-    discovers(&rt, &mut session, 0, 1, None, &[]);
-    check_eq(&rt, session.devices_run(), 1);
-    is_done(&rt, &mut session);
 }
 
 // 1,025 devices, each of which is spelt and acknowledges its mute.

@@ -1,7 +1,8 @@
 //! Replies to a branch.
 use rdm_wire::BranchReply::{Collision, One, Silent};
-use rdm_wire::{Uid, read_branch_reply, write_branch_reply};
-use std::test::Fail;
+use rdm_wire::{BranchReply, Uid, read_branch_reply, write_branch_reply};
+use std::alloc::Global;
+use std::process::Abort;
 
 const REPLY: &str = "aafa7ffa75aa55aa55aa55ab55ae57eff5";
 
@@ -17,47 +18,54 @@ fn broadcast() -> Uid {
     Uid::new(0x7a70, 0xffff_ffff)
 }
 
-#[test]
-fn reads_replies(rt: HostRuntime) -> Result<(), Fail> {
-    let rows = [
-        ("", Silent),
-        (LONGEST_REPLY, One(device())),
-        (REPLY, One(device())),
-        (REPLY_OF_BROADCAST, One(broadcast())),
-        // Bytes after the checksum, and then a pair of it with another byte whose AND is the same.
-        ("aafa7ffa75aa55aa55aa55ab55ae57eff51234", One(device())),
-        ("aafa7ffa75aa55aa55aa55ab55ae57e5e51234", One(device())),
-        // The UID's first pair with bytes whose AND is the same: the checksum is of the bytes as received.
-        ("aa7a7afa75aa55aa55aa55ab55ae57eff5", Collision),
-        // Eight bytes of preamble, nothing else, another last byte, none.
-        (
-            "fefefefefefefefeaafa7ffa75aa55aa55aa55ab55ae57eff5",
-            Collision,
-        ),
-        ("fe", Collision),
-        (
-            "fefefefefefefeaafa7ffa75aa55aa55aa55ab55ae57eff4",
-            Collision,
-        ),
-        ("fefefefefefefeaafa7ffa75aa55aa55aa55ab55ae57ef", Collision),
-    ];
-    for (text, reply) in rows {
-        let bytes = hex::decode(rt.alloc(), text).map_err(|_| "hex")?;
-        assert_eq!(rt; read_branch_reply(&bytes), reply, "{text}");
+// What bytes say.
+fn reads(rt: &impl Abort, alloc: Global, text: &str, wanted: BranchReply) {
+    match hex::decode(alloc, text) {
+        Ok(bytes) => assert!(rt; read_branch_reply(&bytes) == wanted, "{text}"),
+        Err(_) => panic!(rt; "hex"),
     }
-    Ok(())
 }
 
 #[test]
-fn writes_replies(rt: HostRuntime) -> Result<(), Fail> {
-    let rows = [
-        (device(), 0, REPLY),
-        (device(), 7, LONGEST_REPLY),
-        (broadcast(), 0, REPLY_OF_BROADCAST),
-    ];
-    for (uid, preamble, text) in rows {
-        let reply = write_branch_reply(uid, preamble);
-        assert_eq!(rt; hex::encode(rt.alloc(), reply.as_slice())?.as_str(), text);
-    }
-    Ok(())
+fn reads_replies(rt: HostRuntime) {
+    let alloc = rt.alloc();
+    reads(&rt, alloc, "", Silent);
+    reads(&rt, alloc, LONGEST_REPLY, One(device()));
+    reads(&rt, alloc, REPLY, One(device()));
+    reads(&rt, alloc, REPLY_OF_BROADCAST, One(broadcast()));
+    // Bytes after the checksum, and then a pair of it with another byte whose AND is the same.
+    let more = "aafa7ffa75aa55aa55aa55ab55ae57eff51234";
+    reads(&rt, alloc, more, One(device()));
+    let paired = "aafa7ffa75aa55aa55aa55ab55ae57e5e51234";
+    reads(&rt, alloc, paired, One(device()));
+}
+
+#[test]
+fn reads_collisions(rt: HostRuntime) {
+    let alloc = rt.alloc();
+    // The UID's first pair with bytes whose AND is the same: the checksum is of the bytes as received.
+    let paired = "aa7a7afa75aa55aa55aa55ab55ae57eff5";
+    reads(&rt, alloc, paired, Collision);
+    // Eight bytes of preamble, nothing else, another last byte, none.
+    let long = "fefefefefefefefeaafa7ffa75aa55aa55aa55ab55ae57eff5";
+    reads(&rt, alloc, long, Collision);
+    reads(&rt, alloc, "fe", Collision);
+    let changed = "fefefefefefefeaafa7ffa75aa55aa55aa55ab55ae57eff4";
+    reads(&rt, alloc, changed, Collision);
+    let short = "fefefefefefefeaafa7ffa75aa55aa55aa55ab55ae57ef";
+    reads(&rt, alloc, short, Collision);
+}
+
+fn writes(rt: &impl Abort, alloc: Global, uid: Uid, preamble: u8, text: &str) {
+    assert!(rt; preamble <= 7);
+    let reply = write_branch_reply(uid, preamble);
+    let written = hex::encode(alloc, reply.as_slice()).expect(rt, "memory");
+    assert!(rt; written.as_str() == text, "{text}");
+}
+
+#[test]
+fn writes_replies(rt: HostRuntime) {
+    writes(&rt, rt.alloc(), device(), 0, REPLY);
+    writes(&rt, rt.alloc(), device(), 7, LONGEST_REPLY);
+    writes(&rt, rt.alloc(), broadcast(), 0, REPLY_OF_BROADCAST);
 }

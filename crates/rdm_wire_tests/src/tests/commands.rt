@@ -4,8 +4,8 @@ use rdm_wire::{
     AckType, Command, MOST_PARAMETER_BYTES, ReqClass, Request, RespClass, Response, Uid, UidRange,
     encode_response, read_command,
 };
+use std::alloc::Global;
 use std::process::Abort;
-use std::test::Fail;
 
 // No bytes; a crossed branch; a mute of all devices; a wrong checksum; port id 2; a message count; a byte too many; one
 // too few; a response.
@@ -35,23 +35,48 @@ fn data(rt: &impl Abort, bytes: &[u8]) -> ArrayVec<u8, MOST_PARAMETER_BYTES> {
     param
 }
 
-fn bytes_of(rt: &HostRuntime, text: &str) -> Result<Vec<u8>, Fail> {
-    Ok(hex::decode(rt.alloc(), text).map_err(|_| "hex")?)
+fn bytes_of(rt: &impl Abort, alloc: Global, text: &str) -> Vec<u8> {
+    match hex::decode(alloc, text) {
+        Ok(bytes) => bytes,
+        Err(_) => panic!(rt; "hex"),
+    }
 }
 
-#[test]
-fn reads_commands(rt: HostRuntime) -> Result<(), Fail> {
-    let whole = UidRange {
-        lo: Uid::new(0, 0),
-        hi: Uid::ALL,
-    };
-    let get = Request {
+// A GET of the parameter `0060`.
+fn get(rt: &impl Abort) -> Request {
+    Request {
         target: device(),
         sub_device: 0,
         class: ReqClass::Get,
         pid: 0x0060,
-        param: data(&rt, &[]),
+        param: data(rt, &[]),
+    }
+}
+
+// The frame reads as this command with this number.
+fn reads(rt: &impl Abort, alloc: Global, text: &str, command: Command, tn: u8) {
+    let bytes = bytes_of(rt, alloc, text);
+    let wanted = Some((command, controller(), tn));
+    assert!(rt; read_command(&bytes) == wanted, "{text}");
+}
+
+#[test]
+fn reads_discovery_commands(rt: HostRuntime) {
+    let whole = UidRange {
+        lo: Uid::new(0, 0),
+        hi: Uid::ALL,
     };
+    let alloc = rt.alloc();
+    let unmute = "cc0118ffffffffffff7a700000010000010000001000030007de";
+    reads(&rt, alloc, unmute, Command::Unmute, 0);
+    let branch = "cc0124ffffffffffff7a700000010003010000001000010c000000000000ffffffffffff0df1";
+    reads(&rt, alloc, branch, Command::Branch(whole), 3);
+    let mute = "cc01181234000000017a7000000100040100000010000200022e";
+    reads(&rt, alloc, mute, Command::Mute(device()), 4);
+}
+
+#[test]
+fn reads_requests(rt: HostRuntime) {
     let set = Request {
         target: Uid::ALL,
         sub_device: 0xffff,
@@ -59,56 +84,37 @@ fn reads_commands(rt: HostRuntime) -> Result<(), Fail> {
         pid: 0x1000,
         param: data(&rt, &[1]),
     };
-    let rows = [
-        (
-            "cc0118ffffffffffff7a700000010000010000001000030007de",
-            Command::Unmute,
-            0,
-        ),
-        (
-            "cc0124ffffffffffff7a700000010003010000001000010c000000000000ffffffffffff0df1",
-            Command::Branch(whole),
-            3,
-        ),
-        (
-            "cc01181234000000017a7000000100040100000010000200022e",
-            Command::Mute(device()),
-            4,
-        ),
-        (
-            "cc01181234000000017a70000001000a010000002000600002a2",
-            Command::Request(get),
-            10,
-        ),
-        (
-            "cc0119ffffffffffff7a7000000100ff0100ffff30100001010b0b",
-            Command::Request(set),
-            255,
-        ),
-    ];
-    for (text, command, tn) in rows {
-        let bytes = bytes_of(&rt, text)?;
-        assert_eq!(rt;
-            read_command(&bytes),
-            Some((command, controller(), tn)),
-            "{text}"
-        );
-    }
-    Ok(())
+    let text = "cc01181234000000017a70000001000a010000002000600002a2";
+    reads(&rt, rt.alloc(), text, Command::Request(get(&rt)), 10);
+    let text = "cc0119ffffffffffff7a7000000100ff0100ffff30100001010b0b";
+    reads(&rt, rt.alloc(), text, Command::Request(set), 255);
+}
+
+// The bytes are no command.
+fn reads_none(rt: &impl Abort, alloc: Global, text: &str) {
+    let bytes = bytes_of(rt, alloc, text);
+    assert!(rt; read_command(&bytes).is_none(), "{text}");
 }
 
 #[test]
-fn reads_no_commands(rt: HostRuntime) -> Result<(), Fail> {
+fn reads_no_commands(rt: HostRuntime) {
     for text in NO_COMMANDS {
-        let bytes = bytes_of(&rt, text)?;
-        assert_eq!(rt; read_command(&bytes), None, "{text}");
+        reads_none(&rt, rt.alloc(), text);
     }
-    Ok(())
 }
 
-#[test]
-fn encodes_responses(rt: HostRuntime) -> Result<(), Fail> {
-    let part = Response {
+// The response as bytes.
+fn encodes(rt: &impl Abort, alloc: Global, response: &Response, text: &str) {
+    let bytes = bytes_of(rt, alloc, text);
+    assert!(rt;
+        encode_response(response).as_slice() == bytes.as_slice(),
+        "{text}"
+    );
+}
+
+// A response to a GET of the parameter `0060`, in parts.
+fn part(rt: &impl Abort) -> Response {
+    Response {
         source: device(),
         dest: controller(),
         tn: 0,
@@ -117,22 +123,21 @@ fn encodes_responses(rt: HostRuntime) -> Result<(), Fail> {
         sub_device: 0,
         class: RespClass::Get,
         pid: 0x0060,
-        param: data(&rt, &[1, 2]),
-    };
+        param: data(rt, &[1, 2]),
+    }
+}
+
+#[test]
+fn encodes_responses(rt: HostRuntime) {
     let muted = Response {
-        source: device(),
-        dest: controller(),
         tn: 4,
         ack: AckType::Ack,
-        count: 0,
-        sub_device: 0,
         class: RespClass::Discovery,
         pid: 0x0002,
         param: data(&rt, &[0, 0]),
+        ..part(&rt)
     };
     let refusal = Response {
-        source: device(),
-        dest: controller(),
         tn: 7,
         ack: AckType::Nack,
         count: 9,
@@ -140,28 +145,13 @@ fn encodes_responses(rt: HostRuntime) -> Result<(), Fail> {
         class: RespClass::Set,
         pid: 0xabcd,
         param: data(&rt, &[0, 6]),
+        ..part(&rt)
     };
-    let rows = [
-        (
-            "cc011a7a7000000100123400000001000300000021006002010202a2",
-            part,
-        ),
-        (
-            "cc011a7a700000010012340000000104000000001100020200000232",
-            muted,
-        ),
-        (
-            "cc011a7a7000000100123400000001070209123431abcd0200060422",
-            refusal,
-        ),
-    ];
-    for (text, response) in rows {
-        let bytes = bytes_of(&rt, text)?;
-        assert_eq!(rt;
-            encode_response(&response).as_slice(),
-            bytes.as_slice(),
-            "{text}"
-        );
-    }
-    Ok(())
+    let alloc = rt.alloc();
+    let text = "cc011a7a7000000100123400000001000300000021006002010202a2";
+    encodes(&rt, alloc, &part(&rt), text);
+    let text = "cc011a7a700000010012340000000104000000001100020200000232";
+    encodes(&rt, alloc, &muted, text);
+    let text = "cc011a7a7000000100123400000001070209123431abcd0200060422";
+    encodes(&rt, alloc, &refusal, text);
 }

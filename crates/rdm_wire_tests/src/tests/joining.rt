@@ -4,8 +4,8 @@ ghost use Rattle.rdm_join.specs.JoinerStanding.{IsOpen};
 use arrayvec::ArrayVec;
 use rdm_join::{Joiner, Judged, Status, Step};
 use rdm_wire::{AckType, RespClass, Response, Uid};
+use std::alloc::Global;
 use std::process::Abort;
-use std::test::Fail;
 
 // A response to a GET of the parameter `0060`, with this many bytes of this value as data.
 fn response(rt: &impl Abort, ack: AckType, length: usize, value: u8) -> Response {
@@ -41,126 +41,141 @@ fn with_parts(rt: &impl Abort, count: usize, length: usize) -> Joiner
     let mut joiner = Joiner::new();
     for number in 0..count {
         let step = joiner.add(part(rt, length, (number % 256) as u8));
-        assert_eq!(rt; step, Step::More);
+        assert!(rt; step == Step::More);
     }
     joiner
 }
 
+// The joiner is done with this status after the reply.
+fn ends(rt: &impl Abort, joiner: &mut Joiner, reply: Judged, status: Status)
+    requires { IsOpen joiner.old }
+{
+    assert!(rt; joiner.add(reply) == Step::Done(status));
+}
+
+// The data that was joined.
+fn data(rt: &impl Abort, alloc: Global, joiner: &Joiner) -> Vec<u8> {
+    joiner.take_data(alloc).expect(rt, "memory")
+}
+
+// The bytes from one place to another are this value alone.
+fn has_part(rt: &impl Abort, data: &[u8], from: usize, to: usize, value: u8) {
+    let part = data.get(from..to).expect(rt, "a part");
+    for byte in part {
+        assert!(rt; *byte == value);
+    }
+}
+
 #[test]
-fn joins_parts_in_order(rt: HostRuntime) -> Result<(), Fail> {
+fn joins_parts_in_order(rt: HostRuntime) {
     let mut joiner = with_parts(&rt, 2, 231);
     assert!(rt; joiner.head().is_none());
-    assert_eq!(rt; joiner.add(whole(&rt, 3, 2)), Step::Done(Status::Completed));
-    assert_eq!(rt; joiner.head().map(|head| head.ack), Some(AckType::Ack));
-    let data = joiner.take_data(rt.alloc())?;
-    assert_eq!(rt; data.len(), 465);
-    let (front, rest) = data.split_at(231);
-    let (middle, back) = rest.split_at(231);
-    assert!(rt; front.iter().all(|byte| *byte == 0));
-    assert!(rt; middle.iter().all(|byte| *byte == 1));
-    assert!(rt; back.iter().all(|byte| *byte == 2));
-    Ok(())
+    ends(&rt, &mut joiner, whole(&rt, 3, 2), Status::Completed);
+    assert!(rt; joiner.head().is_some_and(|head| head.ack == AckType::Ack));
+    let data = data(&rt, rt.alloc(), &joiner);
+    assert!(rt; data.len() == 465);
+    has_part(&rt, &data, 0, 231, 0);
+    has_part(&rt, &data, 231, 462, 1);
+    has_part(&rt, &data, 462, 465, 2);
+}
+
+// The whole reply of this length is joined to these parts, in all to this many bytes.
+fn joins(rt: &impl Abort, alloc: Global, mut joiner: Joiner, rest: usize, length: usize)
+    requires { IsOpen joiner }
+{
+    ends(rt, &mut joiner, whole(rt, rest, 1), Status::Completed);
+    assert!(rt; data(rt, alloc, &joiner).len() == length);
 }
 
 #[test]
-fn ends_at_the_last_part(rt: HostRuntime) -> Result<(), Fail> {
+fn ends_at_the_last_part(rt: HostRuntime) {
     let mut refused = with_parts(&rt, 511, 0);
-    assert_eq!(rt;
-        refused.add(part(&rt, 0, 1)),
-        Step::Done(Status::InvalidResponse)
-    );
+    ends(&rt, &mut refused, part(&rt, 0, 1), Status::InvalidResponse);
     assert!(rt; refused.head().is_none());
-
-    let mut joined = with_parts(&rt, 511, 0);
-    assert_eq!(rt; joined.add(whole(&rt, 0, 1)), Step::Done(Status::Completed));
-    assert_eq!(rt; joined.take_data(rt.alloc())?.len(), 0);
-    Ok(())
+    joins(&rt, rt.alloc(), with_parts(&rt, 511, 0), 0, 0);
 }
 
 #[test]
-fn joins_no_more_bytes_than_fit(rt: HostRuntime) -> Result<(), Fail> {
-    let mut joined = with_parts(&rt, 283, 231);
-    assert_eq!(rt;
-        joined.add(whole(&rt, 162, 1)),
-        Step::Done(Status::Completed)
-    );
-    assert_eq!(rt; joined.take_data(rt.alloc())?.len(), 65_535);
-
+fn joins_no_more_bytes_than_fit(rt: HostRuntime) {
     let mut refused = with_parts(&rt, 283, 231);
-    assert_eq!(rt;
-        refused.add(whole(&rt, 163, 1)),
-        Step::Done(Status::InvalidResponse)
+    ends(
+        &rt,
+        &mut refused,
+        whole(&rt, 163, 1),
+        Status::InvalidResponse,
     );
-    assert_eq!(rt; refused.take_data(rt.alloc())?.len(), 0);
-    Ok(())
+    assert!(rt; data(&rt, rt.alloc(), &refused).is_empty());
 }
 
 // Each length is joined of parts of 231 bytes and a whole reply with the rest.
 #[test]
-fn joins_answers_of_each_length(rt: HostRuntime) -> Result<(), Fail> {
-    let rows = [
-        (0, 0, 0),
-        (0, 1, 1),
-        (0, 231, 231),
-        (1, 2, 233),
-        (2, 2, 464),
-        (17, 169, 4096),
-        (283, 162, 65_535),
-    ];
-    for (parts, rest, length) in rows {
-        let mut joiner = with_parts(&rt, parts, 231);
-        assert_eq!(rt;
-            joiner.add(whole(&rt, rest, 1)),
-            Step::Done(Status::Completed)
-        );
-        assert_eq!(rt; joiner.take_data(rt.alloc())?.len(), length);
-    }
-    Ok(())
+fn joins_answers_of_each_length(rt: HostRuntime) {
+    let alloc = rt.alloc();
+    joins(&rt, alloc, with_parts(&rt, 0, 231), 0, 0);
+    joins(&rt, alloc, with_parts(&rt, 0, 231), 1, 1);
+    joins(&rt, alloc, with_parts(&rt, 0, 231), 231, 231);
+    joins(&rt, alloc, with_parts(&rt, 1, 231), 2, 233);
+    joins(&rt, alloc, with_parts(&rt, 2, 231), 2, 464);
+    joins(&rt, alloc, with_parts(&rt, 17, 231), 169, 4096);
+    joins(&rt, alloc, with_parts(&rt, 283, 231), 162, 65_535);
 }
 
 #[test]
-fn joins_again_after_a_reset(rt: HostRuntime) -> Result<(), Fail> {
+fn joins_again_after_a_reset(rt: HostRuntime) {
     let mut joiner = with_parts(&rt, 1, 231);
     joiner.reset();
     assert!(rt; joiner.is_open());
     assert!(rt; joiner.head().is_none());
-    assert_eq!(rt; joiner.take_data(rt.alloc())?.len(), 0);
-    assert_eq!(rt; joiner.add(whole(&rt, 2, 7)), Step::Done(Status::Completed));
+    assert!(rt; data(&rt, rt.alloc(), &joiner).is_empty());
+    ends(&rt, &mut joiner, whole(&rt, 2, 7), Status::Completed);
     assert!(rt; !joiner.is_open());
-    assert_eq!(rt; joiner.take_data(rt.alloc())?.as_slice(), [7, 7].as_slice());
+    assert!(rt; data(&rt, rt.alloc(), &joiner).as_slice() == [7, 7].as_slice());
     joiner.reset();
-    assert_eq!(rt; joiner.add(part(&rt, 1, 8)), Step::More);
-    Ok(())
+    assert!(rt; joiner.add(part(&rt, 1, 8)) == Step::More);
+}
+
+// A reply of another kind than the part before it ends the joining.
+fn ends_joining(rt: &impl Abort, reply: Response) {
+    let mut joiner = with_parts(rt, 1, 2);
+    ends(
+        rt,
+        &mut joiner,
+        Judged::Whole(reply),
+        Status::InvalidResponse,
+    );
 }
 
 #[test]
 fn ends_at_a_reply_of_another_kind(rt: HostRuntime) {
-    let nack = response(&rt, AckType::Nack, 2, 0);
+    ends_joining(&rt, response(&rt, AckType::Nack, 2, 0));
     let other_pid = Response {
         pid: 0x0061,
         ..response(&rt, AckType::Ack, 0, 0)
     };
+    ends_joining(&rt, other_pid);
     let set = Response {
         class: RespClass::Set,
         ..response(&rt, AckType::Ack, 0, 0)
     };
+    ends_joining(&rt, set);
     let sub_device = Response {
         sub_device: 1,
         ..response(&rt, AckType::Ack, 0, 0)
     };
-    for reply in [nack, other_pid, set, sub_device] {
-        let mut joiner = with_parts(&rt, 1, 2);
-        assert_eq!(rt;
-            joiner.add(Judged::Whole(reply)),
-            Step::Done(Status::InvalidResponse)
-        );
-    }
+    ends_joining(&rt, sub_device);
+}
+
+#[test]
+fn ends_at_once(rt: HostRuntime) {
     let mut joiner = Joiner::new();
-    let step = joiner.add(Judged::Whole(response(&rt, AckType::Nack, 2, 0)));
-    assert_eq!(rt; step, Step::Done(Status::Completed));
-    assert_eq!(rt; joiner.head().map(|head| head.ack), Some(AckType::Nack));
-    assert_eq!(rt;
-        Joiner::new().add(Judged::Ended(Status::Timeout)),
-        Step::Done(Status::Timeout)
+    let nack = response(&rt, AckType::Nack, 2, 0);
+    ends(&rt, &mut joiner, Judged::Whole(nack), Status::Completed);
+    assert!(rt; joiner.head().is_some_and(|head| head.ack == AckType::Nack));
+    let mut joiner = Joiner::new();
+    ends(
+        &rt,
+        &mut joiner,
+        Judged::Ended(Status::Timeout),
+        Status::Timeout,
     );
 }

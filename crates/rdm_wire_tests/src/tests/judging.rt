@@ -3,7 +3,6 @@ use arrayvec::ArrayVec;
 use rdm_join::{Judged, LineEvent, LineReply, Sent, Status, judge};
 use rdm_wire::{ReqClass, Uid};
 use std::process::Abort;
-use std::test::Fail;
 
 /// A part of the answer to that GET: an ACK_OVERFLOW with the data `0102`.
 const OVERFLOW: [u8; 28] = [
@@ -38,7 +37,7 @@ mod offset {
     pub const CHECKSUM: usize = 26;
 }
 
-#[derive(Clone, Copy, Debug, PartialEq, Eq)]
+#[derive(Clone, Copy, PartialEq)]
 enum Expected {
     Whole,
     Part,
@@ -74,7 +73,7 @@ fn judged(rt: &impl Abort, sent: &Sent, bytes: &[u8]) -> Judged {
 }
 
 // What the request makes of the part with these changes, and its checksum made right.
-fn judged_with(rt: &impl Abort, sent: &Sent, changes: [Change; 2], checksum: u16) -> Expected {
+fn judges(rt: &impl Abort, sent: &Sent, changes: [Change; 2], checksum: u16, wanted: Expected) {
     let mut bytes = OVERFLOW;
     for (at, byte) in changes {
         assert!(rt; at < bytes.len());
@@ -83,38 +82,37 @@ fn judged_with(rt: &impl Abort, sent: &Sent, changes: [Change; 2], checksum: u16
     let [high, low] = checksum.to_be_bytes();
     bytes[offset::CHECKSUM] = high;
     bytes[offset::CHECKSUM + 1] = low;
-    kind(&judged(rt, sent, &bytes))
+    assert!(rt; kind(&judged(rt, sent, &bytes)) == wanted, "{checksum:04x}");
 }
 
 #[test]
 fn judges_changed_replies(rt: HostRuntime) {
     use offset::*;
-    let rows = [
-        ([SAME, SAME], 0x02a2, Part),
-        ([SAME, (RESPONSE_TYPE, 0x00)], 0x029f, Whole),
-        ([SAME, (RESPONSE_TYPE, 0x04)], 0x02a3, Ended(12)),
-        ([SAME, (PDL, 0x01)], 0x02a1, Ended(9)),
-        ([SAME, (CLASS, 0x10)], 0x0291, Ended(11)),
-        ([SAME, (TN, 0x01)], 0x02a3, Ended(13)),
-        ([SAME, (SUB_DEVICE_LOW, 0x01)], 0x02a3, Ended(14)),
-        ([SAME, (SOURCE_LOW, 0x02)], 0x02a3, Ended(15)),
-        ([SAME, (DEST_LOW, 0x01)], 0x02a3, Ended(16)),
-        ([SAME, (CLASS, 0x31)], 0x02b2, Ended(17)),
-        ([SAME, (PID_LOW, 0x61)], 0x02a3, Ended(4)),
-        ([(SOURCE_LOW, 0x02), (CLASS, 0x31)], 0x02b3, Ended(15)),
-    ];
-    for (changes, checksum, expected) in rows {
-        assert_eq!(rt;
-            judged_with(&rt, &get(), changes, checksum),
-            expected,
-            "{checksum:04x}"
-        );
-    }
+    let get = get();
+    judges(&rt, &get, [SAME, SAME], 0x02a2, Part);
+    judges(&rt, &get, [SAME, (RESPONSE_TYPE, 0x00)], 0x029f, Whole);
+    judges(&rt, &get, [SAME, (RESPONSE_TYPE, 0x04)], 0x02a3, Ended(12));
+    judges(&rt, &get, [SAME, (PDL, 0x01)], 0x02a1, Ended(9));
+    judges(&rt, &get, [SAME, (CLASS, 0x10)], 0x0291, Ended(11));
+    judges(&rt, &get, [SAME, (TN, 0x01)], 0x02a3, Ended(13));
+    judges(&rt, &get, [SAME, (SUB_DEVICE_LOW, 0x01)], 0x02a3, Ended(14));
+    judges(&rt, &get, [SAME, (SOURCE_LOW, 0x02)], 0x02a3, Ended(15));
+    judges(&rt, &get, [SAME, (DEST_LOW, 0x01)], 0x02a3, Ended(16));
+    judges(&rt, &get, [SAME, (CLASS, 0x31)], 0x02b2, Ended(17));
+    judges(&rt, &get, [SAME, (PID_LOW, 0x61)], 0x02a3, Ended(4));
+    let two_faults = [(SOURCE_LOW, 0x02), (CLASS, 0x31)];
+    judges(&rt, &get, two_faults, 0x02b3, Ended(15));
 }
 
+// Changes that make it a part of the answer to a SET, all of it, and the answer of another sub-device.
+const SET_OVERFLOW: [Change; 2] = [SAME, (offset::CLASS, 0x31)];
+
+const SET_RESPONSE: [Change; 2] = [(offset::CLASS, 0x31), (offset::RESPONSE_TYPE, 0x00)];
+
+const OTHER_SUB_DEVICE: [Change; 2] = [SAME, (offset::SUB_DEVICE_LOW, 0x01)];
+
 #[test]
-fn lets_pass_what_a_request_allows(rt: HostRuntime) {
-    use offset::*;
+fn a_get_lets_pass_what_it_allows(rt: HostRuntime) {
     let all = Sent {
         sub_device: 0xffff,
         ..get()
@@ -123,26 +121,37 @@ fn lets_pass_what_a_request_allows(rt: HostRuntime) {
         pid: 0x0020,
         ..get()
     };
+    judges(&rt, &all, OTHER_SUB_DEVICE, 0x02a3, Part);
+    judges(&rt, &queued, OTHER_SUB_DEVICE, 0x02a3, Part);
+    judges(&rt, &queued, [SAME, SAME], 0x02a2, Part);
+    judges(&rt, &queued, SET_RESPONSE, 0x02af, Whole);
+    judges(&rt, &queued, SET_OVERFLOW, 0x02b2, Ended(4));
+}
+
+#[test]
+fn a_set_lets_pass_what_it_allows(rt: HostRuntime) {
     let set = Sent {
         class: ReqClass::Set,
         ..get()
     };
-    let set_queued = Sent { pid: 0x0020, ..set };
-    let other_sub_device = [SAME, (SUB_DEVICE_LOW, 0x01)];
-    let set_overflow = [SAME, (CLASS, 0x31)];
-    let set_response = [(CLASS, 0x31), (RESPONSE_TYPE, 0x00)];
-    assert_eq!(rt; judged_with(&rt, &all, other_sub_device, 0x02a3), Part);
-    assert_eq!(rt; judged_with(&rt, &queued, other_sub_device, 0x02a3), Part);
-    assert_eq!(rt; judged_with(&rt, &queued, [SAME, SAME], 0x02a2), Part);
-    assert_eq!(rt; judged_with(&rt, &queued, set_response, 0x02af), Whole);
-    assert_eq!(rt; judged_with(&rt, &queued, set_overflow, 0x02b2), Ended(4));
-    assert_eq!(rt; judged_with(&rt, &set, set_response, 0x02af), Whole);
-    assert_eq!(rt; judged_with(&rt, &set, set_overflow, 0x02b2), Ended(4));
-    assert_eq!(rt; judged_with(&rt, &set, [SAME, SAME], 0x02a2), Ended(17));
-    assert_eq!(rt;
-        judged_with(&rt, &set_queued, [SAME, SAME], 0x02a2),
-        Ended(17)
-    );
+    let queued = Sent {
+        class: ReqClass::Set,
+        pid: 0x0020,
+        ..get()
+    };
+    judges(&rt, &set, SET_RESPONSE, 0x02af, Whole);
+    judges(&rt, &set, SET_OVERFLOW, 0x02b2, Ended(4));
+    judges(&rt, &set, [SAME, SAME], 0x02a2, Ended(17));
+    judges(&rt, &queued, [SAME, SAME], 0x02a2, Ended(17));
+}
+
+// What the request makes of an event that is no packet.
+fn ends(rt: &impl Abort, sent: &Sent, bytes: Option<&[u8]>, status: u8) {
+    let judged = match bytes {
+        Some(bytes) => judged(rt, sent, bytes),
+        None => judge(sent, &LineEvent::Failed),
+    };
+    assert!(rt; kind(&judged) == Ended(status));
 }
 
 #[test]
@@ -151,35 +160,33 @@ fn judges_events_without_a_packet(rt: HostRuntime) {
         target: Uid::ALL,
         ..get()
     };
-    assert_eq!(rt; kind(&judge(&get(), &LineEvent::Failed)), Ended(2));
-    assert_eq!(rt; kind(&judge(&broadcast, &LineEvent::Failed)), Ended(2));
-    assert_eq!(rt; kind(&judged(&rt, &broadcast, &[])), Ended(1));
-    assert_eq!(rt; kind(&judged(&rt, &broadcast, &[0xcc])), Ended(1));
-    assert_eq!(rt; kind(&judged(&rt, &get(), &[])), Ended(3));
-    assert_eq!(rt; kind(&judged(&rt, &get(), &[0xcc])), Ended(5));
+    ends(&rt, &get(), None, 2);
+    ends(&rt, &broadcast, None, 2);
+    ends(&rt, &broadcast, Some(&[]), 1);
+    ends(&rt, &broadcast, Some(&[0xcc]), 1);
+    ends(&rt, &get(), Some(&[]), 3);
+    ends(&rt, &get(), Some(&[0xcc]), 5);
 }
 
 #[test]
-fn gives_the_response(rt: HostRuntime) -> Result<(), Fail> {
-    let Judged::Part(part) = judged(&rt, &get(), &OVERFLOW) else {
-        return Err("no part")?;
-    };
-    assert_eq!(rt; part.source, Uid::new(0x1234, 1));
-    assert_eq!(rt; part.param.as_slice(), [1, 2].as_slice());
-    Ok(())
+fn gives_the_response(rt: HostRuntime) {
+    match judged(&rt, &get(), &OVERFLOW) {
+        Judged::Part(part) => {
+            assert!(rt; part.source == Uid::new(0x1234, 1));
+            assert!(rt; part.param.as_slice() == [1, 2].as_slice());
+        }
+        _ => panic!(rt; "no part"),
+    }
 }
 
 #[test]
-fn copies_events(rt: HostRuntime) -> Result<(), Fail> {
+fn copies_events(rt: HostRuntime) {
     let bytes: LineReply = ArrayVec::from([0x5a; 257]);
-    let event = LineEvent::Reply(bytes);
-    let (LineEvent::Reply(copy), LineEvent::Reply(bytes)) = (event.copied(), event) else {
-        return Err("no reply")?;
-    };
-    assert_eq!(rt; copy.len(), 257);
-    assert_eq!(rt; copy, bytes);
+    match LineEvent::Reply(bytes).copied() {
+        LineEvent::Reply(copy) => assert!(rt; copy.as_slice() == [0x5a; 257].as_slice()),
+        LineEvent::Failed => panic!(rt; "no reply"),
+    }
     assert!(rt; matches!(LineEvent::Failed.copied(), LineEvent::Failed));
-    Ok(())
 }
 
 #[test]
@@ -207,6 +214,6 @@ fn numbers_statuses(rt: HostRuntime) {
         NoMemory,
     ];
     for (status, number) in statuses.into_iter().zip(0..19) {
-        assert_eq!(rt; status.number(), number);
+        assert!(rt; status.number() == number);
     }
 }

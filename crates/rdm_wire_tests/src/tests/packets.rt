@@ -5,11 +5,11 @@ use rdm_wire::PacketFault::{
     WrongStart, WrongSubStart,
 };
 use rdm_wire::{
-    AckType, MuteAck, PacketFault, ReqClass, Request, RespClass, Response, Uid, UidRange,
-    decode_response, encode_branch, encode_mute, encode_request, encode_unmute, reads_mute_ack,
+    AckType, Frame, MuteAck, PacketFault, ReqClass, Request, RespClass, Response, Uid,
+    decode_response, encode_request, reads_mute_ack,
 };
+use std::alloc::Global;
 use std::process::Abort;
-use std::test::Fail;
 
 const OVERFLOW: &str = "cc011a7a7000000100123400000001000300000021006002010202a2";
 
@@ -17,12 +17,6 @@ const MUTE_ACK: &str = "cc011a7a700000010012340000000104000000001100020200000232
 
 const MUTE_ACK_WITH_BINDING: &str =
     "cc01207a700000010012340000000104000000001100020800031234000000020289";
-
-const UNMUTE: &str = "cc0118ffffffffffff7a700000010000010000001000030007de";
-
-const BRANCH: &str = "cc0124ffffffffffff7a700000010003010000001000010c000000000000ffffffffffff0df1";
-
-const MUTE: &str = "cc01181234000000017a7000000100040100000010000200022e";
 
 // A GET by its transaction number.
 const GETS: [(u8, &str); 3] = [
@@ -92,36 +86,17 @@ const FAULTS: [(&str, PacketFault); 14] = [
     ),
 ];
 
-const NO_ACKNOWLEDGEMENTS: [(&str, &str); 8] = [
-    (
-        "three bytes",
-        "cc011b7a70000001001234000000010400000000110002030000000234",
-    ),
-    (
-        "of a GET",
-        "cc011a7a700000010012340000000104000000002100020200000242",
-    ),
-    (
-        "of an unmute",
-        "cc011a7a700000010012340000000104000000001100030200000233",
-    ),
-    (
-        "a timer",
-        "cc011a7a700000010012340000000104010000001100020200000233",
-    ),
-    (
-        "of another device",
-        "cc011a7a700000010012340000000204000000001100020200000233",
-    ),
-    (
-        "to another controller",
-        "cc011a7a700000010112340000000104000000001100020200000233",
-    ),
-    (
-        "a wrong checksum",
-        "cc011a7a700000010012340000000104000000001100020200000233",
-    ),
-    ("no bytes", ""),
+// Of three bytes; of a GET; of an unmute; a timer; of another device; to another controller; with a wrong checksum; no
+// bytes.
+const NO_ACKNOWLEDGEMENTS: [&str; 8] = [
+    "cc011b7a70000001001234000000010400000000110002030000000234",
+    "cc011a7a700000010012340000000104000000002100020200000242",
+    "cc011a7a700000010012340000000104000000001100030200000233",
+    "cc011a7a700000010012340000000104010000001100020200000233",
+    "cc011a7a700000010012340000000204000000001100020200000233",
+    "cc011a7a700000010112340000000104000000001100020200000233",
+    "cc011a7a700000010012340000000104000000001100020200000233",
+    "",
 ];
 
 fn controller() -> Uid {
@@ -150,13 +125,30 @@ fn request(rt: &impl Abort, class: ReqClass, param: &[u8]) -> Request {
 }
 
 // The bytes that a text gives in hexadecimal.
-fn bytes_of(rt: &HostRuntime, text: &str) -> Result<Vec<u8>, Fail> {
-    Ok(hex::decode(rt.alloc(), text).map_err(|_| "hex")?)
+fn bytes_of(rt: &impl Abort, alloc: Global, text: &str) -> Vec<u8> {
+    match hex::decode(alloc, text) {
+        Ok(bytes) => bytes,
+        Err(_) => panic!(rt; "hex"),
+    }
+}
+
+// The frame is these bytes.
+fn is_frame(rt: &impl Abort, alloc: Global, frame: &Frame, text: &str) {
+    let bytes = bytes_of(rt, alloc, text);
+    assert!(rt; frame.as_slice() == bytes.as_slice(), "{text}");
 }
 
 #[test]
-fn encodes_requests(rt: HostRuntime) -> Result<(), Fail> {
+fn encodes_requests(rt: HostRuntime) {
     let get = request(&rt, ReqClass::Get, &[]);
+    for (tn, text) in GETS {
+        let frame = encode_request(&get, controller(), tn);
+        is_frame(&rt, rt.alloc(), &frame, text);
+    }
+}
+
+#[test]
+fn encodes_a_broadcast(rt: HostRuntime) {
     let set = Request {
         target: Uid::ALL,
         sub_device: 0xffff,
@@ -164,30 +156,8 @@ fn encodes_requests(rt: HostRuntime) -> Result<(), Fail> {
         pid: 0x1000,
         param: data(&rt, &[1]),
     };
-    for (tn, text) in GETS {
-        let frame = encode_request(&get, controller(), tn);
-        assert_eq!(rt; frame.as_slice(), bytes_of(&rt, text)?.as_slice(), "{text}");
-    }
     let frame = encode_request(&set, controller(), 255);
-    assert_eq!(rt; frame.as_slice(), bytes_of(&rt, SET)?.as_slice());
-    Ok(())
-}
-
-#[test]
-fn encodes_discovery_commands(rt: HostRuntime) -> Result<(), Fail> {
-    let whole = UidRange {
-        lo: Uid::new(0, 0),
-        hi: Uid::ALL,
-    };
-    let device = device();
-    assert!(rt; !device.is_broadcast());
-    let unmute = encode_unmute(controller(), 0);
-    assert_eq!(rt; unmute.as_slice(), bytes_of(&rt, UNMUTE)?.as_slice());
-    let branch = encode_branch(whole, controller(), 3);
-    assert_eq!(rt; branch.as_slice(), bytes_of(&rt, BRANCH)?.as_slice());
-    let mute = encode_mute(device, controller(), 4);
-    assert_eq!(rt; mute.as_slice(), bytes_of(&rt, MUTE)?.as_slice());
-    Ok(())
+    is_frame(&rt, rt.alloc(), &frame, SET);
 }
 
 // A response of the device to the controller.
@@ -212,79 +182,90 @@ fn response(
     }
 }
 
+// What the bytes are as a response.
+fn decodes_to(rt: &impl Abort, alloc: Global, text: &str, wanted: Result<Response, PacketFault>) {
+    let bytes = bytes_of(rt, alloc, text);
+    assert!(rt; decode_response(&bytes) == wanted, "{text}");
+}
+
 #[test]
-fn decodes(rt: HostRuntime) -> Result<(), Fail> {
+fn decodes(rt: HostRuntime) {
+    let alloc = rt.alloc();
     let part = response(&rt, 0, AckType::Overflow, RespClass::Get, 0x0060, &[1, 2]);
+    decodes_to(&rt, alloc, OVERFLOW, Ok(part));
     let ack = response(&rt, 4, AckType::Ack, RespClass::Discovery, 0x0002, &[0, 0]);
+    decodes_to(&rt, alloc, MUTE_ACK, Ok(ack));
     let mut refusal = response(&rt, 7, AckType::Nack, RespClass::Set, 0xabcd, &[0, 6]);
     refusal.count = 9;
     refusal.sub_device = 0x1234;
-    let rows = [
-        (OVERFLOW, part),
-        (MUTE_ACK, ack),
-        (
-            "cc011a7a7000000100123400000001070209123431abcd0200060422",
-            refusal,
-        ),
-    ];
-    for (text, response) in rows {
-        let bytes = bytes_of(&rt, text)?;
-        assert_eq!(rt; decode_response(&bytes), Ok(response), "{text}");
-    }
-    Ok(())
+    let text = "cc011a7a7000000100123400000001070209123431abcd0200060422";
+    decodes_to(&rt, alloc, text, Ok(refusal));
 }
 
 #[test]
-fn ignores_bytes_after_the_checksum(rt: HostRuntime) -> Result<(), Fail> {
-    let mut bytes = bytes_of(&rt, MUTE_ACK)?;
-    let response = decode_response(&bytes);
-    assert!(rt; response.is_ok());
-    bytes.push(0xff)?;
-    assert_eq!(rt; decode_response(&bytes), response);
-    Ok(())
+fn ignores_bytes_after_the_checksum(rt: HostRuntime) {
+    let ack = response(&rt, 4, AckType::Ack, RespClass::Discovery, 0x0002, &[0, 0]);
+    let text = "cc011a7a700000010012340000000104000000001100020200000232ff";
+    decodes_to(&rt, rt.alloc(), text, Ok(ack));
 }
 
 #[test]
-fn finds_the_first_fault(rt: HostRuntime) -> Result<(), Fail> {
+fn finds_the_first_fault(rt: HostRuntime) {
     for (text, fault) in FAULTS {
-        let bytes = bytes_of(&rt, text)?;
-        assert_eq!(rt; decode_response(&bytes), Err(fault), "{text}");
+        decodes_to(&rt, rt.alloc(), text, Err(fault));
     }
-    Ok(())
 }
 
 // The longest packet: its header, 231 zeros and its checksum.
-fn longest(rt: &impl Abort, header: &[u8], sum: [u8; 2]) -> ArrayVec<u8, 257> {
-    let mut frame = ArrayVec::new();
-    assert!(rt; frame.try_extend_from_slice(header).is_ok());
+fn longest(rt: &impl Abort, alloc: Global, header: &str, sum: [u8; 2]) -> Frame {
+    let mut frame = Frame::new();
+    assert!(rt;
+        frame
+            .try_extend_from_slice(&bytes_of(rt, alloc, header))
+            .is_ok()
+    );
     assert!(rt; frame.try_extend_from_slice(&[0; 231]).is_ok());
     assert!(rt; frame.try_extend_from_slice(&sum).is_ok());
-    assert_eq!(rt; frame.len(), 257);
+    assert!(rt; frame.len() == 257);
     frame
 }
 
 #[test]
-fn longest_packets(rt: HostRuntime) -> Result<(), Fail> {
-    let header = bytes_of(&rt, "cc01ff7a70000001001234000000010000000000210060e7")?;
-    let response = decode_response(&longest(&rt, &header, [0x04, 0x66])).map_err(|_| "a packet")?;
-    assert_eq!(rt; response.param.as_slice(), [0; 231].as_slice());
-    // One byte of data more than the message length has room for.
-    let header = bytes_of(&rt, "cc01ff7a70000001001234000000010000000000210060e8")?;
-    assert_eq!(rt;
-        decode_response(&longest(&rt, &header, [0x04, 0x67])),
-        Err(ParamLengthMismatch)
-    );
-    let header = bytes_of(&rt, "cc01ff1234000000017a70000001000001000000300060e7")?;
-    let set = request(&rt, ReqClass::Set, &[0; 231]);
-    assert_eq!(rt;
-        encode_request(&set, controller(), 0),
-        longest(&rt, &header, [0x04, 0x76])
-    );
-    Ok(())
+fn reads_the_longest_packet(rt: HostRuntime) {
+    let header = "cc01ff7a70000001001234000000010000000000210060e7";
+    match decode_response(&longest(&rt, rt.alloc(), header, [0x04, 0x66])) {
+        Ok(response) => assert!(rt; response.param.as_slice() == [0; 231].as_slice()),
+        Err(_) => panic!(rt; "a packet"),
+    }
+}
+
+// One byte of data more than the message length has room for.
+#[test]
+fn reads_no_longer_packet(rt: HostRuntime) {
+    let header = "cc01ff7a70000001001234000000010000000000210060e8";
+    let frame = longest(&rt, rt.alloc(), header, [0x04, 0x67]);
+    assert!(rt; decode_response(&frame) == Err(ParamLengthMismatch));
 }
 
 #[test]
-fn reads_acknowledgements(rt: HostRuntime) -> Result<(), Fail> {
+fn encodes_the_longest_packet(rt: HostRuntime) {
+    let header = "cc01ff1234000000017a70000001000001000000300060e7";
+    let frame = longest(&rt, rt.alloc(), header, [0x04, 0x76]);
+    let set = request(&rt, ReqClass::Set, &[0; 231]);
+    assert!(rt; encode_request(&set, controller(), 0) == frame);
+}
+
+// Which acknowledgement of the mute with this number bytes are.
+fn acknowledges(rt: &impl Abort, alloc: Global, tn: u8, text: &str, wanted: Option<MuteAck>) {
+    let bytes = bytes_of(rt, alloc, text);
+    assert!(rt;
+        reads_mute_ack(device(), controller(), tn, &bytes) == wanted,
+        "{text}"
+    );
+}
+
+#[test]
+fn reads_acknowledgements(rt: HostRuntime) {
     let plain = MuteAck {
         control: 0,
         binding: None,
@@ -293,29 +274,15 @@ fn reads_acknowledgements(rt: HostRuntime) -> Result<(), Fail> {
         control: 3,
         binding: Some(Uid::new(0x1234, 2)),
     };
-    for (text, ack) in [(MUTE_ACK, plain), (MUTE_ACK_WITH_BINDING, bound)] {
-        let bytes = bytes_of(&rt, text)?;
-        assert_eq!(rt;
-            reads_mute_ack(device(), controller(), 4, &bytes),
-            Some(ack),
-            "{text}"
-        );
-    }
-    Ok(())
+    acknowledges(&rt, rt.alloc(), 4, MUTE_ACK, Some(plain));
+    acknowledges(&rt, rt.alloc(), 4, MUTE_ACK_WITH_BINDING, Some(bound));
 }
 
 #[test]
-fn reads_no_acknowledgements(rt: HostRuntime) -> Result<(), Fail> {
-    for (name, text) in NO_ACKNOWLEDGEMENTS {
-        let bytes = bytes_of(&rt, text)?;
-        assert_eq!(rt;
-            reads_mute_ack(device(), controller(), 4, &bytes),
-            None,
-            "{name}"
-        );
+fn reads_no_acknowledgements(rt: HostRuntime) {
+    for text in NO_ACKNOWLEDGEMENTS {
+        acknowledges(&rt, rt.alloc(), 4, text, None);
     }
     // Of a mute with another transaction number.
-    let bytes = bytes_of(&rt, MUTE_ACK)?;
-    assert_eq!(rt; reads_mute_ack(device(), controller(), 5, &bytes), None);
-    Ok(())
+    acknowledges(&rt, rt.alloc(), 5, MUTE_ACK, None);
 }

@@ -4,7 +4,6 @@ ghost use Rattle.rdm_wire.specs.Uid.{is_broadcast};
 
 use rdm_wire::{Device, DeviceSet, SetFull, Uid, UidRange, UidSet};
 use std::process::Abort;
-use std::test::Fail;
 
 // A device's UID.
 fn uid(rt: &impl Abort, number: u32) -> Uid
@@ -15,60 +14,77 @@ fn uid(rt: &impl Abort, number: u32) -> Uid
     own
 }
 
+// The halves of a range, of which there are two.
+fn halves(rt: &impl Abort, range: UidRange) -> (UidRange, UidRange) {
+    range.halves().expect(rt, "two halves")
+}
+
 #[test]
-fn ranges(rt: HostRuntime) -> Result<(), Fail> {
+fn ranges(rt: HostRuntime) {
     let whole = UidRange::whole();
-    assert_eq!(rt; whole.lo.number(), 0);
-    assert_eq!(rt; whole.hi.number(), 0xffff_ffff_ffff);
-    let (lower, upper) = whole.halves().ok_or("two halves")?;
-    assert_eq!(rt; lower.hi.number(), 0x7fff_ffff_ffff);
-    assert_eq!(rt; upper.lo.number(), 0x8000_0000_0000);
+    assert!(rt; whole.lo.number() == 0);
+    assert!(rt; whole.hi.number() == 0xffff_ffff_ffff);
+    let (lower, upper) = halves(&rt, whole);
+    assert!(rt; lower.hi.number() == 0x7fff_ffff_ffff);
+    assert!(rt; upper.lo.number() == 0x8000_0000_0000);
     assert!(rt; lower.contains(lower.hi) && !lower.contains(upper.lo));
-    let three = UidRange::new(Uid::new(0, 0), Uid::new(0, 2)).ok_or("in order")?;
-    let (two, one) = three.halves().ok_or("two halves")?;
-    assert_eq!(rt; (two.lo, two.hi), (Uid::new(0, 0), Uid::new(0, 1)));
-    assert_eq!(rt; (one.lo, one.hi), (Uid::new(0, 2), Uid::new(0, 2)));
+}
+
+#[test]
+fn small_ranges(rt: HostRuntime) {
+    let three = UidRange::new(Uid::new(0, 0), Uid::new(0, 2)).expect(&rt, "in order");
+    let (two, one) = halves(&rt, three);
+    assert!(rt; (two.lo, two.hi) == (Uid::new(0, 0), Uid::new(0, 1)));
+    assert!(rt; (one.lo, one.hi) == (Uid::new(0, 2), Uid::new(0, 2)));
     assert!(rt; one.halves().is_none());
     assert!(rt; UidRange::new(Uid::new(0, 5), Uid::new(0, 4)).is_none());
-    Ok(())
+}
+
+// Whether the UID with this number was new.
+fn inserts(rt: &impl Abort, set: &mut UidSet, number: u32, wanted: Result<bool, SetFull>) {
+    assert!(rt; set.insert(uid(rt, number)) == wanted);
 }
 
 #[test]
-fn sets(rt: HostRuntime) -> Result<(), Fail> {
+fn sets(rt: HostRuntime) {
     let mut set = UidSet::new();
     assert!(rt; set.is_empty());
-    for number in [7, 3, 9, 3] {
-        let _ = set.insert(uid(&rt, number));
-    }
-    assert_eq!(rt; set.len(), 3);
+    inserts(&rt, &mut set, 7, Ok(true));
+    inserts(&rt, &mut set, 3, Ok(true));
+    inserts(&rt, &mut set, 9, Ok(true));
+    inserts(&rt, &mut set, 3, Ok(false));
+    assert!(rt; set.len() == 3);
     let numbers = [3, 7, 9];
     for (uid, number) in set.iter().zip(numbers.iter()) {
-        assert_eq!(rt; *uid, Uid::new(0x1234, *number));
+        assert!(rt; *uid == Uid::new(0x1234, *number));
     }
     assert!(rt; set.contains(Uid::new(0x1234, 7)) && !set.contains(Uid::new(0x1234, 8)));
-    assert_eq!(rt; set.insert(uid(&rt, 7))?, false);
-    assert_eq!(rt; set.insert(uid(&rt, 8))?, true);
-    assert!(rt; set.copied() == set.clone()?);
-    let mut other = UidSet::new();
-    other.insert(uid(&rt, 1))?;
-    other.copy_from(&set);
-    assert!(rt; other == set);
-    Ok(())
 }
 
 #[test]
-fn a_full_set(rt: HostRuntime) -> Result<(), Fail> {
+fn copies_of_sets(rt: HostRuntime) {
+    let mut set = UidSet::new();
+    inserts(&rt, &mut set, 7, Ok(true));
+    inserts(&rt, &mut set, 8, Ok(true));
+    assert!(rt; set.clone().is_ok_and(|clone| set.copied() == clone));
+    let mut other = UidSet::new();
+    inserts(&rt, &mut other, 1, Ok(true));
+    other.copy_from(&set);
+    assert!(rt; other == set);
+}
+
+#[test]
+fn a_full_set(rt: HostRuntime) {
     let mut set = UidSet::new();
     for number in 0..1024 {
-        assert_eq!(rt; set.insert(uid(&rt, 1024 - number)), Ok(true));
+        inserts(&rt, &mut set, 1024 - number, Ok(true));
     }
     assert!(rt; set.is_full());
-    assert_eq!(rt; set.insert(uid(&rt, 1)), Ok(false));
-    assert_eq!(rt; set.insert(uid(&rt, 0)), Err(SetFull));
-    assert_eq!(rt; set.len(), 1024);
+    inserts(&rt, &mut set, 1, Ok(false));
+    inserts(&rt, &mut set, 0, Err(SetFull));
+    assert!(rt; set.len() == 1024);
     set.clear();
     assert!(rt; set.is_empty());
-    Ok(())
 }
 
 // A device with this control field and no binding UID.
@@ -82,49 +98,72 @@ fn device(rt: &impl Abort, number: u32, control: u16) -> Device
     }
 }
 
-#[test]
-fn sets_of_devices(rt: HostRuntime) -> Result<(), Fail> {
-    let mut set = DeviceSet::new();
-    assert!(rt; set.is_empty());
-    let bound = Device {
-        uid: uid(&rt, 5),
+// Whether the device is new.
+fn adds(rt: &impl Abort, set: &mut DeviceSet, device: Device, wanted: Result<bool, SetFull>)
+    requires { is_broadcast device.uid ≡ false }
+{
+    assert!(rt; set.insert(device) == wanted);
+}
+
+// Device 5, with a binding UID.
+fn bound(rt: &impl Abort) -> Device
+    ensures { is_broadcast result.uid ≡ false }
+{
+    Device {
+        uid: uid(rt, 5),
         control: 2,
         binding: Some(Uid::new(0x1234, 1)),
-    };
-    assert_eq!(rt; set.insert(bound)?, true);
-    assert_eq!(rt; set.insert(device(&rt, 9, 8))?, true);
-    assert_eq!(rt; set.insert(device(&rt, 1, 1))?, true);
-    assert_eq!(rt; set.insert(device(&rt, 5, 4))?, false);
-    assert_eq!(rt; set.len(), 3);
-    assert_eq!(rt; set.get(Uid::new(0x1234, 5)), Some(bound));
-    assert_eq!(rt; set.get(Uid::new(0x1234, 6)), None);
-    assert!(rt; set.contains(Uid::new(0x1234, 9)) && !set.contains(Uid::new(0x1234, 8)));
-    let numbers = [1, 5, 9];
-    for (device, number) in set.iter().zip(numbers.iter()) {
-        assert_eq!(rt; device.uid, Uid::new(0x1234, *number));
     }
-    let uids = set.uids();
-    assert_eq!(rt; uids.len(), 3);
-    assert!(rt; uids.contains(Uid::new(0x1234, 5)) && !uids.contains(Uid::new(0x1234, 6)));
-    let mut other = DeviceSet::new();
-    other.copy_from(&set);
-    assert!(rt; set.copied() == set.clone()? && other == set);
-    other.clear();
-    assert!(rt; other.is_empty() && !set.is_empty());
-    Ok(())
+}
+
+// The devices 1, 5 and 9 in order; device 5 is the one that was put in first.
+fn three_devices(rt: &impl Abort) -> DeviceSet {
+    let mut set = DeviceSet::new();
+    assert!(rt; set.is_empty());
+    adds(rt, &mut set, bound(rt), Ok(true));
+    adds(rt, &mut set, device(rt, 9, 8), Ok(true));
+    adds(rt, &mut set, device(rt, 1, 1), Ok(true));
+    adds(rt, &mut set, device(rt, 5, 4), Ok(false));
+    assert!(rt; set.get(Uid::new(0x1234, 5)) == Some(bound(rt)));
+    set
 }
 
 #[test]
-fn a_full_set_of_devices(rt: HostRuntime) -> Result<(), Fail> {
+fn sets_of_devices(rt: HostRuntime) {
+    let set = three_devices(&rt);
+    assert!(rt; set.len() == 3);
+    assert!(rt; set.get(Uid::new(0x1234, 6)).is_none());
+    assert!(rt; set.contains(Uid::new(0x1234, 9)) && !set.contains(Uid::new(0x1234, 8)));
+    let numbers = [1, 5, 9];
+    for (device, number) in set.iter().zip(numbers.iter()) {
+        assert!(rt; device.uid == Uid::new(0x1234, *number));
+    }
+}
+
+#[test]
+fn copies_of_sets_of_devices(rt: HostRuntime) {
+    let set = three_devices(&rt);
+    let uids = set.uids();
+    assert!(rt; uids.len() == 3);
+    assert!(rt; uids.contains(Uid::new(0x1234, 5)) && !uids.contains(Uid::new(0x1234, 6)));
+    let mut other = DeviceSet::new();
+    other.copy_from(&set);
+    assert!(rt; set.clone().is_ok_and(|clone| set.copied() == clone));
+    assert!(rt; other == set);
+    other.clear();
+    assert!(rt; other.is_empty() && !set.is_empty());
+}
+
+#[test]
+fn a_full_set_of_devices(rt: HostRuntime) {
     let mut set = DeviceSet::new();
     for number in 0..1024 {
-        assert_eq!(rt; set.insert(device(&rt, 1024 - number, 0)), Ok(true));
+        adds(&rt, &mut set, device(&rt, 1024 - number, 0), Ok(true));
     }
     assert!(rt; set.is_full());
-    assert_eq!(rt; set.insert(device(&rt, 1, 1)), Ok(false));
-    assert_eq!(rt; set.insert(device(&rt, 0, 1)), Err(SetFull));
-    assert_eq!(rt; set.len(), 1024);
-    assert_eq!(rt; set.as_slice()[0], device(&rt, 1, 0));
-    assert_eq!(rt; set.uids().len(), 1024);
-    Ok(())
+    adds(&rt, &mut set, device(&rt, 1, 1), Ok(false));
+    adds(&rt, &mut set, device(&rt, 0, 1), Err(SetFull));
+    assert!(rt; set.len() == 1024);
+    assert!(rt; set.as_slice().first() == Some(&device(&rt, 1, 0)));
+    assert!(rt; set.uids().len() == 1024);
 }

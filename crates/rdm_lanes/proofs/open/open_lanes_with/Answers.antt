@@ -3,7 +3,7 @@ use Rattle.rdm_log.specs.log.LogState.{LogState}
 use Rattle.rdm_log.specs.log.Legal.{Legal}
 use Rattle.rdm_lanes.specs.Lines.{IsBetweenTurns}
 use Rattle.rdm_lanes.specs.Lanes.{AllFit}
-use Rattle.rdm_lanes.specs.Publishing.{Publishes}
+use Rattle.rdm_lanes.specs.body.Showing.{Publishes}
 use Rattle.rdm_lanes.specs.Opened.{opened_with}
 use Rattle.rdm_lanes.proofs.OpenLemmas.{few_places, served_opened, fits_opened, new_hold_nothing, new_clients, new_pairs, publishes_opened}
 use Rattle.rdm_lanes.proofs.FirstLemmas.{new_shown_first}

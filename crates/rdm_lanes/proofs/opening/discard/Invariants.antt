@@ -1,5 +1,5 @@
 use Rattle.std.proofs.Common.{length}
-use Rattle.rdm_lanes.specs.Opened.{HoldNothing}
+use Rattle.rdm_lanes.specs.body.Opening.{HoldNothing}
 use Rattle.rdm_lanes.proofs.opening.discard.Given as goal
 
 abbrev pub invariant-loop-client : goal.invariant-loop-client

@@ -1,5 +1,5 @@
 use Rattle.std.proofs.Common.{◌≡◌, length, take, vec_capacity}
-use Rattle.rdm_lanes.specs.Opened.{AreNewWith}
+use Rattle.rdm_lanes.specs.body.Opening.{AreNewWith}
 use Rattle.rdm_lanes.proofs.opening.open_clients.Given as goal
 
 abbrev pub invariant-loop-n : goal.invariant-loop-n

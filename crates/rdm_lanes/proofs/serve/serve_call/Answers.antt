@@ -1,7 +1,7 @@
 use Rattle.std.proofs.Common.{Some, refl, sym, ap, ◌∙◌}
 use Rattle.rdm_lanes.specs.declared.lane.Lane.{Lane}
 use Rattle.rdm_lanes.specs.declared.call.ClientCall.TheVariants.{Submit, Discover}
-use Rattle.rdm_lanes.specs.Serving.{MayMake}
+use Rattle.rdm_lanes.specs.body.Serving.{MayMake}
 use Rattle.rtrb.specs.Ring.{known_items}
 use Rattle.rdm_lanes.proofs.ServeLemmas.{front_of, fits_looked, fits_slot, fits_popped, fits_left}
 use Rattle.rdm_lanes.proofs.serve.serve_call.Goals as goal

@@ -1,6 +1,7 @@
 use Rattle.std.proofs.Common.{◌∙◌, List, length, sym, ap, subst}
 use Rattle.std.proofs.lemmas.List.{length-map}
-use Rattle.rdm_lanes.specs.Pairs.{Rings, RingsPair, seat_rings}
+use Rattle.rdm_lanes.specs.Pairs.{Rings, RingsPair}
+use Rattle.rdm_lanes.specs.body.Seats.{seat_rings}
 use Rattle.rdm_lanes.specs.Ends.{end_rings}
 use Rattle.rdm_lanes.proofs.SeatLemmas.{pairs_kept}
 use Rattle.rdm_lanes.proofs.together.run_lanes.Goals as goal

@@ -1,7 +1,7 @@
 use Rattle.std.proofs.Common.{drop, map}
 use Rattle.std.specs.Prelude.{◌↔◌}
 use Rattle.rdm_log.specs.promises.Headline.{Begins}
-use Rattle.rdm_locked.specs.Exchanges.{frames_in}
+use Rattle.rdm_locked.specs.body.Frames.{frames_in}
 use Rattle.rdm_locked.proofs.exchange.begins_with_frames.Given as goal
 
 abbrev pub invariant-entries : goal.invariant-entries

@@ -2,8 +2,7 @@
 use rdm_agent::{DEFAULT_BUDGET, Kind};
 use rdm_join::Status;
 use rdm_rig::{
-    Act, Came, Ending, Found, Heard, Stage, Step, Stop, Who, moved, one_device, open_session,
-    tape_of, two_devices,
+    Act, Came, Ending, Found, Heard, Stage, Step, Stop, moved, one_device, open_session, tape_of,
 };
 use rdm_wire::AckType;
 use std::alloc::Global;
@@ -112,37 +111,6 @@ fn fails_at(alloc: Global, place: u8) -> Result<u8, Fail> {
 fn a_line_fails_at_each_exchange(rt: HostRuntime) -> Result<(), Fail> {
     for place in 0..=10 {
         assert_eq!(rt; fails_at(rt.alloc(), place)?, failure_at(place).last);
-    }
-    Ok(())
-}
-
-// A run over the devices with the two lowest UIDs, under this budget: how it ends, and in how many frames. It finds both.
-fn seeks_neighbours(alloc: Global, budget: u64, ending: Ending) -> Result<usize, Fail> {
-    let line = two_devices(alloc, [Who::Lowest, Who::NextToLowest])?;
-    let mut stage = open_session(alloc, 1, budget, 1000, line)?;
-    let moves = [
-        JOINS,
-        (
-            Act::Client(0, Step::Discover(Kind::Full, 0)),
-            Heard::Number(0),
-        ),
-        (Act::Work(400), Heard::Worked(Stop::AllLeft)),
-        (COLLECT, Heard::Discovery(0, 1, ending, Found::Neighbours)),
-    ];
-    moved(alloc, &mut stage, &moves)?;
-    Ok(stage.state().counts.frames.0)
-}
-
-#[test]
-fn a_budget_that_suffices_for_neighbours(rt: HostRuntime) -> Result<(), Fail> {
-    let rows = [
-        (299, Ending::Exhausted, 299),
-        (300, Ending::Faultless, 300),
-        (748, Ending::Faultless, 300),
-    ];
-    for (budget, ending, wanted) in rows {
-        let frames = seeks_neighbours(rt.alloc(), budget, ending)?;
-        assert_eq!(rt; frames, wanted);
     }
     Ok(())
 }

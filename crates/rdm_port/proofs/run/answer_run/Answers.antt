@@ -1,7 +1,6 @@
-use Rattle.std.proofs.Common.{◌≡◌, ℕ, List, Option, ap, ◌∙◌, inl, inr}
+use Rattle.std.proofs.Common.{◌≡◌, ℕ, List, Option, refl, ap, ◌∙◌, inl, inr}
 use Rattle.std.specs.Prelude.{◌⊎◌}
 use Rattle.rdm_port.specs.Fault.{ReadsSession, IsServeFault}
-use Rattle.rdm_port.specs.body.Texts.{answer_bytes}
 use Rattle.rdm_serving.specs.SessionReport.{session_text}
 use Rattle.rdm_port.specs.declared.fault.Fault.{Fault}
 use Rattle.rdm_port.specs.declared.fault.Fault.TheVariants.{Memory, Log, Turns}
@@ -17,13 +16,13 @@ fault_is known file reads f (inr (inr is)) = rw is (file, reads)
 pub returns-in-Err-serve-clause-fault : goal.returns-in-Err-serve-clause-fault
 returns-in-Err-serve-clause-fault g c = inl (fault_is (g.R.Read.remaining c.args.reader.now) c.in-Ok.file c.in-Ok.ensures.ok c.refused.result.0 c.refused.ensures)
 
-pub returns-in-Ok-session_text-clause-ok : goal.returns-in-Ok-session_text-clause-ok
-returns-in-Ok-session_text-clause-ok g c = record {
+pub returns-clause-ok : goal.returns-clause-ok
+returns-clause-ok g c = record {
   file = c.in-Ok.file;
   reads = c.in-Ok.ensures.ok;
   outcomes = c.in-Ok-serve.outcomes.items;
   settled = c.in-Ok-serve.ensures.settled;
   logged = c.in-Ok-serve.ensures.logged;
-  prints = ap answer_bytes c.done.ensures.text ∙ (c.in-Ok-session_text.ensures ∙ ap session_text c.deref.ensures.value);
-  ends = c.done.ensures.status;
+  prints = c.in-Ok-session_text.ensures ∙ ap session_text c.deref.ensures.value;
+  ends = refl;
 }

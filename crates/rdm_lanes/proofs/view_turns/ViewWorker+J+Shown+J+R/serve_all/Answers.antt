@@ -1,10 +1,11 @@
 use Rattle.std.proofs.Common.{◌∙◌, ◌≡◌, true, ap, sym, subst, arith}
 use Rattle.std.proofs.lemmas.Option.{same_Some}
 use Rattle.rdm_lanes.specs.declared.worker.Worker.{Worker}
-use Rattle.rdm_lanes.specs.Lines.{Exchanged, NoExchange, SameSwitches, OnlyCollects}
+use Rattle.rdm_lanes.specs.Lines.{Exchanged, SameSwitches}
+use Rattle.rdm_lanes.specs.body.Quiet.{NoExchange, OnlyCollects}
 use Rattle.rdm_lanes.specs.Lanes.{SameLanes}
 use mathlib.Core.List.{IsPrefix}
-use Rattle.rdm_lanes.specs.Publishing.{Publishing}
+use Rattle.rdm_lanes.specs.body.Showing.{Publishing}
 use Rattle.rdm_lanes.proofs.Fronts.{prefix_trans}
 use Rattle.rdm_lanes.proofs.LaneLemmas.{same_lanes_join}
 use Rattle.rdm_lanes.proofs.LineLemmas.{line_same, switches_join}

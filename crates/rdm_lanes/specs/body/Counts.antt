@@ -6,7 +6,8 @@ use Rattle.rtrb.specs.declared.consumer.Consumer.{Consumer}
 use Rattle.rtrb.specs.Ring.{sent as pushed, received as popped}
 use Rattle.rdm_lanes.specs.declared.call.ClientCall.{ClientCall}
 use Rattle.rdm_lanes.specs.declared.ring_outcome.RingOutcome.{RingOutcome}
-use Rattle.rdm_lanes.specs.Calls.{work_in, leave_if}
+use Rattle.rdm_lanes.specs.Calls.{work_in}
+use Rattle.rdm_lanes.specs.body.Leaves.{leave_if}
 
 module _ {P Q : Type 0} where
   -- the counts are those of the rings' items, and nothing was sent after a leave

@@ -1,0 +1,23 @@
+"""Runs the tests of one module for `check_lines`. The last line of the output counts them, as JSON."""
+from __future__ import annotations
+
+import json
+import sys
+import unittest
+from typing import Set
+
+
+def main() -> int:
+    """Runs the module that the first argument names."""
+    tests = unittest.defaultTestLoader.loadTestsFromName(sys.argv[1])
+    result = unittest.TextTestRunner(sys.stderr).run(tests)
+    bad: Set[str] = {test.id() for test, _ in (*result.errors, *result.failures)}
+    bad |= {test.id() for test in result.unexpectedSuccesses}
+    skipped = sorted({f"{test.id()}: {reason}" for test, reason in result.skipped})
+    passed = result.testsRun - len(result.skipped) - len(bad)
+    print(json.dumps({"passed": passed, "failed": len(bad), "skipped": skipped}))
+    return 1 if bad else 0
+
+
+if __name__ == "__main__":
+    sys.exit(main())

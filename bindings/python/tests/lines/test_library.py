@@ -1,0 +1,141 @@
+"""The proved controller on these lines: what needs the C library."""
+from __future__ import annotations
+
+import contextlib
+import io
+import json
+import unittest
+from pathlib import Path
+from typing import Any, List, Tuple
+
+from common import (
+    FIRMWARES, LOSSES, ROOT, SEEDS, SEEDS_OF_LARGE_RIGS, TestCase, adapter, needs_library, one, random_scene, uids_of,
+)
+from search import Controller as OwnController
+from test_discovery import GETS, WASH
+from wurstlinen import commands
+from wurstlinen.lines import Rig
+from wurstlinen.lines.emulator import Widget
+from wurstlinen.lines.packets import parse_uid
+from wurstlinen.lines.scene import Scene
+
+EXAMPLES = ROOT / "examples"
+SOURCE = "7a70:00000100"
+
+
+def printed(*arguments: str) -> Tuple[int, str]:
+    """The status of a command, and its standard output."""
+    out = io.StringIO()
+    with contextlib.redirect_stdout(out), contextlib.redirect_stderr(io.StringIO()):
+        status = commands.main(arguments)
+    return status, out.getvalue()
+
+
+def discover(line: Any, is_quick: bool = False) -> List[int]:
+    """The UIDs that a proved run finds without a fault."""
+    from wurstlinen import DiscoveryAgent, Search, Uid
+    search = Search.QUICK if is_quick else Search.STEADY
+    with DiscoveryAgent(Uid.parse(SOURCE), search=search) as agent:
+        devices = agent.run(line)
+        assert agent.fault() is None
+        return [device.uid.number for device in devices]
+
+
+@needs_library
+class Examples(TestCase):
+    """A rig finds and prints what the proved program does on its own simulated line, frame by frame."""
+
+    def test_each_discovery_of_the_examples(self) -> None:
+        ran = 0
+        for path in sorted(EXAMPLES.glob("*.json.args")):
+            words = path.read_text().split()
+            file = path.with_suffix("")
+            wanted = file.with_suffix(".json.stdout").read_text()
+            if words[0] != "discover" or wanted.startswith("fault: "):
+                continue
+            ran += 1
+            arguments = [word for word in words if word != "{}"] + self.options(file, "--incremental" in words)
+            status, out = printed(*arguments, "--line", f"rig:{file}")
+            self.assertEqual((status, out), (int(wanted.startswith("fault")), wanted), path.name)
+        self.assertGreater(ran, 8)
+
+    def options(self, file: Path, is_incremental: bool) -> List[str]:
+        """What the program reads from the file, and this command from its arguments."""
+        keys = json.loads(file.read_text())
+        known = keys.get("known", []) if is_incremental else []
+        options = [word for uid in known for word in ("--known", uid)]
+        return options + (["--budget", str(keys["budget"])] if "budget" in keys else [])
+
+
+@needs_library
+class Discoveries(TestCase):
+    def check(self, count: int, loss: float, seeds: int) -> None:
+        for firmware in FIRMWARES:
+            with adapter(Rig(one()), Widget(firmware)) as (driver, emulator):
+                for seed in range(seeds):
+                    made = random_scene(count, seed, loss)
+                    emulator.line = Rig(made)
+                    found = discover(driver, is_quick=bool(seed % 2))
+                    self.assertEqual(found, sorted(uids_of(made)), (firmware, count, loss, seed))
+
+    def test_one_fixture(self) -> None:
+        for loss in LOSSES:
+            self.check(1, loss, SEEDS)
+
+    def test_five_fixtures(self) -> None:
+        for loss in LOSSES:
+            self.check(5, loss, SEEDS)
+
+    def test_forty_fixtures_without_losses(self) -> None:
+        self.check(40, 0.0, SEEDS_OF_LARGE_RIGS)
+
+    def test_forty_fixtures_with_a_tenth_lost(self) -> None:
+        self.check(40, 0.1, SEEDS_OF_LARGE_RIGS)
+
+    def test_forty_fixtures_with_half_lost(self) -> None:
+        self.check(40, 0.5, SEEDS_OF_LARGE_RIGS)
+
+
+@needs_library
+class Gets(TestCase):
+    def test_each_is_right_or_a_timeout(self) -> None:
+        for firmware in FIRMWARES:
+            for loss in LOSSES:
+                for seed in range(SEEDS):
+                    made = random_scene(2, seed, loss, fixture=WASH)
+                    with adapter(Rig(made), Widget(firmware)) as (driver, _):
+                        self.check(made, driver, loss)
+
+    def check(self, made: Scene, driver: Any, loss: float) -> None:
+        from wurstlinen import Controller, Status, Uid
+        own = OwnController(Rig(Scene(made.source, made.devices)))
+        with Controller(Uid.parse(SOURCE)) as controller:
+            client = controller.join(1)
+            for uid in sorted(uids_of(made)):
+                for pid, data in GETS:
+                    wanted = own.get(uid, pid, data)
+                    client.get(Uid.from_number(uid), pid, data)
+                    controller.run(driver)
+                    got = client.next_completion()
+                    if got.status == Status.TIMEOUT:
+                        self.assertGreater(loss, 0)
+                        continue
+                    self.assertEqual((got.status, got.data), (Status.COMPLETED, wanted.data))
+                    self.assertEqual(int(got.head.ack), wanted.kind)
+
+    def test_a_queued_message(self) -> None:
+        from wurstlinen import AckType, Controller, Uid
+        rig = Rig(one(timer=0, label="Lamp"))
+        uid = Uid.from_number(parse_uid("1234:00000001"))
+        with Controller(Uid.parse(SOURCE)) as controller:
+            client = controller.join(2)
+            client.get(uid, 0x0082)
+            client.get(uid, 0x0020, b"\x04")
+            controller.run(rig)
+            first, second = client.next_completion(), client.next_completion()
+        self.assertEqual((first.head.ack, first.data), (AckType.TIMER, b"\x00\x00"))
+        self.assertEqual((second.head.pid, second.data), (0x0082, b"Lamp"))
+
+
+if __name__ == "__main__":
+    unittest.main()

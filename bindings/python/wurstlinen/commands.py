@@ -1,0 +1,277 @@
+"""The commands of `python3 -m wurstlinen`.
+
+A command ends with 0 if it was done, with 1 if the line, the device or the library failed, and with 2 if its arguments
+are wrong. Results go to standard output, in the words of docs/FORMATS.md, and reasons to standard error.
+"""
+from __future__ import annotations
+
+import argparse
+import os
+import signal
+import sys
+from typing import TYPE_CHECKING, List, Optional, Sequence, Tuple
+
+from .line import Line, LineFailed
+from .lines import OpenLine, open_line, serve_text
+from .lines.emulator import Emulator, Widget
+from .lines.opening import FORMS
+from .lines.packets import is_broadcast, parse_uid, uid_text
+
+if TYPE_CHECKING:
+    from . import Completion, Device, RunFault
+
+DONE = 0
+FAILED = 1
+# A manufacturer that E1.20 leaves to experiments, for lines that have no UID of their own.
+SOURCE = 0x7FF000000001
+DEFAULT_BUDGET = 384_008
+MOST_BUDGET = 1_000_000_000
+MOST_DATA_BYTES = 231
+ALL_SUB_DEVICES = 0xFFFF
+# The faults of a run, by their numbers.
+RUN_FAULTS = {
+    1: "the branch of {uid} alone was answered, but showed no new device",
+    2: "more than 1024 devices answered",
+    3: "the run has used up its budget of frames",
+    4: "the line failed",
+    5: "the run was aborted",
+}
+
+
+class WatchedLine:
+    """A line that remembers why it failed."""
+
+    def __init__(self, line: Line) -> None:
+        self._line = line
+        self.failure: Optional[LineFailed] = None
+
+    def exchange(self, frame: bytes) -> bytes:
+        """The line's exchange."""
+        try:
+            return self._line.exchange(frame)
+        except LineFailed as failure:
+            self.failure = failure
+            raise
+
+
+def main(arguments: Optional[Sequence[str]] = None) -> int:
+    """Runs a command, and gives its status."""
+    chosen = parser().parse_args(arguments)
+    try:
+        return chosen.run(chosen)
+    except ImportError as error:
+        return fail(f"the C library is needed for this: {error}")
+    except (LineFailed, OSError, ValueError) as error:
+        return fail(str(error))
+    except KeyboardInterrupt:
+        return FAILED
+
+
+def fail(reason: str) -> int:
+    """Says why a command failed."""
+    print(f"wurstlinen: {reason}", file=sys.stderr)
+    return FAILED
+
+
+def parser() -> argparse.ArgumentParser:
+    """What the arguments may be."""
+    whole = argparse.ArgumentParser(prog="python3 -m wurstlinen", description="Works on a line of RDM devices.")
+    commands = whole.add_subparsers(dest="command", required=True, metavar="COMMAND")
+    discover_command = command(commands, "discover", run_discover, "find the devices on a line")
+    discover_command.add_argument("--known", type=device, action="append", default=[], metavar="UID",
+                                  help="a device that is known already; --incremental mutes it first")
+    discover_command.add_argument("--incremental", action="store_true", help="keep known devices that answer")
+    discover_command.add_argument("--quick", action="store_true", help="sweep before searching")
+    discover_command.add_argument("--budget", type=budget, default=DEFAULT_BUDGET, metavar="N",
+                                  help="the most frames to send")
+    get_command = command(commands, "get", run_get, "read a parameter of a device")
+    set_command = command(commands, "set", run_set, "change a parameter of a device")
+    for each in (get_command, set_command):
+        each.add_argument("uid", type=uid, metavar="UID")
+        each.add_argument("pid", type=pid, metavar="PID", help="four hexadecimal digits")
+    get_command.add_argument("data", type=data, nargs="?", default=b"", metavar="BYTES", help="in hexadecimal")
+    set_command.add_argument("data", type=data, metavar="BYTES", help="in hexadecimal; '' for none")
+    for each in (get_command, set_command):
+        each.add_argument("--sub", type=sub_device, default=0, metavar="N", help="the sub-device, 0 to 65535")
+    for each in (discover_command, get_command, set_command):
+        each.add_argument("--source", type=device, metavar="UID", help="the controller's UID")
+    command(commands, "bridge", run_bridge, "be the far end of a line as text on the standard streams")
+    rig_command = command(commands, "rig", run_rig, "emulate an adapter on a pseudo terminal, and print its name",
+                          needs_line=False)
+    rig_command.add_argument("file", nargs="?", metavar="FILE", help="the rig's file; short for --line rig:FILE")
+    rig_command.add_argument("--firmware", type=version, default=(2, 4), metavar="N.N", help="of the adapter")
+    return whole
+
+
+def command(commands: argparse._SubParsersAction, name: str, run: object, text: str,  # type: ignore[type-arg]
+            needs_line: bool = True) -> argparse.ArgumentParser:
+    """A command with its option --line."""
+    made: argparse.ArgumentParser = commands.add_parser(name, help=text, description=text)
+    made.set_defaults(run=run)
+    made.add_argument("--line", required=needs_line, metavar="LINE", help=FORMS)
+    return made
+
+
+def run_discover(chosen: argparse.Namespace) -> int:
+    """Prints the devices, or the fault, and then the number of frames, as `wurstlinen discover` does."""
+    from . import DiscoveryAgent, Kind, Search, Uid
+    kind = Kind.INCREMENTAL if chosen.incremental else Kind.FULL
+    known = [Uid.from_number(each) for each in chosen.known]
+    search = Search.QUICK if chosen.quick else Search.STEADY
+    with open_line(chosen.line) as line:
+        watched = WatchedLine(line)
+        source = Uid.from_number(source_of(chosen, line))
+        with DiscoveryAgent(source, kind, known, budget=chosen.budget, search=search) as agent:
+            devices = agent.run(watched)
+            fault = agent.fault()
+            for text in [device_text(each) for each in devices] if fault is None else [fault_text(fault)]:
+                print(text)
+            print(f"frames {agent.frames()}")
+    if fault is None:
+        return DONE
+    found = ", ".join(str(each.uid) for each in devices) or "none"
+    reason = watched.failure or RUN_FAULTS[fault.kind].format(uid=fault.uid)
+    return fail(f"{reason}; devices found until then: {found}")
+
+
+def run_get(chosen: argparse.Namespace) -> int:
+    """Prints the status of a GET; after status 0 the response type and the data, as `wurstlinen run` does."""
+    return run_request(chosen, is_set=False)
+
+
+def run_set(chosen: argparse.Namespace) -> int:
+    """The same of a SET."""
+    return run_request(chosen, is_set=True)
+
+
+def run_request(chosen: argparse.Namespace, is_set: bool) -> int:
+    """Sends one request by a queue of its own."""
+    from . import Controller, Status, Uid
+    with open_line(chosen.line) as line:
+        watched = WatchedLine(line)
+        with Controller(Uid.from_number(source_of(chosen, line)), 1) as controller:
+            client = controller.join(1)
+            submit = client.set if is_set else client.get
+            submit(Uid.from_number(chosen.uid), chosen.pid, chosen.data, chosen.sub)
+            controller.run(watched)
+            completion = client.next_completion()
+    assert completion is not None
+    print(completion_text(completion))
+    if completion.status == Status.COMPLETED or (is_set and completion.status == Status.WAS_BROADCAST):
+        return DONE
+    return fail(str(watched.failure or completion.status.name.lower().replace("_", " ")))
+
+
+def run_bridge(chosen: argparse.Namespace) -> int:
+    """Serves frames until standard input ends."""
+    with open_line(chosen.line) as line:
+        try:
+            serve_text(line)
+        except KeyboardInterrupt:
+            pass
+    # Whoever read the replies may be gone.
+    sys.stdout = open(os.devnull, "w", encoding="utf-8")
+    return DONE
+
+
+def run_rig(chosen: argparse.Namespace) -> int:
+    """Emulates an adapter until it is interrupted."""
+    if (chosen.file is None) == (chosen.line is None):
+        parser().error("rig: one of FILE and --line is required")
+    text = chosen.line or f"rig:{chosen.file}"
+    with open_line(text) as line, Emulator(line, Widget(firmware=chosen.firmware)) as emulator:
+        try:
+            print(f"enttec:{emulator.path}", flush=True)
+            while True:
+                signal.pause()
+        except KeyboardInterrupt:
+            return DONE
+
+
+def source_of(chosen: argparse.Namespace, line: OpenLine) -> int:
+    """The controller's UID: the one that was asked for, or else the line's."""
+    if chosen.source is not None:
+        return int(chosen.source)
+    return SOURCE if line.source is None else line.source
+
+
+def device_text(found: Device) -> str:
+    """A device's line, as docs/FORMATS.md has it."""
+    words = [str(found.uid)]
+    if found.control or found.binding is not None:
+        words.append(f"{found.control:04x}")
+    if found.binding is not None:
+        words.append(str(found.binding))
+    return " ".join(words)
+
+
+def fault_text(fault: RunFault) -> str:
+    """A fault's line, as docs/FORMATS.md has it."""
+    return f"fault {int(fault.kind)}" + (f" {fault.uid}" if fault.uid is not None else "")
+
+
+def completion_text(completion: Completion) -> str:
+    """A request's result, as docs/FORMATS.md has it."""
+    if completion.head is None:
+        return f"{int(completion.status)}"
+    return f"{int(completion.status)} {int(completion.head.ack):02x} {completion.data.hex() or '-'}"
+
+
+def uid(text: str) -> int:
+    """An argument that is a UID."""
+    try:
+        return parse_uid(text)
+    except ValueError as error:
+        raise argparse.ArgumentTypeError(str(error)) from None
+
+
+def device(text: str) -> int:
+    """An argument that is the UID of one device."""
+    number = uid(text)
+    if is_broadcast(number):
+        raise argparse.ArgumentTypeError(f"{uid_text(number)} is no device's own UID")
+    return number
+
+
+def pid(text: str) -> int:
+    """An argument that is a PID: four hexadecimal digits."""
+    found = data(text)
+    if len(found) != 2:
+        raise argparse.ArgumentTypeError(f"'{text}' isn't a PID of four hexadecimal digits")
+    return int.from_bytes(found, "big")
+
+
+def data(text: str) -> bytes:
+    """An argument of at most 231 bytes in hexadecimal."""
+    try:
+        found = bytes.fromhex(text)
+    except ValueError:
+        found = None
+    if found is None or len(found) > MOST_DATA_BYTES or len(text) != 2 * len(found):
+        raise argparse.ArgumentTypeError(f"'{text}' isn't at most {MOST_DATA_BYTES} bytes in hexadecimal")
+    return found
+
+
+def sub_device(text: str) -> int:
+    """An argument that is a sub-device."""
+    return number_to(text, 0, ALL_SUB_DEVICES)
+
+
+def budget(text: str) -> int:
+    """An argument that is a number of frames."""
+    return number_to(text, 1, MOST_BUDGET)
+
+
+def number_to(text: str, least: int, most: int) -> int:
+    """A decimal number of this range."""
+    if not (text.isascii() and text.isdigit() and least <= int(text) <= most):
+        raise argparse.ArgumentTypeError(f"'{text}' isn't a number from {least} to {most}")
+    return int(text)
+
+
+def version(text: str) -> Tuple[int, int]:
+    """An argument that is a firmware's version."""
+    numbers: List[int] = [int(each) for each in text.split(".") if each.isascii() and each.isdigit()]
+    if len(numbers) != 2 or max(numbers) > 255:
+        raise argparse.ArgumentTypeError(f"'{text}' isn't a version such as 2.4")
+    return numbers[0], numbers[1]

@@ -1,0 +1,29 @@
+"""What all lines of this package have beside `exchange`."""
+from __future__ import annotations
+
+from abc import ABC, abstractmethod
+from types import TracebackType
+from typing import Optional, Type, TypeVar
+
+Self = TypeVar("Self", bound="OpenLine")
+
+
+class OpenLine(ABC):
+    """A line that is open, and is closed at the end of a `with`."""
+
+    # The UID that a controller on this line should have as its own, as a number; None if the line has no say.
+    source: Optional[int] = None
+
+    @abstractmethod
+    def exchange(self, frame: bytes) -> bytes:
+        """Sends a frame, and returns the bytes that came back; `LineFailed` if the exchange failed."""
+
+    def close(self) -> None:
+        """Gives back what the line holds. Closing twice does nothing."""
+
+    def __enter__(self: Self) -> Self:
+        return self
+
+    def __exit__(self, kind: Optional[Type[BaseException]], error: Optional[BaseException],
+                 trace: Optional[TracebackType]) -> None:
+        self.close()

@@ -1,0 +1,173 @@
+"""An emulator of the USB Pro, on a pseudo terminal: an adapter without hardware, with any line behind it.
+
+It behaves as OLA 0.10.9 expects of the adapter, which is all that this project knows about it.
+"""
+from __future__ import annotations
+
+import os
+import select
+import threading
+import time
+import tty
+from dataclasses import dataclass
+from types import TracebackType
+from typing import List, Optional, Tuple, Type
+
+from ..line import Line, LineFailed
+from .enttec import FIRST_FIRMWARE_WITHOUT_BRANCH_ENDS
+from .messages import Label, Message, MessageReader
+from .packets import is_whole_packet
+
+READ_BYTES = 4096
+PIECE_SECONDS = 0.0005
+SECONDS_TO_END = 5.0
+GOOD_STATUS = 0
+BREAK_TIME = 9
+MARK_TIME = 1
+RATE = 40
+
+
+@dataclass(frozen=True)
+class Widget:
+    """How an adapter behaves."""
+
+    firmware: Tuple[int, int] = (2, 4)
+    serial: int = 0x01020304
+    # Whether label 12 follows the reply to a branch; None: as OLA expects it of this firmware.
+    ends_branches: Optional[bool] = None
+    # How many seconds later that label comes.
+    end_delay: float = 0.0
+    # The most bytes that it writes at once; None: all answers to a message at once.
+    piece: Optional[int] = None
+    # What it sends before each of its messages.
+    noise: bytes = b""
+    # The status byte of what it received.
+    status: int = GOOD_STATUS
+    # After so many RDM messages it says nothing more, or goes away in the middle of its answer.
+    hangs_after: Optional[int] = None
+    leaves_after: Optional[int] = None
+    # What it answers to labels 77 and 78, if it does.
+    manufacturer: Optional[int] = None
+    device: Optional[int] = None
+
+    @property
+    def branch_has_end(self) -> bool:
+        """Whether label 12 follows the reply to a branch."""
+        if self.ends_branches is None:
+            return self.firmware < FIRST_FIRMWARE_WITHOUT_BRANCH_ENDS
+        return self.ends_branches
+
+
+class Emulator:
+    """An adapter on a pseudo terminal, from its beginning to the end of a `with`.
+
+    `line` and `widget` may be replaced while no exchange is made.
+    """
+
+    def __init__(self, line: Line, widget: Widget = Widget()) -> None:
+        self.line = line
+        self.widget = widget
+        # How many RDM messages have come.
+        self.messages = 0
+        self._reader = MessageReader()
+        self._own, self._other = os.openpty()
+        # Until a driver has set the terminal up, it mustn't send back what is written to it.
+        tty.setraw(self._other)
+        self.path = os.ttyname(self._other)
+        self._wake, self._waker = os.pipe()
+        self._is_gone = False
+        self._thread = threading.Thread(target=self._serve, name="emulator", daemon=True)
+
+    def __enter__(self) -> Emulator:
+        self._thread.start()
+        return self
+
+    def __exit__(self, kind: Optional[Type[BaseException]], error: Optional[BaseException],
+                 trace: Optional[TracebackType]) -> None:
+        os.close(self._waker)
+        # A line that hangs, or a driver that doesn't read, mustn't hold up the end.
+        self._thread.join(SECONDS_TO_END)
+
+    def wait(self) -> None:
+        """Waits until the adapter has gone."""
+        self._thread.join()
+
+    def _serve(self) -> None:
+        """Answers messages until the `with` ends, or the adapter goes away."""
+        try:
+            while not self._is_gone:
+                ready, _, _ = select.select([self._own, self._wake], [], [])
+                if self._wake in ready:
+                    return
+                for message in self._reader.feed(os.read(self._own, READ_BYTES)):
+                    self._answer(message)
+        except OSError:
+            # Somebody has closed the terminal's other end for good.
+            pass
+        finally:
+            for descriptor in (self._other, self._own, self._wake):
+                os.close(descriptor)
+
+    def _answer(self, message: Message) -> None:
+        if self._is_gone or self._hangs():
+            return
+        if message.label in (Label.SEND_RDM, Label.SEND_BRANCH):
+            self._exchange(message)
+        else:
+            self._write([Message(message.label, answer) for answer in self._facts(message.label)])
+
+    def _facts(self, label: int) -> List[bytes]:
+        """What it says of itself, if anything; a plain USB Pro leaves labels 77 and 78 unanswered."""
+        widget = self.widget
+        if label == Label.SERIAL_NUMBER:
+            return [widget.serial.to_bytes(4, "little")]
+        if label == Label.PARAMETERS:
+            return [bytes([widget.firmware[1], widget.firmware[0], BREAK_TIME, MARK_TIME, RATE])]
+        if label == Label.MANUFACTURER and widget.manufacturer is not None:
+            return [widget.manufacturer.to_bytes(2, "little") + b"Maker"]
+        if label == Label.DEVICE and widget.device is not None:
+            return [widget.device.to_bytes(2, "little") + b"Model"]
+        return []
+
+    def _hangs(self) -> bool:
+        return self.widget.hangs_after is not None and self.messages >= self.widget.hangs_after
+
+    def _exchange(self, message: Message) -> None:
+        """Sends the frame to the line, and what came back to the driver; nothing if the line failed."""
+        self.messages += 1
+        try:
+            reply = self.line.exchange(message.data)
+        except LineFailed:
+            return
+        answers = [Message(Label.RECEIVED, bytes([self.widget.status]) + reply)] if reply else []
+        if self.widget.leaves_after is not None and self.messages > self.widget.leaves_after:
+            self._leave(answers)
+        elif message.label == Label.SEND_BRANCH and reply:
+            self._write_branch_reply(answers)
+        else:
+            is_good = self.widget.status == GOOD_STATUS and is_whole_packet(reply)
+            self._write(answers if is_good else [*answers, Message(Label.RDM_END)])
+
+    def _write_branch_reply(self, answers: List[Message]) -> None:
+        if not self.widget.branch_has_end:
+            self._write(answers)
+        elif self.widget.end_delay:
+            self._write(answers)
+            time.sleep(self.widget.end_delay)
+            self._write([Message(Label.RDM_END)])
+        else:
+            self._write([*answers, Message(Label.RDM_END)])
+
+    def _write(self, messages: List[Message]) -> None:
+        data = b"".join(self.widget.noise + message.encode() for message in messages)
+        size = self.widget.piece or len(data)
+        for start in range(0, len(data), size or 1):
+            os.write(self._own, data[start:start + size])
+            if self.widget.piece:
+                time.sleep(PIECE_SECONDS)
+
+    def _leave(self, answers: List[Message]) -> None:
+        """Goes away in the middle of its answer."""
+        data = b"".join(message.encode() for message in answers) or Message(Label.RDM_END).encode()
+        os.write(self._own, data[:len(data) // 2])
+        self._is_gone = True

@@ -1,0 +1,91 @@
+"""Numbers of E1.20's tables that a rig needs."""
+from __future__ import annotations
+
+from enum import IntEnum
+
+
+class CommandClass(IntEnum):
+    """E1.20, command classes. The class of a response is its command's, plus one."""
+
+    DISCOVERY = 0x10
+    DISCOVERY_RESPONSE = 0x11
+    GET = 0x20
+    GET_RESPONSE = 0x21
+    SET = 0x30
+    SET_RESPONSE = 0x31
+
+
+class ResponseType(IntEnum):
+    """E1.20, response types."""
+
+    ACK = 0
+    ACK_TIMER = 1
+    NACK_REASON = 2
+    ACK_OVERFLOW = 3
+
+
+class Pid(IntEnum):
+    """E1.20, parameter ids."""
+
+    DISC_UNIQUE_BRANCH = 0x0001
+    DISC_MUTE = 0x0002
+    DISC_UN_MUTE = 0x0003
+    QUEUED_MESSAGE = 0x0020
+    STATUS_MESSAGES = 0x0030
+    SUPPORTED_PARAMETERS = 0x0050
+    PARAMETER_DESCRIPTION = 0x0051
+    DEVICE_INFO = 0x0060
+    DEVICE_MODEL_DESCRIPTION = 0x0080
+    MANUFACTURER_LABEL = 0x0081
+    DEVICE_LABEL = 0x0082
+    SOFTWARE_VERSION_LABEL = 0x00C0
+    DMX_PERSONALITY = 0x00E0
+    DMX_PERSONALITY_DESCRIPTION = 0x00E1
+    DMX_START_ADDRESS = 0x00F0
+    SENSOR_DEFINITION = 0x0200
+    SENSOR_VALUE = 0x0201
+    RECORD_SENSORS = 0x0202
+    IDENTIFY_DEVICE = 0x1000
+
+
+# E1.20, supported parameters: what every device has isn't listed.
+UNLISTED_PIDS = frozenset({
+    Pid.DISC_UNIQUE_BRANCH, Pid.DISC_MUTE, Pid.DISC_UN_MUTE, Pid.SUPPORTED_PARAMETERS, Pid.PARAMETER_DESCRIPTION,
+    Pid.DEVICE_INFO, Pid.SOFTWARE_VERSION_LABEL, Pid.DMX_START_ADDRESS, Pid.IDENTIFY_DEVICE,
+})
+
+
+class NackReason(IntEnum):
+    """E1.20, response NACK reason codes."""
+
+    UNKNOWN_PID = 0x0000
+    FORMAT_ERROR = 0x0001
+    HARDWARE_FAULT = 0x0002
+    PROXY_REJECT = 0x0003
+    WRITE_PROTECT = 0x0004
+    UNSUPPORTED_COMMAND_CLASS = 0x0005
+    DATA_OUT_OF_RANGE = 0x0006
+    BUFFER_FULL = 0x0007
+    PACKET_SIZE_UNSUPPORTED = 0x0008
+    SUB_DEVICE_OUT_OF_RANGE = 0x0009
+    PROXY_BUFFER_FULL = 0x000A
+
+
+class StatusType(IntEnum):
+    """E1.20, status types, as a GET of QUEUED_MESSAGE or STATUS_MESSAGES has them."""
+
+    NONE = 0
+    GET_LAST_MESSAGE = 1
+    ADVISORY = 2
+    WARNING = 3
+    ERROR = 4
+
+
+PROTOCOL_VERSION = 0x0100
+ROOT_DEVICE = 0x0000
+ALL_SUB_DEVICES = 0xFFFF
+MOST_LABEL_BYTES = 32
+MOST_DATA_BYTES = 231
+DMX_SLOTS = 512
+NO_DMX_ADDRESS = 0xFFFF
+MOST_QUEUED_MESSAGES = 255

@@ -1,0 +1,37 @@
+"""Lines by their text, as the option `--line` has it."""
+from __future__ import annotations
+
+import shlex
+
+from .base import OpenLine
+from .enttec import EnttecPro
+from .rig import Rig
+from .text import TextLine
+
+FORMS = "enttec:DEVICE, text:FRAMES[,REPLIES], exec:COMMAND or rig:FILE"
+
+
+def open_line(text: str) -> OpenLine:
+    """The line that a text names.
+
+    - `enttec:/dev/ttyUSB0`: a USB Pro on this device;
+    - `text:FRAMES,REPLIES`: a far end behind two files, or behind one for both directions;
+    - `exec:COMMAND`: a far end on the standard streams of a command, whose words are split as a shell does;
+    - `rig:FILE`: simulated fixtures.
+
+    A line that can't be opened is `LineFailed`, a text of no such form or a wrong file `ValueError`, and a file that
+    can't be read `OSError`.
+    """
+    kind, _, rest = text.partition(":")
+    if not rest:
+        raise ValueError(f"'{text}' names no line; a line is {FORMS}")
+    if kind == "enttec":
+        return EnttecPro(rest)
+    if kind == "text":
+        frames, _, replies = rest.partition(",")
+        return TextLine.open(frames, replies or None)
+    if kind == "exec":
+        return TextLine.run(shlex.split(rest))
+    if kind == "rig":
+        return Rig(rest)
+    raise ValueError(f"'{kind}' is no kind of line; a line is {FORMS}")

@@ -1,0 +1,28 @@
+-- Clients beside their bodies, and the rings that they keep.
+use Rattle.std.specs.Prelude.{◌≡◌, ℕ, ◌<◌, List, length, map, Some, slice_get, slice_index_or}
+use Rattle.rtrb.specs.Ring.{SameProducer, SameConsumer}
+use Rattle.rdm_lanes.specs.declared.history.ViewHistory.{Ghosts}
+use Rattle.rdm_lanes.specs.declared.lane.Lane.{Lane}
+use Rattle.rdm_lanes.specs.declared.seat.Seat.{Seat}
+use Rattle.rdm_lanes.specs.Clients.{SameClient}
+use Rattle.rdm_lanes.specs.Pairs.{Rings, RingsPair, client_rings}
+
+-- each is an end of the ring that it was an end of
+pub record SameRings (old new : List Rings) : Type 0 where
+  pub long : length new ≡ length old
+  pub each : (i : ℕ) (a b : Rings) → slice_get old i ≡ Some a → slice_get new i ≡ Some b
+      → SameProducer a.0 b.0 × SameConsumer a.1 b.1
+
+module _ {J : Type 0} {h : Ghosts J} {B C A : Type 0} where
+  abbrev pub seat_rings : Seat J B C A h → Rings
+  seat_rings seat = client_rings seat.client
+
+  -- the same of the clients beside their bodies
+  abbrev pub SeatsPair : List Lane → List (Seat J B C A h) → Type 0
+  SeatsPair lanes seats = RingsPair lanes (map seat_rings seats)
+
+  -- each seat has the client that it had
+  pub record SameSeats (old new : List (Seat J B C A h)) : Type 0 where
+    pub long : length new ≡ length old
+    pub each : (i : ℕ) (d : Seat J B C A h) → i < length old
+        → SameClient (slice_index_or old i d).client (slice_index_or new i d).client

@@ -1,0 +1,2 @@
+-- What only proofs need. Nothing here has to be trusted: no promise speaks of it.
+pub mod Frames
