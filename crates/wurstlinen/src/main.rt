@@ -34,10 +34,7 @@ fn obey<T: Runtime + Threads + Wait + Sync + Files<File = File>>(
     rt: &T,
     alloc: Global,
     args: &[String],
-) -> u8
-where
-    T::Dir: Send,
-{
+) -> u8 {
     match words(alloc, args) {
         Ok(words) => obey_words(rt, alloc, &words),
         Err(_) => print(rt, alloc, Err(WordsFault::NoMemory), &Complaint::Words),
@@ -49,10 +46,7 @@ fn obey_words<T: Runtime + Threads + Wait + Sync + Files<File = File>>(
     rt: &T,
     alloc: Global,
     words: &[&str],
-) -> u8
-where
-    T::Dir: Send,
-{
+) -> u8 {
     match parse_words(alloc, words) {
         Err(WordsFault::Words) => match parse_line_words(alloc, words) {
             Ok(job) => print_on_line(rt, alloc, &job),
@@ -63,14 +57,11 @@ where
 }
 
 // Prints the answer of a discovery on a line on standard output, and the reason of what isn't done on standard error.
-fn print_on_line<T: Runtime + Threads + Wait + Sync + Files<File = File>>(
+fn print_on_line<T: Runtime + Files<File = File>>(
     rt: &T,
     alloc: Global,
     job: &LineDiscovery<'_>,
-) -> u8
-where
-    T::Dir: Send,
-{
+) -> u8 {
     let mut progress = Progressing::new(rt);
     let mut opener = FileOpener::new(rt, alloc);
     let (status, reason) = carry_out_on_line::<TextLine, _, _, _>(

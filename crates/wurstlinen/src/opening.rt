@@ -5,8 +5,7 @@ use std::alloc::Global;
 use std::fs::{File, OpenOptions};
 use std::io::{BufReader, ErrorKind};
 use std::rt::Files;
-use std::thread::Threads;
-use std::{fs, io, thread};
+use std::{fs, io};
 
 /// A line over two open files.
 pub type TextLine = StreamLine<BufReader<File>, File>;
@@ -25,21 +24,23 @@ impl<'r, R> FileOpener<'r, R> {
     }
 }
 
-impl<R: Files<File = File> + Threads + Sync> Opens<TextLine> for FileOpener<'_, R>
-where
-    R::Dir: Send,
-{
-    // The streams are looked at first: to open a FIFO may take until its other end is opened, and that may never be, if
-    // the other stream is missing.
+impl<R: Files<File = File>> Opens<TextLine> for FileOpener<'_, R> {
+    // The streams are looked at first: to open a FIFO to read it takes until its other end is opened, and that may never
+    // be, if the other stream is missing.
     fn open<'a>(&mut self, out: &'a str, replies: &'a str) -> Result<TextLine, Unopened<'a>> {
         for path in [out, replies] {
             if let Err(error) = look_at(self.rt, path) {
                 return Err(Unopened::Stream(path, error.kind()));
             }
         }
-        let (writer, reader) = open_both(self.rt, out, replies);
-        let writer = writer.map_err(|error| Unopened::Stream(out, error.kind()))?;
-        let reader = reader.map_err(|error| Unopened::Stream(replies, error.kind()))?;
+        let writer = match open_out(self.rt, out) {
+            Ok(writer) => writer,
+            Err(error) => return Err(Unopened::Stream(out, error.kind())),
+        };
+        let reader = match File::open(self.rt, replies) {
+            Ok(reader) => reader,
+            Err(error) => return Err(Unopened::Stream(replies, error.kind())),
+        };
         match BufReader::new(self.alloc, reader) {
             Ok(reader) => Ok(StreamLine::new(reader, writer)),
             Err(_) => Err(Unopened::NoMemory),
@@ -55,18 +56,7 @@ fn look_at<R: Files>(rt: &R, path: &str) -> io::Result<()> {
     Ok(())
 }
 
-// Opens both streams at once, so that the far end may open them in either order.
-fn open_both<R: Files<File = File> + Threads + Sync>(
-    rt: &R,
-    out: &str,
-    replies: &str,
-) -> (io::Result<File>, io::Result<File>)
-where
-    R::Dir: Send,
-{
-    thread::join(
-        rt,
-        || OpenOptions::new().append(true).open(rt, out),
-        || File::open(rt, replies),
-    )
+// To open a FIFO to read and write it doesn't wait for its other end. So the far end may open the two in either order.
+fn open_out<R: Files<File = File>>(rt: &R, path: &str) -> io::Result<File> {
+    OpenOptions::new().read(true).append(true).open(rt, path)
 }
