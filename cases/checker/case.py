@@ -2,6 +2,7 @@
 from __future__ import annotations
 
 import enum
+import sys
 from dataclasses import dataclass
 from pathlib import Path
 from typing import Callable, Dict, Optional, Tuple
@@ -34,6 +35,26 @@ class File:
     is_readable: bool = True
 
 
+class Streams(enum.Enum):
+    """What the streams `out` and `replies` of a line are, and which of them its far end opens first."""
+
+    FILES = "files"
+    OUT_FIRST = "fifos, out first"
+    REPLIES_FIRST = "fifos, replies first"
+    TERMINAL = "terminal"
+
+
+@dataclass(frozen=True)
+class FarEnd:
+    """The far end of a line: it writes a script of replies, or else those of fixtures."""
+
+    streams: Streams
+    replies: Optional[Tuple[bytes, ...]] = None
+    fixtures: Tuple[int, ...] = ()
+    # It answers so many frames, and then goes away.
+    most: int = sys.maxsize
+
+
 @dataclass(frozen=True)
 class Expected:
     """What the program has to print, and its status. What is None isn't compared."""
@@ -46,6 +67,8 @@ class Expected:
     # Standard error is one line, and begins with this text.
     err_begins: Optional[bytes] = None
     form: Optional[Form] = None
+    # The lines that go to a line's far end.
+    sent: Optional[Tuple[bytes, ...]] = None
 
 
 @dataclass(frozen=True)
@@ -61,6 +84,7 @@ class Case:
     program: str = PROGRAM_NAME
     output: Output = Output.READ
     times: int = 1
+    far_end: Optional[FarEnd] = None
 
 
 @dataclass(frozen=True)
@@ -70,6 +94,7 @@ class Answer:
     status: int
     out: bytes
     err: bytes
+    sent: Tuple[bytes, ...] = ()
 
 
 @dataclass(frozen=True)

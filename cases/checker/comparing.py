@@ -16,6 +16,7 @@ def differences(expected: Expected, answer: Answer, first: Optional[Answer]) -> 
         *differences_of_status(expected, answer),
         *differences_of_output(expected, answer),
         *differences_of_error(expected, answer),
+        *differences_of_sent(expected, answer),
         *differences_of_two(first, answer),
     ]
 
@@ -43,6 +44,12 @@ def differences_of_error(expected: Expected, answer: Answer) -> Iterator[str]:
         yield f"standard error: wanted a text with {shown(expected.err_has)}, got {shown(answer.err)}"
     if expected.err_begins is not None and not is_line(expected.err_begins, answer.err):
         yield f"standard error: wanted one line with {shown(expected.err_begins)} first, got {shown(answer.err)}"
+
+
+def differences_of_sent(expected: Expected, answer: Answer) -> Iterator[str]:
+    """The frames that went to the far end are those that are expected."""
+    if expected.sent not in (None, answer.sent):
+        yield from wanted_and_got("sent", b"\n".join(expected.sent or ()), b"\n".join(answer.sent))
 
 
 def differences_of_two(first: Optional[Answer], answer: Answer) -> Iterator[str]:

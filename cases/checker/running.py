@@ -5,12 +5,13 @@ import os
 import shutil
 import subprocess
 import tempfile
-from dataclasses import dataclass, field
+from dataclasses import dataclass, field, replace
 from pathlib import Path
 from typing import IO, Any, Dict, List, Tuple, Union
 
 from .case import Answer, Arguments, Case, File, Output
 from .comparing import differences
+from .far_end import attached
 
 SECONDS = 120
 MOST_SHOWN = 200
@@ -51,7 +52,7 @@ class Runner:
         first = None
         for arguments in case.commands:
             try:
-                answer = self._answer(case, arguments)
+                answer = self._answer_on_line(case, arguments)
             except subprocess.TimeoutExpired:
                 return (shown_command(case, arguments), f"it didn't end within {SECONDS} seconds")
             problems = differences(case.expected, answer, first)
@@ -59,6 +60,13 @@ class Runner:
                 return (shown_command(case, arguments), *problems)
             first = answer
         return ()
+
+    def _answer_on_line(self, case: Case, arguments: Arguments) -> Answer:
+        if case.far_end is None:
+            return self._answer(case, arguments)
+        with attached(case.far_end, self.folder) as sent:
+            answer = self._answer(case, arguments)
+        return replace(answer, sent=tuple(sent))
 
     def _answer(self, case: Case, arguments: Arguments) -> Answer:
         command: List[Union[str, bytes]] = [str(self.programs / case.program), *arguments]

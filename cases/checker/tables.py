@@ -2,11 +2,13 @@
 from __future__ import annotations
 
 import re
+import sys
 from dataclasses import dataclass
 from pathlib import Path
 from typing import Dict, Iterator, List, Optional, Tuple
 
-from .case import FILE_NAME, OTHER_PROGRAM_NAME, PROGRAM_NAME, Arguments, Case, Expected, File, Output, Subject
+from .case import FILE_NAME, OTHER_PROGRAM_NAME, PROGRAM_NAME, Arguments, Case, Expected, FarEnd, File, Output
+from .case import Streams, Subject
 
 FIELD = re.compile(r"([a-z-]+)(?: (.*))?")
 INDENT = "    "
@@ -18,8 +20,11 @@ ESCAPED = {b"n": b"\n", b"r": b"\r", b"t": b"\t", b"\\": b"\\", b'"': b'"'}
 REPEATED = re.compile(r"\{(\d+) x ([^{}]+)\}")
 NAMED_TEXT = re.compile(r"\{([a-z ]+)\}")
 PORTS = (b"locked", b"rings")
+# A reply without bytes.
+NOTHING = "nothing"
 FIELDS = frozenset(
-    "case args file bytes path length unreadable ports program stdout out err err-has status".split()
+    "case args file bytes path length unreadable ports program stdout out err err-has status"
+    " line replies fixtures answers sent".split()
 )
 
 Fields = Dict[str, str]
@@ -124,7 +129,28 @@ def case_of(fields: Fields) -> Case:
         files=tuple(files_of(fields)),
         program=program,
         output=output_of(fields),
+        far_end=far_end_of(fields),
     )
+
+
+def far_end_of(fields: Fields) -> Optional[FarEnd]:
+    """The far end of a line, if there is one."""
+    if "line" not in fields:
+        return None
+    names = [streams.value for streams in Streams]
+    if fields["line"] not in names:
+        raise ValueError(f"line: expected one of {'; '.join(names)}")
+    return FarEnd(
+        streams=Streams(fields["line"]),
+        replies=replies_in(fields["replies"]) if "replies" in fields else None,
+        fixtures=tuple(int(uid.replace(":", ""), 16) for uid in fields.get("fixtures", "").split()),
+        most=number_of(fields, "answers", sys.maxsize),
+    )
+
+
+def replies_in(text: str) -> Tuple[bytes, ...]:
+    """The lines of a script; a line in a table can't be empty."""
+    return tuple(b"" if line == NOTHING else line.encode() for line in text.split())
 
 
 def output_of(fields: Fields) -> Output:
@@ -201,6 +227,7 @@ def expected_of(fields: Fields) -> Expected:
         out=lines_of(fields, "out"),
         err=lines_of(fields, "err"),
         err_has=fields["err-has"].encode() if "err-has" in fields else None,
+        sent=tuple(fields["sent"].encode().split()) if "sent" in fields else None,
     )
 
 

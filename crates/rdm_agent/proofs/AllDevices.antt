@@ -15,7 +15,9 @@ none_some : (u : ℕ) → None ≡ Some u → ⊥
 none_some u h = cc
 
 -- only a present device acknowledges
-acked-mute : (present : List ℕ) (s new : LineState) (u v : ℕ) (ack : MuteAck) (b : Bool) → has present v ≡ b → MatchBool b (MuteMoves v s (Acked ack) new) ((Acked ack ≡ Silent) × KeepsMuted v s new × Counts new 0 0 0) → Some v ≡ Some u → has present u ≡ true
+acked-mute : (present : List ℕ) (s new : LineState) (u v : ℕ) (ack : MuteAck) (b : Bool) → has present v ≡ b
+    → MatchBool b (MuteMoves v s (Acked ack) new) ((Acked ack ≡ Silent) × KeepsMuted v s new × Counts new 0 0 0)
+    → Some v ≡ Some u → has present u ≡ true
 acked-mute present s new u v ack true e step p = subst (λ o. of_option o) p e
   where
     of_option : Option ℕ → Type 0
@@ -56,7 +58,8 @@ present_from present s (e ∷ x) u ok c h =
     ]
 
 -- a device that is due is one of those due
-lost_le : (test other : ℕ → Bool) (present : List ℕ) (u : ℕ) (h : Heard) (a b : ℕ) → test u ≡ other u → has present u ≡ true → a ≤ b → lost_after (filter other (u ∷ [])) h a ≤ lost_after (filter test present) h b
+lost_le : (test other : ℕ → Bool) (present : List ℕ) (u : ℕ) (h : Heard) (a b : ℕ) → test u ≡ other u
+    → has present u ≡ true → a ≤ b → lost_after (filter other (u ∷ [])) h a ≤ lost_after (filter test present) h b
 lost_le test other [] u h a b same here le = absurd (true≢false (sym here))
 lost_le test other (p ∷ present) u h a b same here le =
     by_test (λ rest. lost_le test other present u h a b same rest le) (cases_Bool (other u)) (cases_Bool (test p))
@@ -69,7 +72,9 @@ lost_le test other (p ∷ present) u h a b same here le =
     in_rest due after (inl is) = absurd (true≢false (sym due ∙ sym same ∙ ap test (eqb-true u p is) ∙ after))
     in_rest due after (inr rest) = rest
 
-    by_test : (has present u ≡ true → lost_after (filter other (u ∷ [])) h a ≤ lost_after (filter test present) h b) → (other u ≡ true) ⊎ (other u ≡ false) → (test p ≡ true) ⊎ (test p ≡ false) → lost_after (filter other (u ∷ [])) h a ≤ lost_after (filter test (p ∷ present)) h b
+    by_test : (has present u ≡ true → lost_after (filter other (u ∷ [])) h a ≤ lost_after (filter test present) h b)
+        → (other u ≡ true) ⊎ (other u ≡ false) → (test p ≡ true) ⊎ (test p ≡ false)
+        → lost_after (filter other (u ∷ [])) h a ≤ lost_after (filter test (p ∷ present)) h b
     by_test onward (inr no_due) _ = rw no_due (omega arith)
     by_test onward (inl due) (inl front) = rw (due, front) (cond_le (is_silent h))
     by_test onward (inl due) (inr after) = rw after (onward (in_rest due after (or_cases (u == p) (has present u) here)))
@@ -124,7 +129,10 @@ below_branch present u lo hi s t new h here under step = record {
     few_lost : {x y : ℕ} → x ≤ y → y ≤ 4 → x ≤ 4
     few_lost p q = omega arith
 
-below_mute : (present : List ℕ) (u v : ℕ) (s t new : LineState) (h : Heard) (b : Bool) → (u == v) ≡ b → has present u ≡ true → IsBelow u t s → HonestStep present s (Mute v) h new → (state : LineState) × IsBelow u state new × MatchBool b (MuteMoves u t h state) (KeepsMuted u t state × Counts state 0 0 0)
+below_mute : (present : List ℕ) (u v : ℕ) (s t new : LineState) (h : Heard) (b : Bool) → (u == v) ≡ b
+    → has present u ≡ true → IsBelow u t s → HonestStep present s (Mute v) h new
+    → (state : LineState) × IsBelow u state new × MatchBool b (MuteMoves u t h state)
+    (KeepsMuted u t state × Counts state 0 0 0)
 unfolding with_counts
 below_mute present u v s t new h true is here under step = of_moves (subst (λ (w : ℕ). MuteMoves w s h new) (sym same) (at_present step.1))
   where
@@ -164,7 +172,9 @@ below_mute present u v s t new h false other here under step = at_present (cases
     of_moves (inl acked) = lost acked.2
     of_moves (inr silent) = lost silent.2
 
-    at_present : (has present v ≡ true) ⊎ (has present v ≡ false) → MatchBool (has present v) (MuteMoves v s h new) ((h ≡ Silent) × KeepsMuted v s new × Counts new 0 0 0) → (state : LineState) × IsBelow u state new × (KeepsMuted u t state × Counts state 0 0 0)
+    at_present : (has present v ≡ true) ⊎ (has present v ≡ false)
+        → MatchBool (has present v) (MuteMoves v s h new) ((h ≡ Silent) × KeepsMuted v s new × Counts new 0 0 0)
+        → (state : LineState) × IsBelow u state new × (KeepsMuted u t state × Counts state 0 0 0)
     at_present (inl p) m = of_moves (subst (λ b. MatchBool b (MuteMoves v s h new) ((h ≡ Silent) × KeepsMuted v s new × Counts new 0 0 0)) p m)
     at_present (inr p) m = stays (subst (λ b. MatchBool b (MuteMoves v s h new) ((h ≡ Silent) × KeepsMuted v s new × Counts new 0 0 0)) p m).2
 
@@ -176,7 +186,13 @@ below_step present u s t new (Mute v) h here under step =
 below_step present u s t new Unmute h here under step = record {
   state = with_counts new 0 0 (t.unmutes + 1);
   below = is_below u new 0 0 (t.unmutes + 1) 0 0 (s.unmutes + 1) step.1 (omega arith) (omega arith) (ap (λ n. n + 1) under.unmutes);
-  step = (record { fewer = λ m. under.muted ∙ (step.0 u).fewer m; third = λ three. (step.0 u).third (subst (λ n. 3 ≤ n + 1) under.unmutes three) }, counted new 0 0 (t.unmutes + 1) (omega arith) (omega arith));
+  step = (
+    record {
+      fewer = λ m. under.muted ∙ (step.0 u).fewer m;
+      third = λ three. (step.0 u).third (subst (λ n. 3 ≤ n + 1) under.unmutes three);
+    },
+    counted new 0 0 (t.unmutes + 1) (omega arith) (omega arith),
+  );
 }
 below_step present u s t new Other h here under step = record {
   state = with_counts new 0 0 0;

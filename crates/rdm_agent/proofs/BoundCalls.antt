@@ -13,7 +13,8 @@ module _ (a : AgentState) (run : RunSoFar) (stands : HasRunBy run.search run.kin
   not_aborted = subst (λ b. HasRunBy run.search run.kind run.known run.budget b run.exchanges a) calm.not_aborted stands
 
   within : EndsWithin (enough_by run.search present run.kind run.known) a
-  within = ends_in_bound_by run.search run.kind run.known run.budget run.exchanges a not_aborted.devices (runs-own run.kind run.known run.budget run.exchanges a not_aborted) present calm.calm calm.budgeted
+  within = ends_in_bound_by run.search run.kind run.known run.budget run.exchanges a not_aborted.devices
+      (runs-own run.kind run.known run.budget run.exchanges a not_aborted) present calm.calm calm.budgeted
 
   pub frames-in_bound : a.frames ≤ enough_by run.search present run.kind run.known
   frames-in_bound = within.at_most

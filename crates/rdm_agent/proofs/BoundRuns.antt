@@ -27,7 +27,9 @@ use Rattle.rdm_agent.proofs.Runs.{stands_by, wanted_next}
 
 module _ (present : List ℕ) (set : IsDeviceSet present) (few : length present ≤ MOST_DEVICES) (total : ℕ) where
   -- an exchange leaves a run within its bound
-  fed-affords : (s new : LineState) (a : AgentState) (asked : Asked) (h : Heard) → h ≢ Failed → wanted a.phase ≡ Some asked → HonestStep present s asked h new → Affords present total s a → Affords present total new (fed a h)
+  fed-affords : (s new : LineState) (a : AgentState) (asked : Asked) (h : Heard) → h ≢ Failed
+      → wanted a.phase ≡ Some asked → HonestStep present s asked h new → Affords present total s a
+      → Affords present total new (fed a h)
   fed-affords s new a asked h sound asks step affords = of_heard h sound step
     where
       After : Heard → Phase → Option Asked → Type 0
@@ -39,7 +41,9 @@ module _ (present : List ℕ) (set : IsDeviceSet present) (few : length present 
       by_phase (Searching silences top below) h sound costs = λ step. searching-affords present set few total affords.cost s new a affords.within silences top below h sound affords.finds step costs
       by_phase (MutingRead u tries top below) h sound costs = λ step. read-affords present set few total affords.cost s new a affords.within u tries top below h sound affords.finds step costs
       by_phase (Sweeping sweep top below) h sound costs = λ step. sweeping-affords present set few total affords.cost s new a affords.within sweep top below h sound affords.finds step costs
-      by_phase (MutingSwept u tries sweep top below) h sound costs = λ step. swept-affords present set few total affords.cost s new a affords.within u tries sweep top below h sound affords.finds step costs
+      by_phase (MutingSwept u tries sweep top below) h sound costs =
+          λ step. swept-affords present set few total affords.cost s new a affords.within u tries sweep top below h
+          sound affords.finds step costs
       by_phase (Doubting sweep top below) h sound costs = λ step. doubting-affords present set few total affords.cost s new a affords.within sweep top below h sound affords.finds step costs
       by_phase (Ended fault) h sound costs = tt
 
@@ -63,11 +67,14 @@ runs-afford present set few total kind known budget (e ∷ x) s a b sound (inr s
     (fed-affords present set few total s step.0 a e.asked e.heard sound.0 (wanted_next kind known budget a e.asked run.0).1 step.1 affords)
 
 -- a run that goes on still costs an exchange at least
-ended_or_pays : (search : Search) (present : List ℕ) (s : LineState) (found : List ℕ) (phase : Phase) (cost : ℕ) → Costs search present s found phase cost → (phase ≡ Ended None) ⊎ ((2 ≤ cost) × (wanted phase ≢ None))
+ended_or_pays : (search : Search) (present : List ℕ) (s : LineState) (found : List ℕ) (phase : Phase) (cost : ℕ)
+    → Costs search present s found phase cost → (phase ≡ Ended None) ⊎ ((2 ≤ cost) × (wanted phase ≢ None))
 ended_or_pays search present s found (Unmuting more known) cost c = let some = c.some in let is = c.cost_is in inr (omega arith, λ p. cc)
 ended_or_pays search present s found (MutingKnown u tries known) cost c = let few = c.few in let is = c.cost_is in inr (omega arith, λ p. cc)
-ended_or_pays search present s found (Searching silences top below) cost c = let few = c.few in let is = c.cost_is in let some = Covers-some present found top below c.ranges c.covered in inr (omega arith, λ p. cc)
-ended_or_pays search present s found (MutingRead u tries top below) cost c = let few = c.few in let is = c.cost_is in let some = read-some present s found u tries top below cost c in inr (omega arith, λ p. cc)
+ended_or_pays search present s found (Searching silences top below) cost c = let few = c.few in
+    let is = c.cost_is in let some = Covers-some present found top below c.ranges c.covered in inr (omega arith, λ p. cc)
+ended_or_pays search present s found (MutingRead u tries top below) cost c = let few = c.few in
+    let is = c.cost_is in let some = read-some present s found u tries top below cost c in inr (omega arith, λ p. cc)
 ended_or_pays search present s found (Sweeping sweep top below) cost c = let below = c.below in let enough = c.enough in inr (omega arith, λ p. cc)
 ended_or_pays search present s found (MutingSwept u tries sweep top below) cost c = let few = c.few in let below = c.below in let enough = c.enough in inr (omega arith, λ p. cc)
 ended_or_pays search present s found (Doubting sweep top below) cost c = let below = c.below in let enough = c.enough in inr (omega arith, λ p. cc)
@@ -97,7 +104,8 @@ abbrev search_cost : Search → List ℕ → ℕ
 search_cost Steady present = 10 + length present * 740
 search_cost Quick present = 220 + length present * 740
 
-start-affords : (search : Search) (present : List ℕ) (muted : ℕ → Bool) (kind : Kind) (known : List ℕ) (budget : ℕ) → Affords present (2 * enough_by search present kind known) (before_run muted) (start_by search kind known budget)
+start-affords : (search : Search) (present : List ℕ) (muted : ℕ → Bool) (kind : Kind) (known : List ℕ) (budget : ℕ)
+    → Affords present (2 * enough_by search present kind known) (before_run muted) (start_by search kind known budget)
 start-affords search present muted kind known budget = record {
   cost = 6 + 10 * length (known_of kind known) + search_cost search present;
   costs = record { ranges = search_cost search present; some = omega arith; none_found = refl; ahead = ahead search; cost_is = omega arith };
@@ -122,7 +130,9 @@ start-affords search present muted kind known budget = record {
 pub ends_in_bound_by : (search : Search) → EndsInBoundBy search
 ends_in_bound_by search kind known budget x b set run present calm enough =
     let honest = calm.honest in
-    let paid = runs-afford present honest.0 calm.few (2 * enough_by search present kind known) kind known budget x (before_run honest.1) (start_by search kind known budget) b calm.no_failure honest.2 run (start-affords search present honest.1 kind known budget) in
+    let paid = runs-afford present honest.0 calm.few (2 * enough_by search present kind known) kind known budget x
+    (before_run honest.1) (start_by search kind known budget) b calm.no_failure honest.2 run
+    (start-affords search present honest.1 kind known budget) in
     ends_within present paid.0 b (enough_by search present kind known) (rw (stands_by search kind known budget x b set run).budget_is enough) paid.1
 
 -- the same of the steady search
@@ -135,7 +145,9 @@ default_suffices present known Full few few_known = omega arith
 default_suffices present known Incremental few few_known = omega arith
 
 -- for a quick search too, but where there are most devices and as many known UIDs
-pub quick_suffices : (present known : List ℕ) (kind : Kind) → length present ≤ 1024 → length known ≤ 1024 → (length present ≤ 1023) ⊎ (length (known_of kind known) ≤ 1003) → enough_by Quick present kind known ≤ DEFAULT_BUDGET
+pub quick_suffices : (present known : List ℕ) (kind : Kind) → length present ≤ 1024 → length known ≤ 1024
+    → (length present ≤ 1023) ⊎ (length (known_of kind known) ≤ 1003)
+    → enough_by Quick present kind known ≤ DEFAULT_BUDGET
 quick_suffices present known Full few few_known (inl fewer) = omega arith
 quick_suffices present known Full few few_known (inr fewer) = omega arith
 quick_suffices present known Incremental few few_known (inl fewer) = omega arith

@@ -79,11 +79,13 @@ fits_goes reply op fitting end = never reply (subst (λ o. fits reply o ≡ true
     never Failed e = true≢false (sym e)
 
 -- an agent that wasn't aborted has run
-pub runs-own : {search : Search} (kind : Kind) (known : List ℕ) (budget : ℕ) (x : List Seen) (a : AgentState) → HasRunBy search kind known budget false x a → Runs (start_by search kind known budget) x a
+pub runs-own : {search : Search} (kind : Kind) (known : List ℕ) (budget : ℕ) (x : List Seen) (a : AgentState)
+    → HasRunBy search kind known budget false x a → Runs (start_by search kind known budget) x a
 runs-own {search} kind known budget x a s = subst (λ b. Runs (start_by search kind known budget) x b) (sym s.is) s.runs
 
 -- what was asked next is answered
-pub hears-has_run : {search : Search} (a b : AgentState) (e : Seen) → next_of a ≡ Some e.asked → b ≡ fed a e.heard → OfEach search a (λ kind known budget aborted x. HasRunBy search kind known budget false (x ++ e ∷ []) b)
+pub hears-has_run : {search : Search} (a b : AgentState) (e : Seen) → next_of a ≡ Some e.asked → b ≡ fed a e.heard
+    → OfEach search a (λ kind known budget aborted x. HasRunBy search kind known budget false (x ++ e ∷ []) b)
 hears-has_run {search} a b e next is kind known budget false x s = record {
   devices = s.devices;
   before = fed a e.heard;
@@ -95,7 +97,9 @@ hears-has_run {search} a b e next is kind known budget true x s = absurd (some_n
     some_none : Some e.asked ≡ None → ⊥
     some_none never = cc
 
-pub feed-stands : {search : Search} (a b : AgentState) (reply : OpReply) → fits reply (next_op a) ≡ true → b ≡ fed a (heard_by reply) → OfEach search a (λ kind known budget aborted x. HasRunBy search kind known budget false (x ++ seen_op (next_op a, reply) ∷ []) b)
+pub feed-stands : {search : Search} (a b : AgentState) (reply : OpReply) → fits reply (next_op a) ≡ true
+    → b ≡ fed a (heard_by reply) → OfEach search a
+    (λ kind known budget aborted x. HasRunBy search kind known budget false (x ++ seen_op (next_op a, reply) ∷ []) b)
 feed-stands a b reply fitting is = hears-has_run a b (seen_op (next_op a, reply)) (next_asked a (fits_goes reply (next_op a) fitting)) is
 
 -- what is asked stands in order
@@ -116,8 +120,12 @@ next-failed {search} a kind known budget false x s failed = none_ends a ((ends_a
 next-failed {search} a kind known budget true x s failed = rw s.is.1 (aborted_ends s.before)
 
 pub frames-counted : {search : Search} (a : AgentState) → OfEach search a (λ kind known budget aborted x. (a.frames ≡ length x) × (a.frames ≤ budget))
-frames-counted {search} a kind known budget false x s = let all = asks_in_order_by search kind known budget x a s.devices (runs-own kind known budget x a s) in let is : a.frames ≡ length x = all.1 in let most : length x ≤ budget = all.2 in (is, omega arith)
-frames-counted {search} a kind known budget true x s = let all = asks_in_order_by search kind known budget x s.before s.devices s.runs in let is : a.frames ≡ length x = rw s.is.1 all.1 in let most : length x ≤ budget = all.2 in (is, omega arith)
+frames-counted {search} a kind known budget false x s =
+    let all = asks_in_order_by search kind known budget x a s.devices (runs-own kind known budget x a s) in
+    let is : a.frames ≡ length x = all.1 in let most : length x ≤ budget = all.2 in (is, omega arith)
+frames-counted {search} a kind known budget true x s =
+    let all = asks_in_order_by search kind known budget x s.before s.devices s.runs in
+    let is : a.frames ≡ length x = rw s.is.1 all.1 in let most : length x ≤ budget = all.2 in (is, omega arith)
 
 -- a run that was aborted has that fault
 aborted-fault : (a before : AgentState) → a ≡ ended_by_abort before → fault_of a.phase ≡ Some Aborted
@@ -139,11 +147,15 @@ module _ (a : AgentState) (end : next_op a ≡ End) (no_fault : fault_of a.phase
   end-finds_all {search} kind known budget true x s present honest = absurd (some_none (fault_of a.phase) (aborted-fault a s.before s.is.1) no_fault)
 
   pub end-finds_each : {search : Search} → OfEach search a (λ kind known budget aborted x. (u : ℕ) → IsDevice u → HonestTo u x → has (found_uids a) u ≡ true)
-  end-finds_each {search} kind known budget false x s u device honest = finds_each_by search kind known budget x a s.devices (runs-own kind known budget x a s) u (next_none a end) no_fault device honest
+  end-finds_each {search} kind known budget false x s u device honest =
+      finds_each_by search kind known budget x a s.devices (runs-own kind known budget x a s) u (next_none a end)
+      no_fault device honest
   end-finds_each {search} kind known budget true x s u device honest = absurd (some_none (fault_of a.phase) (aborted-fault a s.before s.is.1) no_fault)
 
   pub end-finds_staying : {search : Search} → OfEach search a (λ kind known budget aborted x. (sets : List (List ℕ)) (u : ℕ) → HonestOver sets x → IsInEach u sets → has (found_uids a) u ≡ true)
-  end-finds_staying {search} kind known budget false x s sets u honest each = finds_staying_by search kind known budget x a s.devices (runs-own kind known budget x a s) sets u (next_none a end) no_fault honest each
+  end-finds_staying {search} kind known budget false x s sets u honest each =
+      finds_staying_by search kind known budget x a s.devices (runs-own kind known budget x a s) sets u
+      (next_none a end) no_fault honest each
   end-finds_staying {search} kind known budget true x s sets u honest each = absurd (some_none (fault_of a.phase) (aborted-fault a s.before s.is.1) no_fault)
 
 -- a cause's fact on the abort may be another
@@ -170,11 +182,14 @@ module _ (a : AgentState) (end : next_op a ≡ End) (fault : AgentFault) (has_fa
       going none = s.is.0 (none_ends s.before none)
 
 -- the same by what the agent tells of its fault
-pub fault-certified : {search : Search} (a : AgentState) → next_op a ≡ End → (o : Option AgentFault) → o ≡ fault_of a.phase → OfEach search a (λ kind known budget aborted x. IfNone o (Certificate kind known x a.found))
+pub fault-certified : {search : Search} (a : AgentState) → next_op a ≡ End → (o : Option AgentFault)
+    → o ≡ fault_of a.phase → OfEach search a (λ kind known budget aborted x. IfNone o
+    (Certificate kind known x a.found))
 fault-certified a end None is kind known budget aborted x s = (end-certified a end (sym is) kind known budget aborted x s).0
 fault-certified a end (Some fault) is kind known budget aborted x s = tt
 
-pub fault-caused : {search : Search} (a : AgentState) → next_op a ≡ End → (o : Option AgentFault) → o ≡ fault_of a.phase → OfEach search a (λ kind known budget aborted x. IfSome o (λ f. Cause budget (aborted ≡ true) f x))
+pub fault-caused : {search : Search} (a : AgentState) → next_op a ≡ End → (o : Option AgentFault) → o ≡ fault_of a.phase
+    → OfEach search a (λ kind known budget aborted x. IfSome o (λ f. Cause budget (aborted ≡ true) f x))
 fault-caused a end None is kind known budget aborted x s = tt
 fault-caused a end (Some fault) is kind known budget aborted x s = (end-caused a end fault (sym is) kind known budget aborted x s).0
 
@@ -183,10 +198,14 @@ pub found-report : {search : Search} (a : AgentState) → OfEach search a (λ ki
 found-report {search} a kind known budget false x s = (finds_acknowledged_by search kind known budget x a s.devices (runs-own kind known budget x a s)).0
 found-report {search} a kind known budget true x s = rw s.is.1 (finds_acknowledged_by search kind known budget x s.before s.devices s.runs).0
 
-pub found-present : {search : Search} (a : AgentState) → OfEach search a (λ kind known budget aborted x. (present : List ℕ) (u : ℕ) → HonestTrace present x → has (found_uids a) u ≡ true → has present u ≡ true)
+pub found-present : {search : Search} (a : AgentState)
+    → OfEach search a (λ kind known budget aborted x. (present : List ℕ) (u : ℕ) → HonestTrace present x
+    → has (found_uids a) u ≡ true → has present u ≡ true)
 found-present {search} a kind known budget false x s present u honest there = finds_no_phantom_by search kind known budget x a s.devices (runs-own kind known budget x a s) present u honest there
 found-present {search} a kind known budget true x s present u honest there = finds_no_phantom_by search kind known budget x s.before s.devices s.runs present u honest (rw s.is.1 at there)
 
-pub found-no_stranger : {search : Search} (a : AgentState) → OfEach search a (λ kind known budget aborted x. (sets : List (List ℕ)) (u : ℕ) → HonestOver sets x → has (found_uids a) u ≡ true → IsInOne u sets)
+pub found-no_stranger : {search : Search} (a : AgentState)
+    → OfEach search a (λ kind known budget aborted x. (sets : List (List ℕ)) (u : ℕ) → HonestOver sets x
+    → has (found_uids a) u ≡ true → IsInOne u sets)
 found-no_stranger {search} a kind known budget false x s sets u honest there = finds_no_stranger_by search kind known budget x a s.devices (runs-own kind known budget x a s) sets u honest there
 found-no_stranger {search} a kind known budget true x s sets u honest there = finds_no_stranger_by search kind known budget x s.before s.devices s.runs sets u honest (rw s.is.1 at there)

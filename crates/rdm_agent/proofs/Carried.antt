@@ -81,12 +81,18 @@ branch_asks lo hi s tn can = ap (asked_with (branch_frame lo hi s tn)) (fields_a
         (cond (bytes_eq (branch_frame lo hi s tn) (branch_frame low high s tn)) (branched low high)
         (cond (bytes_eq (branch_frame lo hi s tn) (mute_frame all_devices s tn)) (muted all_devices) nothing)) ≡ branched lo hi
     bounds low high is_low is_high =
-        second _ _ unmuted (branched low high) (cond (bytes_eq (branch_frame lo hi s tn) (mute_frame all_devices s tn)) (muted all_devices) nothing) (other_bytes (branch_frame lo hi s tn) (unmute_frame s tn) no_unmute) (same_bytes (branch_frame lo hi s tn) (branch_frame low high s tn) (ap (λ n. branch_frame n hi s tn) (sym is_low) ∙ ap (λ n. branch_frame low n s tn) (sym is_high)))
+        second _ _ unmuted (branched low high) (cond (bytes_eq (branch_frame lo hi s tn) (mute_frame all_devices s tn))
+        (muted all_devices) nothing) (other_bytes (branch_frame lo hi s tn) (unmute_frame s tn) no_unmute)
+        (same_bytes (branch_frame lo hi s tn) (branch_frame low high s tn)
+        (ap (λ n. branch_frame n hi s tn) (sym is_low) ∙ ap (λ n. branch_frame low n s tn) (sym is_high)))
         ∙ ap (λ n. branched n high) is_low ∙ ap (λ n. branched lo n) is_high
 
 pub mute_asks : (u s tn : ℕ) → FitsFrame (commands.Mute u) s tn → asked_in (mute_frame u s tn) ≡ muted u
 mute_asks u s tn can = ap (asked_with (mute_frame u s tn)) (fields_at-packet (command_fields (commands.Mute u) s tn) can.fits)
-    ∙ third _ _ _ unmuted (branched 0 0) (muted u) nothing (other_bytes (mute_frame u s tn) (unmute_frame s tn) no_unmute) (other_bytes (mute_frame u s tn) (branch_frame 0 0 s tn) no_branch) (same_bytes (mute_frame u s tn) (mute_frame u s tn) refl)
+    ∙ third _ _ _ unmuted (branched 0 0) (muted u) nothing
+    (other_bytes (mute_frame u s tn) (unmute_frame s tn) no_unmute)
+    (other_bytes (mute_frame u s tn) (branch_frame 0 0 s tn) no_branch)
+    (same_bytes (mute_frame u s tn) (mute_frame u s tn) refl)
   where
     no_unmute : mute_frame u s tn ≡ unmute_frame s tn → ⊥
     no_unmute same = let one : commands.Mute u ≡ commands.Unmute = (one_command (commands.Mute u) commands.Unmute s tn s tn can (can_unmute s tn can.fits.source can.fits.tn) same).0 in cc
@@ -112,7 +118,9 @@ read_heard lo hi s tn (b ∷ bs) replies.Collision reads = by_option (text_read 
     by_option None is = refl
     by_option (Some u) is = absurd (reads.1 u (of-text_read (b ∷ bs) u is))
 
-pub branch_seen : (r : Span) (s tn : ℕ) (bytes : List ℕ) (reply : BranchReply) → FitsFrame (commands.Branch r) s tn → ReadsAs bytes reply → seen_exchange (branch_frame r.lo r.hi s tn) (Some bytes) ≡ seen_op (ops.Branch r, came.Branch reply)
+pub branch_seen : (r : Span) (s tn : ℕ) (bytes : List ℕ) (reply : BranchReply) → FitsFrame (commands.Branch r) s tn
+    → ReadsAs bytes reply → seen_exchange (branch_frame r.lo r.hi s tn) (Some bytes) ≡ seen_op
+    (ops.Branch r, came.Branch reply)
 branch_seen r s tn bytes reply can reads = both _ _ asks
     (heard_after (branch_frame r.lo r.hi s tn) (command_fields (commands.Branch r) s tn) (branched r.lo r.hi) bytes (fields_at-packet (command_fields (commands.Branch r) s tn) can.fits) asks
     ∙ read_heard r.lo r.hi s tn bytes reply reads)
@@ -120,12 +128,14 @@ branch_seen r s tn bytes reply can reads = both _ _ asks
     asks : asked_in (branch_frame r.lo r.hi s tn) ≡ branched r.lo r.hi
     asks = branch_asks r.lo r.hi s tn can
 
-    both : (asked : Asked) (heard : Heard) → asked ≡ branched r.lo r.hi → heard ≡ heard_by (came.Branch reply) → ◌≡◌ {A = Seen} (record { asked = asked; heard = heard }) (seen_op (ops.Branch r, came.Branch reply))
+    both : (asked : Asked) (heard : Heard) → asked ≡ branched r.lo r.hi → heard ≡ heard_by (came.Branch reply)
+        → ◌≡◌ {A = Seen} (record { asked = asked; heard = heard }) (seen_op (ops.Branch r, came.Branch reply))
     both asked heard is_asked is_heard = rw (is_asked, is_heard) refl
 
 -- after a mute
 mute_hears : (u s tn : ℕ) (bytes : List ℕ) → FitsFrame (commands.Mute u) s tn → heard_in (mute_frame u s tn) (Some bytes) ≡ heard_bytes s tn (muted u) bytes
-mute_hears u s tn bytes can = heard_after (mute_frame u s tn) (command_fields (commands.Mute u) s tn) (muted u) bytes (fields_at-packet (command_fields (commands.Mute u) s tn) can.fits) (mute_asks u s tn can)
+mute_hears u s tn bytes can = heard_after (mute_frame u s tn) (command_fields (commands.Mute u) s tn) (muted u) bytes
+    (fields_at-packet (command_fields (commands.Mute u) s tn) can.fits) (mute_asks u s tn can)
 
 acked_heard : (u s tn : ℕ) (bytes : List ℕ) (ack : MuteAck) → (heard_bytes s tn (muted u) bytes ≡ Acked ack) ↔ (ack_read u s tn bytes ≡ Some ack)
 acked_heard u s tn [] ack = (λ e. cc, λ e. cc)
@@ -160,7 +170,9 @@ wants a op next goes = by_test (nat_lt a.frames a.budget) next
 noise_fed : (a : AgentState) (op : Op) → next_op a ≡ op → (op ≡ ops.End → ⊥) → ((r : Span) → op ≡ ops.Branch r → ⊥) → fed a Noise ≡ fed a Silent
 noise_fed a op next goes other = noise_is_silence a a.phase (λ r is. other r (sym (wants a op next goes) ∙ is))
 
-pub mute_fed : (a : AgentState) (u s tn : ℕ) (bytes : List ℕ) → next_op a ≡ ops.Mute u → FitsFrame (commands.Mute u) s tn → fed a (heard_in (mute_frame u s tn) (Some bytes)) ≡ fed a (heard_by (came.Mute (ack_read u s tn bytes)))
+pub mute_fed : (a : AgentState) (u s tn : ℕ) (bytes : List ℕ) → next_op a ≡ ops.Mute u
+    → FitsFrame (commands.Mute u) s tn → fed a (heard_in (mute_frame u s tn) (Some bytes)) ≡ fed a
+    (heard_by (came.Mute (ack_read u s tn bytes)))
 mute_fed a u s tn bytes next can = ap (fed a) (mute_hears u s tn bytes can) ∙ by_bytes bytes
   where
     by_option : (o : Option MuteAck) → fed a (acked_or_noise o) ≡ fed a (heard_of_mute o)
@@ -172,9 +184,11 @@ mute_fed a u s tn bytes next can = ap (fed a) (mute_hears u s tn bytes can) ∙ 
     by_bytes (b ∷ bs) = by_option (ack_read u s tn (b ∷ bs))
 
 -- after an unmute
-pub unmute_fed : (a : AgentState) (s tn : ℕ) (bytes : List ℕ) → next_op a ≡ ops.UnmuteAll → FitsFrame commands.Unmute s tn → fed a (heard_in (unmute_frame s tn) (Some bytes)) ≡ fed a (heard_by came.Done)
+pub unmute_fed : (a : AgentState) (s tn : ℕ) (bytes : List ℕ) → next_op a ≡ ops.UnmuteAll
+    → FitsFrame commands.Unmute s tn → fed a (heard_in (unmute_frame s tn) (Some bytes)) ≡ fed a (heard_by came.Done)
 unmute_fed a s tn bytes next can =
-    ap (fed a) (heard_after (unmute_frame s tn) (command_fields commands.Unmute s tn) unmuted bytes (fields_at-packet (command_fields commands.Unmute s tn) can.fits) (unmute_asks s tn can)) ∙ by_bytes bytes
+    ap (fed a) (heard_after (unmute_frame s tn) (command_fields commands.Unmute s tn) unmuted bytes
+    (fields_at-packet (command_fields commands.Unmute s tn) can.fits) (unmute_asks s tn can)) ∙ by_bytes bytes
   where
     by_bytes : (l : List ℕ) → fed a (heard_bytes s tn unmuted l) ≡ fed a Silent
     by_bytes [] = refl
@@ -205,10 +219,19 @@ unmute_carried op s tn bytes can is = subst (λ o. Acks o s tn (Some bytes) came
     silent (b ∷ bs) ack h = cc
 
     acks : Acks ops.UnmuteAll s tn (Some bytes) came.Done
-    acks ack = (λ h. cc, λ h. absurd (silent bytes ack (sym (heard_after (unmute_frame s tn) (command_fields commands.Unmute s tn) unmuted bytes (fields_at-packet (command_fields commands.Unmute s tn) own.fits) (unmute_asks s tn own)) ∙ h)))
+    acks ack = (
+      λ h. cc,
+      λ h. absurd (silent bytes ack
+          (sym (heard_after (unmute_frame s tn) (command_fields commands.Unmute s tn) unmuted bytes
+          (fields_at-packet (command_fields commands.Unmute s tn) own.fits) (unmute_asks s tn own)) ∙ h)),
+    )
 
-pub mute_carried : (op : Op) (u s tn : ℕ) (bytes : List ℕ) → IsSendable op s tn → op ≡ ops.Mute u → Acks op s tn (Some bytes) (came.Mute (ack_read u s tn bytes)) × Feeds op s tn (Some bytes) (came.Mute (ack_read u s tn bytes))
-mute_carried op u s tn bytes can is = subst (λ o. Acks o s tn (Some bytes) (came.Mute (ack_read u s tn bytes)) × Feeds o s tn (Some bytes) (came.Mute (ack_read u s tn bytes))) (sym is) (acks, λ a next. sym (mute_fed a u s tn bytes next own))
+pub mute_carried : (op : Op) (u s tn : ℕ) (bytes : List ℕ) → IsSendable op s tn → op ≡ ops.Mute u
+    → Acks op s tn (Some bytes) (came.Mute (ack_read u s tn bytes))
+    × Feeds op s tn (Some bytes) (came.Mute (ack_read u s tn bytes))
+mute_carried op u s tn bytes can is = subst (λ o. Acks o s tn (Some bytes) (came.Mute (ack_read u s tn bytes))
+    × Feeds o s tn (Some bytes) (came.Mute (ack_read u s tn bytes))) (sym is)
+    (acks, λ a next. sym (mute_fed a u s tn bytes next own))
   where
     own : FitsFrame (commands.Mute u) s tn
     own = subst (λ o. IsSendable o s tn) is can
@@ -219,8 +242,11 @@ mute_carried op u s tn bytes can is = subst (λ o. Acks o s tn (Some bytes) (cam
         some_mute : {o : Option MuteAck} → came.Mute o ≡ came.Mute (Some ack) → o ≡ Some ack
         some_mute h = cc
 
-pub branch_carried : (op : Op) (r : Span) (s tn : ℕ) (bytes : List ℕ) (reply : BranchReply) → IsSendable op s tn → ReadsAs bytes reply → op ≡ ops.Branch r → heard_by (came.Branch reply) ≡ heard_in (op_frame op s tn) (Some bytes)
-branch_carried op r s tn bytes reply can reads is = subst (λ o. heard_by (came.Branch reply) ≡ heard_in (op_frame o s tn) (Some bytes)) (sym is) (sym (ap (λ (e : Seen). e.heard) (branch_seen r s tn bytes reply (subst (λ o. IsSendable o s tn) is can) reads)))
+pub branch_carried : (op : Op) (r : Span) (s tn : ℕ) (bytes : List ℕ) (reply : BranchReply) → IsSendable op s tn
+    → ReadsAs bytes reply → op ≡ ops.Branch r → heard_by (came.Branch reply) ≡ heard_in (op_frame op s tn) (Some bytes)
+branch_carried op r s tn bytes reply can reads is =
+    subst (λ o. heard_by (came.Branch reply) ≡ heard_in (op_frame o s tn) (Some bytes)) (sym is)
+    (sym (ap (λ (e : Seen). e.heard) (branch_seen r s tn bytes reply (subst (λ o. IsSendable o s tn) is can) reads)))
 
 pub branch_acks : (op : Op) (s tn : ℕ) (bytes : List ℕ) (reply : BranchReply) → heard_by (came.Branch reply) ≡ heard_in (op_frame op s tn) (Some bytes) → Acks op s tn (Some bytes) (came.Branch reply)
 branch_acks op s tn bytes reply heard ack = (λ h. cc, λ h. absurd (never reply (heard ∙ h)))

@@ -1,5 +1,7 @@
 -- A run that has a certificate has ended, without fault: what clears the greatest UID is the end of the search.
-use Rattle.std.proofs.Common.{◌≡◌, ℕ, zero, suc, ◌+◌, ◌-◌, ◌*◌, ◌^◌, ◌<◌, ◌≤◌, Bool, true, false, cond, List, [], ◌∷◌, ◌++◌, length, append_assoc, append-nil, Option, None, Some, refl, sym, ap, ◌∙◌, subst, inl, inr, true≢false, arith}
+use Rattle.std.proofs.Common.{◌≡◌, ℕ, zero, suc, ◌+◌, ◌-◌, ◌*◌, ◌^◌, ◌<◌, ◌≤◌, Bool, true, false, cond, List, [], ◌∷◌}
+use Rattle.std.proofs.Common.{◌++◌, length, append_assoc, append-nil, Option, None, Some, refl, sym, ap, ◌∙◌, subst}
+use Rattle.std.proofs.Common.{inl, inr, true≢false, arith}
 use Rattle.std.specs.Prelude.{◌≢◌, ◌⊎◌, ◌==◌, nat_le, nat_lt, MatchOption}
 use Rattle.std.proofs.lemmas.Bool.{eqb-false, leb-true, and_parts, cond_both}
 use Rattle.std.specs.List.{AllByRecursion}
@@ -12,9 +14,11 @@ use Rattle.rdm_wire.specs.Honest.Asked.{Unmute, Branch, Mute, Other}
 use Rattle.rdm_wire.specs.Honest.Heard.{Acked, Failed, Silent, One, Noise}
 use Rattle.rdm_agent.specs.Run.{acked_uid, muted_uid, acked_in, muted_in, InSuccession, IsSilentBranch}
 use Rattle.rdm_agent.specs.Certificate.{SearchShows}
-use Rattle.rdm_agent.specs.Machine.{Phase, AgentState, Runs, start_by, wanted, fed, fault_of, heard_by_phase, search_below, found_uids, Sweep, probe, counted, suspecting, is_sibling, sweep_to, sweep_past, sweep_silent}
+use Rattle.rdm_agent.specs.Machine.{Phase, AgentState, Runs, start_by, wanted, fed, fault_of, heard_by_phase}
+use Rattle.rdm_agent.specs.Machine.{search_below, found_uids, Sweep, probe, counted, suspecting, is_sibling, sweep_to}
+use Rattle.rdm_agent.specs.Machine.{sweep_past, sweep_silent}
 use Rattle.rdm_agent.specs.Machine.Phase.{Unmuting, MutingKnown, Searching, MutingRead, Sweeping, MutingSwept, Doubting, Ended}
-use Rattle.rdm_agent.specs.Sound.{IsStack}
+use Rattle.rdm_agent.specs.body.Sound.{IsStack}
 use Rattle.rdm_agent.specs.Statements.{CertificateIsTheEnd}
 use Rattle.rdm_agent.specs.declared.kind.Kind.{Kind}
 use Rattle.rdm_agent.specs.declared.search.Search.{Search}
@@ -85,7 +89,15 @@ module _ {P : Seen → Type 0} where
   grown_succession : (n : ℕ) (x : List Seen) (e : Seen) → InSuccession n P (x ++ e ∷ []) → InSuccession n P x ⊎ EndsWith n P (x ++ e ∷ [])
   grown_succession n x e s = elim (last_of s.back) [
     | inl none ↦ inr (record { front = s.front; run = s.run; whole = s.whole ∙ ap (λ l. s.front ++ s.run ++ l) none ∙ append-nil (s.front ++ s.run); many = s.many; each = s.each })
-    | inr b ↦ inl (record { front = s.front; run = s.run; back = b.0; whole = (same_ends x (s.front ++ s.run ++ b.0) e b.1 (s.whole ∙ ap (λ l. s.front ++ s.run ++ l) b.2 ∙ aside b.0 b.1)).0; many = s.many; each = s.each })
+    | inr b ↦ inl (record {
+      front = s.front;
+      run = s.run;
+      back = b.0;
+      whole = (same_ends x (s.front ++ s.run ++ b.0) e b.1
+          (s.whole ∙ ap (λ l. s.front ++ s.run ++ l) b.2 ∙ aside b.0 b.1)).0;
+      many = s.many;
+      each = s.each;
+    })
   ]
     where
       aside : (back : List Seen) (last : Seen) → s.front ++ s.run ++ (back ++ last ∷ []) ≡ (s.front ++ s.run ++ back) ++ last ∷ []
@@ -320,9 +332,15 @@ module _ (kind : Kind) (known : List ℕ) (budget : ℕ) where
     by_phase (Searching silences top below) Failed sound p k = absurd (sound refl)
     by_phase (MutingRead u tries top below) h sound p k = other_exchange (MutingRead u tries top below) _ x _ (λ e. cc) (loud (Mute u) h (λ lo hi e s. cc)) k
     by_phase (Sweeping sweep top below) Silent sound p k = swept_silent sweep (length a.found) top x below p.stack k
-    by_phase (Sweeping sweep top below) (One u) sound p k = other_exchange (Sweeping sweep top below) _ x _ (λ e. cc) (loud (Branch (probe sweep.suspect top).lo (probe sweep.suspect top).hi) (One u) (λ lo hi e s. cc)) k
-    by_phase (Sweeping sweep top below) (Acked ack) sound p k = other_exchange (Sweeping sweep top below) _ x _ (λ e. cc) (loud (Branch (probe sweep.suspect top).lo (probe sweep.suspect top).hi) (Acked ack) (λ lo hi e s. cc)) k
-    by_phase (Sweeping sweep top below) Noise sound p k = other_exchange (Sweeping sweep top below) _ x _ (λ e. cc) (loud (Branch (probe sweep.suspect top).lo (probe sweep.suspect top).hi) Noise (λ lo hi e s. cc)) k
+    by_phase (Sweeping sweep top below) (One u) sound p k =
+        other_exchange (Sweeping sweep top below) _ x _ (λ e. cc)
+        (loud (Branch (probe sweep.suspect top).lo (probe sweep.suspect top).hi) (One u) (λ lo hi e s. cc)) k
+    by_phase (Sweeping sweep top below) (Acked ack) sound p k =
+        other_exchange (Sweeping sweep top below) _ x _ (λ e. cc)
+        (loud (Branch (probe sweep.suspect top).lo (probe sweep.suspect top).hi) (Acked ack) (λ lo hi e s. cc)) k
+    by_phase (Sweeping sweep top below) Noise sound p k =
+        other_exchange (Sweeping sweep top below) _ x _ (λ e. cc)
+        (loud (Branch (probe sweep.suspect top).lo (probe sweep.suspect top).hi) Noise (λ lo hi e s. cc)) k
     by_phase (Sweeping sweep top below) Failed sound p k = absurd (sound refl)
     by_phase (MutingSwept u tries sweep top below) h sound p k = other_exchange (MutingSwept u tries sweep top below) _ x _ (λ e. cc) (loud (Mute u) h (λ lo hi e s. cc)) k
     by_phase (Doubting sweep top below) Silent sound p k = doubt_silent sweep (length a.found) top below x p.sweeps.stack p.some k
@@ -338,7 +356,9 @@ module _ (kind : Kind) (known : List ℕ) (budget : ℕ) where
         none_some : None ≡ Some asked → ⊥
         none_some q = cc
 
-    fed-uncleared : (asked : Asked) (h : Heard) → wanted a.phase ≡ Some asked → InPhase kind known budget a.phase x (found_uids a) → IsUncleared a.phase x → IsUncleared (fed a h).phase (x ++ record { asked = asked; heard = h } ∷ [])
+    fed-uncleared : (asked : Asked) (h : Heard) → wanted a.phase ≡ Some asked
+        → InPhase kind known budget a.phase x (found_uids a) → IsUncleared a.phase x
+        → IsUncleared (fed a h).phase (x ++ record { asked = asked; heard = h } ∷ [])
     unfolding After
     fed-uncleared asked Failed w p k = other_exchange a.phase _ x _ (goes_on a.phase asked w) (loud asked Failed (λ lo hi e s. cc)) k
     fed-uncleared asked Silent w p k = subst (After Silent a.phase) w (by_phase a.phase Silent (λ q. cc) p k)
@@ -346,7 +366,9 @@ module _ (kind : Kind) (known : List ℕ) (budget : ℕ) where
     fed-uncleared asked (Acked ack) w p k = subst (After (Acked ack) a.phase) w (by_phase a.phase (Acked ack) (λ q. cc) p k)
     fed-uncleared asked Noise w p k = subst (After Noise a.phase) w (by_phase a.phase Noise (λ q. cc) p k)
 
-  runs-uncleared : (search : Search) → IsDeviceSet known → (front x : List Seen) (a b : AgentState) → Runs (start_by search kind known budget) front a → Runs a x b → IsUncleared a.phase front → IsUncleared b.phase (front ++ x)
+  runs-uncleared : (search : Search) → IsDeviceSet known → (front x : List Seen) (a b : AgentState)
+      → Runs (start_by search kind known budget) front a → Runs a x b → IsUncleared a.phase front
+      → IsUncleared b.phase (front ++ x)
   runs-uncleared search set front [] a b before end k = subst (λ l. IsUncleared b.phase l) (sym (append-nil front)) (subst (λ (c : AgentState). IsUncleared c.phase front) (sym end) k)
   runs-uncleared search set front (e ∷ x) a b before run k =
       let w = wanted_next kind known budget a e.asked run.0 in
@@ -382,7 +404,9 @@ acked-muted (e ∷ x) u h =
 
 -- so the greatest UID isn't in a certificate's set
 greatest_absent : (kind : Kind) (known : List ℕ) (x : List Seen) (s : List ℕ) → SearchShows kind known x s → has s greatest ≡ true → ⊥
-greatest_absent kind known x s c h = no_device (member _ (muted_in x) greatest c.tried (acked-muted x greatest (sym (has-set_of (acked_in x) greatest) ∙ subst (λ l. has l greatest ≡ true) c.set h))).device
+greatest_absent kind known x s c h = no_device
+    (member _ (muted_in x) greatest c.tried (acked-muted x greatest
+    (sym (has-set_of (acked_in x) greatest) ∙ subst (λ l. has l greatest ≡ true) c.set h))).device
   where
     no_device : IsDevice greatest → ⊥
     no_device d = true≢false d.own

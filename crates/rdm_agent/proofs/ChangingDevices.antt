@@ -23,7 +23,8 @@ stays_below u earlier last present s moved t was is m under =
     }
 
 -- such a line is honest to each device that stays
-to_one_over : (u : ℕ) (earlier last : List ℕ) (s t : LineState) (sets : List (List ℕ)) (x : List Seen) → has last u ≡ true → IsInEach u sets → IsBelow u t s → ChainOver earlier last s sets x → Chain (HonestToStep u) t x
+to_one_over : (u : ℕ) (earlier last : List ℕ) (s t : LineState) (sets : List (List ℕ)) (x : List Seen)
+    → has last u ≡ true → IsInEach u sets → IsBelow u t s → ChainOver earlier last s sets x → Chain (HonestToStep u) t x
 to_one_over u earlier last s t [] [] was each under c = tt
 to_one_over u earlier last s t [] (e ∷ x) was each under c = absurd c
 to_one_over u earlier last s t (present ∷ sets) [] was each under c = tt
@@ -37,8 +38,11 @@ to_one_over u earlier last s t (present ∷ sets) (e ∷ x) was each under c =
 pub honest_over_to_each : (sets : List (List ℕ)) (u : ℕ) (x : List Seen) → IsInEach u sets → HonestOver sets x → HonestTo u x
 honest_over_to_each [] u [] each honest = (honest.muted, tt)
 honest_over_to_each [] u (e ∷ x) each honest = absurd honest.chain
-honest_over_to_each (present ∷ sets) u x each honest =
-    (honest.muted, to_one_over u present present (before_run honest.muted) (before_run honest.muted) (present ∷ sets) x each.0 each (record { muted = refl; branches = omega arith; lost = omega arith; unmutes = refl }) honest.chain)
+honest_over_to_each (present ∷ sets) u x each honest = (
+  honest.muted,
+  to_one_over u present present (before_run honest.muted) (before_run honest.muted) (present ∷ sets) x
+      each.0 each (record { muted = refl; branches = omega arith; lost = omega arith; unmutes = refl }) honest.chain,
+)
 
 -- and it acknowledges only mutes of devices that were present at some exchange
 present_over : (earlier last : List ℕ) (s : LineState) (sets : List (List ℕ)) (x : List Seen) (u : ℕ) → FailureIsLast x → ChainOver earlier last s sets x → has (acked_in x) u ≡ true → IsInOne u sets

@@ -54,7 +54,15 @@ corrupt-reply top x found h is_found sound loud refused one = record {
   heard = h;
   mutes = [];
   whole = ap (λ n. x ++ record { asked = Branch top.lo n; heard = h } ∷ []) (sym one);
-  cause = inl (refl, record { not_failed = sound; not_silent = loud; not_found = λ is device. IsFound-has x found is_found top.lo ∙ not_new-found found top top.lo (refused top.lo is) device.own (omega arith) (omega (arith, one)) });
+  cause = inl (
+    refl,
+    record {
+      not_failed = sound;
+      not_silent = loud;
+      not_found = λ is device. IsFound-has x found is_found top.lo
+          ∙ not_new-found found top top.lo (refused top.lo is) device.own (omega arith) (omega (arith, one));
+    },
+  );
 }
 
 -- a UID that alone was spelt by its range, and whose five mutes are lost
@@ -105,7 +113,9 @@ record OfOne (u lo hi : ℕ) (front back : List Seen) (h : Heard) : Type 0 where
   pub to : hi ≡ u
   pub cause : ((back ≡ []) × IsCorruptReply u front h) ⊎ ((h ≡ One u) × (length back ≡ TRIES) × AllByRecursion (IsLostMute u) back)
 
-of_one : (u : ℕ) (x front back : List Seen) (lo hi : ℕ) (h : Heard) → x ≡ front ++ record { asked = Branch lo hi; heard = h } ∷ back → AllByRecursion NoBranch back → IsCorrupt u x → OfOne u lo hi front back h
+of_one : (u : ℕ) (x front back : List Seen) (lo hi : ℕ) (h : Heard)
+    → x ≡ front ++ record { asked = Branch lo hi; heard = h } ∷ back → AllByRecursion NoBranch back → IsCorrupt u x
+    → OfOne u lo hi front back h
 of_one u x front back lo hi h whole others c = record { from = (bounds (ap (λ e. e.asked) s.branches)).0; to = (bounds (ap (λ e. e.asked) s.branches)).1; cause = cause c.cause }
   where
     after : AllByRecursion NoBranch c.mutes
@@ -137,7 +147,9 @@ pub not_corrupt-no_branch : (u : ℕ) (x : List Seen) → AllByRecursion NoBranc
 not_corrupt-no_branch u x none c = true≢false (All-at NoBranch x c.before c.mutes (record { asked = Branch u u; heard = c.heard }) none c.whole)
 
 -- nor where the last branch is of several UIDs,
-pub not_corrupt-several : (u : ℕ) (x front back : List Seen) (lo hi : ℕ) (h : Heard) → x ≡ front ++ record { asked = Branch lo hi; heard = h } ∷ back → AllByRecursion NoBranch back → (lo ≡ hi → ⊥) → IsCorrupt u x → ⊥
+pub not_corrupt-several : (u : ℕ) (x front back : List Seen) (lo hi : ℕ) (h : Heard)
+    → x ≡ front ++ record { asked = Branch lo hi; heard = h } ∷ back → AllByRecursion NoBranch back → (lo ≡ hi → ⊥)
+    → IsCorrupt u x → ⊥
 not_corrupt-several u x front back lo hi h whole others several c = let o = of_one u x front back lo hi h whole others c in several (o.from ∙ sym o.to)
 
 -- or silent,
@@ -151,7 +163,8 @@ not_corrupt-silent u x lo hi c = elim (of_one u (x ++ record { asked = Branch lo
     not_one p = cc
 
 -- or where it spelt a new device, whose mutes aren't all lost yet,
-pub not_corrupt-spelt : (w u tries : ℕ) (top : Span) (x : List Seen) (found : List ℕ) → IsFound x found → top.hi < 2 ^ 48 → IsNewDevice found top u → WasSpelt u tries top x → tries < TRIES → IsCorrupt w x → ⊥
+pub not_corrupt-spelt : (w u tries : ℕ) (top : Span) (x : List Seen) (found : List ℕ) → IsFound x found
+    → top.hi < 2 ^ 48 → IsNewDevice found top u → WasSpelt u tries top x → tries < TRIES → IsCorrupt w x → ⊥
 not_corrupt-spelt w u tries top x found is_found end new spelt few c = elim o.cause [
   | inl bad ↦ true≢false (sym (here bad.1) ∙ new.new)
   | inr lost ↦ let many = spelt.many in let five = lost.1 in omega arith
@@ -164,7 +177,10 @@ not_corrupt-spelt w u tries top x found is_found end new spelt few c = elim o.ca
     same = let from = new.from in let to = new.to in let lo = o.from in let hi = o.to in omega arith
 
     here : IsCorruptReply w spelt.before (One u) → has found u ≡ true
-    here bad = sym (IsFound-has x found is_found u) ∙ subst (λ l. has (acked_in l) u ≡ true) (sym spelt.whole) (has-front acked_by spelt.before (record { asked = Branch top.lo top.hi; heard = One u } ∷ spelt.mutes) u before)
+    here bad = sym (IsFound-has x found is_found u)
+        ∙ subst (λ l. has (acked_in l) u ≡ true) (sym spelt.whole)
+        (has-front acked_by spelt.before (record { asked = Branch top.lo top.hi; heard = One u } ∷ spelt.mutes) u
+        before)
       where
         device : IsDevice u
         device = let to = new.to in record { in_range = omega arith; own = new.own }
@@ -183,7 +199,9 @@ not_corrupt-acked w u tries ack top x spelt c = elim o.cause [
     e = record { asked = Mute u; heard = Acked ack }
 
     o : OfOne w top.lo top.hi spelt.before (spelt.mutes ++ e ∷ []) (One u)
-    o = of_one w (x ++ e ∷ []) spelt.before (spelt.mutes ++ e ∷ []) top.lo top.hi (One u) (ap (λ l. l ++ e ∷ []) spelt.whole ∙ append_assoc spelt.before (record { asked = Branch top.lo top.hi; heard = One u } ∷ spelt.mutes) (e ∷ []))
+    o = of_one w (x ++ e ∷ []) spelt.before (spelt.mutes ++ e ∷ []) top.lo top.hi (One u)
+        (ap (λ l. l ++ e ∷ []) spelt.whole ∙ append_assoc spelt.before
+        (record { asked = Branch top.lo top.hi; heard = One u } ∷ spelt.mutes) (e ∷ []))
         (All-push NoBranch spelt.mutes e (lost_no_branches u spelt.mutes spelt.lost) refl) c
 
     none_after : (l : List Seen) → l ++ e ∷ [] ≡ [] → ⊥

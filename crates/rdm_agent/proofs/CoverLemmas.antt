@@ -49,7 +49,8 @@ module _ (present found : List ℕ) where
     Covers-found [] n covered = tt
     Covers-found (r ∷ rs) n covered =
         let fits = covered.3 in
-        let less : worth covered.0 (left_in present more r) ≤ worth covered.0 (left_in present found r) = worth-fewer covered.0 _ _ (no_more (is_left found r) (is_left more r) present (still_left r)) in
+        let less : worth covered.0 (left_in present more r) ≤ worth covered.0 (left_in present found r) =
+        worth-fewer covered.0 _ _ (no_more (is_left found r) (is_left more r) present (still_left r)) in
         (covered.0, covered.1, covered.2, omega arith, Covers-found rs covered.1 covered.4)
 
     -- a device of the top range that is found pays for five branches and five mutes
@@ -89,7 +90,8 @@ module _ (present found : List ℕ) where
           let half : (top.hi - top.lo) / 2 + 1 ≡ 2 ^ l = half_is top.lo top.hi (2 ^ l) (pow_pos l) (rw pow-suc at size) in
           let doubled : top.hi + 1 ≡ top.lo + 2 ^ l * 2 = rw pow-suc at size in
           let some : 0 < 2 ^ l = pow_pos l in
-          let sum : left_in present found top ≡ left_in present found (lower_half top) + left_in present found (upper_half top) = left-halves present found top.lo (middle top) top.hi (omega arith) (omega arith) in
+          let sum : left_in present found top ≡ left_in present found (lower_half top) + left_in present found
+          (upper_half top) = left-halves present found top.lo (middle top) top.hi (omega arith) (omega arith) in
           let pays : worth l (left_in present found (lower_half top)) + worth l (left_in present found (upper_half top)) + 20 ≤ worth (suc l) (left_in present found top)
           = rw sum (worth-split l _ _ (rw sum at two)) in (
             worth l (left_in present found (lower_half top)) + (worth l (left_in present found (upper_half top)) + covered.1),

@@ -47,7 +47,8 @@ device_with-last : (ds : List Device) (d : Device) → device_with ds d.uid ≡ 
 device_with-last [] d none = rw (eq-eqb d.uid d.uid refl) refl
 device_with-last (c ∷ ds) d none = by_test (d.uid == c.uid) (device_with-last ds d) none
   where
-    by_test : (b : Bool) → (device_with ds d.uid ≡ None → device_with (ds ++ d ∷ []) d.uid ≡ Some d) → cond b (Some c) (device_with ds d.uid) ≡ None → cond b (Some c) (device_with (ds ++ d ∷ []) d.uid) ≡ Some d
+    by_test : (b : Bool) → (device_with ds d.uid ≡ None → device_with (ds ++ d ∷ []) d.uid ≡ Some d)
+        → cond b (Some c) (device_with ds d.uid) ≡ None → cond b (Some c) (device_with (ds ++ d ∷ []) d.uid) ≡ Some d
     by_test true rest is = cc
     by_test false rest is = rest is
 
@@ -73,5 +74,6 @@ with_device-all x d (c ∷ s) first all = by_test (nat_lt d.uid c.uid) (d.uid ==
     by_test false true rest = all
     by_test false false rest = (all.0, rest)
 
-pub AsFirstAcked-new : (x : List Seen) (e : Seen) (d : Device) (s : List Device) → device_by e ≡ Some d → has (acked_in x) d.uid ≡ false → AsFirstAcked x s → AsFirstAcked (x ++ e ∷ []) (with_device d s)
+pub AsFirstAcked-new : (x : List Seen) (e : Seen) (d : Device) (s : List Device) → device_by e ≡ Some d
+    → has (acked_in x) d.uid ≡ false → AsFirstAcked x s → AsFirstAcked (x ++ e ∷ []) (with_device d s)
 AsFirstAcked-new x e d s says new all = with_device-all (x ++ e ∷ []) d s (first-acked x e d says new) (AsFirstAcked-push x e s all)

@@ -44,7 +44,9 @@ module _ (x : List Seen) (found : List ℕ) (e : Seen) (f : IsFound x found) whe
   pub found-new : (u : ℕ) → acked_by e ≡ Some u → has found u ≡ false → length found < MOST_DEVICES → IsFound (x ++ e ∷ []) (with_uid u found)
   found-new u some new space = record {
     set = ap (λ us. with_uid u us) f.set ∙ sym (ap set_of more ∙ set_of-push (acked_in x) u);
-    counted = counted_on (length-with_uid u found new) f.counted (ap (λ us. length (once us)) more ∙ ap length (once-new (acked_in x) u (IsFound-has x found f u ∙ new)) ∙ length_push (once (acked_in x)) u);
+    counted = counted_on (length-with_uid u found new) f.counted
+        (ap (λ us. length (once us)) more ∙ ap length (once-new (acked_in x) u (IsFound-has x found f u ∙ new))
+        ∙ length_push (once (acked_in x)) u);
     room = let longer = length-with_uid u found new in omega arith;
   }
     where

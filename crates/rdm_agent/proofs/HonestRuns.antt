@@ -21,8 +21,12 @@ use Rattle.rdm_agent.proofs.Sets.{has-set_of, has-once, has-take}
 use Rattle.rdm_agent.proofs.Runs.{stands_by, ends_certified_by, ends_at_failure_by}
 
 -- a run without fault has its certificate
-certificate : (search : Search) (kind : Kind) (known : List ℕ) (budget : ℕ) (x : List Seen) (b : AgentState) → IsDeviceSet known → Runs (start_by search kind known budget) x b → next_of b ≡ None → fault_of b.phase ≡ None → Certificate kind known x b.found
-certificate search kind known budget x b set run end fault = subst (λ f. MatchOption f (Certificate kind known x b.found) (λ g. Cause budget ⊥ g x)) fault (ends_certified_by search kind known budget x b set run end).0
+certificate : (search : Search) (kind : Kind) (known : List ℕ) (budget : ℕ) (x : List Seen) (b : AgentState)
+    → IsDeviceSet known → Runs (start_by search kind known budget) x b → next_of b ≡ None → fault_of b.phase ≡ None
+    → Certificate kind known x b.found
+certificate search kind known budget x b set run end fault =
+    subst (λ f. MatchOption f (Certificate kind known x b.found) (λ g. Cause budget ⊥ g x)) fault
+    (ends_certified_by search kind known budget x b set run end).0
 
 -- on an honest line that is the devices
 pub finds_all_by : (search : Search) → FindsAll search
@@ -33,7 +37,9 @@ pub finds_each_by : (search : Search) → FindsEach search
 finds_each_by search kind known budget x b set run u end fault device honest = found kind known x (found_uids b) u device (certificate search kind known budget x b set run end fault).search honest
 
 -- what is found is acknowledged
-acked : (search : Search) (kind : Kind) (known : List ℕ) (budget : ℕ) (x : List Seen) (b : AgentState) (u : ℕ) → IsDeviceSet known → Runs (start_by search kind known budget) x b → has (found_uids b) u ≡ true → has (acked_in x) u ≡ true
+acked : (search : Search) (kind : Kind) (known : List ℕ) (budget : ℕ) (x : List Seen) (b : AgentState) (u : ℕ)
+    → IsDeviceSet known → Runs (start_by search kind known budget) x b → has (found_uids b) u ≡ true
+    → has (acked_in x) u ≡ true
 acked search kind known budget x b u set run here = sym (has-once (acked_in x) u) ∙ has-take MOST_DEVICES (once (acked_in x)) u first
   where
     first : has (take MOST_DEVICES (once (acked_in x))) u ≡ true

@@ -17,7 +17,7 @@ use Rattle.rdm_agent.specs.Machine.Phase.{Unmuting, MutingKnown, Searching, Muti
 use Rattle.rdm_agent.specs.declared.kind.Kind.{Kind}
 use Rattle.rdm_agent.specs.declared.fault.AgentFault.{AgentFault}
 use Rattle.rdm_agent.proofs.OneDevice.{NotFailed}
-use Rattle.rdm_agent.specs.Sound.{IsStack}
+use Rattle.rdm_agent.specs.body.Sound.{IsStack}
 use Rattle.rdm_agent.specs.declared.limits.TheConstants.{TRIES, UNMUTES}
 
 -- the last n exchanges have P

@@ -47,7 +47,8 @@ module _ (known : List ℕ) (u : ℕ) (left : List ℕ) (x : List Seen) (found :
       e = record { asked = Mute u; heard = h }
 
   -- u is done, where it was muted
-  others : (y : List Seen) → ((v : ℕ) → has (muted_in x) v ≡ true → has (muted_in y) v ≡ true) → has (muted_in y) u ≡ true → (v : ℕ) → has known v ≡ true → (has (muted_in y) v ≡ true) ⊎ (has left v ≡ true)
+  others : (y : List Seen) → ((v : ℕ) → has (muted_in x) v ≡ true → has (muted_in y) v ≡ true)
+      → has (muted_in y) u ≡ true → (v : ℕ) → has known v ≡ true → (has (muted_in y) v ≡ true) ⊎ (has left v ≡ true)
   others y grows here v k = elim (m.others_muted v k) [
     | inl muted ↦ inl (grows v muted)
     | inr rest ↦ elim (or_cases (v == u) (has left v) rest) [
@@ -98,7 +99,9 @@ module _ (kind : Kind) (known : List ℕ) (budget : ℕ) (x : List Seen) (found 
   begins Quick = record { searches = searches; stack = IsStack-whole; not_corrupt = λ u c. not_corrupt-no_branch u x m.no_branch c }
 
 -- the next known UID is muted, or the search begins
-pub known-next : (kind : Kind) (known : List ℕ) (budget : ℕ) (search : Search) (left : List ℕ) (x : List Seen) (found : List ℕ) → MutesKnown (known_of kind known) None left x found → InPhase kind known budget (search_from search left) x found
+pub known-next : (kind : Kind) (known : List ℕ) (budget : ℕ) (search : Search) (left : List ℕ) (x : List Seen)
+    (found : List ℕ) → MutesKnown (known_of kind known) None left x found
+    → InPhase kind known budget (search_from search left) x found
 known-next kind known budget search [] x found m = begins kind known budget x found m search
 known-next kind known budget search (u ∷ left) x found m = record {
   muting = record {

@@ -99,7 +99,9 @@ one_half lo m hi u f first last = by_place (cases_lt u lo) (cases_lt m u) (cases
     by_place (inr above) (inl upper) (inl outside) = rw (le-leb lo u above, lt-leb u hi outside, lt-leb u m upper, le-leb (m + 1) u (omega arith)) refl
 
 -- the devices of a range are those of its halves
-pub left-halves : (present found : List ℕ) (lo m hi : ℕ) → lo ≤ m → m < hi → left_in present found (record { lo = lo; hi = hi }) ≡ left_in present found (record { lo = lo; hi = m }) + left_in present found (record { lo = m + 1; hi = hi })
+pub left-halves : (present found : List ℕ) (lo m hi : ℕ) → lo ≤ m → m < hi
+    → left_in present found (record { lo = lo; hi = hi }) ≡ left_in present found (record { lo = lo; hi = m }) + left_in
+    present found (record { lo = m + 1; hi = hi })
 left-halves [] found lo m hi first last = refl
 left-halves (u ∷ us) found lo m hi first last =
     sums _ _ _ _ _ _ _ _ _ (length-chosen (is_left found (record { lo = lo; hi = hi }) u) u (filter (is_left found (record { lo = lo; hi = hi })) us))

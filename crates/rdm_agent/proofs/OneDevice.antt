@@ -18,7 +18,9 @@ abbrev pub NotFailed : Seen → Type 0
 NotFailed e = e.heard ≢ Failed
 
 -- a device that is muted after a step was so before it, or the step asks it
-moved-mute : (u v : ℕ) (s new : LineState) (h : Heard) (b : Bool) → (u == v) ≡ b → MatchBool b (MuteMoves u s h new) (KeepsMuted u s new × Counts new 0 0 0) → new.muted u ≡ true → (s.muted u ≡ true) ⊎ (muted_uid (Mute v) ≡ Some u)
+moved-mute : (u v : ℕ) (s new : LineState) (h : Heard) (b : Bool) → (u == v) ≡ b
+    → MatchBool b (MuteMoves u s h new) (KeepsMuted u s new × Counts new 0 0 0) → new.muted u ≡ true
+    → (s.muted u ≡ true) ⊎ (muted_uid (Mute v) ≡ Some u)
 moved-mute u v s new h true e step m = inr (ap Some (sym (eqb-true u v e)))
 moved-mute u v s new h false e step m = inl (sym step.0 ∙ m)
 
@@ -71,7 +73,9 @@ lost_branch u lo hi s new within unmuted step = record { muted = moves.0 ∙ unm
     moves = subst (λ d. KeepsMuted u s new × Counts new (lost_after d Silent s.lost_branches) 0 0) due step
 
 -- no more than four are lost in succession
-pub silences : (u lo hi : ℕ) (s : LineState) (run rest : List Seen) → is_within lo hi u ≡ true → s.muted u ≡ false → AllByRecursion (IsSilentBranch lo hi) run → Chain (HonestToStep u) s (run ++ rest) → (length run ≡ 0) ⊎ (s.lost_branches + length run ≤ 4)
+pub silences : (u lo hi : ℕ) (s : LineState) (run rest : List Seen) → is_within lo hi u ≡ true → s.muted u ≡ false
+    → AllByRecursion (IsSilentBranch lo hi) run → Chain (HonestToStep u) s (run ++ rest)
+    → (length run ≡ 0) ⊎ (s.lost_branches + length run ≤ 4)
 silences u lo hi s [] rest within unmuted each c = inl refl
 silences u lo hi s (e ∷ run) rest within unmuted each c =
     elim c [
@@ -101,7 +105,9 @@ lost_mute u s new h lost step = of_moves (subst (λ b. MatchBool b (MuteMoves u 
       | inr silent ↦ record { more = silent.2.mutes; few = silent.2.few_mutes }
     ]
 
-pub mutes : (u : ℕ) (s : LineState) (run rest : List Seen) → AllByRecursion (IsLostMute u) run → AllByRecursion NotFailed run → Chain (HonestToStep u) s (run ++ rest) → (length run ≡ 0) ⊎ (s.lost_mutes + length run ≤ 4)
+pub mutes : (u : ℕ) (s : LineState) (run rest : List Seen) → AllByRecursion (IsLostMute u) run
+    → AllByRecursion NotFailed run → Chain (HonestToStep u) s (run ++ rest)
+    → (length run ≡ 0) ⊎ (s.lost_mutes + length run ≤ 4)
 mutes u s [] rest each ok c = inl refl
 mutes u s (e ∷ run) rest each ok c =
     elim c [
@@ -120,7 +126,9 @@ pub record Begun (u : ℕ) (x rest : List Seen) : Type 0 where
   pub muted : state.muted u ≡ false
   pub chain : Chain (HonestToStep u) state rest
 
-pub begin : (u : ℕ) (m : ℕ → Bool) (a b c : Seen) (rest : List Seen) → a.asked ≡ Unmute → b.asked ≡ Unmute → c.asked ≡ Unmute → AllByRecursion NotFailed (a ∷ b ∷ c ∷ []) → Chain (HonestToStep u) (before_run m) (a ∷ b ∷ c ∷ rest) → Begun u (a ∷ b ∷ c ∷ rest) rest
+pub begin : (u : ℕ) (m : ℕ → Bool) (a b c : Seen) (rest : List Seen) → a.asked ≡ Unmute → b.asked ≡ Unmute
+    → c.asked ≡ Unmute → AllByRecursion NotFailed (a ∷ b ∷ c ∷ [])
+    → Chain (HonestToStep u) (before_run m) (a ∷ b ∷ c ∷ rest) → Begun u (a ∷ b ∷ c ∷ rest) rest
 begin u m a b c rest pa pb pc ok chain =
     elim chain [
       | inl failed ↦ absurd (ok.0 failed)
@@ -148,7 +156,9 @@ no_branch : (q : Asked) (lo hi : ℕ) → q ≡ Unmute → q ≡ Branch lo hi �
 no_branch q lo hi p r = cc
 
 -- a run of branches doesn't begin at an unmute
-peel : (lo hi : ℕ) (e : Seen) (xs front run back : List Seen) → e.asked ≡ Unmute → AllByRecursion (IsSilentBranch lo hi) run → length run ≡ TRIES → e ∷ xs ≡ front ++ (run ++ back) → (others : List Seen) × (xs ≡ others ++ (run ++ back))
+peel : (lo hi : ℕ) (e : Seen) (xs front run back : List Seen) → e.asked ≡ Unmute
+    → AllByRecursion (IsSilentBranch lo hi) run → length run ≡ TRIES → e ∷ xs ≡ front ++ (run ++ back)
+    → (others : List Seen) × (xs ≡ others ++ (run ++ back))
 peel lo hi e xs [] [] back p each five whole = absurd (zero_is_five five)
   where
     zero_is_five : length {A = Seen} [] ≡ TRIES → ⊥
@@ -178,7 +188,9 @@ five_mutes u s x ok chain five = too_many (mutes u r.state five.run five.back fi
     too_many (inr few) = let many = five.many in omega arith
 
 -- a device in a range that was silent five times in succession was muted before, after the three unmutes
-cleared_muted : (u : ℕ) (x rest : List Seen) → AllByRecursion NotFailed rest → Begun u x rest → (lo hi : ℕ) → is_within lo hi u ≡ true → (front run back : List Seen) → rest ≡ front ++ (run ++ back) → length run ≡ TRIES → AllByRecursion (IsSilentBranch lo hi) run → has (muted_in rest) u ≡ true
+cleared_muted : (u : ℕ) (x rest : List Seen) → AllByRecursion NotFailed rest → Begun u x rest → (lo hi : ℕ)
+    → is_within lo hi u ≡ true → (front run back : List Seen) → rest ≡ front ++ (run ++ back) → length run ≡ TRIES
+    → AllByRecursion (IsSilentBranch lo hi) run → has (muted_in rest) u ≡ true
 cleared_muted u x rest ok begun lo hi within front run back whole five each = by_muted (cases_Bool (r.state.muted u))
   where
     all : AllByRecursion NotFailed (front ++ (run ++ back))
@@ -204,7 +216,10 @@ tried_found : (u : ℕ) (s : List ℕ) (x : List Seen) (t : LineState) → AllBy
 tried_found u s x t ok chain tried = elim tried.tried [ inl found ↦ found | inr five ↦ absurd (five_mutes u t x ok chain five) ]
 
 -- a cleared device is in the set
-cleared_found : (u : ℕ) (s : List ℕ) (m : ℕ → Bool) (x : List Seen) → take 3 (map (λ (e : Seen). e.asked) x) ≡ Unmute ∷ Unmute ∷ Unmute ∷ [] → AllByRecursion NotFailed x → AllByRecursion (IsTried s x) (muted_in x) → Chain (HonestToStep u) (before_run m) x → IsCleared x u → has s u ≡ true
+cleared_found : (u : ℕ) (s : List ℕ) (m : ℕ → Bool) (x : List Seen)
+    → take 3 (map (λ (e : Seen). e.asked) x) ≡ Unmute ∷ Unmute ∷ Unmute ∷ [] → AllByRecursion NotFailed x
+    → AllByRecursion (IsTried s x) (muted_in x) → Chain (HonestToStep u) (before_run m) x → IsCleared x u
+    → has s u ≡ true
 cleared_found u s m [] unmutes ok tried chain cleared = absurd (short unmutes)
   where
     short : ◌≡◌ {A = List Asked} [] (Unmute ∷ Unmute ∷ Unmute ∷ []) → ⊥
@@ -242,7 +257,9 @@ cleared_found u s m (a ∷ b ∷ c ∷ rest) unmutes ok tried chain cleared =
     three = peel cleared.lo cleared.hi c rest two.0 five.run five.back pc five.each five.many two.1
 
     in_rest : has (muted_in rest) u ≡ true
-    in_rest = cleared_muted u (a ∷ b ∷ c ∷ rest) rest ok.1.1.1 (begin u m a b c rest pa pb pc (ok.0, (ok.1.0, (ok.1.1.0, tt))) chain) cleared.lo cleared.hi cleared.within three.0 five.run five.back three.1 five.many five.each
+    in_rest = cleared_muted u (a ∷ b ∷ c ∷ rest) rest ok.1.1.1
+        (begin u m a b c rest pa pb pc (ok.0, (ok.1.0, (ok.1.1.0, tt))) chain) cleared.lo cleared.hi cleared.within
+        three.0 five.run five.back three.1 five.many five.each
 
     in_all : has (muted_in (a ∷ b ∷ c ∷ rest)) u ≡ true
     in_all = has-put (muted_uid a.asked) (muted_in (b ∷ c ∷ rest)) u (has-put (muted_uid b.asked) (muted_in (c ∷ rest)) u (has-put (muted_uid c.asked) (muted_in rest) u in_rest))

@@ -31,7 +31,9 @@ pub record Cheaper (search : Search) (present : List ℕ) (line : LineState) (fo
   pub costs : Costs search present line found phase left
 
 -- the known UIDs that are left are muted, and then the search begins
-pub search_from-costs : (search : Search) (present found : List ℕ) (line : LineState) (cost : ℕ) (known : List ℕ) (n : ℕ) → 10 * length known + n + 2 ≤ cost → Ahead search present found n → Cheaper search present line found cost (search_from search known)
+pub search_from-costs : (search : Search) (present found : List ℕ) (line : LineState) (cost : ℕ) (known : List ℕ)
+    (n : ℕ) → 10 * length known + n + 2 ≤ cost → Ahead search present found n
+    → Cheaper search present line found cost (search_from search known)
 search_from-costs Steady present found line cost [] n enough ahead =
     record { left = n; saves = omega arith; costs = record { ranges = n; few = omega arith; covered = ahead; cost_is = omega arith } }
 search_from-costs Quick present found line cost [] n enough ahead =
@@ -40,12 +42,25 @@ search_from-costs search present found line cost (u ∷ known) n enough ahead =
     record { left = 10 + 10 * length known + n; saves = omega arith; costs = record { ranges = n; few = omega arith; ahead = ahead; cost_is = omega arith } }
 
 -- the next range is searched, or none is left
-pub search_below-costs : (search : Search) (present found : List ℕ) (line : LineState) (cost : ℕ) (below : List Span) (n : ℕ) → n + 2 ≤ cost → Covers present found below n → Cheaper search present line found cost (search_below below)
+pub search_below-costs : (search : Search) (present found : List ℕ) (line : LineState) (cost : ℕ) (below : List Span)
+    (n : ℕ) → n + 2 ≤ cost → Covers present found below n → Cheaper search present line found cost (search_below below)
 search_below-costs search present found line cost [] n enough covered = record { left = 0; saves = omega arith; costs = refl }
-search_below-costs search present found line cost (r ∷ rs) n enough covered = record { left = n; saves = enough; costs = record { ranges = n; few = omega arith; covered = covered; cost_is = omega arith } }
+search_below-costs search present found line cost (r ∷ rs) n enough covered =
+    record {
+      left = n;
+      saves = enough;
+      costs = record {
+        ranges = n;
+        few = omega arith;
+        covered = covered;
+        cost_is = omega arith;
+      };
+    }
 
 -- a range in which two devices are left is split, and pays for five branches and five mutes
-pub split-costs : (search : Search) (present found : List ℕ) (line : LineState) (cost : ℕ) (top : Span) (below : List Span) (n : ℕ) → IsAscending present → 2 ≤ left_in present found top → n ≤ cost + 18 → Covers present found (top ∷ below) n
+pub split-costs : (search : Search) (present found : List ℕ) (line : LineState) (cost : ℕ) (top : Span)
+    (below : List Span) (n : ℕ) → IsAscending present → 2 ≤ left_in present found top → n ≤ cost + 18
+    → Covers present found (top ∷ below) n
     → Cheaper search present line found cost (split top below)
 split-costs search present found line cost top below n ascending two enough covered =
     let halved = Covers-split present found top below n ascending two covered in let pays = halved.2 in
@@ -57,7 +72,9 @@ abbrev pub CountsOneMore : List ℕ → List ℕ → ℕ → List ℕ → Type 0
 CountsOneMore present found u more = ((has found u ≡ true) × (more ≡ found)) ⊎ ((length more ≡ length found + 1) × (length (unfound present more) + 1 ≤ length (unfound present found)))
 
 -- what is enough for the search stays so
-Ahead-found : (search : Search) (present found more : List ℕ) (u : ℕ) → ((v : ℕ) → has found v ≡ true → has more v ≡ true) → CountsOneMore present found u more → (n : ℕ) → Ahead search present found n → Ahead search present more n
+Ahead-found : (search : Search) (present found more : List ℕ) (u : ℕ)
+    → ((v : ℕ) → has found v ≡ true → has more v ≡ true) → CountsOneMore present found u more → (n : ℕ)
+    → Ahead search present found n → Ahead search present more n
 Ahead-found Steady present found more u grows one_more n ahead = Covers-found present found more grows (whole ∷ []) n ahead
 Ahead-found Quick present found more u grows (inl same) n ahead = subst (λ us. sweep_cost present us ≤ n) (sym same.1) ahead
 Ahead-found Quick present found more u grows (inr one_more) n ahead = let longer = one_more.0 in let fewer = one_more.1 in omega (arith, ahead, longer, fewer)
@@ -91,7 +108,9 @@ acked-mute present s new u ack step = by_presence (has present u) step.1
     by_presence false absent = absurd (loud absent.0)
 
 -- a device's mute that is lost is one more in succession, and no more than four
-pub lost-mute : (present : List ℕ) (s new : LineState) (u : ℕ) (h : Heard) → is_acked h ≡ false → HonestStep present s (Mute u) h new → has present u ≡ true → (new.lost_mutes ≡ s.lost_mutes + 1) × (s.lost_mutes + 1 ≤ 4)
+pub lost-mute : (present : List ℕ) (s new : LineState) (u : ℕ) (h : Heard) → is_acked h ≡ false
+    → HonestStep present s (Mute u) h new → has present u ≡ true
+    → (new.lost_mutes ≡ s.lost_mutes + 1) × (s.lost_mutes + 1 ≤ 4)
 lost-mute present s new u h lost step here = of_moves (subst (λ b. MatchBool b (MuteMoves u s h new) ((h ≡ Silent) × KeepsMuted u s new × Counts new 0 0 0)) here step.1)
   where
     of_moves : MuteMoves u s h new → (new.lost_mutes ≡ s.lost_mutes + 1) × (s.lost_mutes + 1 ≤ 4)
@@ -123,7 +142,9 @@ abbrev is_due : LineState → Span → ℕ → Bool
 is_due s top u = is_within top.lo top.hi u && not (s.muted u)
 
 -- what comes after a branch spells a new device, or two devices are left
-pub answered : (present found : List ℕ) (s : LineState) (top : Span) (h : Heard) → IsDeviceSet present → h ≢ Silent → Finds present s found → MayReply (due_in present s.muted top.lo top.hi) h → SpellsNew present found top h ⊎ (2 ≤ left_in present found top)
+pub answered : (present found : List ℕ) (s : LineState) (top : Span) (h : Heard) → IsDeviceSet present → h ≢ Silent
+    → Finds present s found → MayReply (due_in present s.muted top.lo top.hi) h
+    → SpellsNew present found top h ⊎ (2 ≤ left_in present found top)
 answered present found s top h set loud f reply = by_due (due_in present s.muted top.lo top.hi) refl reply
   where
     -- a device that is found is muted, and so not due
@@ -143,12 +164,15 @@ answered present found s top h set loud f reply = by_due (due_in present s.muted
       new = left-new found top u (member IsDevice present u set.devices first.1) (due_left u first.0);
     })
     by_due (u ∷ []) is (inr silent) = absurd (loud silent)
-    by_due (u ∷ v ∷ us) is any = let two : 2 ≤ length (filter (is_due s top) present) = rw is (omega arith) in let fewer = no_more (is_left found top) (is_due s top) present due_left in inr (omega arith)
+    by_due (u ∷ v ∷ us) is any = let two : 2 ≤ length (filter (is_due s top) present) =
+        rw is (omega arith) in let fewer = no_more (is_left found top) (is_due s top) present due_left in
+        inr (omega arith)
 
 module _ (present found : List ℕ) (u : ℕ) (here : has present u ≡ true) (absent : has found u ≡ false) where
   -- where one more is found, one fewer isn't
   unfound-fewer : length (unfound present (with_uid u found)) + 1 ≤ length (unfound present found)
-  unfound-fewer = one_fewer (λ v. not (has found v)) (λ v. not (has (with_uid u found) v)) present u stricter (ap not absent) (ap not (has-with_uid u found u ∙ or_left (u == u) (has found u) (eq-eqb u u refl))) here
+  unfound-fewer = one_fewer (λ v. not (has found v)) (λ v. not (has (with_uid u found) v)) present u stricter
+      (ap not absent) (ap not (has-with_uid u found u ∙ or_left (u == u) (has found u) (eq-eqb u u refl))) here
     where
       by_found : (v : ℕ) (b : Bool) → has found v ≡ b → not (has (with_uid u found) v) ≡ true → not b ≡ true
       by_found v false out still = refl
@@ -189,8 +213,12 @@ module _ (present : List ℕ) (set : IsDeviceSet present) (few : length present 
 
   -- a device is found
   pub to_found-affords : (u : ℕ) (ack : MuteAck) (phase : Phase) → has present u ≡ true → new.muted u ≡ true → ((v : ℕ) → s.muted v ≡ true → new.muted v ≡ true) → Finds present s (found_uids a)
-      → ((more : List ℕ) → ((v : ℕ) → has (found_uids a) v ≡ true → has more v ≡ true) → has more u ≡ true → CountsOneMore present (found_uids a) u more → Cheaper a.search present new more cost phase) → Affords present total new (to_found a (device_from u ack) phase)
-  to_found-affords u ack phase here muted keeps f onward = cond_both (has (found_uids a) u) _ _ P at_old (λ absent. cond_both (nat_lt (length (found_uids a)) MOST_DEVICES) _ _ P (at_new absent) (at_full absent))
+      → ((more : List ℕ) → ((v : ℕ) → has (found_uids a) v ≡ true → has more v ≡ true) → has more u ≡ true
+      → CountsOneMore present (found_uids a) u more → Cheaper a.search present new more cost phase)
+      → Affords present total new (to_found a (device_from u ack) phase)
+  to_found-affords u ack phase here muted keeps f onward =
+      cond_both (has (found_uids a) u) _ _ P at_old
+      (λ absent. cond_both (nat_lt (length (found_uids a)) MOST_DEVICES) _ _ P (at_new absent) (at_full absent))
     where
       P : AgentState → Type 0
       P b = Affords present total new b
@@ -204,7 +232,10 @@ module _ (present : List ℕ) (set : IsDeviceSet present) (few : length present 
       at_new : has (found_uids a) u ≡ false → nat_lt (length (found_uids a)) MOST_DEVICES ≡ true
           → P (record { budget = a.budget; frames = a.frames + 1; search = a.search; found = with_device (device_from u ack) a.found; phase = phase })
       at_new absent room =
-          let cheaper = onward (with_uid u (found_uids a)) (λ v there. has-with_uid u (found_uids a) v ∙ or_right (v == u) (has (found_uids a) v) there) (has-with_uid u (found_uids a) u ∙ or_left (u == u) (has (found_uids a) u) (eq-eqb u u refl)) (inr (length-with_uid u (found_uids a) absent, unfound-fewer present (found_uids a) u here absent)) in
+          let cheaper = onward (with_uid u (found_uids a))
+          (λ v there. has-with_uid u (found_uids a) v ∙ or_right (v == u) (has (found_uids a) v) there)
+          (has-with_uid u (found_uids a) u ∙ or_left (u == u) (has (found_uids a) u) (eq-eqb u u refl))
+          (inr (length-with_uid u (found_uids a) absent, unfound-fewer present (found_uids a) u here absent)) in
           let saves = cheaper.saves in record {
             cost = cheaper.left;
             costs = subst (λ us. Costs a.search present new us phase cheaper.left) (sym grown) cheaper.costs;
@@ -216,8 +247,12 @@ module _ (present : List ℕ) (set : IsDeviceSet present) (few : length present 
       at_full absent full = let room = has_room present (found_uids a) u here absent s few f in let none = ltb-false (length (found_uids a)) MOST_DEVICES full in absurd (omega arith)
 
   -- an unmute
-  pub unmuting-affords : (more : ℕ) (known : List ℕ) (h : Heard) → Finds present s (found_uids a) → Costs a.search present s (found_uids a) (Unmuting more known) cost → Affords present total new (heard_by_phase a (Unmuting more known) h)
-  unmuting-affords more known h f costs = to_phase-affords (cond (nat_lt 1 more) (Unmuting (more - 1) known) (search_from a.search known)) finds (cond_both (nat_lt 1 more) _ _ (Cheaper a.search present new (found_uids a) cost) goes_on ends)
+  pub unmuting-affords : (more : ℕ) (known : List ℕ) (h : Heard) → Finds present s (found_uids a)
+      → Costs a.search present s (found_uids a) (Unmuting more known) cost
+      → Affords present total new (heard_by_phase a (Unmuting more known) h)
+  unmuting-affords more known h f costs = to_phase-affords
+      (cond (nat_lt 1 more) (Unmuting (more - 1) known) (search_from a.search known)) finds
+      (cond_both (nat_lt 1 more) _ _ (Cheaper a.search present new (found_uids a) cost) goes_on ends)
     where
       finds : Finds present new (found_uids a)
       finds = record { devices = f.devices; muted = λ u there. absurd (true≢false (sym there ∙ ap (λ us. has us u) costs.none_found)); counted = f.counted }
@@ -235,23 +270,30 @@ module _ (present : List ℕ) (set : IsDeviceSet present) (few : length present 
   known_lost-affords u tries known h f step costs =
       let few = costs.few in let is = costs.cost_is in
       to_phase-affords (cond ((tries + 1) == TRIES) (search_from a.search known) (MutingKnown u (tries + 1) known)) (Finds-keeps present (found_uids a) s new (mute-keeps present s new u h step) f)
-      (cond_both ((tries + 1) == TRIES) _ _ (Cheaper a.search present new (found_uids a) cost) (λ five. search_from-costs a.search present (found_uids a) new cost known costs.ranges (omega arith) costs.ahead)
+      (cond_both ((tries + 1) == TRIES) _ _ (Cheaper a.search present new (found_uids a) cost)
+      (λ five. search_from-costs a.search present (found_uids a) new cost known costs.ranges (omega arith)
+      costs.ahead)
       (λ fewer. let other : tries + 1 ≡ TRIES → ⊥ = eqb-false (tries + 1) TRIES fewer in let less : tries + 1 ≤ 4 = grind arith in
       record { left = cost - 2; saves = omega arith; costs = record { ranges = costs.ranges; few = less; ahead = costs.ahead; cost_is = omega arith } }))
 
   -- a mute of a known UID
-  pub known-affords : (u tries : ℕ) (known : List ℕ) (h : Heard) → h ≢ Failed → Finds present s (found_uids a) → HonestStep present s (Mute u) h new → CostsKnown a.search present (found_uids a) tries known cost → Affords present total new (known_heard a u tries known h)
+  pub known-affords : (u tries : ℕ) (known : List ℕ) (h : Heard) → h ≢ Failed → Finds present s (found_uids a)
+      → HonestStep present s (Mute u) h new → CostsKnown a.search present (found_uids a) tries known cost
+      → Affords present total new (known_heard a u tries known h)
   known-affords u tries known (Acked ack) sound f step costs =
       let acked = acked-mute present s new u ack step in let few = costs.few in let is = costs.cost_is in
       to_found-affords u ack (search_from a.search known) acked.0 acked.1 (mute-keeps present s new u (Acked ack) step) f
-      (λ more grows now one_more. search_from-costs a.search present more new cost known costs.ranges (omega arith) (Ahead-found a.search present (found_uids a) more u grows one_more costs.ranges costs.ahead))
+      (λ more grows now one_more. search_from-costs a.search present more new cost known costs.ranges (omega arith)
+      (Ahead-found a.search present (found_uids a) more u grows one_more costs.ranges costs.ahead))
   known-affords u tries known Failed sound f step costs = absurd (sound refl)
   known-affords u tries known Silent sound f step costs = known_lost-affords u tries known Silent f step costs
   known-affords u tries known (One v) sound f step costs = known_lost-affords u tries known (One v) f step costs
   known-affords u tries known Noise sound f step costs = known_lost-affords u tries known Noise f step costs
 
   -- the top range is branched, and it is split
-  split-affords : (silences : ℕ) (top : Span) (below : List Span) → Finds present new (found_uids a) → CostsSearching present (found_uids a) silences (top ∷ below) cost → 2 ≤ left_in present (found_uids a) top → Affords present total new (to_phase a (split top below))
+  split-affords : (silences : ℕ) (top : Span) (below : List Span) → Finds present new (found_uids a)
+      → CostsSearching present (found_uids a) silences (top ∷ below) cost → 2 ≤ left_in present (found_uids a) top
+      → Affords present total new (to_phase a (split top below))
   split-affords silences top below f costs two = let few = costs.few in let is = costs.cost_is in
       to_phase-affords (split top below) f (split-costs a.search present (found_uids a) new cost top below costs.ranges set.ascending two (omega arith) costs.covered)
 
@@ -270,7 +312,9 @@ module _ (present : List ℕ) (set : IsDeviceSet present) (few : length present 
   spelt-affords : (silences : ℕ) (top : Span) (below : List Span) (u : ℕ) → Finds present new (found_uids a) → CostsSearching present (found_uids a) silences (top ∷ below) cost
       → SpellsNew present (found_uids a) top (One u) ⊎ (2 ≤ left_in present (found_uids a) top)
       → Affords present total new (to_phase a (cond (is_new (found_uids a) top u) (MutingRead u 0 top below) (split top below)))
-  spelt-affords silences top below u f costs answer = cond_both (is_new (found_uids a) top u) _ _ (λ p. Affords present total new (to_phase a p)) muted (λ old. split-affords silences top below f costs (several old answer))
+  spelt-affords silences top below u f costs answer =
+      cond_both (is_new (found_uids a) top u) _ _ (λ p. Affords present total new (to_phase a p)) muted
+      (λ old. split-affords silences top below f costs (several old answer))
     where
       same : (v : ℕ) → One u ≡ One v → u ≡ v
       same v p = cc
@@ -293,7 +337,9 @@ module _ (present : List ℕ) (set : IsDeviceSet present) (few : length present 
           })
 
   -- a branch of the top range
-  pub searching-affords : (silences : ℕ) (top : Span) (below : List Span) (h : Heard) → h ≢ Failed → Finds present s (found_uids a) → HonestStep present s (Branch top.lo top.hi) h new → CostsSearching present (found_uids a) silences (top ∷ below) cost
+  pub searching-affords : (silences : ℕ) (top : Span) (below : List Span) (h : Heard) → h ≢ Failed
+      → Finds present s (found_uids a) → HonestStep present s (Branch top.lo top.hi) h new
+      → CostsSearching present (found_uids a) silences (top ∷ below) cost
       → Affords present total new (branch_heard a silences top below h)
   searching-affords silences top below h sound f step costs = of_heard h sound step.0
     where
@@ -315,7 +361,9 @@ module _ (present : List ℕ) (set : IsDeviceSet present) (few : length present 
       of_heard Noise sound reply = split-affords silences top below finds costs (collided Noise (λ p. cc) (λ u p. cc) reply)
 
   -- a mute of what the top range spelt is lost
-  read_lost-affords : (u tries : ℕ) (top : Span) (below : List Span) (h : Heard) → is_acked h ≡ false → Finds present s (found_uids a) → HonestStep present s (Mute u) h new → CostsRead present s (found_uids a) u tries top below cost
+  read_lost-affords : (u tries : ℕ) (top : Span) (below : List Span) (h : Heard) → is_acked h ≡ false
+      → Finds present s (found_uids a) → HonestStep present s (Mute u) h new
+      → CostsRead present s (found_uids a) u tries top below cost
       → Affords present total new (to_phase a (cond ((tries + 1) == TRIES) (split top below) (MutingRead u (tries + 1) top below)))
   read_lost-affords u tries top below h lost f step costs =
       let few = costs.few in let is = costs.cost_is in let some = read-some present s (found_uids a) u tries top below cost costs in
@@ -336,7 +384,10 @@ module _ (present : List ℕ) (set : IsDeviceSet present) (few : length present 
       more_lost here = let one_more = (lost-mute present s new u h lost step here).0 in let so_far = costs.lost here in omega arith
 
   -- a mute of what the top range spelt
-  pub read-affords : (u tries : ℕ) (top : Span) (below : List Span) (h : Heard) → h ≢ Failed → Finds present s (found_uids a) → HonestStep present s (Mute u) h new → CostsRead present s (found_uids a) u tries top below cost → Affords present total new (mute_heard a u tries top below h)
+  pub read-affords : (u tries : ℕ) (top : Span) (below : List Span) (h : Heard) → h ≢ Failed
+      → Finds present s (found_uids a) → HonestStep present s (Mute u) h new
+      → CostsRead present s (found_uids a) u tries top below cost
+      → Affords present total new (mute_heard a u tries top below h)
   read-affords u tries top below (Acked ack) sound f step costs =
       let acked = acked-mute present s new u ack step in let few = costs.few in let is = costs.cost_is in
       to_found-affords u ack (Searching 0 top below) acked.0 acked.1 (mute-keeps present s new u (Acked ack) step) f

@@ -73,8 +73,17 @@ module _ (kind : Kind) (known : List ℕ) (budget : ℕ) (x : List Seen) (a : Ag
   counted e = let longer = length_push x e in let same = s.budget_is in let frames = s.frames_are in let below : a.frames < a.budget = ltb-true a.frames a.budget goes in (omega arith, omega arith)
 
   -- nothing is found, and the phase goes on
-  pub to_phase-stands : (e : Seen) (phase : Phase) → (found_uids a) ≡ reported (x ++ e ∷ []) → InPhase kind known budget phase (x ++ e ∷ []) (found_uids a) → RunInvariant kind known budget (x ++ e ∷ []) (to_phase a phase)
-  to_phase-stands e phase reports p = record { budget_is = s.budget_is; frames_are = (counted e).0; within = (counted e).1; reports = reports; first = AsFirstAcked-push x e a.found s.first; phase = p }
+  pub to_phase-stands : (e : Seen) (phase : Phase) → (found_uids a) ≡ reported (x ++ e ∷ [])
+      → InPhase kind known budget phase (x ++ e ∷ []) (found_uids a)
+      → RunInvariant kind known budget (x ++ e ∷ []) (to_phase a phase)
+  to_phase-stands e phase reports p = record {
+    budget_is = s.budget_is;
+    frames_are = (counted e).0;
+    within = (counted e).1;
+    reports = reports;
+    first = AsFirstAcked-push x e a.found s.first;
+    phase = p;
+  }
 
   -- without an acknowledgement the same is reported
   pub reported-same : (e : Seen) → acked_by e ≡ None → (found_uids a) ≡ reported (x ++ e ∷ [])
@@ -82,7 +91,9 @@ module _ (kind : Kind) (known : List ℕ) (budget : ℕ) (x : List Seen) (a : Ag
 
   -- an acknowledgement comes
   pub to_found-stands : (u : ℕ) (ack : MuteAck) (phase : Phase) → AllByRecursion NotFailed x → IsFound x (found_uids a)
-      → ((more : List ℕ) → IsFound (x ++ exchange (Mute u) (Acked ack) ∷ []) more → ((v : ℕ) → has (found_uids a) v ≡ true → has more v ≡ true) → has more u ≡ true → InPhase kind known budget phase (x ++ exchange (Mute u) (Acked ack) ∷ []) more)
+      → ((more : List ℕ) → IsFound (x ++ exchange (Mute u) (Acked ack) ∷ []) more
+      → ((v : ℕ) → has (found_uids a) v ≡ true → has more v ≡ true) → has more u ≡ true
+      → InPhase kind known budget phase (x ++ exchange (Mute u) (Acked ack) ∷ []) more)
       → RunInvariant kind known budget (x ++ exchange (Mute u) (Acked ack) ∷ []) (to_found a (device_from u ack) phase)
   to_found-stands u ack phase sound f onward = cond_both (has (found_uids a) u) _ _ P at_old (λ new. cond_both (nat_lt (length (found_uids a)) MOST_DEVICES) _ _ P (at_new new) (at_full new))
     where
@@ -102,7 +113,14 @@ module _ (kind : Kind) (known : List ℕ) (budget : ℕ) (x : List Seen) (a : Ag
       grown : uids_of (with_device d a.found) ≡ with_uid u (found_uids a)
       grown = uids_of-with_device d a.found
 
-      at_new : has (found_uids a) u ≡ false → nat_lt (length (found_uids a)) MOST_DEVICES ≡ true → P (record { budget = a.budget; frames = a.frames + 1; search = a.search; found = with_device d a.found; phase = phase })
+      at_new : has (found_uids a) u ≡ false → nat_lt (length (found_uids a)) MOST_DEVICES ≡ true
+          → P (record {
+            budget = a.budget;
+            frames = a.frames + 1;
+            search = a.search;
+            found = with_device d a.found;
+            phase = phase;
+          })
       at_new new space = let is_found : IsFound (x ++ e ∷ []) (with_uid u (found_uids a)) = found-new x (found_uids a) e f u refl new (ltb-true (length (found_uids a)) MOST_DEVICES space) in record {
         budget_is = s.budget_is;
         frames_are = (counted e).0;
@@ -110,7 +128,9 @@ module _ (kind : Kind) (known : List ℕ) (budget : ℕ) (x : List Seen) (a : Ag
         reports = grown ∙ IsFound-reported (x ++ e ∷ []) (with_uid u (found_uids a)) is_found;
         first = AsFirstAcked-new x e d a.found refl (IsFound-has x (found_uids a) f u ∙ new) s.first;
         phase = subst (λ us. InPhase kind known budget phase (x ++ e ∷ []) us) (sym grown)
-            (onward (with_uid u (found_uids a)) is_found (λ v here. has-with_uid u (found_uids a) v ∙ or_right (v == u) (has (found_uids a) v) here) (has-with_uid u (found_uids a) u ∙ or_left (u == u) (has (found_uids a) u) (eq-eqb u u refl)));
+            (onward (with_uid u (found_uids a)) is_found (λ v here. has-with_uid u (found_uids a) v
+            ∙ or_right (v == u) (has (found_uids a) v) here)
+            (has-with_uid u (found_uids a) u ∙ or_left (u == u) (has (found_uids a) u) (eq-eqb u u refl)));
       }
 
       at_full : has (found_uids a) u ≡ false → nat_lt (length (found_uids a)) MOST_DEVICES ≡ false → P (to_phase a (Ended (Some TooMany)))
@@ -126,7 +146,9 @@ module _ (kind : Kind) (known : List ℕ) (budget : ℕ) (x : List Seen) (a : Ag
           all = let room = f.room in let least = ltb-false (length (found_uids a)) MOST_DEVICES full in omega arith
 
   -- an unmute
-  pub unmuting-stands : (more : ℕ) (left : List ℕ) (h : Heard) → h ≢ Failed → InPhase kind known budget (Unmuting more left) x (found_uids a) → RunInvariant kind known budget (x ++ exchange Unmute h ∷ []) (heard_by_phase a (Unmuting more left) h)
+  pub unmuting-stands : (more : ℕ) (left : List ℕ) (h : Heard) → h ≢ Failed
+      → InPhase kind known budget (Unmuting more left) x (found_uids a)
+      → RunInvariant kind known budget (x ++ exchange Unmute h ∷ []) (heard_by_phase a (Unmuting more left) h)
   unmuting-stands more left h sound p = to_phase-stands (exchange Unmute h) (cond (nat_lt 1 more) (Unmuting (more - 1) left) (search_from a.search left)) (reported-same (exchange Unmute h) refl)
       (cond_both (nat_lt 1 more) _ _ (λ q. InPhase kind known budget q (x ++ exchange Unmute h ∷ []) (found_uids a))
       (λ two. let above : 1 < more = ltb-true 1 more two in (omega arith, pushed))
@@ -136,14 +158,20 @@ module _ (kind : Kind) (known : List ℕ) (budget : ℕ) (x : List Seen) (a : Ag
       pushed = unmuting-push (known_of kind known) more left x (found_uids a) h p.0 sound p.1
 
       at_end : nat_lt 1 more ≡ false → IsUnmuting (known_of kind known) 0 left (x ++ exchange Unmute h ∷ []) (found_uids a)
-      at_end one = subst (λ n. IsUnmuting (known_of kind known) n left (x ++ exchange Unmute h ∷ []) (found_uids a)) (let few : more ≤ 1 = ltb-false 1 more one in let none : more - 1 ≡ 0 = omega arith in none) pushed
+      at_end one = subst (λ n. IsUnmuting (known_of kind known) n left (x ++ exchange Unmute h ∷ []) (found_uids a))
+          (let few : more ≤ 1 = ltb-false 1 more one in let none : more - 1 ≡ 0 = omega arith in none) pushed
 
   -- a known UID is muted
   known_lost-stands : (u tries : ℕ) (left : List ℕ) (h : Heard) → h ≢ Failed → is_acked h ≡ false → IsMutingKnown (known_of kind known) u tries left x (found_uids a)
       → RunInvariant kind known budget (x ++ exchange (Mute u) h ∷ []) (to_phase a (cond ((tries + 1) == TRIES) (search_from a.search left) (MutingKnown u (tries + 1) left)))
-  known_lost-stands u tries left h sound lost p = to_phase-stands e (cond ((tries + 1) == TRIES) (search_from a.search left) (MutingKnown u (tries + 1) left)) (reported-same e (lost-acks_none u h lost))
+  known_lost-stands u tries left h sound lost p =
+      to_phase-stands e (cond ((tries + 1) == TRIES) (search_from a.search left) (MutingKnown u (tries + 1) left))
+      (reported-same e (lost-acks_none u h lost))
       (cond_both ((tries + 1) == TRIES) _ _ (λ q. InPhase kind known budget q (x ++ e ∷ []) (found_uids a))
-      (λ five. known-next kind known budget a.search left (x ++ e ∷ []) (found_uids a) (known-given_up (known_of kind known) u left (x ++ e ∷ []) (found_uids a) muting (EndsWith-succession (subst (λ n. EndsWith n (IsLostMute u) (x ++ e ∷ [])) (eqb-true (tries + 1) TRIES five) ends))))
+      (λ five. known-next kind known budget a.search left (x ++ e ∷ []) (found_uids a)
+      (known-given_up (known_of kind known) u left (x ++ e ∷ []) (found_uids a) muting
+      (EndsWith-succession (subst (λ n. EndsWith n (IsLostMute u) (x ++ e ∷ [])) (eqb-true (tries + 1) TRIES five)
+      ends))))
       (λ fewer. record { muting = muting; few = few_more tries p.few (eqb-false (tries + 1) TRIES fewer); lost = ends }))
     where
       e : Seen
@@ -155,19 +183,26 @@ module _ (kind : Kind) (known : List ℕ) (budget : ℕ) (x : List Seen) (a : Ag
       ends : EndsWith (tries + 1) (IsLostMute u) (x ++ e ∷ [])
       ends = EndsWith-push e p.lost (refl, lost)
 
-  pub known-stands : (u tries : ℕ) (left : List ℕ) (h : Heard) → h ≢ Failed → IsMutingKnown (known_of kind known) u tries left x (found_uids a) → RunInvariant kind known budget (x ++ exchange (Mute u) h ∷ []) (known_heard a u tries left h)
+  pub known-stands : (u tries : ℕ) (left : List ℕ) (h : Heard) → h ≢ Failed
+      → IsMutingKnown (known_of kind known) u tries left x (found_uids a)
+      → RunInvariant kind known budget (x ++ exchange (Mute u) h ∷ []) (known_heard a u tries left h)
   known-stands u tries left (Acked ack) sound p = to_found-stands u ack (search_from a.search left) p.muting.under_way.no_failure p.muting.under_way.is_found
-      (λ more is_found grows here. known-next kind known budget a.search left (x ++ exchange (Mute u) (Acked ack) ∷ []) more (known-acked (known_of kind known) u left x (found_uids a) p.muting ack more is_found grows here))
+      (λ more is_found grows here. known-next kind known budget a.search left (x ++ exchange (Mute u) (Acked ack) ∷ [])
+      more (known-acked (known_of kind known) u left x (found_uids a) p.muting ack more is_found grows here))
   known-stands u tries left Failed sound p = absurd (sound refl)
   known-stands u tries left Silent sound p = known_lost-stands u tries left Silent sound refl p
   known-stands u tries left (One v) sound p = known_lost-stands u tries left (One v) sound refl p
   known-stands u tries left Noise sound p = known_lost-stands u tries left Noise sound refl p
 
   -- the top range is branched, and something came
-  collided-stands : (silences : ℕ) (top : Span) (below : List Span) (h : Heard) → h ≢ Failed → h ≢ Silent → ((u : ℕ) → h ≡ One u → is_new (found_uids a) top u ≡ false) → IsSearching (known_of kind known) silences top below x (found_uids a)
+  collided-stands : (silences : ℕ) (top : Span) (below : List Span) (h : Heard) → h ≢ Failed → h ≢ Silent
+      → ((u : ℕ) → h ≡ One u → is_new (found_uids a) top u ≡ false)
+      → IsSearching (known_of kind known) silences top below x (found_uids a)
       → RunInvariant kind known budget (x ++ exchange (Branch top.lo top.hi) h ∷ []) (to_phase a (split top below))
   collided-stands silences top below h sound loud refused p = to_phase-stands e (split top below) (reported-same e refl)
-      (search-collided kind known budget top below x e (found_uids a) (search-branch (known_of kind known) top below x (found_uids a) None top.lo top.hi h p.searches sound) (corrupt-reply top x (found_uids a) h p.searches.under_way.is_found sound loud refused)
+      (search-collided kind known budget top below x e (found_uids a)
+      (search-branch (known_of kind known) top below x (found_uids a) None top.lo top.hi h p.searches sound)
+      (corrupt-reply top x (found_uids a) h p.searches.under_way.is_found sound loud refused)
       (λ several u c. not_corrupt-several u (x ++ e ∷ []) x [] top.lo top.hi h refl tt several c))
     where
       e : Seen
@@ -177,7 +212,9 @@ module _ (kind : Kind) (known : List ℕ) (budget : ℕ) (x : List Seen) (a : Ag
       → RunInvariant kind known budget (x ++ exchange (Branch top.lo top.hi) Silent ∷ []) (to_phase a (cond ((silences + 1) == TRIES) (search_below below) (Searching (silences + 1) top below)))
   silent-stands silences top below p = to_phase-stands e (cond ((silences + 1) == TRIES) (search_below below) (Searching (silences + 1) top below)) (reported-same e refl)
       (cond_both ((silences + 1) == TRIES) _ _ (λ q. InPhase kind known budget q (x ++ e ∷ []) (found_uids a))
-      (λ five. search-next kind known budget top below x e (found_uids a) searches (EndsWith-succession (subst (λ n. EndsWith n (IsSilentBranch top.lo top.hi) (x ++ e ∷ [])) (eqb-true (silences + 1) TRIES five) ends)) not_corrupt)
+      (λ five. search-next kind known budget top below x e (found_uids a) searches
+      (EndsWith-succession (subst (λ n. EndsWith n (IsSilentBranch top.lo top.hi) (x ++ e ∷ []))
+      (eqb-true (silences + 1) TRIES five) ends)) not_corrupt)
       (λ fewer. record { searches = searches; few = few_more silences p.few (eqb-false (silences + 1) TRIES fewer); silent = ends; not_corrupt = not_corrupt }))
     where
       e : Seen
@@ -218,7 +255,10 @@ module _ (kind : Kind) (known : List ℕ) (budget : ℕ) (x : List Seen) (a : Ag
       same : (v : ℕ) → One u ≡ One v → u ≡ v
       same v q = cc
 
-  pub searching-stands : (silences : ℕ) (top : Span) (below : List Span) (h : Heard) → h ≢ Failed → IsSearching (known_of kind known) silences top below x (found_uids a) → RunInvariant kind known budget (x ++ exchange (Branch top.lo top.hi) h ∷ []) (branch_heard a silences top below h)
+  pub searching-stands : (silences : ℕ) (top : Span) (below : List Span) (h : Heard) → h ≢ Failed
+      → IsSearching (known_of kind known) silences top below x (found_uids a)
+      → RunInvariant kind known budget (x ++ exchange (Branch top.lo top.hi) h ∷ [])
+      (branch_heard a silences top below h)
   searching-stands silences top below Silent sound p = silent-stands silences top below p
   searching-stands silences top below (One u) sound p = spelt-stands silences top below u p
   searching-stands silences top below Failed sound p = absurd (sound refl)
@@ -248,14 +288,21 @@ module _ (kind : Kind) (known : List ℕ) (budget : ℕ) (x : List Seen) (a : Ag
       spelt_five five = subst (λ n. WasSpelt u n top (x ++ e ∷ [])) five spelt
 
       given_up : WasSpelt u TRIES top (x ++ e ∷ []) → InPhase kind known budget (split top below) (x ++ e ∷ []) (found_uids a)
-      given_up five = search-collided kind known budget top below x e (found_uids a) (search-given_up (known_of kind known) top below (x ++ e ∷ []) (found_uids a) u (is_muting_read-device (known_of kind known) u tries top below x (found_uids a) p) (WasSpelt-succession u TRIES top (x ++ e ∷ []) five) searches)
+      given_up five = search-collided kind known budget top below x e (found_uids a)
+          (search-given_up (known_of kind known) top below (x ++ e ∷ []) (found_uids a) u
+          (is_muting_read-device (known_of kind known) u tries top below x (found_uids a) p)
+          (WasSpelt-succession u TRIES top (x ++ e ∷ []) five) searches)
           (corrupt-mutes top u (x ++ e ∷ []) (found_uids a) searches.under_way.no_failure (is_new-device (found_uids a) top u p.new) five)
           (λ several w c. not_corrupt-several w (x ++ e ∷ []) five.before five.mutes top.lo top.hi (One u) five.whole (lost_no_branches u five.mutes five.lost) several c)
 
-  pub muting-stands : (u tries : ℕ) (top : Span) (below : List Span) (h : Heard) → h ≢ Failed → IsMutingRead (known_of kind known) u tries top below x (found_uids a) → RunInvariant kind known budget (x ++ exchange (Mute u) h ∷ []) (mute_heard a u tries top below h)
+  pub muting-stands : (u tries : ℕ) (top : Span) (below : List Span) (h : Heard) → h ≢ Failed
+      → IsMutingRead (known_of kind known) u tries top below x (found_uids a)
+      → RunInvariant kind known budget (x ++ exchange (Mute u) h ∷ []) (mute_heard a u tries top below h)
   muting-stands u tries top below (Acked ack) sound p = to_found-stands u ack (Searching 0 top below) p.searches.under_way.no_failure p.searches.under_way.is_found
       (λ more is_found grows here. record {
-        searches = search-acked (known_of kind known) top below x (found_uids a) u ack more (is_muting_read-device (known_of kind known) u tries top below x (found_uids a) p) p.searches (read_is u tries top p.spelt) is_found grows here;
+        searches = search-acked (known_of kind known) top below x (found_uids a) u ack more
+            (is_muting_read-device (known_of kind known) u tries top below x (found_uids a) p) p.searches
+            (read_is u tries top p.spelt) is_found grows here;
         few = omega arith;
         silent = EndsWith-none _ (x ++ exchange (Mute u) (Acked ack) ∷ []);
         not_corrupt = λ w c. not_corrupt-acked w u tries ack top x p.spelt c;

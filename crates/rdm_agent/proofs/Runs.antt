@@ -43,7 +43,12 @@ module _ (kind : Kind) (known : List ℕ) (budget : ℕ) where
 
   is_open : (phase : Phase) (x : List Seen) (found : List ℕ) → InPhase kind known budget phase x found → MatchOption (wanted phase) (Unit {0}) (λ asked. IsOpen x found)
   is_open (Unmuting more left) x found p = record { no_failure = p.1.no_failure; is_found = p.1.is_found; not_corrupt = λ u c. not_corrupt-no_branch u x (no_branches x p.1.unmutes) c }
-  is_open (MutingKnown u tries left) x found p = let w = p.muting.under_way in record { no_failure = w.no_failure; is_found = w.is_found; not_corrupt = λ v c. not_corrupt-no_branch v x p.muting.no_branch c }
+  is_open (MutingKnown u tries left) x found p =
+      let w = p.muting.under_way in record {
+        no_failure = w.no_failure;
+        is_found = w.is_found;
+        not_corrupt = λ v c. not_corrupt-no_branch v x p.muting.no_branch c;
+      }
   is_open (Searching silences top below) x found p = let w = p.searches.under_way in record { no_failure = w.no_failure; is_found = w.is_found; not_corrupt = p.not_corrupt }
   is_open (MutingRead u tries top below) x found p = let w = p.searches.under_way in record {
     no_failure = w.no_failure;
@@ -54,7 +59,9 @@ module _ (kind : Kind) (known : List ℕ) (budget : ℕ) where
   is_open (MutingSwept u tries sweep top below) x found p = let w = p.searches.under_way in record {
     no_failure = w.no_failure;
     is_found = w.is_found;
-    not_corrupt = λ v c. not_corrupt-spelt v u tries (probe sweep.suspect top) x found w.is_found (let end = (IsStack-ends top below p.stack).1 in let to = (probe_is sweep.suspect top).to in omega arith) (probe-new sweep.suspect found top u p.new) p.spelt p.few c;
+    not_corrupt = λ v c. not_corrupt-spelt v u tries (probe sweep.suspect top) x found w.is_found
+        (let end = (IsStack-ends top below p.stack).1 in let to = (probe_is sweep.suspect top).to in omega arith)
+        (probe-new sweep.suspect found top u p.new) p.spelt p.few c;
   }
   is_open (Doubting sweep top below) x found p = let w = p.sweeps.searches.under_way in record { no_failure = w.no_failure; is_found = w.is_found; not_corrupt = p.sweeps.not_corrupt }
   is_open (Ended fault) x found p = tt
@@ -81,7 +88,11 @@ module _ (kind : Kind) (known : List ℕ) (budget : ℕ) where
       last = e;
       whole = refl;
       no_failure = before.no_failure;
-      certified = (record { before = x; asked = asked; whole = refl }, IsFound-all_reported (x ++ e ∷ []) (found_uids a) (found-same x (found_uids a) e before.is_found (failed_none asked Failed refl)));
+      certified = (
+        record { before = x; asked = asked; whole = refl },
+        IsFound-all_reported (x ++ e ∷ []) (found_uids a)
+            (found-same x (found_uids a) e before.is_found (failed_none asked Failed refl)),
+      );
     })
       where
         before : IsOpen x (found_uids a)
@@ -119,14 +130,26 @@ known_devices Full known set = tt
 known_devices Incremental known set = set.devices
 
 -- an agent that ran stands after its exchanges
-pub stands_by : (search : Search) (kind : Kind) (known : List ℕ) (budget : ℕ) (x : List Seen) (b : AgentState) → IsDeviceSet known → Runs (start_by search kind known budget) x b → RunInvariant kind known budget x b
+pub stands_by : (search : Search) (kind : Kind) (known : List ℕ) (budget : ℕ) (x : List Seen) (b : AgentState)
+    → IsDeviceSet known → Runs (start_by search kind known budget) x b → RunInvariant kind known budget x b
 stands_by search kind known budget x b set run = runs-stand kind known budget [] x (start_by search kind known budget) b (record {
   budget_is = refl;
   frames_are = refl;
   within = omega arith;
   reports = refl;
   first = tt;
-  phase = (omega arith, record { unmutes = tt; no_failure = tt; counted = refl; is_found = record { set = refl; counted = refl; room = omega arith }; left_is = refl; devices = known_devices kind known set });
+  phase = (
+    omega arith,
+    record {
+      unmutes = tt;
+      no_failure = tt;
+      counted = refl;
+      is_found = record { set = refl; counted = refl; room = omega arith };
+      left_is = refl;
+      devices =
+          known_devices kind known set;
+    },
+  );
 }) run
 
 -- three unmutes were made
@@ -144,19 +167,33 @@ not_wanted true asked end = absurd (some_none end)
     some_none p = cc
 
 -- what is wanted is in order
-wants_in_order : (kind : Kind) (known : List ℕ) (budget : ℕ) (phase : Phase) (x : List Seen) (found : List ℕ) → InPhase kind known budget phase x found → MatchOption (wanted phase) (Unit {0}) (IsInOrder (length x))
+wants_in_order : (kind : Kind) (known : List ℕ) (budget : ℕ) (phase : Phase) (x : List Seen) (found : List ℕ)
+    → InPhase kind known budget phase x found → MatchOption (wanted phase) (Unit {0}) (IsInOrder (length x))
 wants_in_order kind known budget (Unmuting more left) x found p = ((λ early. refl), λ late. absurd (too_late p.0 p.1.counted late))
   where
     too_late : 1 ≤ more → length x + more ≡ UNMUTES → UNMUTES ≤ length x → ⊥
     too_late some counted late = omega arith
-wants_in_order kind known budget (MutingKnown u tries left) x found p = ((λ early. absurd (too_early (begun-length (known_of kind known) (Some u) x found p.muting.under_way) early)), λ late. p.muting.devices.0)
-wants_in_order kind known budget (Searching silences top below) x found p = ((λ early. absurd (too_early (begun-length (known_of kind known) None x found p.searches.under_way) early)), λ late. IsStack-ends top below p.searches.stack)
-wants_in_order kind known budget (MutingRead u tries top below) x found p = ((λ early. absurd (too_early (begun-length (known_of kind known) (Some u) x found p.searches.under_way) early)), λ late. is_muting_read-device (known_of kind known) u tries top below x found p)
+wants_in_order kind known budget (MutingKnown u tries left) x found p = (
+  (λ early. absurd (too_early (begun-length (known_of kind known) (Some u) x found p.muting.under_way) early)),
+  λ late. p.muting.devices.0,
+)
+wants_in_order kind known budget (Searching silences top below) x found p = (
+  (λ early. absurd (too_early (begun-length (known_of kind known) None x found p.searches.under_way) early)),
+  λ late. IsStack-ends top below p.searches.stack,
+)
+wants_in_order kind known budget (MutingRead u tries top below) x found p = (
+  (λ early. absurd (too_early (begun-length (known_of kind known) (Some u) x found p.searches.under_way) early)),
+  λ late. is_muting_read-device (known_of kind known) u tries top below x found p,
+)
 wants_in_order kind known budget (Sweeping sweep top below) x found p = (
   (λ early. absurd (too_early (begun-length (known_of kind known) None x found p.searches.under_way) early)),
-  λ late. let ends = IsStack-ends top below p.stack in let low = ends.0 in let high = ends.1 in let asked = probe_is sweep.suspect top in let from = asked.from in let to = asked.to in (omega arith, omega arith),
+  λ late. let ends = IsStack-ends top below p.stack in let low = ends.0 in let high = ends.1 in
+      let asked = probe_is sweep.suspect top in let from = asked.from in let to = asked.to in (omega arith, omega arith),
 )
-wants_in_order kind known budget (MutingSwept u tries sweep top below) x found p = ((λ early. absurd (too_early (begun-length (known_of kind known) (Some u) x found p.searches.under_way) early)), λ late. is_muting_swept-device (known_of kind known) u tries sweep top below x found p)
+wants_in_order kind known budget (MutingSwept u tries sweep top below) x found p = (
+  (λ early. absurd (too_early (begun-length (known_of kind known) (Some u) x found p.searches.under_way) early)),
+  λ late. is_muting_swept-device (known_of kind known) u tries sweep top below x found p,
+)
 wants_in_order kind known budget (Doubting sweep top below) x found p = (
   (λ early. absurd (too_early (begun-length (known_of kind known) None x found p.sweeps.searches.under_way) early)),
   λ late. let ends = IsStack-ends top below p.sweeps.stack in let low = ends.0 in let high = ends.1 in (omega arith, omega arith),
@@ -181,19 +218,29 @@ exhausted kind known budget x found o used = (
   IsFound-all_reported x found o.is_found,
 )
 
-ended : (kind : Kind) (known : List ℕ) (budget : ℕ) (phase : Phase) (x : List Seen) (found : List ℕ) (goes : Bool) → InPhase kind known budget phase x found → cond goes (wanted phase) None ≡ None → (goes ≡ false → length x ≡ budget)
+ended : (kind : Kind) (known : List ℕ) (budget : ℕ) (phase : Phase) (x : List Seen) (found : List ℕ) (goes : Bool)
+    → InPhase kind known budget phase x found → cond goes (wanted phase) None ≡ None
+    → (goes ≡ false → length x ≡ budget)
     → MatchOption (fault_of phase) (SearchShows kind known x found) (λ f. Cause budget ⊥ f x)
 ended kind known budget (Ended fault) x found goes p end used = p.certified
-ended kind known budget (Unmuting more left) x found goes p end used = exhausted kind known budget x found (is_open kind known budget (Unmuting more left) x found p) (used (not_wanted goes Unmute end))
-ended kind known budget (MutingKnown u tries left) x found goes p end used = exhausted kind known budget x found (is_open kind known budget (MutingKnown u tries left) x found p) (used (not_wanted goes (Mute u) end))
+ended kind known budget (Unmuting more left) x found goes p end used =
+    exhausted kind known budget x found (is_open kind known budget (Unmuting more left) x found p)
+    (used (not_wanted goes Unmute end))
+ended kind known budget (MutingKnown u tries left) x found goes p end used =
+    exhausted kind known budget x found (is_open kind known budget (MutingKnown u tries left) x found p)
+    (used (not_wanted goes (Mute u) end))
 ended kind known budget (Searching silences top below) x found goes p end used =
     exhausted kind known budget x found (is_open kind known budget (Searching silences top below) x found p) (used (not_wanted goes (Branch top.lo top.hi) end))
 ended kind known budget (Sweeping sweep top below) x found goes p end used =
     exhausted kind known budget x found (is_open kind known budget (Sweeping sweep top below) x found p) (used (not_wanted goes (Branch (probe sweep.suspect top).lo (probe sweep.suspect top).hi) end))
-ended kind known budget (MutingSwept u tries sweep top below) x found goes p end used = exhausted kind known budget x found (is_open kind known budget (MutingSwept u tries sweep top below) x found p) (used (not_wanted goes (Mute u) end))
+ended kind known budget (MutingSwept u tries sweep top below) x found goes p end used =
+    exhausted kind known budget x found (is_open kind known budget (MutingSwept u tries sweep top below) x found p)
+    (used (not_wanted goes (Mute u) end))
 ended kind known budget (Doubting sweep top below) x found goes p end used =
     exhausted kind known budget x found (is_open kind known budget (Doubting sweep top below) x found p) (used (not_wanted goes (Branch (top.lo - 2) (top.lo - 1)) end))
-ended kind known budget (MutingRead u tries top below) x found goes p end used = exhausted kind known budget x found (is_open kind known budget (MutingRead u tries top below) x found p) (used (not_wanted goes (Mute u) end))
+ended kind known budget (MutingRead u tries top below) x found goes p end used =
+    exhausted kind known budget x found (is_open kind known budget (MutingRead u tries top below) x found p)
+    (used (not_wanted goes (Mute u) end))
 
 -- its certificate, or its fault's cause; and it reports what was acknowledged
 pub ends_certified_by : (search : Search) → EndsCertified search
@@ -243,7 +290,8 @@ none_failed x sound = (
   λ f. absurd (All-at NotFailed x f.before [] (record { asked = f.asked; heard = Failed }) sound f.whole refl),
 )
 
-failed_phase : (kind : Kind) (known : List ℕ) (budget : ℕ) (phase : Phase) (x : List Seen) (found : List ℕ) → InPhase kind known budget phase x found → FailureIsLast x × (EndsFailed x → wanted phase ≡ None)
+failed_phase : (kind : Kind) (known : List ℕ) (budget : ℕ) (phase : Phase) (x : List Seen) (found : List ℕ)
+    → InPhase kind known budget phase x found → FailureIsLast x × (EndsFailed x → wanted phase ≡ None)
 failed_phase kind known budget (Ended fault) x found p = ((λ front back e whole failed. not_before p.before front back p.last e p.no_failure (sym p.whole ∙ whole) failed), λ f. refl)
 failed_phase kind known budget (Unmuting more left) x found p = none_failed x (is_open kind known budget (Unmuting more left) x found p).no_failure
 failed_phase kind known budget (MutingKnown u tries left) x found p = none_failed x (is_open kind known budget (MutingKnown u tries left) x found p).no_failure
@@ -265,11 +313,15 @@ ends_at_failure_by search kind known budget x b set run = (f.0, λ failed. nothi
     nothing false none = refl
 
 -- an agent that goes on has found all that was acknowledged
-pub all_reported_by : (search : Search) (kind : Kind) (known : List ℕ) (budget : ℕ) (x : List Seen) (b : AgentState) (asked : Asked) → IsDeviceSet known → Runs (start_by search kind known budget) x b → next_of b ≡ Some asked → AllReported x
+pub all_reported_by : (search : Search) (kind : Kind) (known : List ℕ) (budget : ℕ) (x : List Seen) (b : AgentState)
+    (asked : Asked) → IsDeviceSet known → Runs (start_by search kind known budget) x b → next_of b ≡ Some asked
+    → AllReported x
 all_reported_by search kind known budget x b asked set run next = IsFound-all_reported x (found_uids b) going.is_found
   where
     going : IsOpen kind known budget x (found_uids b)
-    going = subst (λ o. MatchOption o (Unit {0}) (λ q. IsOpen kind known budget x (found_uids b))) (wanted_next kind known budget b asked next).1 (is_open kind known budget b.phase x (found_uids b) (stands_by search kind known budget x b set run).phase)
+    going = subst (λ o. MatchOption o (Unit {0}) (λ q. IsOpen kind known budget x (found_uids b)))
+        (wanted_next kind known budget b asked next).1
+        (is_open kind known budget b.phase x (found_uids b) (stands_by search kind known budget x b set run).phase)
 
 -- nor has it met a failure or a corrupt UID
 pub goes_on_soundly_by : (search : Search) → GoesOnSoundly search
@@ -277,7 +329,10 @@ goes_on_soundly_by search kind known budget x b set run goes = by_next (next_of 
   where
     by_next : (next : Option Asked) → next_of b ≡ next → AllByRecursion NotFailed x × ((u : ℕ) → IsCorrupt u x → ⊥)
     by_next None end = absurd (goes end)
-    by_next (Some asked) next = let going : IsOpen kind known budget x (found_uids b) = subst (λ o. MatchOption o (Unit {0}) (λ q. IsOpen kind known budget x (found_uids b))) (wanted_next kind known budget b asked next).1 (is_open kind known budget b.phase x (found_uids b) (stands_by search kind known budget x b set run).phase) in
+    by_next (Some asked) next = let going : IsOpen kind known budget x (found_uids b) =
+        subst (λ o. MatchOption o (Unit {0}) (λ q. IsOpen kind known budget x (found_uids b)))
+        (wanted_next kind known budget b asked next).1
+        (is_open kind known budget b.phase x (found_uids b) (stands_by search kind known budget x b set run).phase) in
         (going.no_failure, going.not_corrupt)
 
 -- one whose budget is used up asks nothing
@@ -309,5 +364,6 @@ asks_in_order = asks_in_order_by Steady
 pub ends_at_budget : EndsAtBudget Steady
 ends_at_budget = ends_at_budget_by Steady
 
-pub all_reported : (kind : Kind) (known : List ℕ) (budget : ℕ) (x : List Seen) (b : AgentState) (asked : Asked) → IsDeviceSet known → Runs (start kind known budget) x b → next_of b ≡ Some asked → AllReported x
+pub all_reported : (kind : Kind) (known : List ℕ) (budget : ℕ) (x : List Seen) (b : AgentState) (asked : Asked)
+    → IsDeviceSet known → Runs (start kind known budget) x b → next_of b ≡ Some asked → AllReported x
 all_reported = all_reported_by Steady

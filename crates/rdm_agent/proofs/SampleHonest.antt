@@ -34,19 +34,24 @@ unmutes present n (suc left) x onward =
     inr (line none_muted 0 0 (n + 1), ((λ u. record { fewer = λ m. m; third = λ h. refl }), counts none_muted 0 0 (n + 1) (omega arith) (omega arith)), unmutes present (n + 1) left x onward)
 
 -- branches of a range where nobody unmuted is
-pub silent : (present : List ℕ) (muted : ℕ → Bool) (lo hi left : ℕ) (x : List Seen) → due_in present muted lo hi ≡ [] → Goes present (line muted 0 0 0) x → Goes present (line muted 0 0 0) (replicate left (exchange (Branch lo hi) Silent) ++ x)
+pub silent : (present : List ℕ) (muted : ℕ → Bool) (lo hi left : ℕ) (x : List Seen) → due_in present muted lo hi ≡ []
+    → Goes present (line muted 0 0 0) x → Goes present (line muted 0 0 0)
+    (replicate left (exchange (Branch lo hi) Silent) ++ x)
 silent present muted lo hi zero x nobody onward = onward
 silent present muted lo hi (suc left) x nobody onward =
     inr (line muted 0 0 0, (rw nobody refl, (λ u. refl), rw nobody (counts muted 0 0 0 (omega arith) (omega arith))), silent present muted lo hi left x nobody onward)
 
 -- branches whose reply is lost, and mutes whose acknowledgement is
 
-lost_branches : (k n left : ℕ) (x : List Seen) → k + left ≤ 4 → ((j m : ℕ) → Goes (sample_uid ∷ []) (line none_muted j 0 m) x) → Goes (sample_uid ∷ []) (line none_muted k 0 n) (replicate left (exchange all_branch Silent) ++ x)
+lost_branches : (k n left : ℕ) (x : List Seen) → k + left ≤ 4
+    → ((j m : ℕ) → Goes (sample_uid ∷ []) (line none_muted j 0 m) x)
+    → Goes (sample_uid ∷ []) (line none_muted k 0 n) (replicate left (exchange all_branch Silent) ++ x)
 lost_branches k n zero x few onward = onward k n
 lost_branches k n (suc left) x few onward =
     inr (line none_muted (k + 1) 0 0, (inr refl, (λ u. refl), counts none_muted (k + 1) 0 0 (omega arith) (omega arith)), lost_branches (k + 1) 0 left x (omega arith) onward)
 
-lost_mutes : (k left : ℕ) (x : List Seen) → k + left ≤ 4 → ((j : ℕ) → Goes (sample_uid ∷ []) (line none_muted 0 j 0) x) → Goes (sample_uid ∷ []) (line none_muted 0 k 0) (replicate left (exchange (Mute sample_uid) Silent) ++ x)
+lost_mutes : (k left : ℕ) (x : List Seen) → k + left ≤ 4 → ((j : ℕ) → Goes (sample_uid ∷ []) (line none_muted 0 j 0) x)
+    → Goes (sample_uid ∷ []) (line none_muted 0 k 0) (replicate left (exchange (Mute sample_uid) Silent) ++ x)
 lost_mutes k zero x few onward = onward k
 lost_mutes k (suc left) x few onward =
     inr (line none_muted 0 (k + 1) 0, ((λ v other. refl), inr (refl, inr refl, counts none_muted 0 (k + 1) 0 (omega arith) (omega arith))), lost_mutes (k + 1) left x (omega arith) onward)
@@ -59,7 +64,11 @@ lossy_honest branches mutes few_branches few_mutes = (
   unmutes (sample_uid ∷ []) 0 3 _ (λ n. lost_branches 0 n branches _ few (λ j m. inr (
     line none_muted 0 0 0,
     (inl refl, (λ u. refl), counts none_muted 0 0 0 (omega arith) (omega arith)),
-    lost_mutes 0 mutes _ none_lost (λ k. inr (line one_muted 0 0 0, ((λ v other. other), inl (refl, refl, counts one_muted 0 0 0 (omega arith) (omega arith))), silent (sample_uid ∷ []) one_muted 0 0xffffffffffff 5 [] refl tt)),
+    lost_mutes 0 mutes _ none_lost (λ k. inr (
+      line one_muted 0 0 0,
+      ((λ v other. other), inl (refl, refl, counts one_muted 0 0 0 (omega arith) (omega arith))),
+      silent (sample_uid ∷ []) one_muted 0 0xffffffffffff 5 [] refl tt,
+    )),
   ))),
 )
   where
@@ -78,7 +87,9 @@ sample-not_failed = never_failed 3 (exchange Unmute Silent) (drop 3 sample_run) 
 
 -- five of either kind may not
 pub five_branches_lost : HonestTrace (sample_uid ∷ []) (lossy_run 5 0) → ⊥
-five_branches_lost honest = too_many b.state.lost_branches (silences sample_uid 0 0xffffffffffff b.state (replicate 5 (exchange all_branch Silent)) (drop 8 (lossy_run 5 0)) refl b.muted ((refl, refl), ((refl, refl), ((refl, refl), ((refl, refl), ((refl, refl), tt))))) b.chain)
+five_branches_lost honest = too_many b.state.lost_branches
+    (silences sample_uid 0 0xffffffffffff b.state (replicate 5 (exchange all_branch Silent)) (drop 8 (lossy_run 5 0))
+    refl b.muted ((refl, refl), ((refl, refl), ((refl, refl), ((refl, refl), ((refl, refl), tt))))) b.chain)
   where
     one : HonestTo sample_uid (lossy_run 5 0)
     one = honest_to_each (sample_uid ∷ []) sample_uid (lossy_run 5 0) refl honest
@@ -104,4 +115,8 @@ five_mutes_lost honest = five_mutes sample_uid (before_run one.0) (lossy_run 0 5
     one = honest_to_each (sample_uid ∷ []) sample_uid (lossy_run 0 5) refl honest
 
     sound : AllByRecursion NotFailed (lossy_run 0 5)
-    sound = never_failed 3 (exchange Unmute Silent) (drop 3 (lossy_run 0 5)) (λ h. cc) ((λ h. cc), never_failed 5 (exchange (Mute sample_uid) Silent) (drop 9 (lossy_run 0 5)) (λ h. cc) ((λ h. cc), never_failed 5 (exchange all_branch Silent) [] (λ h. cc) tt))
+    sound = never_failed 3 (exchange Unmute Silent) (drop 3 (lossy_run 0 5)) (λ h. cc) (
+      (λ h. cc),
+      never_failed 5 (exchange (Mute sample_uid) Silent) (drop 9 (lossy_run 0 5)) (λ h. cc)
+          ((λ h. cc), never_failed 5 (exchange all_branch Silent) [] (λ h. cc) tt),
+    )

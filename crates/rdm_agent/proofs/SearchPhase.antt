@@ -26,7 +26,9 @@ use Rattle.rdm_agent.proofs.Invariant.{IsFound, IsUnderWay, Searches, InPhase}
 
 module _ (known : List ℕ) (top : Span) (below : List Span) (x : List Seen) (found : List ℕ) where
   -- the top range is branched
-  pub search-branch : (busy : Option ℕ) (lo hi : ℕ) (h : Heard) → Searches known None top below x found → NotFailed (record { asked = Branch lo hi; heard = h }) → Searches known busy top below (x ++ record { asked = Branch lo hi; heard = h } ∷ []) found
+  pub search-branch : (busy : Option ℕ) (lo hi : ℕ) (h : Heard) → Searches known None top below x found
+      → NotFailed (record { asked = Branch lo hi; heard = h })
+      → Searches known busy top below (x ++ record { asked = Branch lo hi; heard = h } ∷ []) found
   search-branch busy lo hi h s sound = record {
     under_way = under_way-branch known x found busy lo hi h s.under_way sound (found-same x found e s.under_way.is_found refl);
     known_first = λ u k. has-before_branch muted_by x (e ∷ []) u (s.known_first u k);
@@ -51,7 +53,8 @@ module _ (known : List ℕ) (top : Span) (below : List Span) (x : List Seen) (fo
       e = record { asked = Mute u; heard = h }
 
   -- one is acknowledged
-  pub search-acked : (u : ℕ) (ack : MuteAck) (more : List ℕ) → IsDevice u → Searches known (Some u) top below x found → has (read_in x) u ≡ true → IsFound (x ++ record { asked = Mute u; heard = Acked ack } ∷ []) more
+  pub search-acked : (u : ℕ) (ack : MuteAck) (more : List ℕ) → IsDevice u → Searches known (Some u) top below x found
+      → has (read_in x) u ≡ true → IsFound (x ++ record { asked = Mute u; heard = Acked ack } ∷ []) more
       → ((v : ℕ) → has found v ≡ true → has more v ≡ true) → has more u ≡ true → Searches known None top below (x ++ record { asked = Mute u; heard = Acked ack } ∷ []) more
   search-acked u ack more device s was is_found grows here = record {
     under_way = under_way-acked known x found u ack more device s.under_way is_found grows here (named-mute known x u (Acked ack) (inr was));
@@ -73,7 +76,9 @@ module _ (known : List ℕ) (top : Span) (below : List Span) (x : List Seen) (fo
   }
 
   -- the top range is split
-  pub search-split : (top.lo ≡ top.hi → ⊥) → Searches known None top below x found → Searches known None (record { lo = top.lo; hi = middle top }) (record { lo = middle top + 1; hi = top.hi } ∷ below) x found
+  pub search-split : (top.lo ≡ top.hi → ⊥) → Searches known None top below x found
+      → Searches known None (record { lo = top.lo; hi = middle top })
+      (record { lo = middle top + 1; hi = top.hi } ∷ below) x found
   search-split two s = record { under_way = s.under_way; known_first = s.known_first; stack = IsStack-split top below two s.stack; cleared = s.cleared }
 
   -- five silences clear the top range
@@ -85,7 +90,8 @@ module _ (known : List ℕ) (top : Span) (below : List Span) (x : List Seen) (fo
 
 -- all is cleared
 pub all_cleared : (kind : Kind) (known : List ℕ) (x : List Seen) (found : List ℕ) → IsUnderWay (known_of kind known) None x found
-    → ((u : ℕ) → has (known_of kind known) u ≡ true → has (muted_in (before_first is_branch x)) u ≡ true) → ((u : ℕ) → u < 2 ^ 48 → (has found u ≡ true) ⊎ IsCleared x u) → SearchShows kind known x found
+    → ((u : ℕ) → has (known_of kind known) u ≡ true → has (muted_in (before_first is_branch x)) u ≡ true)
+    → ((u : ℕ) → u < 2 ^ 48 → (has found u ≡ true) ⊎ IsCleared x u) → SearchShows kind known x found
 all_cleared kind known x found w known_first cleared = record {
   unmutes = w.begun;
   no_failure = w.no_failure;
@@ -100,14 +106,17 @@ all_cleared kind known x found w known_first cleared = record {
     none_some u p = cc
 
 -- the top range is taken off: the next one is searched, or the run ends
-pub search-next : (kind : Kind) (known : List ℕ) (budget : ℕ) (top : Span) (below : List Span) (x : List Seen) (e : Seen) (found : List ℕ) → Searches (known_of kind known) None top below (x ++ e ∷ []) found
+pub search-next : (kind : Kind) (known : List ℕ) (budget : ℕ) (top : Span) (below : List Span) (x : List Seen)
+    (e : Seen) (found : List ℕ) → Searches (known_of kind known) None top below (x ++ e ∷ []) found
     → InSuccession TRIES (IsSilentBranch top.lo top.hi) (x ++ e ∷ []) → ((u : ℕ) → IsCorrupt u (x ++ e ∷ []) → ⊥) → InPhase kind known budget (search_below below) (x ++ e ∷ []) found
 search-next kind known budget top [] x e found s five not_corrupt = record {
   before = x;
   last = e;
   whole = refl;
   no_failure = first_part NotFailed x (e ∷ []) s.under_way.no_failure;
-  certified = all_cleared kind known (x ++ e ∷ []) found s.under_way s.known_first (λ u low. search-cleared (known_of kind known) top [] (x ++ e ∷ []) found five s u (subst (λ n. u < n) (sym s.stack.rest) low));
+  certified = all_cleared kind known (x ++ e ∷ []) found s.under_way s.known_first
+      (λ u low. search-cleared (known_of kind known) top [] (x ++ e ∷ []) found five s u
+      (subst (λ n. u < n) (sym s.stack.rest) low));
 }
 search-next kind known budget top (r ∷ rs) x e found s five not_corrupt = record {
   searches = record {
@@ -122,7 +131,8 @@ search-next kind known budget top (r ∷ rs) x e found s five not_corrupt = reco
 }
 
 -- a collision splits the top range; one UID is corrupt
-pub search-collided : (kind : Kind) (known : List ℕ) (budget : ℕ) (top : Span) (below : List Span) (x : List Seen) (e : Seen) (found : List ℕ) → Searches (known_of kind known) None top below (x ++ e ∷ []) found
+pub search-collided : (kind : Kind) (known : List ℕ) (budget : ℕ) (top : Span) (below : List Span) (x : List Seen)
+    (e : Seen) (found : List ℕ) → Searches (known_of kind known) None top below (x ++ e ∷ []) found
     → (top.lo ≡ top.hi → IsCorrupt top.lo (x ++ e ∷ [])) → ((top.lo ≡ top.hi → ⊥) → (u : ℕ) → IsCorrupt u (x ++ e ∷ []) → ⊥) → InPhase kind known budget (split top below) (x ++ e ∷ []) found
 search-collided kind known budget top below x e found s corrupt not_corrupt = cond_both (top.lo == top.hi) _ _ (λ p. InPhase kind known budget p (x ++ e ∷ []) found)
     (λ one. record {

@@ -97,7 +97,9 @@ pub length-with_uid : (u : ℕ) (vs : List ℕ) → has vs u ≡ false → lengt
 length-with_uid u [] new = omega arith
 length-with_uid u (v ∷ vs) new = by_test (nat_lt u v) (u == v) (or_parts (u == v) (has vs u) new) (λ n. length-with_uid u vs n)
   where
-    by_test : (b c : Bool) → (c ≡ false) × (has vs u ≡ false) → (has vs u ≡ false → length (with_uid u vs) ≡ length vs + 1) → length (cond b (u ∷ v ∷ vs) (cond c (v ∷ vs) (v ∷ with_uid u vs))) ≡ length (v ∷ vs) + 1
+    by_test : (b c : Bool) → (c ≡ false) × (has vs u ≡ false)
+        → (has vs u ≡ false → length (with_uid u vs) ≡ length vs + 1)
+        → length (cond b (u ∷ v ∷ vs) (cond c (v ∷ vs) (v ∷ with_uid u vs))) ≡ length (v ∷ vs) + 1
     by_test true c parts onward = omega arith
     by_test false true parts onward = absurd (true≢false parts.0)
     by_test false false parts onward = let longer = onward parts.1 in omega arith

@@ -5,7 +5,7 @@ use Rattle.std.proofs.lemmas.Bool.{eqb-false}
 use Rattle.std.proofs.Math.Pow.{pow_pos}
 use Rattle.std.proofs.Math.Nat.{pow-suc}
 use Rattle.rdm_wire.specs.Span.{Span, whole, lower_half, upper_half}
-use Rattle.rdm_agent.specs.Sound.{Ascends, IsStack}
+use Rattle.rdm_agent.specs.body.Sound.{Ascends, IsStack}
 
 -- they begin among the UIDs
 pub Ascends-below : (from level : ℕ) (rs : List Span) → Ascends from level rs → from ≤ 2 ^ 48

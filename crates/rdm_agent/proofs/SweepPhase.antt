@@ -8,7 +8,7 @@ use Rattle.rdm_wire.specs.Honest.Asked.{Branch}
 use Rattle.rdm_wire.specs.Honest.Heard.{Silent}
 use Rattle.rdm_agent.specs.Certificate.{known_of}
 use Rattle.rdm_agent.specs.Cause.{IsCorrupt}
-use Rattle.rdm_agent.specs.Sound.{IsStack}
+use Rattle.rdm_agent.specs.body.Sound.{IsStack}
 use Rattle.rdm_agent.specs.Machine.{Phase, Sweep, is_suspect, is_one, is_new, is_wanted, is_sibling, probe, suspecting, sweep_to, sweep_below, sweep_halves, sweep_silent, sweep_doubt, sweep_apart}
 use Rattle.rdm_agent.specs.Machine.Phase.{Searching}
 use Rattle.rdm_agent.specs.declared.kind.Kind.{Kind}
@@ -47,9 +47,12 @@ probe-new suspect found top u new =
     record { own = device.own; from = omega arith; to = omega arith; new = device.new }
 
 -- in a range of its own what is new is muted
-pub refused-alone : (found : List ℕ) (sweep : Sweep) (top : Span) (u : ℕ) → is_wanted found sweep top u ≡ false → (probe sweep.suspect top).lo ≡ (probe sweep.suspect top).hi → is_new found (probe sweep.suspect top) u ≡ false
+pub refused-alone : (found : List ℕ) (sweep : Sweep) (top : Span) (u : ℕ) → is_wanted found sweep top u ≡ false
+    → (probe sweep.suspect top).lo ≡ (probe sweep.suspect top).hi → is_new found (probe sweep.suspect top) u ≡ false
 refused-alone found sweep top u refused alone =
-    subst (λ r. is_new found r u ≡ false) (sym ((probe_is sweep.suspect top).same.0 alone)) (unless (is_new found top u) (is_suspect sweep.suspect u) (is_one (probe sweep.suspect top)) (one alone) refused)
+    subst (λ r. is_new found r u ≡ false) (sym ((probe_is sweep.suspect top).same.0 alone))
+    (unless (is_new found top u) (is_suspect sweep.suspect u) (is_one (probe sweep.suspect top)) (one alone)
+    refused)
   where
     one : (probe sweep.suspect top).lo ≡ (probe sweep.suspect top).hi → is_one (probe sweep.suspect top) ≡ true
     one same = eq-eqb (probe sweep.suspect top).lo (probe sweep.suspect top).hi same
@@ -82,7 +85,10 @@ module _ (kind : Kind) (known : List ℕ) (budget : ℕ) where
 
     pub doubt-phase : (sweep : Sweep) (n : ℕ) (top : Span) (below : List Span) → IsStack top below → InPhase kind known budget (sweep_doubt sweep n top below) x found
     doubt-phase sweep n top below stack = cond_both (nat_lt 1 top.lo && nat_lt sweep.made (100 * (n + 1))) _ _ (λ p. InPhase kind known budget p x found)
-        (λ both. record { sweeps = record { searches = s; stack = stack; not_corrupt = not_corrupt }; some = ltb-true 1 top.lo (and_parts (nat_lt 1 top.lo) (nat_lt sweep.made (100 * (n + 1))) both).0 })
+        (λ both. record {
+          sweeps = record { searches = s; stack = stack; not_corrupt = not_corrupt };
+          some = ltb-true 1 top.lo (and_parts (nat_lt 1 top.lo) (nat_lt sweep.made (100 * (n + 1))) both).0;
+        })
         (λ other. below-phase (suspecting top.lo sweep) n top below stack)
 
   -- the top range was silent
@@ -112,8 +118,11 @@ module _ (kind : Kind) (known : List ℕ) (budget : ℕ) where
       several sibling one = true≢false (sym (and_parts ((r.hi - r.lo) == (top.hi - top.lo)) (not (is_one r)) sibling).1 ∙ ap not (eq-eqb r.lo r.hi one))
 
   -- the top range collided
-  pub apart-phase : (asked : Span) (sweep : Sweep) (n : ℕ) (top : Span) (below : List Span) (x : List Seen) (e : Seen) (found : List ℕ) → IsStack top below → Searches (known_of kind known) None whole [] (x ++ e ∷ []) found
-      → (asked.lo ≡ asked.hi → IsCorrupt asked.lo (x ++ e ∷ [])) → ((asked.lo ≡ asked.hi → ⊥) → (u : ℕ) → IsCorrupt u (x ++ e ∷ []) → ⊥) → InPhase kind known budget (sweep_apart asked sweep n top below) (x ++ e ∷ []) found
+  pub apart-phase : (asked : Span) (sweep : Sweep) (n : ℕ) (top : Span) (below : List Span) (x : List Seen) (e : Seen)
+      (found : List ℕ) → IsStack top below → Searches (known_of kind known) None whole [] (x ++ e ∷ []) found
+      → (asked.lo ≡ asked.hi → IsCorrupt asked.lo (x ++ e ∷ []))
+      → ((asked.lo ≡ asked.hi → ⊥) → (u : ℕ) → IsCorrupt u (x ++ e ∷ []) → ⊥)
+      → InPhase kind known budget (sweep_apart asked sweep n top below) (x ++ e ∷ []) found
   apart-phase asked sweep n top below x e found stack s corrupt not_corrupt = cond_both (is_one asked) _ _ P
       (λ alone. record {
         before = x;

@@ -65,7 +65,9 @@ module _ (known : List ℕ) (x : List Seen) (found : List ℕ) where
   }
 
   -- a branch
-  pub under_way-branch : (busy : Option ℕ) (lo hi : ℕ) (h : Heard) → IsUnderWay known None x found → NotFailed (record { asked = Branch lo hi; heard = h }) → IsFound (x ++ record { asked = Branch lo hi; heard = h } ∷ []) found
+  pub under_way-branch : (busy : Option ℕ) (lo hi : ℕ) (h : Heard) → IsUnderWay known None x found
+      → NotFailed (record { asked = Branch lo hi; heard = h })
+      → IsFound (x ++ record { asked = Branch lo hi; heard = h } ∷ []) found
       → IsUnderWay known busy (x ++ record { asked = Branch lo hi; heard = h } ∷ []) found
   under_way-branch busy lo hi h w sound is_found =
       pushed None busy found (record { asked = Branch lo hi; heard = h }) w sound is_found (λ u here. here) (λ u was. absurd (nobody u was)) (λ u was. absurd (none_some u was))
@@ -80,11 +82,14 @@ module _ (known : List ℕ) (x : List Seen) (found : List ℕ) where
   -- a mute that is lost
   pub under_way-lost : (u : ℕ) (h : Heard) → IsUnderWay known (Some u) x found → NotFailed (record { asked = Mute u; heard = h }) → IsFound (x ++ record { asked = Mute u; heard = h } ∷ []) found
       → MutesNamed known x (record { asked = Mute u; heard = h }) → IsUnderWay known (Some u) (x ++ record { asked = Mute u; heard = h } ∷ []) found
-  under_way-lost u h w sound is_found named = pushed (Some u) (Some u) found (record { asked = Mute u; heard = h }) w sound is_found (λ v here. here) (λ v was. inl (elim was [ inl p ↦ p | inr p ↦ p ])) named
+  under_way-lost u h w sound is_found named = pushed (Some u) (Some u) found (record { asked = Mute u; heard = h }) w
+      sound is_found (λ v here. here) (λ v was. inl (elim was [ inl p ↦ p | inr p ↦ p ])) named
 
   -- one that is acknowledged
   pub under_way-acked : (u : ℕ) (ack : MuteAck) (more : List ℕ) → IsDevice u → IsUnderWay known (Some u) x found → IsFound (x ++ record { asked = Mute u; heard = Acked ack } ∷ []) more
-      → ((v : ℕ) → has found v ≡ true → has more v ≡ true) → has more u ≡ true → MutesNamed known x (record { asked = Mute u; heard = Acked ack }) → IsUnderWay known None (x ++ record { asked = Mute u; heard = Acked ack } ∷ []) more
+      → ((v : ℕ) → has found v ≡ true → has more v ≡ true) → has more u ≡ true
+      → MutesNamed known x (record { asked = Mute u; heard = Acked ack })
+      → IsUnderWay known None (x ++ record { asked = Mute u; heard = Acked ack } ∷ []) more
   under_way-acked u ack more device w is_found grows here named =
       pushed (Some u) None more (record { asked = Mute u; heard = Acked ack }) w sound is_found grows (λ v was. inr (tried v (elim was [ inl p ↦ p | inr p ↦ p ]))) named
     where
@@ -98,7 +103,8 @@ module _ (known : List ℕ) (x : List Seen) (found : List ℕ) where
       tried v p = subst (λ (w : ℕ). IsTried more (x ++ record { asked = Mute u; heard = Acked ack } ∷ []) w) (same v p) (record { device = device; tried = inl here })
 
 -- what is given up was lost five times
-pub under_way-given_up : (known : List ℕ) (u : ℕ) (x : List Seen) (found : List ℕ) → IsDevice u → InSuccession TRIES (IsLostMute u) x → IsUnderWay known (Some u) x found → IsUnderWay known None x found
+pub under_way-given_up : (known : List ℕ) (u : ℕ) (x : List Seen) (found : List ℕ) → IsDevice u
+    → InSuccession TRIES (IsLostMute u) x → IsUnderWay known (Some u) x found → IsUnderWay known None x found
 under_way-given_up known u x found device five w = record {
   begun = w.begun;
   no_failure = w.no_failure;

@@ -19,7 +19,8 @@ abbrev pub IsUnmute : Seen → Type 0
 IsUnmute e = e.asked ≡ Unmute
 
 -- one more unmute
-pub unmuting-push : (known : List ℕ) (more : ℕ) (left : List ℕ) (x : List Seen) (found : List ℕ) (h : Heard) → 1 ≤ more → NotFailed (record { asked = Unmute; heard = h }) → IsUnmuting known more left x found
+pub unmuting-push : (known : List ℕ) (more : ℕ) (left : List ℕ) (x : List Seen) (found : List ℕ) (h : Heard) → 1 ≤ more
+    → NotFailed (record { asked = Unmute; heard = h }) → IsUnmuting known more left x found
     → IsUnmuting known (more - 1) left (x ++ record { asked = Unmute; heard = h } ∷ []) found
 unmuting-push known more left x found h some sound s = record {
   unmutes = All-push IsUnmute x (record { asked = Unmute; heard = h }) s.unmutes refl;

@@ -61,17 +61,17 @@ pub record EndsWithin (most : ℕ) (b : AgentState) : Type 0 where
   pub ends : b.frames ≡ most → next_of b ≡ None
   pub no_fault : next_of b ≡ None → fault_of b.phase ≡ None
 
--- so does each run of this search on a calm line with the budget that suffices
+-- each run with this search on a calm line, with the budget that suffices, ends like this
 abbrev pub EndsInBoundBy : Search → Type 0
 EndsInBoundBy search = OfEachRun search (λ kind known budget x b. (present : List ℕ) → IsCalm present x
     → enough_by search present kind known ≤ budget → EndsWithin (enough_by search present kind known) b)
 
--- each of the steady search
+-- each run with the steady search ends like this
 abbrev pub EndsInBound : Type 0
 EndsInBound = OfEachRun Steady (λ kind known budget x b. (present : List ℕ)
     → IsCalm present x → enough_for present kind known ≤ budget → EndsWithin (enough_for present kind known) b)
 
--- and each with the budget by default, where a set has room for the known UIDs
+-- each run with the budget by default ends like this, if the known UIDs fit into a set
 abbrev pub EndsByDefault : Type 0
 EndsByDefault = OfEachRun Steady (λ kind known budget x b. (present : List ℕ)
     → IsCalm present x → length known ≤ 1024 → budget ≡ DEFAULT_BUDGET → EndsWithin (enough_for present kind known) b)

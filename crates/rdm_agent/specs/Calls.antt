@@ -53,7 +53,7 @@ abbrev pub run_result : Option AgentFault → List Device → Result (List Devic
 run_result None found = Ok found
 run_result (Some fault) found = Err (fault, found)
 
--- the agent was started so, and has made these exchanges; and was then aborted, or wasn't
+-- the agent was started with these values, has made these exchanges, and was then aborted or not
 pub record HasRunBy (search : Search) (kind : Kind) (known : List ℕ) (budget : ℕ) (aborted : Bool) (x : List Seen)
     (a : AgentState) : Type 0 where
   pub devices : IsDeviceSet known
@@ -61,7 +61,7 @@ pub record HasRunBy (search : Search) (kind : Kind) (known : List ℕ) (budget :
   pub runs : Runs (start_by search kind known budget) x before
   pub is : MatchBool aborted ((next_op before ≢ ops.End) × (a ≡ ended_by_abort before)) (a ≡ before)
 
--- of the steady search
+-- the same with the steady search
 abbrev pub HasRun : Kind → List ℕ → ℕ → Bool → List Seen → AgentState → Type 0
 HasRun kind known budget aborted x a = HasRunBy Steady kind known budget aborted x a
 
@@ -74,7 +74,7 @@ pub record RunSoFar : Type 0 where
   pub aborted : Bool
   pub exchanges : List Seen
 
--- P holds of each run that the agent may stand after
+-- P holds of each run after which the agent may be in this state
 abbrev pub AfterEach : AgentState → (RunSoFar → Type 0) → Type 0
 AfterEach a P =
     (run : RunSoFar) → HasRunBy run.search run.kind run.known run.budget run.aborted run.exchanges a → P run

@@ -29,7 +29,7 @@ pub record IsCorrupt (u : ℕ) (x : List Seen) : Type 0 where
       ⊎ ((heard ≡ One u) × (length mutes ≡ TRIES)
       × AllByRecursion (IsLostMute u) mutes × AllByRecursion (λ e. e.heard ≢ Failed) mutes)
 
--- as many UIDs were acknowledged as a set has room for, and the last exchange acknowledges another
+-- as many UIDs were acknowledged as fit into a set, and the last exchange acknowledges another
 pub record IsOneTooMany (x : List Seen) : Type 0 where
   pub before : List Seen
   pub last : Seen
@@ -52,7 +52,7 @@ pub record IsExhausted (budget : ℕ) (x : List Seen) : Type 0 where
   pub not_failed : EndsFailed x → ⊥
   pub not_corrupt : (u : ℕ) → IsCorrupt u x → ⊥
 
--- no more UIDs were acknowledged than a set has room for, so that all of them are reported
+-- no more UIDs were acknowledged than fit into a set, so that all of them are reported
 abbrev pub AllReported : List Seen → Type 0
 AllReported x = length (once (acked_in x)) ≤ MOST_DEVICES
 

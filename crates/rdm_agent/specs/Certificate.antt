@@ -19,12 +19,12 @@ abbrev pub known_of : Kind → List ℕ → List ℕ
 known_of Full known = []
 known_of Incremental known = known
 
--- a muted UID is a device's, and acknowledged, or muted TRIES times in succession without acknowledgement
+-- a muted UID is a device's, and acknowledged, or muted TRIES times in a row without acknowledgement
 pub record IsTried (s : List ℕ) (x : List Seen) (u : ℕ) : Type 0 where
   pub device : IsDevice u
   pub tried : (has s u ≡ true) ⊎ InSuccession TRIES (IsLostMute u) x
 
--- u lies in a range that was branched TRIES times in succession, and silent each time
+-- u lies in a range that was branched TRIES times in a row, and silent each time
 pub record IsCleared (x : List Seen) (u : ℕ) : Type 0 where
   pub lo : ℕ
   pub hi : ℕ

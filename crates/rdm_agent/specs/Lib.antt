@@ -6,7 +6,6 @@ pub mod Machine
 pub mod SampleRun
 pub mod Statements
 pub mod Calls
-pub mod Sound
-pub mod View
 pub mod Bound
 pub mod OpFrames
+pub mod body

@@ -58,7 +58,7 @@ start_by search kind known budget = record {
   phase = Unmuting UNMUTES (known_of kind known);
 }
 
--- of the steady search
+-- the same with the steady search
 abbrev pub start : Kind → List ℕ → ℕ → AgentState
 start kind known budget = start_by Steady kind known budget
 
@@ -77,7 +77,7 @@ abbrev pub probe : Option ℕ → Span → Span
 probe suspect r =
     if is_one r && not (is_suspect suspect (r.lo - 1)) then record { lo = r.lo - 1; hi = r.hi } else r
 
--- where that collided, what is branched to see whether it was the UID below that replied
+-- if that collided, what is branched to see whether it was the UID below that replied
 abbrev pub lower_pair : Span → Span
 lower_pair r = record { lo = r.lo - 2; hi = r.lo - 1 }
 
@@ -133,8 +133,8 @@ counted sweep = record { made = sweep.made + 1; suspect = sweep.suspect }
 abbrev pub suspecting : ℕ → Sweep → Sweep
 suspecting u sweep = record { made = sweep.made; suspect = Some u }
 
--- where this many devices are found, a sweep goes on while it made fewer exchanges than 100 for each of them and 100
--- more; then the steady search begins
+-- a sweep with this many devices found goes on while it made fewer exchanges than 100 for each of them and 100 more;
+-- then the steady search begins
 abbrev pub sweep_to : Sweep → ℕ → Span → List Span → Phase
 sweep_to sweep found top below =
     if nat_lt sweep.made (100 * (found + 1)) then Sweeping sweep top below else Searching 0 whole []
@@ -154,8 +154,8 @@ sweep_halves sweep found r below =
 abbrev pub is_sibling : Span → Span → Bool
 is_sibling top r = ((r.hi - r.lo) == (top.hi - top.lo)) && not (is_one r)
 
--- the top range was silent. Where it was a lower half, the upper one holds what collided. The silence of the whole
--- range counts in the steady search
+-- the top range was silent. If it was a lower half, the upper one holds what collided. The silence of the whole range
+-- counts in the steady search
 abbrev pub sweep_silent : Sweep → ℕ → Span → List Span → Phase
 sweep_silent sweep found top [] = Searching (if top.lo == 0 then 1 else 0) whole []
 sweep_silent sweep found top (r ∷ rs) =
@@ -226,7 +226,8 @@ abbrev pub is_wanted : List ℕ → Sweep → Span → ℕ → Bool
 is_wanted found sweep top u =
     is_new found top u && not (is_suspect sweep.suspect u && not (is_one (probe sweep.suspect top)))
 
--- the agent after a branch of a sweep: silence, a UID that is muted, or a collision
+-- the agent after a branch of a sweep. Silence ends the range, a UID that is wanted is muted, and anything else takes
+-- the range apart
 abbrev pub sweep_heard : AgentState → Sweep → Span → List Span → Heard → AgentState
 sweep_heard a sweep top below Silent = to_phase a (sweep_silent (counted sweep) (length a.found) top below)
 sweep_heard a sweep top below (One u) =
@@ -235,13 +236,14 @@ sweep_heard a sweep top below (One u) =
 sweep_heard a sweep top below _ =
     to_phase a (sweep_apart (probe sweep.suspect top) (counted sweep) (length a.found) top below)
 
--- where the pair below is silent the top UID itself collided, and is given up; otherwise the one below is the suspect
+-- if the pair below is silent, the top UID itself collided and is given up; otherwise the one below is the suspect
 abbrev pub doubt_heard : AgentState → Sweep → Span → List Span → Heard → AgentState
 doubt_heard a sweep top below Silent = to_phase a (sweep_past (counted sweep) (length a.found) top below)
 doubt_heard a sweep top below _ =
     to_phase a (sweep_to (suspecting (top.lo - 1) (counted sweep)) (length a.found) top below)
 
--- a series of mutes is never cut short
+-- the agent after the mute of a UID that a sweep read. It is found if acknowledged. After five tries the sweep gives it
+-- up and takes the range apart; a series of mutes is never cut short
 abbrev pub swept_heard : AgentState → ℕ → ℕ → Sweep → Span → List Span → Heard → AgentState
 swept_heard a u tries sweep top below (Acked ack) =
     to_found a (device_from u ack) (sweep_below (counted sweep) (length a.found + 1) below)

@@ -6,7 +6,7 @@ use Rattle.rdm_wire.specs.declared.command.Command.TheVariants as commands
 use Rattle.rdm_agent.specs.declared.op.Op.{Op}
 use Rattle.rdm_agent.specs.declared.op.Op.TheVariants.{UnmuteAll, Mute, Branch, End}
 
--- from this source and with this transaction number; the end has none
+-- the frame of an operation, from this source and with this transaction number; the end has none
 abbrev pub op_frame : Op → ℕ → ℕ → List ℕ
 op_frame UnmuteAll s tn = unmute_frame s tn
 op_frame (Mute u) s tn = mute_frame u s tn

@@ -1,4 +1,4 @@
--- Words on a run's exchanges.
+-- A run's exchanges.
 use Rattle.std.specs.Prelude.{◌≡◌, ℕ, Bool, true, false, List, [], ◌∷◌, ◌++◌, length, take, Option, Some, None}
 use Rattle.std.specs.Prelude.{filter_map}
 use Rattle.std.specs.List.{AllByRecursion}
@@ -31,7 +31,7 @@ heard_of_branch replies.Silent = Silent
 heard_of_branch (replies.One u) = One u
 heard_of_branch replies.Collision = Noise
 
--- how the reply to a mute is heard: its acknowledgement, or silence
+-- how the reply to a mute is heard: its acknowledgement, or else silence, even if other bytes came
 abbrev pub heard_of_mute : Option MuteAck → Heard
 heard_of_mute None = Silent
 heard_of_mute (Some ack) = Acked ack
@@ -95,7 +95,7 @@ acked_in x = filter_map acked_by x
 abbrev pub read_in : List Seen → List ℕ
 read_in x = filter_map read_by x
 
--- the device that acknowledges the mute of u so
+-- the device u with what this acknowledgement of its mute says
 abbrev pub device_from : ℕ → MuteAck → Device
 device_from u ack = record { uid = u; control = ack.control; binding = ack.binding }
 
@@ -112,7 +112,7 @@ device_by x = acked_device x.asked x.heard
 abbrev pub devices_in : List Seen → List Device
 devices_in x = filter_map device_by x
 
--- the UIDs that are reported: the acknowledged ones, of more than a set has room for the first ones
+-- the UIDs that are reported: the acknowledged ones; if there are more than fit into a set, the first ones
 abbrev pub reported : List Seen → List ℕ
 reported x = set_of (take MOST_DEVICES (once (acked_in x)))
 
@@ -125,7 +125,7 @@ pub record IsReport (x : List Seen) (s : List Device) : Type 0 where
   pub uids : uids_of s ≡ reported x
   pub first : AsFirstAcked x s
 
--- nothing stands after a failure
+-- nothing follows a failure
 abbrev pub FailureIsLast : List Seen → Type 0
 FailureIsLast x =
     (front back : List Seen) (e : Seen) → x ≡ front ++ e ∷ back → e.heard ≡ Failed → back ≡ []

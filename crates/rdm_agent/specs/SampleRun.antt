@@ -57,7 +57,7 @@ lower_branch = Branch 0 0x7fffffffffff
 abbrev pub upper_branch : Asked
 upper_branch = Branch 0x800000000000 0xffffffffffff
 
--- a run on a line with both devices, on which all branches of the whole range collide
+-- a run on a line with both devices, on which the branch of the whole range collides
 abbrev pub colliding_run : List Seen
 colliding_run =
     replicate 3 (exchange Unmute Silent) ++ (exchange all_branch Noise ∷ exchange lower_branch (One sample_uid)

@@ -51,7 +51,7 @@ AsksInOrder search = OfEachRun search (λ kind known budget x b.
 abbrev pub EndsAtFailure : Search → Type 0
 EndsAtFailure search = OfEachRun search (λ kind known budget x b. FailureIsLast x × (EndsFailed x → next_of b ≡ None))
 
--- nor does it where its budget is used up
+-- once its budget is used up it asks nothing
 abbrev pub EndsAtBudget : Search → Type 0
 EndsAtBudget search = OfEachRun search (λ kind known budget x b. length x ≡ budget → next_of b ≡ None)
 
@@ -85,7 +85,7 @@ abbrev pub FindsAll : Search → Type 0
 FindsAll search = OfEachRun search (λ kind known budget x b. (present : List ℕ) →
     next_of b ≡ None → fault_of b.phase ≡ None → HonestTrace present x → found_uids b ≡ present)
 
--- where the line is honest to a device, it finds that device, whatever others do
+-- if the line is honest to a device, it finds that device, whatever others do
 abbrev pub FindsEach : Search → Type 0
 FindsEach search = OfEachRun search (λ kind known budget x b. (u : ℕ) → next_of b ≡ None → fault_of b.phase ≡ None →
     IsDevice u → HonestTo u x → has (found_uids b) u ≡ true)

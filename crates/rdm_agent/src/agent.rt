@@ -27,7 +27,7 @@ use rdm_wire::{DeviceSet, UidSet};
 use std::marker::Model;
 use std::mem::size_of;
 
-/// One discovery run, between an exchange and the next (profile of this project, over E1.20's discovery commands).
+/// One discovery run by E1.20's discovery commands, between an exchange and the next.
 ///
 /// It is a plain value of 41,848 bytes, allocates nothing and keeps no exchanges. Contracts see the state of the
 /// machine that a run is: its budget, how many exchanges it has made, the devices found, and its phase.
@@ -44,8 +44,8 @@ const _: () = prove!(size_of::<Agent>() == 41_848);
 
 impl Model for Agent {
     ghost use Rattle.rdm_agent.specs.Machine.{AgentState};
-    ghost use Rattle.rdm_agent.specs.Sound.{IsSound, IsFresh};
-    ghost use Rattle.rdm_agent.specs.View.{seen_phase, state_of};
+    ghost use Rattle.rdm_agent.specs.body.Sound.{IsSound, IsFresh};
+    ghost use Rattle.rdm_agent.specs.body.View.{seen_phase, state_of};
 
     ghost Value = { AgentState };
 
@@ -65,7 +65,7 @@ impl Agent {
         Agent::start_by(Search::Steady, kind, known, budget)
     }
 
-    /// Begins a run as [`Agent::start`] does, that searches so.
+    /// Begins a run as [`Agent::start`] does, with this search.
     pub fn start_by(search: Search, kind: Kind, known: &UidSet, budget: u64) -> Agent
         ensures state { result ≡ start_by search kind known.now budget }
         ensures has_run { HasRunBy search kind known.now budget false [] result }
@@ -84,7 +84,7 @@ impl Agent {
     }
 
     /// What it asks of the line next: three unmutes, then branches and mutes of devices. [`Op::End`]: the run has
-    /// ended, as it has where its budget is used up, after a failure of the line, and where it was aborted.
+    /// ended. It has also ended if its budget is used up, the line failed, or it was aborted.
     pub fn next(&self) -> Op
         ensures value { result ≡ next_op self.now }
         ensures device { (u : ℕ) → result ≡ Op.Mute u → IsDevice u }
@@ -169,7 +169,7 @@ impl Agent {
         &self.progress.found
     }
 
-    /// Why the run, which must have ended (`next` is [`Op::End`]), has no answer; None where it has one. It is what
+    /// Why the run, which must have ended (`next` is [`Op::End`]), has no answer; None if it has one. It is what
     /// [`Agent::end`] gives, without the set.
     pub fn fault(&self) -> Option<AgentFault>
         requires { next_op self.now ≡ End }
@@ -183,9 +183,15 @@ impl Agent {
     }
 
     /// What the run found; it must have ended (`next` is [`Op::End`]). `Ok`: the devices found, with the certificate
-    /// that each other UID was silent. `Err`: why it ended, and the devices found until then, of more than a set has
-    /// room for the first ones. Each device has the control field and the binding UID of its first acknowledgement in
-    /// the run.
+    /// that each other UID was silent. `Err`: why it ended, and the devices found until then; if more were found than
+    /// fit into a set, the first ones. Each device has the control field and the binding UID of its first
+    /// acknowledgement in the run.
+    ///
+    /// On an honest line the result has no device that was never there, and `Ok` has each one that was always there. It
+    /// is `Ok` if at most 1,024 devices stayed, the budget suffices for them, no exchange failed and the run wasn't
+    /// aborted.
+    ///
+    /// The set is copied: [`Agent::found`] and [`Agent::fault`] give the same without a copy.
     pub fn end(self) -> Result<DeviceSet, (AgentFault, DeviceSet)>
         requires { next_op self ≡ End }
         ensures value { result ≡ run_result (fault_of self.phase) self.found }
@@ -212,7 +218,7 @@ impl Agent {
         ensures no_stranger_in_fault { AfterEach self (λ run. (sets : List (List ℕ)) (u : ℕ) →
             HonestOver sets run.exchanges → IfErr result (λ e. has (uids_of e.1) u ≡ true → IsInOne u sets)) }
 
-        // Where no exchange failed and the budget suffices for the devices, it has no fault.
+        // If no exchange failed and the budget suffices for the devices, it has no fault.
         ensures no_fault { AfterEach self (λ run. (present : List ℕ) →
             IsUndisturbed present run → IsOkAnd result (λ s. uids_of s ≡ present)) }
     {
@@ -225,7 +231,7 @@ impl Agent {
 
     /// How many ranges are still open: 1 from the start, [`MOST_RANGES`] at most. A quick run has those of its sweep
     /// first, and 1 again where its steady search begins. 0 at the end of the search, after a failure and after an
-    /// abort; where the budget ended in the midst of the search, those that it left open.
+    /// abort; if the budget ended during the search, those that it left open.
     pub fn open_ranges(&self) -> usize
         ensures value { result ≡ open_ranges self.now.phase }
         ensures at_most { result ≤ MOST_RANGES }

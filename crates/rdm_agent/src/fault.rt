@@ -4,7 +4,7 @@ ghost use Rattle.std.specs.Prelude.{◌≡◌};
 use rdm_wire::Uid;
 use thiserror::Error;
 
-/// Why a run ended without an answer (profile of this project), with its number.
+/// Why a run ended without an answer, with its number.
 #[derive(Clone, Copy, Debug, PartialEq, Eq, Error)]
 pub enum AgentFault {
     /// 1: the branch of this UID alone was answered, but showed no new device.

@@ -1,6 +1,6 @@
 //! What a run starts from.
 
-/// What a discovery run starts from (profile of this project).
+/// What a discovery run starts from.
 #[derive(Clone, Copy, Debug, PartialEq, Eq)]
 pub enum Kind {
     /// From nothing: the whole range of UIDs is searched.

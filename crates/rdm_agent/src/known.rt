@@ -40,7 +40,7 @@ impl KnownLeft {
         KnownLeft { uids, taken: 0 }
     }
 
-    /// Takes the least one; `None` where none is left.
+    /// Takes the least one; `None` if none is left.
     pub(crate) fn next(&mut self) -> Option<Uid>
         ensures { MatchOption result ((self.old ≡ []) × (self.new ≡ [])) (λ u. self.old ≡ u ∷ self.new) }
     {

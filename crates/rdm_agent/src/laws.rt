@@ -1,5 +1,5 @@
 //! Laws of whole runs, each the contract of a function that does nothing: what a run asks, how it ends, and what it
-//! finds on an honest line. [`OpReply`](crate::OpReply) says what is heard; the definitions stand in `specs`.
+//! finds on an honest line. [`OpReply`](crate::OpReply) says what is heard; the definitions are in `specs`.
 ghost use Rattle.std.specs.Prelude.{◌≡◌, ◌≢◌, ◌≤◌, ◌⊎◌, ◌++◌, ℕ, List, [], ◌∷◌, map, length, true, false, replicate};
 ghost use Rattle.std.specs.Prelude.{Option, Some, None};
 ghost use Rattle.rdm_wire.specs.Uid.{has, IsDevice};
@@ -36,7 +36,7 @@ ghost use Rattle.rdm_agent.specs.declared.op.Op.TheVariants.{End};
 ghost use Rattle.rdm_agent.specs.Certificate.{Certificate, known_of};
 
 /// A run unmutes three times, and then asks for branches and for mutes of devices. It counts its exchanges, and asks
-/// nothing after a failure, nor after exchanges that show a corrupt UID, nor where its budget is used up. It has found
+/// nothing after a failure, nor after exchanges that show a corrupt UID, nor once its budget is used up. It has found
 /// what was acknowledged, and keeps at most [`MOST_RANGES`](crate::MOST_RANGES) ranges open. This holds of either
 /// search, of full and of incremental runs, for every known set and budget, at any moment, and whatever the line
 /// replies.
@@ -50,21 +50,20 @@ pub fn run_asks_in_order()
 {}
 
 /// A run that ends without fault has its certificate: each of the 2^48 UIDs is acknowledged, or lies in a range that
-/// was branched five times in succession and silent each time. One with a fault shows that fault's cause. Either
-/// reports the acknowledged UIDs (as many as a set has room for, where there is one too many), whatever the line
-/// replies.
+/// was branched five times in a row and silent each time. One with a fault shows that fault's cause. Either
+/// reports the acknowledged UIDs (if there is one too many for a set, as many as fit), whatever the line replies.
 pub fn run_has_certificate()
     ensures { (search : Search) → EndsCertified search }
 {}
 
-/// A run has a certificate, of whatever set, only once it has ended without fault. So a fault is never told of a run
-/// whose exchanges show all: not for want of frames at the very end, and not for an abort.
+/// A run has a certificate, of whatever set, only once it has ended without fault. So no fault is ever reported for a
+/// run whose exchanges show all: not because the frames ran out at the very end, and not because of an abort.
 pub fn certificate_is_the_end()
     ensures { (search : Search) → CertificateIsTheEnd search }
 {}
 
 /// On an honest line a run that ends without fault finds exactly the devices, whatever bytes colliding replies make.
-/// Where a line is honest to one device, that device is found, whatever others do.
+/// If a line is honest to one device, that device is found, whatever others do.
 pub fn honest_run_finds_all()
     ensures all { (search : Search) → FindsAll search }
     ensures each { (search : Search) → FindsEach search }
@@ -185,7 +184,7 @@ pub fn undisturbed_run()
     ensures most_devices { most_frames 1024 0 ≡ 378888 }
 {}
 
-/// An honest line loses up to four replies in succession, of branches and of mutes, and the device is found; a line
+/// An honest line loses up to four replies in a row, of branches and of mutes, and the device is found; a line
 /// that loses five isn't honest.
 pub fn honest_losses()
     ensures up_to_four { (branches mutes : ℕ) →
@@ -259,7 +258,7 @@ pub fn limits_are()
 
 /// The frame of an operation asks what the operation asks. An agent that hears what a frame and its answer show goes
 /// on, and its run has made that exchange; so what holds of runs holds of the frames and bytes of a log. By
-/// [`Op::read_reply`](crate::Op::read_reply) the agent is told the same.
+/// [`Op::read_reply`](crate::Op::read_reply) the agent hears the same.
 pub fn frames_carry_operations()
     ensures asked { (op : Op) (s tn : ℕ) → op ≢ End → IsSendable op s tn → asked_in (op_frame op s tn) ≡ asked_by op }
     ensures goes_on { (a : AgentState) (s tn : ℕ) (answer : Option (List ℕ)) →

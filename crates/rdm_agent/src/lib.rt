@@ -1,4 +1,4 @@
-//! One discovery run: which devices are on the line.
+//! One discovery run: which devices are on the line. What isn't marked as E1.20's is the profile of this project.
 #![tactic(auto)]
 
 mod agent;

@@ -1,15 +1,15 @@
 //! How often a run asks.
 use rdm_wire::MOST_DEVICES;
 
-/// How many unmutes begin a run: the first ones may be lost (profile of this project).
+/// How many unmutes begin a run: the first ones may be lost.
 pub const UNMUTES: u8 = 3;
 
-/// How often in succession a range is branched before its silence counts (profile of this project). As often a UID is
-/// muted before it counts as absent.
+/// How often in a row a range is branched before its silence counts. As often a UID is muted before it counts as
+/// absent.
 pub const TRIES: u8 = 5;
 
-/// How many ranges are open at most: one at each of the 48 depths, and one more at the deepest. They are ranges of
-/// E1.20's discovery branch; that they are split in halves is this project's profile.
+/// How many ranges are open at most: one at each of the 48 depths, and one more at the deepest. They are the
+/// ranges of E1.20's discovery unique branch.
 pub const MOST_RANGES: usize = 49;
 
 /// A sweep makes a branch only while it made fewer exchanges than this for each device found, and this many more.
@@ -18,8 +18,8 @@ pub(crate) const SWEEP_FRAMES: usize = 100;
 // What a device adds: 24 splits of ten exchanges, 24 last ranges of five, and ten of its own.
 const FRAMES_PER_DEVICE: u64 = 370;
 
-/// The exchanges that suffice for [`MOST_DEVICES`] devices and as many known UIDs: 384,008 (profile of this project).
-/// The line may lose up to four replies in succession. A steady run on an honest line makes no more, and ends without
+/// The exchanges that suffice for [`MOST_DEVICES`] devices and as many known UIDs: 384,008.
+/// The line may lose up to four replies in a row. A steady run on an honest line makes no more, and ends without
 /// fault; a quick one may need up to 105 more.
 ///
 /// For `n` devices and `k` known UIDs these are `8 + 370 n + 5 k`:

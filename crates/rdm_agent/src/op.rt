@@ -50,7 +50,7 @@ impl Op {
         ensures frame { result.items ≡ op_frame self.now source tn }
         ensures asks { asked_in result.items ≡ asked_by self.now }
     {
-        self.is_sendable(source, tn);
+        self.show_sendable(source, tn);
         match self {
             Op::UnmuteAll => encode_unmute(source, tn),
             Op::Mute(uid) => encode_mute(*uid, source, tn),
@@ -60,7 +60,7 @@ impl Op {
     }
 
     /// The reply that came after its packet of this source and transaction number: what the bytes of `answer` say, and
-    /// [`OpReply::Failed`] for `None`, where the line failed. [`Op::End`] has no reply.
+    /// [`OpReply::Failed`] for `None`, if the line failed. [`Op::End`] has no reply.
     pub fn read_reply(&self, source: Uid, tn: u8, answer: Option<&[u8]>) -> OpReply
         requires goes_on { self.now ≢ Op.End }
         ensures fits { fits result self.now ≡ true }
@@ -92,7 +92,7 @@ impl Op {
         ensures fed { (a : AgentState) → next_op a ≡ self.now → fed a (heard_by result)
             ≡ fed a (heard_in (op_frame self.now source tn) (Some bytes.now)) }
     {
-        self.is_sendable(source, tn);
+        self.show_sendable(source, tn);
         match self {
             Op::UnmuteAll => OpReply::Done,
             Op::Mute(uid) => OpReply::Mute(reads_mute_ack(*uid, source, tn, bytes)),
@@ -102,7 +102,7 @@ impl Op {
     }
 
     // For the proof alone: its packet can be sent, since a UID's number is below 2^48.
-    fn is_sendable(&self, source: Uid, tn: u8)
+    fn show_sendable(&self, source: Uid, tn: u8)
         ensures { IsSendable self.now source tn }
     {
         let _source = source.number();

@@ -24,7 +24,7 @@ pub(crate) enum Phase {
         /// Below [`TRIES`](crate::TRIES).
         tries: u8,
     },
-    /// The top range is being branched, and was silent this many times in succession.
+    /// The top range is being branched, and was silent this many times in a row.
     Searching {
         /// The range.
         top: UidRange,
@@ -70,7 +70,7 @@ pub(crate) enum Phase {
 }
 
 impl Phase {
-    ghost use Rattle.rdm_agent.specs.View.{phase_of};
+    ghost use Rattle.rdm_agent.specs.body.View.{phase_of};
 
     /// What it asks of the line.
     pub(crate) fn op(self) -> Op

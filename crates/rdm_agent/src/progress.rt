@@ -13,9 +13,9 @@ ghost use Rattle.rdm_agent.specs.Machine.{is_one, is_sibling, is_wanted};
 ghost use Rattle.rdm_agent.specs.Machine.Phase.{Unmuting as unmuting, Searching as searching};
 ghost use Rattle.rdm_agent.specs.Run.{heard_by, heard_of_mute, heard_of_branch, device_from};
 ghost use Rattle.rdm_agent.specs.Calls.{fits, op_of};
-ghost use Rattle.rdm_agent.specs.Sound.{IsSound, IsFresh, IsStack};
+ghost use Rattle.rdm_agent.specs.body.Sound.{IsSound, IsFresh, IsStack};
 ghost use Rattle.rdm_agent.specs.declared.fault.AgentFault.TheVariants.{TooMany};
-ghost use Rattle.rdm_agent.specs.View.{seen_phase, phase_of, sweep_of, Steps};
+ghost use Rattle.rdm_agent.specs.body.View.{seen_phase, phase_of, sweep_of, Steps};
 
 use crate::fault::AgentFault;
 use crate::known::KnownLeft;
@@ -484,7 +484,7 @@ fn is_sibling(lower: UidRange, upper: UidRange) -> bool
     size == lower.hi.number() - lower.lo.number() && upper.lo != upper.hi
 }
 
-// The device that acknowledges its mute so.
+// The device with what it said in the acknowledgement of its mute.
 fn device_from(uid: Uid, ack: MuteAck) -> Device
     ensures { result ≡ device_from uid ack }
 {

@@ -6,7 +6,7 @@ use arrayvec::ArrayVec;
 use rdm_wire::UidRange;
 use std::marker::Model;
 
-/// The room for them: all open ranges but the top one.
+/// The most of them: all open ranges but the top one.
 pub(crate) const MOST_BELOW: usize = MOST_RANGES - 1;
 
 /// The ranges below the top one. Contracts see their list, the next one first.
@@ -57,7 +57,7 @@ impl RangesBelow {
         self.ranges.clear();
     }
 
-    /// Takes the front one; `None` where there is none.
+    /// Takes the front one; `None` if there is none.
     pub(crate) fn pop(&mut self) -> Option<UidRange>
         ensures { MatchOption result ((self.old ≡ []) × (self.new ≡ [])) (λ r. self.old ≡ r ∷ self.new) }
     {

@@ -1,11 +1,11 @@
 //! How a run searches.
 
-/// How a discovery run searches (profile of this project). Whichever it is, the same is promised of the run, but for
+/// How a discovery run searches. Whichever it is, the same is promised of the run, but for
 /// the number of its frames. The numbers below are those on an honest line with `n` devices that stay, at most 1,024,
 /// and `k` known UIDs.
 #[derive(Clone, Copy, Debug, PartialEq, Eq)]
 pub enum Search {
-    /// Each range is branched until it was silent five times in succession. It makes no more than `8 + 370 n + 5 k`
+    /// Each range is branched until it was silent five times in a row. It makes no more than `8 + 370 n + 5 k`
     /// frames.
     Steady,
     /// A sweep comes first, which takes one silence for an answer and finds nearly all devices. Then the steady search

@@ -15,6 +15,7 @@ mod fault;
 mod told;
 mod unspent;
 mod view;
+mod worker_end;
 
 pub use ask_callback::{AskCallback, TellsAsk};
 pub use callback::{Callback, Tells};
@@ -23,3 +24,4 @@ pub use fault::{Full, Misdelivered};
 pub use told::{AskTold, Collected, Told};
 pub use unspent::{Unfinished, Unspent};
 pub use view::DeviceView;
+pub use worker_end::WorkerEnd;

@@ -1,16 +1,16 @@
 //! Embeds the queue in a program: two clients share a simulated line. One asks a fixture for its label, and the other
-//! discovers the fixtures. A call that is refused ends the program with status 1.
+//! discovers the fixtures. A discovery that has a fault is reported. It ends the program with status 1, and so does a
+//! call that fails.
 #![tactic(auto)]
 
 mod rig;
 
 use crate::rig::{DEVICE_LABEL, rig};
 use arrayvec::ArrayVec;
-use rdm_agent::{DEFAULT_BUDGET, Kind};
-use rdm_join::LineEvent;
-use rdm_line::{Line, SimLine};
-use rdm_queue::{Config, Log, Outcome, Session};
-use rdm_wire::{ReqClass, Request, Uid};
+use rdm::{
+    Config, DEFAULT_BUDGET, Kind, Line, LineEvent, Log, Outcome, ReqClass, Request, Session,
+    SimLine, Uid,
+};
 use std::alloc::Global;
 use std::process::ExitCode;
 
@@ -33,8 +33,8 @@ fn run(rt: &HostRuntime) -> Option<()> {
     session.submit(console, label_of(Uid::new(0x1234, 1))).ok()?;
     session.discover(planner, Kind::Full).ok()?;
     serve(alloc, &mut session, &mut line)?;
-    tell(rt, "console", session.next_outcome(console)?)?;
-    tell(rt, "planner", session.next_outcome(planner)?)
+    report(rt, "console", session.next_outcome(console)?)?;
+    report(rt, "planner", session.next_outcome(planner)?)
 }
 
 fn label_of(target: Uid) -> Request {
@@ -62,13 +62,18 @@ fn serve(alloc: Global, session: &mut Session, line: &mut SimLine) -> Option<()>
     None
 }
 
-fn tell(rt: &HostRuntime, client: &str, outcome: Outcome) -> Option<()> {
+// Prints an outcome. A discovery's set is complete only if its run had no fault.
+fn report(rt: &HostRuntime, client: &str, outcome: Outcome) -> Option<()> {
     match outcome {
         Outcome::Request { done, .. } => {
             println!(rt; "{client}: {:?}, {} bytes", done.status, done.bytes.len()).ok()
         }
-        Outcome::Discovery { done, .. } => {
-            println!(rt; "{client}: {} fixtures in run {}", done.set.len(), done.run).ok()
-        }
+        Outcome::Discovery { done, .. } => match done.fault {
+            None => println!(rt; "{client}: {} fixtures in run {}", done.set.len(), done.run).ok(),
+            Some(fault) => {
+                eprintln!(rt; "{client}: run {} ended early: {fault}", done.run).ok()?;
+                None
+            }
+        },
     }
 }

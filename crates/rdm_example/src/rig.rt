@@ -1,7 +1,6 @@
 //! The simulated rig.
 use arrayvec::ArrayVec;
-use rdm_line::{Parameter, Parameters, Scene, SceneDevice, SceneDevices};
-use rdm_wire::{Device, Uid};
+use rdm::{Device, Parameter, Parameters, Scene, SceneDevice, SceneDevices, Uid};
 use std::alloc::Global;
 
 /// The PID of a fixture's label.

@@ -13,7 +13,9 @@ use Rattle.rdm_files.specs.SceneFiles.{IsCollision}
 absent : (key : List ℕ) {A : Type 0} (P : Data → A → Type 0) (d : Data) (x : A) → get key d ≡ None → Has key P d x → ⊥
 absent key P d x none has = subst (λ o. MatchOption o ⊥ (λ v. P v x)) none has
 
-pub no_bytes : (d : Data) → get (codes "uid") d ≡ None → as_str d ≡ None → ((bytes : ArrayVec ℕ) → Has (codes "bytes") (λ e (b : ArrayVec ℕ). IsBytesText 1 257 e b.items) d bytes → ⊥) → (c : Collision) → IsCollision d c → ⊥
+pub no_bytes : (d : Data) → get (codes "uid") d ≡ None → as_str d ≡ None
+    → ((bytes : ArrayVec ℕ) → Has (codes "bytes") (λ e (b : ArrayVec ℕ). IsBytesText 1 257 e b.items) d bytes → ⊥)
+    → (c : Collision) → IsCollision d c → ⊥
 no_bytes d no_uid no_text none Or h = let never = sym no_text ∙ h in cc
 no_bytes d no_uid no_text none (Uid u) h = absent (codes "uid") IsUid d u no_uid h.0
 no_bytes d no_uid no_text none (Bytes bytes) h = none (record { items = bytes }) h.0

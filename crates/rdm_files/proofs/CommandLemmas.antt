@@ -32,7 +32,9 @@ any_more : (p : Data → Bool) (vs : List Value) (v : Value) → any_item p (ite
 any_more p [] v none here = rw here refl
 any_more p (w ∷ ws) v none here = if_neither (p (view w)) (any_item p (items_view ws)) (any_item p (items_view (ws ++ v ∷ []))) none (λ rest. any_more p ws v rest here)
 
-pub any_next : (p : Data → Bool) (vs : List Value) (i : ℕ) (v : Value) → i < length vs → v ≡ get_or vs i v → any_item p (items_view (take i vs)) ≡ false → p (view v) ≡ false → any_item p (items_view (take (i + 1) vs)) ≡ false
+pub any_next : (p : Data → Bool) (vs : List Value) (i : ℕ) (v : Value) → i < length vs → v ≡ get_or vs i v
+    → any_item p (items_view (take i vs)) ≡ false → p (view v) ≡ false
+    → any_item p (items_view (take (i + 1) vs)) ≡ false
 any_next p vs i v lt is none here =
     let more : take (i + 1) vs ≡ take i vs ++ v ∷ [] = ap (λ k. take k vs) (next i) ∙ take-suc vs i v lt ∙ ap (λ w. take i vs ++ w ∷ []) (sym is) in
     subst (λ us. any_item p (items_view us) ≡ false) (sym more) (any_more p (take i vs) v none here)

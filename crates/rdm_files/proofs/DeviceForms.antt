@@ -13,11 +13,14 @@ use Rattle.rdm_wire.specs.Uid.{has}
 use Rattle.rdm_line.specs.Scenes.{uids_of_scene, with_scene_device}
 use Rattle.rdm_line.specs.declared.scene.SceneDevice.{SceneDevice}
 use Rattle.rdm_files.specs.Forms.{Each, IsWhole, IsOwnUid, MayHave, MayGive}
-use Rattle.rdm_files.specs.SceneFiles.{IsDeviceOf, IsAdded, AreDevices, AllDiffer, in_place, leaves_first}
+use Rattle.rdm_files.specs.SceneFiles.{IsDeviceOf, AreDevices, AllDiffer, in_place, leaves_first}
+use Rattle.rdm_files.specs.body.Elements.{IsAdded}
 use Rattle.rdm_files.proofs.FormLemmas.{one_has, one_may_have, one_may_give, one_whole, one_own_uid, each_next, each_many, cut_at, listed_items}
 
 -- a value says when its device comes and leaves
-pub leaves : (d : Data) (device : SceneDevice) (from : ℕ) (until : Option ℕ) → IsDeviceOf d device → MayHave (codes "from") (IsWhole 0 1000000000) 0 d from → MayGive (codes "until") (IsWhole 1 1000000000) d until → true ≡ leaves_first from until → ⊥
+pub leaves : (d : Data) (device : SceneDevice) (from : ℕ) (until : Option ℕ) → IsDeviceOf d device
+    → MayHave (codes "from") (IsWhole 0 1000000000) 0 d from → MayGive (codes "until") (IsWhole 1 1000000000) d until
+    → true ≡ leaves_first from until → ⊥
 leaves d device from until h f u first =
     let came : from ≡ device.from = one_may_have (codes "from") (IsWhole 0 1000000000) 0 (one_whole 0 1000000000) d from device.from f h.from in
     let left : until ≡ device.until = one_may_give (codes "until") (IsWhole 1 1000000000) (one_whole 1 1000000000) d until device.until u h.until in
@@ -106,7 +109,9 @@ pub one_placed : (vs : List Value) (i : ℕ) (v : Value) (old new : List SceneDe
 one_placed vs i v old new lt is p a = record {
   listed = p.listed ++ a.device ∷ [];
   each = each_next IsDeviceOf vs p.listed i v a.device lt is p.each a.read;
-  differ = subst AllDiffer (sym (map-append (λ (d : SceneDevice). d.device.uid) p.listed (a.device ∷ []))) (differ-more (uids_of_scene p.listed) a.device.device.uid p.differ (sym (p.same a.device.device.uid) ∙ a.differs));
+  differ = subst AllDiffer (sym (map-append (λ (d : SceneDevice). d.device.uid) p.listed (a.device ∷ [])))
+      (differ-more (uids_of_scene p.listed) a.device.device.uid p.differ
+      (sym (p.same a.device.device.uid) ∙ a.differs));
   placed = a.added ∙ ap (with_scene_device a.device) p.placed ∙ sym (in_place-more p.listed a.device);
   same = λ u. ap (λ ds. has (uids_of_scene ds) u) a.added ∙ has-with a.device old u ∙ ap (λ b. (u == a.device.device.uid) || b) (p.same u) ∙ sym (has-pushed p.listed a.device u);
   many = ap length a.added ∙ length-with a.device old ∙ ap (λ k. k + 1) p.many;
@@ -143,9 +148,13 @@ pub none_listed : (d : Data) (vs : List Value) (i : ℕ) (v : Value) (old : List
     → ((x : SceneDevice) → IsDeviceOf (view v) x → has (uids_of_scene old) x.device.uid ≡ false → length old ≡ 1024) → (devices : List SceneDevice) → AreDevices d devices → ⊥
 none_listed d vs i v old is lt few at p refused devices h =
     let cut = cut_at IsDeviceOf vs h.listed i v lt at (listed_items IsDeviceOf 0 1024 d vs h.listed is h.list) in
-    let differ : AllDiffer (uids_of_scene cut.front ++ cut.here.device.uid ∷ uids_of_scene cut.back) = subst AllDiffer (ap uids_of_scene cut.whole ∙ map-append (λ (e : SceneDevice). e.device.uid) cut.front (cut.here ∷ cut.back)) h.differ in
+    let differ : AllDiffer (uids_of_scene cut.front ++ cut.here.device.uid ∷ uids_of_scene cut.back) =
+    subst AllDiffer (ap uids_of_scene cut.whole ∙ map-append (λ (e : SceneDevice). e.device.uid) cut.front
+    (cut.here ∷ cut.back)) h.differ in
     let new : has (uids_of_scene old) cut.here.device.uid ≡ false =
-    p.same cut.here.device.uid ∙ ap (λ us. has us cut.here.device.uid) (same_uids (take i vs) p.listed cut.front p.each cut.each) ∙ differ-before (uids_of_scene cut.front) cut.here.device.uid (uids_of_scene cut.back) differ in
+    p.same cut.here.device.uid ∙ ap (λ us. has us cut.here.device.uid)
+    (same_uids (take i vs) p.listed cut.front p.each cut.each)
+    ∙ differ-before (uids_of_scene cut.front) cut.here.device.uid (uids_of_scene cut.back) differ in
     let full : length old ≡ 1024 = refused cut.here cut.says new in
     omega (arith, full, p.many, lt, few)
 

@@ -38,7 +38,9 @@ each_at P (w ∷ ws) (y ∷ ys) zero v lt is all = (y, subst (λ t. P (view t) y
 each_at P (w ∷ ws) (y ∷ ys) (suc i) v lt is all = each_at P ws ys i v (omega (arith, lt)) is all.1
 
 -- the items before the one at i, and that one
-pub each_next : {A : Type 0} (P : Data → A → Type 0) (vs : List Value) (xs : List A) (i : ℕ) (v : Value) (x : A) → i < length vs → v ≡ get_or vs i v → Each P (items_view (take i vs)) xs → P (view v) x → Each P (items_view (take (i + 1) vs)) (xs ++ x ∷ [])
+pub each_next : {A : Type 0} (P : Data → A → Type 0) (vs : List Value) (xs : List A) (i : ℕ) (v : Value) (x : A)
+    → i < length vs → v ≡ get_or vs i v → Each P (items_view (take i vs)) xs → P (view v) x
+    → Each P (items_view (take (i + 1) vs)) (xs ++ x ∷ [])
 each_next P vs xs i v x lt is all here =
     let more : take (i + 1) vs ≡ take i vs ++ v ∷ [] = ap (λ k. take k vs) (next i) ∙ take-suc vs i v lt ∙ ap (λ w. take i vs ++ w ∷ []) (sym is) in
     subst (λ us. Each P (items_view us) (xs ++ x ∷ [])) (sym more) (each_more P (take i vs) xs v x all here)
@@ -47,7 +49,8 @@ each_next P vs xs i v x lt is all here =
     next n = omega arith
 
 -- an item that says nothing makes a list that says nothing
-pub no_list : {A : Type 0} (P : Data → A → Type 0) (least most : ℕ) (d : Data) (vs : List Value) (i : ℕ) (v : Value) → Some (items_view vs) ≡ as_array d → i < length vs → v ≡ get_or vs i v → ((x : A) → P (view v) x → ⊥)
+pub no_list : {A : Type 0} (P : Data → A → Type 0) (least most : ℕ) (d : Data) (vs : List Value) (i : ℕ) (v : Value)
+    → Some (items_view vs) ≡ as_array d → i < length vs → v ≡ get_or vs i v → ((x : A) → P (view v) x → ⊥)
     → (xs : List A) → IsListOf A P least most d xs → ⊥
 no_list P least most d vs i v is lt at none xs list =
     let one = each_at P vs xs i v lt at (subst (λ ds. Each P ds xs) (same list.items (items_view vs) (sym list.is_list ∙ sym is)) list.each) in none one.0 one.1
@@ -56,7 +59,8 @@ no_list P least most d vs i v is lt at none xs list =
     same a b e = cc
 
 -- how many items a list has
-pub list_many : {A : Type 0} (P : Data → A → Type 0) (least most : ℕ) (d : Data) (vs : List Value) → Some (items_view vs) ≡ as_array d → (xs : List A) → IsListOf A P least most d xs → length xs ≡ length vs
+pub list_many : {A : Type 0} (P : Data → A → Type 0) (least most : ℕ) (d : Data) (vs : List Value)
+    → Some (items_view vs) ≡ as_array d → (xs : List A) → IsListOf A P least most d xs → length xs ≡ length vs
 list_many P least most d vs is xs list = each_many P vs xs (subst (λ ds. Each P ds xs) (same list.items (items_view vs) (sym list.is_list ∙ sym is)) list.each)
   where
     same : (a b : Items) → Some a ≡ Some b → a ≡ b
@@ -110,7 +114,9 @@ one_text_uid text u v a b =
     let device : a.device ≡ b.device = tail a.device b.device parts.1 in
     let high = ok_same _ _ (sym a.manufacturer_digits ∙ ap decode_of parts.0 ∙ b.manufacturer_digits) in
     let low = ok_same _ _ (sym a.device_digits ∙ ap decode_of device ∙ b.device_digits) in
-    sym (number_of-uid_bytes u a.in_range) ∙ ap number_of (sym (take-append-drop 2 (uid_bytes u)) ∙ ap (λ l. l ++ drop 2 (uid_bytes u)) high ∙ ap (λ l. take 2 (uid_bytes v) ++ l) low ∙ take-append-drop 2 (uid_bytes v)) ∙ number_of-uid_bytes v b.in_range
+    sym (number_of-uid_bytes u a.in_range) ∙ ap number_of
+    (sym (take-append-drop 2 (uid_bytes u)) ∙ ap (λ l. l ++ drop 2 (uid_bytes u)) high
+    ∙ ap (λ l. take 2 (uid_bytes v) ++ l) low ∙ take-append-drop 2 (uid_bytes v)) ∙ number_of-uid_bytes v b.in_range
   where
     tail : (c d : List ℕ) → colon ∷ c ≡ colon ∷ d → c ≡ d
     tail c d h = cc
@@ -185,7 +191,8 @@ cut_at P (w ∷ ws) (y ∷ ys) (suc i) v lt is all =
     }
 
 -- the items of a list that is read as such
-pub listed_items : {A : Type 0} (P : Data → A → Type 0) (least most : ℕ) (d : Data) (vs : List Value) (xs : List A) → Some (items_view vs) ≡ as_array d → IsListOf A P least most d xs → Each P (items_view vs) xs
+pub listed_items : {A : Type 0} (P : Data → A → Type 0) (least most : ℕ) (d : Data) (vs : List Value) (xs : List A)
+    → Some (items_view vs) ≡ as_array d → IsListOf A P least most d xs → Each P (items_view vs) xs
 listed_items P least most d vs xs is list = subst (λ ds. Each P ds xs) (same list.items (items_view vs) (sym list.is_list ∙ sym is)) list.each
   where
     same : (a b : Items) → Some a ≡ Some b → a ≡ b

@@ -65,5 +65,6 @@ too_many_known d vs is long known h =
     let most : length h.listed ≤ 1024 = h.list.at_most in
     omega (arith, many, most, long)
 
-pub other_known : (d : Data) (vs : List Value) (i : ℕ) (v : Value) → Some (items_view vs) ≡ as_array d → i < length vs → v ≡ get_or vs i v → ((u : ℕ) → IsOwnUid (view v) u → ⊥) → (known : List ℕ) → AreKnown d known → ⊥
+pub other_known : (d : Data) (vs : List Value) (i : ℕ) (v : Value) → Some (items_view vs) ≡ as_array d → i < length vs
+    → v ≡ get_or vs i v → ((u : ℕ) → IsOwnUid (view v) u → ⊥) → (known : List ℕ) → AreKnown d known → ⊥
 other_known d vs i v is lt at none known h = no_list IsOwnUid 0 1024 d vs i v is lt at none h.listed h.list

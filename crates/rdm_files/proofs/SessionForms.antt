@@ -7,7 +7,8 @@ use Rattle.serde_json.specs.Find.{get}
 use Rattle.rdm_wire.specs.declared.request.ReqClass.{ReqClass}
 use Rattle.rdm_wire.specs.declared.request.ReqClass.TheVariants as classes
 use Rattle.rdm_files.specs.Forms.{Reads, IsWhole, IsUid, IsBytesText, Has, MayHave}
-use Rattle.rdm_files.specs.SessionFiles.{IsRequest, IsRequestTo, IsAsk, IsKind, IsSubmit, IsCall, HasNeither}
+use Rattle.rdm_files.specs.SessionFiles.{IsRequestTo, IsKind, IsSubmit, IsCall, HasNeither}
+use Rattle.rdm_files.specs.body.Elements.{IsRequest, IsAsk}
 use Rattle.rdm_files.specs.declared.session.call.ClientCall.{ClientCall}
 use Rattle.rdm_files.specs.declared.session.call.ClientCall.TheVariants.{Submit, Discover}
 use Rattle.rdm_files.specs.declared.scene.fault.SceneFault.{SceneFault}
@@ -19,7 +20,9 @@ no_sub key class d none (Discover kind) h = absurd h
 
 pub no_param : (key : List ℕ) (class : ReqClass) (d : Data) (default : ArrayVec ℕ) → default.items ≡ []
     → ((p : ArrayVec ℕ) → MayHave (codes "param") (λ v (b : ArrayVec ℕ). IsBytesText 0 231 v b.items) default d p → ⊥) → (call : ClientCall) → IsRequest key class d call → ⊥
-no_param key class d default is none (Submit r) h = none r.param (by_default (codes "param") (λ v (b : ArrayVec ℕ). IsBytesText 0 231 v b.items) (record { items = [] }) default d r.param (ap (λ items. record { items = items }) (sym is)) h.param)
+no_param key class d default is none (Submit r) h =
+    none r.param (by_default (codes "param") (λ v (b : ArrayVec ℕ). IsBytesText 0 231 v b.items) (record { items = [] })
+    default d r.param (ap (λ items. record { items = items }) (sym is)) h.param)
 no_param key class d default is none (Discover kind) h = absurd h
 
 -- a key that is absent has no value

@@ -9,7 +9,7 @@ use Rattle.rdm_wire.specs.UidText.{UidText}
 use Rattle.rdm_files.specs.declared.scene.fault.SceneFault.{SceneFault}
 use Rattle.rdm_files.specs.declared.scene.fault.SceneFault.TheVariants.{Mismatch, NoMemory}
 
--- whether a fault is that memory was refused
+-- whether a fault is that memory ran out
 abbrev pub is_memory : SceneFault → Bool
 is_memory NoMemory = true
 is_memory (Mismatch m) = false
@@ -54,7 +54,7 @@ pub record IsBytesText (least most : ℕ) (d : Data) (bytes : List ℕ) : Type 0
   pub at_least : least ≤ length bytes
   pub at_most : length bytes ≤ most
 
--- P holds of each item and the element at its place
+-- P holds of each item and the element at its index
 abbrev pub Each : {A : Type 0} → (Data → A → Type 0) → Items → List A → Type 0
 Each P no_items [] = ⊤
 Each P no_items (x ∷ xs) = ⊥

@@ -5,3 +5,4 @@ pub mod SessionFiles
 pub mod Commands
 pub mod Losses
 pub mod FileKinds
+pub mod body

@@ -1,4 +1,4 @@
--- Scene files: what each key says, and what holds where it is absent.
+-- Scene files: what each key says, and what holds if it is absent.
 use Rattle.std.specs.Prelude.{◌≡◌, ℕ, Bool, false, nat_le, List, [], ◌∷◌, fold, Option, Some, None, codes}
 use Rattle.arrayvec.specs.ArrayVec.{ArrayVec}
 use Rattle.serde_json.specs.Data.{Data}
@@ -42,19 +42,12 @@ pub record IsDeviceOf (d : Data) (device : SceneDevice) : Type 0 where
   pub until : MayGive (codes "until") (IsWhole 1 1000000000) d device.until
   pub comes_first : leaves_first device.from device.until ≡ false
 
--- the device is put in its place, which no other with its UID has
-pub record IsAdded (d : Data) (old new : List SceneDevice) : Type 0 where
-  pub device : SceneDevice
-  pub read : IsDeviceOf d device
-  pub differs : has (uids_of_scene old) device.device.uid ≡ false
-  pub added : new ≡ with_scene_device device old
-
--- no UID stands twice
+-- no UID occurs twice
 abbrev pub AllDiffer : List ℕ → Type 0
 AllDiffer [] = Unit {0}
 AllDiffer (u ∷ us) = (has us u ≡ false) × AllDiffer us
 
--- devices, each put in its place by UID
+-- devices, ascending by UID
 abbrev pub in_place : List SceneDevice → List SceneDevice
 in_place devices = fold (λ placed d. with_scene_device d placed) [] devices
 

@@ -1,4 +1,4 @@
--- Session files: what each key says, and what holds where it is absent.
+-- Session files: what each key says, and what holds if it is absent.
 use Rattle.std.specs.Prelude.{◌≡◌, ℕ, List, [], None, Some, codes}
 use Rattle.serde_json.specs.Data.{Data}
 use Rattle.serde_json.specs.Find.{get, as_str}
@@ -24,19 +24,10 @@ pub record IsRequestTo (key : List ℕ) (class : ReqClass) (d : Data) (r : Reque
   pub sub : MayHave (codes "sub") (IsWhole 0 65535) 0 d r.sub_device
   pub param : MayHave (codes "param") (λ v p. IsBytesText 0 231 v p.items) (record { items = [] }) d r.param
 
-abbrev pub IsRequest : List ℕ → ReqClass → Data → ClientCall → Type 0
-IsRequest key class d (Submit r) = IsRequestTo key class d r
-IsRequest key class d (Discover kind) = ⊥
-
 -- the text `full` or `incremental`
 abbrev pub IsKind : Data → Kind → Type 0
 IsKind d Full = as_str d ≡ Some (codes "full")
 IsKind d Incremental = as_str d ≡ Some (codes "incremental")
-
--- a discovery
-abbrev pub IsAsk : Data → ClientCall → Type 0
-IsAsk d (Submit r) = ⊥
-IsAsk d (Discover kind) = Has (codes "discover") IsKind d kind
 
 -- these two keys are absent
 abbrev pub HasNeither : List ℕ → List ℕ → Data → Type 0

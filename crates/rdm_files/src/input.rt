@@ -5,7 +5,7 @@ ghost use Rattle.rdm_files.specs.Input.{IsContent};
 use std::alloc::Global;
 use std::io::{ErrorKind, Read};
 
-/// The greatest length of a file (profile of this project).
+/// The most bytes of a file.
 pub const MOST_BYTES: usize = 1_048_576;
 
 /// Why a file isn't read.
@@ -13,9 +13,9 @@ pub const MOST_BYTES: usize = 1_048_576;
 pub enum FileFault {
     /// It has more than [`MOST_BYTES`] bytes.
     TooLong,
-    /// A read failed so.
+    /// A read failed with an error of this kind.
     Unreadable(ErrorKind),
-    /// Memory was refused.
+    /// Memory ran out.
     NoMemory,
 }
 

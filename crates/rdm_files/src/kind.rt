@@ -1,4 +1,4 @@
-//! Scene files and session files are told apart by their keys.
+//! Scene files and session files differ by their keys.
 ghost use Rattle.std.specs.Prelude.{◌≡◌};
 ghost use Rattle.serde_json.specs.View.{view};
 ghost use Rattle.rdm_files.specs.FileKinds.{looks_like};
@@ -15,8 +15,8 @@ pub enum FileKind {
     Session,
 }
 
-/// What a file looks like, by its keys alone: a scene, where it has a source and no scene; a session, where it has no
-/// source, but a scene or clients. None: it has none of the three, or both a source and a scene.
+/// What a file looks like, by its keys alone: a scene if it has a source and no scene; a session if it has no source,
+/// but a scene or clients. None: it has none of the three, or both a source and a scene.
 pub fn looks_like(file: &Value) -> Option<FileKind>
     ensures { result ≡ looks_like (view file.now) }
 {

@@ -1,7 +1,7 @@
-//! The files of the program `wurstlinen`, which are JSON (profile of this project). A scene file has a line to be
-//! simulated. A session file has a scene, and the calls of the clients on its line.
+//! The files of the program `wurstlinen`, which are JSON; their format is the profile of this project. A scene file has
+//! a line to be simulated. A session file has a scene, and the calls of the clients on its line.
 //!
-//! [`read_file`] gives a file's bytes. [`read_scene`] and [`read_session`] read its JSON. [`discovery_command`] finds a
+//! [`read_file`] returns a file's bytes. [`read_scene`] and [`read_session`] read its JSON. [`discovery_command`] finds a
 //! call that no client may make. For people there are these:
 //! - a [`Mismatch`] says where a file has something else than was expected;
 //! - a [`Remark`] says what they should know of a file that is read all the same;

@@ -1,16 +1,17 @@
-//! Losses of five exchanges in succession, which an honest line never has.
+//! Losses of five exchanges in a row, which an honest line never has.
 ghost use Rattle.std.specs.Prelude.{◌≡◌, ◌+◌, ◌<◌, ℕ, false, true, IfOk, IfSome, IfNone};
 ghost use Rattle.std.specs.List.Sorted.{IsPermutation, IsNonDecreasing};
 ghost use Rattle.rdm_wire.specs.Uid.{has};
 ghost use Rattle.rdm_line.specs.SimRuns.{NoFiveSuccessive};
-ghost use Rattle.rdm_files.specs.Losses.{IsFirstOfFive, has_five};
+ghost use Rattle.rdm_files.specs.Losses.{IsFirstOfFive};
+ghost use Rattle.rdm_files.specs.body.Losses.{has_five};
 
 use std::alloc::{AllocError, Global};
 
-/// The first of five successive numbers that are all among these, which may come in any order and with repeats. Of
-/// several the least is given. None: no five are successive, so a line with these losses is honest.
+/// The first of five consecutive numbers that are all among these, which may come in any order and with repeats. Of
+/// several the least is returned. None: no five are consecutive, so a line with these losses is honest.
 ///
-/// Err: memory was refused.
+/// Err: memory ran out.
 pub fn five_losses(alloc: Global, losses: &[u64]) -> Result<Option<u64>, AllocError>
     ensures some { IfOk result (λ found. IfSome found (IsFirstOfFive losses.now)) }
     ensures none { IfOk result (λ found. IfNone found (NoFiveSuccessive losses.now)) }
@@ -59,7 +60,7 @@ fn five_to(sorted: &[u64], end: u64) -> Option<u64>
     }
 }
 
-// Whether five successive numbers from this one are all there.
+// Whether five consecutive numbers from this one are all there.
 fn has_five(sorted: &[u64], first: u64) -> bool
     requires sorted { IsNonDecreasing sorted.now }
     requires fits { first + 4 < 18446744073709551616 }

@@ -7,7 +7,7 @@ use std::fmt;
 pub enum Remark {
     /// A key isn't known, and is left out.
     UnknownKey(UnknownKey),
-    /// The scene loses five exchanges in succession. Then a report may leave a device out, though it tells no fault.
+    /// The scene loses five exchanges in a row. Then a report may leave a device out without a fault.
     FiveLosses {
         /// The path of the key that has their numbers.
         path: &'static str,

@@ -1,5 +1,4 @@
-//! Scene files: a line to be simulated, as JSON (profile of this project). Unknown keys are left out,
-//! and people are told of the first one.
+//! Scene files: a line to be simulated, as JSON. Unknown keys are left out, and the first one is reported to people.
 
 mod collision;
 mod device;

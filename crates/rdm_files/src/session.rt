@@ -1,5 +1,5 @@
-//! Session files: a line to be simulated and the calls of the clients on it, as JSON (profile of this project). Unknown
-//! keys are left out, and people are told of the first one.
+//! Session files: a line to be simulated and the calls of the clients on it, as JSON. Unknown
+//! keys are left out, and the first one is reported to people.
 
 mod call;
 mod client;

@@ -25,7 +25,8 @@ to_first : (before vs : List Judged) (j : Joined) → result_after before vs ≡
 to_first before [] j e = absurd (none_some j e)
 to_first before (v ∷ vs) j e = by_head (decides before v) refl e (to_first (before ++ v ∷ []) vs j)
   where
-    by_head : (o : Option Joined) → decides before v ≡ o → or_if_open o (result_after (before ++ v ∷ []) vs) ≡ Some j → (result_after (before ++ v ∷ []) vs ≡ Some j → IsFirst (before ++ v ∷ []) vs j) → IsFirst before (v ∷ vs) j
+    by_head : (o : Option Joined) → decides before v ≡ o → or_if_open o (result_after (before ++ v ∷ []) vs) ≡ Some j
+        → (result_after (before ++ v ∷ []) vs ≡ Some j → IsFirst (before ++ v ∷ []) vs j) → IsFirst before (v ∷ vs) j
     by_head (Some k) p q later = record { at = 0; here = p ∙ q; earlier = λ i below. absurd (none_below i below) }
       where
         none_below : (i : ℕ) → i < 0 → ⊥

@@ -1,5 +1,7 @@
 -- Where a joiner stands after one more verdict.
-use Rattle.std.proofs.Common.{◌≡◌, ◌⊎◌, inl, inr, ℕ, suc, ◌+◌, ◌<◌, ◌≤◌, Bool, true, false, ◌&&◌, ◌||◌, not, List, [], ◌∷◌, ◌++◌, length, Option, Some, None, Result, Ok, Err, IsOk, OnOk, is_none, nat_lt, ◌↔◌, if◌then◌else◌, refl, sym, ap, ◌∙◌, subst, length-append, arith}
+use Rattle.std.proofs.Common.{◌≡◌, ◌⊎◌, inl, inr, ℕ, suc, ◌+◌, ◌<◌, ◌≤◌, Bool, true, false, ◌&&◌, ◌||◌, not, List, []}
+use Rattle.std.proofs.Common.{◌∷◌, ◌++◌, length, Option, Some, None, Result, Ok, Err, IsOk, OnOk, is_none, nat_lt, ◌↔◌}
+use Rattle.std.proofs.Common.{if◌then◌else◌, refl, sym, ap, ◌∙◌, subst, length-append, arith}
 use Rattle.std.proofs.lemmas.List.{append-nil}
 use Rattle.std.proofs.Math.Bool.{or-false, or-true}
 use Rattle.std.proofs.lemmas.Bool.Decides.{nat_tests}
@@ -20,7 +22,8 @@ use Rattle.rdm_join.specs.declared.joiner.Stage.TheVariants.{Waiting, Joining, E
 use Rattle.rdm_join.specs.declared.joiner.Step.TheVariants.{More, Done}
 use Rattle.rdm_join.specs.Result.{Joined, result_of, or_if_open, decides, ended, joined_data, data_of, head_of, differs, is_too_long}
 use Rattle.rdm_join.proofs.ResultLemmas.{result_of-push, whole_ends, end_ends, few_parts}
-use Rattle.rdm_join.specs.JoinerStanding.{JoinerStanding, head_of_standing, IsOpen, IsOpenStage, StandsAt, JoinerMoves, standing_at, stage_of_parts, step_of, ended_standing, stage_with_part, takes_whole}
+use Rattle.rdm_join.specs.JoinerStanding.{JoinerStanding, head_of_standing, IsOpen, IsOpenStage, step_of}
+use Rattle.rdm_join.specs.body.Standing.{StandsAt, JoinerMoves, standing_at, stage_of_parts, ended_standing, stage_with_part, takes_whole}
 
 standing_with : (vs : List Judged) (s : JoinerStanding) (o : Option Joined) → StandsAt vs s → result_of vs ≡ o → s ≡ standing_at o vs
 standing_with vs s o at e = at ∙ ap (λ p. standing_at p vs) e

@@ -3,3 +3,4 @@ pub mod Verdict
 pub mod Result
 pub mod JoinerStanding
 pub mod Exchange
+pub mod body

@@ -77,7 +77,7 @@ pub record IsResult (vs : List Judged) (j : Joined) : Type 0 where
   pub here : decides_at vs at ≡ Some j
   pub earlier : (i : ℕ) → i < at → decides_at vs i ≡ None
 
--- the first, or where it is open the second
+-- the first, or if it is open the second
 abbrev pub or_if_open : Option Joined → Option Joined → Option Joined
 or_if_open (Some j) later = Some j
 or_if_open None later = later

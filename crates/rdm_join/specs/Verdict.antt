@@ -35,14 +35,14 @@ answers_class sent responses.Set =
     (code_of_request_class sent.class == 0x30)
     || ((code_of_request_class sent.class == 0x20) && (sent.pid == queued_message))
 
--- by its type: of a GET's response alone more may follow
+-- the verdict by the response type: only the response to a GET may be a part, after which more follows
 abbrev pub verdict_of_type : Response → AckType → Judged
 verdict_of_type r Overflow = if code_of_class r.class == 0x21 then Part r else Ended status.InvalidResponse
 verdict_of_type r Ack = Whole r
 verdict_of_type r Timer = Whole r
 verdict_of_type r Nack = Whole r
 
--- of a packet's response
+-- the verdict on a packet's response: the first mismatch ends the request
 abbrev pub verdict_of_response : Sent → Response → Judged
 verdict_of_response sent r =
     if not (r.tn == sent.tn) then Ended status.TransactionMismatch
@@ -55,17 +55,17 @@ verdict_of_response sent r =
     else (if not (r.pid == sent.pid) && not (sent.pid == queued_message) then Ended status.InvalidResponse
     else verdict_of_type r r.ack)))))
 
--- of what bytes decode to
+-- the verdict on what bytes decode to: a fault of the packet ends the request
 abbrev pub verdict_of_packet : Sent → Result Response PacketFault → Judged
 verdict_of_packet sent (Err fault) = Ended (status_of_fault fault)
 verdict_of_packet sent (Ok r) = verdict_of_response sent r
 
--- of bytes
+-- the verdict on the bytes that came: no bytes are a timeout
 abbrev pub verdict_of_bytes : Sent → List ℕ → Judged
 verdict_of_bytes sent [] = Ended status.Timeout
 verdict_of_bytes sent (b ∷ bs) = verdict_of_packet sent (decoded (b ∷ bs))
 
--- of an event
+-- the verdict on an event: a failed line and a broadcast request end the request, whatever came
 abbrev pub verdict : Sent → LineEvent → Judged
 verdict sent Failed = Ended status.FailedToSend
 verdict sent (Reply bytes) =

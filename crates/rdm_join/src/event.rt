@@ -7,7 +7,7 @@ use rdm_wire::MOST_FRAME_BYTES;
 /// The bytes that came after a frame; none is silence. 257 at most.
 pub type LineReply = ArrayVec<u8, MOST_FRAME_BYTES>;
 
-/// What the line answered to a frame (profile of this project).
+/// What the line answered to a frame.
 #[derive(Debug, Drop)]
 pub enum LineEvent {
     /// These bytes came; none is silence.
@@ -22,15 +22,15 @@ impl LineEvent {
         ensures { result ≡ self.now }
     {
         match self {
-            LineEvent::Reply(bytes) => LineEvent::Reply(copied(bytes)),
+            LineEvent::Reply(bytes) => LineEvent::Reply(copy_of_reply(bytes)),
             LineEvent::Failed => LineEvent::Failed,
         }
     }
 }
 
-// The same bytes again.
-fn copied(bytes: &LineReply) -> LineReply
-    ensures { result ≡ bytes.now }
+/// The same reply again. It allocates nothing.
+pub fn copy_of_reply(reply: &LineReply) -> LineReply
+    ensures { result ≡ reply.now }
 {
-    ArrayVec::try_from(bytes.as_slice()).unwrap()
+    ArrayVec::try_from(reply.as_slice()).unwrap()
 }

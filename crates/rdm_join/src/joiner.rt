@@ -1,8 +1,8 @@
 //! A request's replies, joined.
-ghost use Rattle.std.specs.Prelude.{◌≡◌, ◌<◌, ◌↔◌, List, [], ◌∷◌, ◌++◌, length, not, IfOk, OnErr};
+ghost use Rattle.std.specs.Prelude.{◌≡◌, ◌<◌, ◌↔◌, List, [], ◌∷◌, ◌++◌, length, not, true, IfOk, OnErr};
 ghost use Rattle.rdm_join.specs.Result.{result_of, head_of, differs};
-ghost use Rattle.rdm_join.specs.JoinerStanding.{IsOpen, StandsAt, JoinerMoves, head_of_standing, step_of};
-ghost use Rattle.rdm_join.specs.JoinerStanding.{ended_standing, stage_with_part, takes_whole};
+ghost use Rattle.rdm_join.specs.JoinerStanding.{IsOpen, head_of_standing, step_of};
+ghost use Rattle.rdm_join.specs.body.Standing.{StandsAt, JoinerMoves, ended_standing, stage_with_part, takes_whole};
 ghost use Rattle.rdm_join.specs.declared.verdict.Judged.{Judged};
 ghost use Rattle.rdm_join.specs.declared.verdict.Judged.TheVariants.{Whole, Part};
 
@@ -14,11 +14,10 @@ use std::alloc::{AllocError, Global};
 use std::marker::Model;
 use std::mem::size_of;
 
-/// How many bytes an answer has, at most, with all its parts together: 65,535 (profile of this project).
+/// The most bytes of an answer, all its parts together: 65,535.
 pub const MOST_JOINED_BYTES: usize = 65_535;
 
-/// How many replies an answer comes in, at most: 512. A part in the last one's place ends the request (profile of
-/// this project).
+/// The most replies that an answer comes in: 512. If the last of them is a part, it ends the request.
 pub const MOST_PARTS: usize = 512;
 
 /// What the last reply of a completed request says beside its data (E1.20, response packet).
@@ -59,7 +58,7 @@ fn head_of(response: &Response) -> ReplyHead
 pub enum Step {
     /// A part was joined: the same request is to be sent again, for the rest.
     More,
-    /// The request has ended so.
+    /// The request has ended with this status.
     Done(Status),
 }
 
@@ -70,12 +69,12 @@ enum Stage {
     Waiting,
     /// This many parts have come, and the first had this head.
     Joining { first: ReplyHead, parts: usize },
-    /// It has ended. Where it is completed, its last reply had this head.
+    /// It has ended. If it is completed, its last reply had this head.
     Ended(Option<ReplyHead>),
 }
 
 impl Stage {
-    // The stage after one more part, if it goes with the first and isn't in the last place.
+    // The stage after one more part, if it goes with the first and isn't the last one that there may be.
     fn with_part(self, head: ReplyHead) -> Option<Stage>
         ensures { result ≡ stage_with_part self head }
     {
@@ -108,7 +107,7 @@ impl Stage {
 
 /// Joins the replies to one request: the same request is sent until a reply has all, or the rest, of the answer
 /// (E1.20, ACK_OVERFLOW). Contracts see how far the request is, and its data: after any list of verdicts these are
-/// those of the verdicts' result, and where there is none yet, of their parts (`StandsAt`).
+/// those of the verdicts' result, and if there is none yet, of their parts (`StandsAt`).
 #[derive(Debug, Drop)]
 pub struct Joiner {
     stage: Stage,
@@ -148,15 +147,24 @@ impl Joiner {
         self.stage = Stage::Waiting;
     }
 
-    /// Gives it the verdict on the next reply. The last one must not have answered `Done`.
+    /// Whether the request hasn't ended, so that another verdict may be added.
+    pub fn is_open(&self) -> bool
+        ensures { (result ≡ true) ↔ IsOpen self.now }
+    {
+        match self.stage {
+            Stage::Waiting | Stage::Joining { .. } => true,
+            Stage::Ended(_) => false,
+        }
+    }
+
+    /// Gives it the verdict on the next reply. The request must be open: no call before may have answered `Done`.
     ///
-    /// A reply joins with the parts before it where all of these hold; else the request ends as an invalid response
-    /// (profile of this project):
+    /// A reply joins with the parts before it if all of these hold. Otherwise the request ends as an invalid response.
     ///
     /// - it has the class, the PID and the sub-device of the first part;
     /// - it is an ACK, unless it is a part itself;
     /// - the data stay within [`MOST_JOINED_BYTES`];
-    /// - it isn't a part in the last of [`MOST_PARTS`] places.
+    /// - it isn't a part that comes as the last of [`MOST_PARTS`] replies.
     pub fn add(&mut self, judged: Judged) -> Step
         requires { IsOpen self.old }
         ensures more { (result ≡ Step.More) ↔ IsOpen self.new }
@@ -209,8 +217,7 @@ impl Joiner {
         Step::Done(status)
     }
 
-    /// The head of the last reply, where the request is completed: where `add` answered `Done(Completed)` (profile of
-    /// this project).
+    /// The head of the last reply if the request is completed, that is, if `add` returned `Done(Completed)`.
     pub fn head(&self) -> Option<ReplyHead>
         ensures { result ≡ head_of_standing self.now }
     {
@@ -220,8 +227,8 @@ impl Joiner {
         }
     }
 
-    /// A copy of the data: of the parts so far, and of the whole answer where the request is completed. There is none
-    /// where it has ended otherwise. It is the only call that allocates: an `Err` says that no memory was left. No
+    /// A copy of the data: of the parts so far, or of the whole answer if the request is completed. If it has ended
+    /// otherwise there are none. It is the only call that allocates: an `Err` says that memory ran out. A copy of no
     /// data takes no memory, and can't fail.
     pub fn take_data(&self, alloc: Global) -> Result<Vec<u8>, AllocError>
         ensures ok { IfOk result (λ v. v.items ≡ self.now.data_) }

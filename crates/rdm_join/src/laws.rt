@@ -1,11 +1,12 @@
-//! Laws of results and joiners, each the contract of a function that does nothing. The definitions stand in `specs`.
+//! Laws of results and joiners, each the contract of a function that does nothing. The definitions are in `specs`.
 ghost use Rattle.std.specs.Prelude.{◌≡◌, ◌↔◌, ℕ, List, [], ◌++◌, Some, None};
 ghost use Rattle.arrayvec.specs.ArrayVec.{ArrayVec as Items};
 ghost use Rattle.rdm_wire.specs.Frames.{asked_in};
 ghost use Rattle.rdm_wire.specs.Honest.Heard.{Failed, Silent};
 ghost use Rattle.rdm_join.specs.Exchange.{seen_event};
 ghost use Rattle.rdm_join.specs.Result.{Joined, result_of, IsResult};
-ghost use Rattle.rdm_join.specs.JoinerStanding.{JoinerStanding, IsOpen, StandsAt, head_of_standing};
+ghost use Rattle.rdm_join.specs.JoinerStanding.{JoinerStanding, IsOpen, head_of_standing};
+ghost use Rattle.rdm_join.specs.body.Standing.{StandsAt};
 ghost use Rattle.rdm_join.specs.declared.verdict.Judged.{Judged};
 
 use crate::event::LineEvent;
@@ -19,8 +20,8 @@ pub fn limits_are()
     ensures sub_devices { ALL_SUB_DEVICES ≡ 0xffff }
 {}
 
-/// An exchange of a frame and an event asks what the frame asks. It is heard as a failure where the line failed, and
-/// as silence where no bytes came.
+/// An exchange of a frame and an event asks what the frame asks. It is heard as a failure if the line failed, and
+/// as silence if no bytes came.
 pub fn events_are_seen()
     ensures asked { (frame : Items ℕ) (event : LineEvent) → (seen_event (frame, event)).asked ≡ asked_in frame.items }
     ensures failed { (frame : Items ℕ) → (seen_event (frame, LineEvent.Failed)).heard ≡ Failed }
@@ -28,7 +29,7 @@ pub fn events_are_seen()
         → (seen_event (frame, LineEvent.Reply reply)).heard ≡ Silent }
 {}
 
-/// A request's result is what the first deciding position says, there is one at most, and what stands after that
+/// A request's result is what the first deciding position says, there is one at most, and what follows that
 /// position doesn't change it.
 pub fn result_is_determined()
     ensures meets { (vs : List Judged) (j : Joined) → result_of vs ≡ Some j → IsResult vs j }

@@ -1,4 +1,5 @@
-//! The status of a reply, and parts joined.
+//! What a reply means for its request, and how the parts of an answer are joined. What isn't marked as E1.20's is the
+//! profile of this project.
 #![tactic(auto)]
 
 mod event;
@@ -7,7 +8,7 @@ pub mod laws;
 mod status;
 mod verdict;
 
-pub use event::{LineEvent, LineReply};
+pub use event::{LineEvent, LineReply, copy_of_reply};
 pub use joiner::{Joiner, MOST_JOINED_BYTES, MOST_PARTS, ReplyHead, Step};
 pub use status::Status;
 pub use verdict::{ALL_SUB_DEVICES, Judged, Sent, judge};

@@ -4,7 +4,7 @@ ghost use Rattle.rdm_join.specs.Statuses.{number_of_status, status_of_fault};
 
 use rdm_wire::PacketFault;
 
-/// How a request ended (profile of this project), with its number.
+/// How a request ended, with its number.
 #[derive(Clone, Copy, Debug, PartialEq, Eq)]
 pub enum Status {
     /// 0: the device answered.

@@ -33,13 +33,13 @@ pub enum Judged {
     Whole(Response),
     /// A response with a part of the answer, after which there is more to get.
     Part(Response),
-    /// The request has ended so.
+    /// The request has ended with this status.
     Ended(Status),
 }
 
 /// What the event means for the request: the first that holds of a failed line, a broadcast request, silence, the
-/// faults of a packet, and a response that isn't the request's; else the response. The order, and what is let pass
-/// where a queued message was asked for, are a profile of this project.
+/// faults of a packet, and a response that isn't the request's; else the response. A request
+/// for a queued message may be answered with any PID and sub-device, and as a GET or a SET (E1.20, QUEUED_MESSAGE).
 pub fn judge(sent: &Sent, event: &LineEvent) -> Judged
     ensures { result ≡ verdict sent.now event.now }
 {

@@ -23,7 +23,7 @@ use Rattle.rdm_line.specs.Scenes.{uids_of_scene}
 use Rattle.rdm_line.specs.declared.scene.SceneDevice.{SceneDevice}
 use Rattle.rdm_line.specs.Sim.{SimState, SimStep}
 use Rattle.rdm_line.specs.SimRuns.{Step, seen_in}
-use Rattle.rdm_log.specs.declared.config.Config.{Config}
+use Rattle.rdm_log.specs.declared.config.Setup.{Setup}
 use Rattle.rdm_log.specs.declared.entry.Call.{Call}
 use Rattle.rdm_log.specs.declared.entry.Call.TheVariants as calls
 use Rattle.rdm_log.specs.declared.entry.Cause.{Cause}
@@ -36,7 +36,7 @@ use Rattle.rdm_log.specs.log.Clients.{outstanding_discoveries}
 use Rattle.rdm_log.specs.log.History.{is_closed, places, next_ask}
 use Rattle.rdm_log.specs.log.Refusals.{ask_fault_at, number_of_ask_fault, IsRefused}
 use Rattle.rdm_log.specs.log.Runs.{has_begun, sends_run, entries_before_run, last_run_without_fault, run_exchanges, run_kind, known_devices, known_at_run}
-use Rattle.rdm_log.specs.log.LogState.{LogState}
+use Rattle.rdm_log.specs.log.LogState.{LogState, with_entries}
 use Rattle.rdm_log.specs.log.Legal.{Legal, MayFollow}
 use Rattle.rdm_log.specs.log.Due.{NothingDue}
 use Rattle.rdm_log.specs.log.MayAnswer.{MayAnswer}
@@ -160,16 +160,16 @@ calm_run s x is run = record {
 }
 
 -- and so they are before the run's Answer
-calm_before : (search : Search) (o : Opening) (h before back : List Entry) (n r : ℕ) (fault : AgentFault) (present : List ℕ) → EachAfter (MayFollow o) h → h ≡ before ++ Answer n r (Some fault) ∷ back → has_begun r before ≡ true → IsCalmRun search o h r present → IsCalmRun search o before r present
-calm_before search o h before back n r fault present each is begun calm = record {
-  calm = rw (ended o h each before back n r (Some fault) is) at calm.calm;
+calm_before : (k : LogState) (before back : List Entry) (n r : ℕ) (fault : AgentFault) (present : List ℕ) → EachAfter (MayFollow k.opening) k.entries → k.entries ≡ before ++ Answer n r (Some fault) ∷ back → has_begun r before ≡ true → IsCalmRun k r present → IsCalmRun (with_entries k before) r present
+calm_before k before back n r fault present each is begun calm = record {
+  calm = rw (ended k.opening k.entries each before back n r (Some fault) is) at calm.calm;
   budgeted = rw (is, served_stays r before (Answer n r (Some fault) ∷ back) begun, entries_before_run_stays r before (Answer n r (Some fault) ∷ back) begun) at calm.budgeted;
 }
 
 by_number : (k : LogState) (before back : List Entry) (n r : ℕ) (fault : AgentFault) (present : List ℕ) → EachAfter (MayFollow k.opening) k.entries → k.entries ≡ before ++ Answer n r (Some fault) ∷ back → MayAnswer k.opening before n r (Some fault)
-    → (IsCalmRun k.search k.opening before r present → is_closed k.opening before ≡ true) → IsCalmRun k.search k.opening k.entries r present → is_closed k.opening before ≡ true
+    → (IsCalmRun (with_entries k before) r present → is_closed k.opening before ≡ true) → IsCalmRun k r present → is_closed k.opening before ≡ true
 by_number k before back n zero fault present each is may bound calm = (may.unserved refl).closing.closed
-by_number k before back n (suc r) fault present each is may bound calm = bound (calm_before k.search k.opening k.entries before back n (suc r) fault present each is (named_begun k.opening before n (suc r) (Some fault) may some) calm)
+by_number k before back n (suc r) fault present each is may bound calm = bound (calm_before k before back n (suc r) fault present each is (named_begun k.opening before n (suc r) (Some fault) may some) calm)
   where
     some : suc r ≢ 0
     some e = cc
@@ -200,8 +200,8 @@ refused_closed o front c client (calls.Join n) cause number done own is refused 
     no_ask e = cc
 
 -- no outcome that a client got has a fault
-pub tells_no_fault : {J : Type 0} {h : Ghosts J} {C A : Type 0} (config : Config) (search : Search) (room : ℕ) (places : List ℕ) (s t : SimState) (k : LogState) (c : ℕ) (e : ClientEnd J C A h) → IsEndOver config search room places s t k c e → IsCalmScene s → IsEnough config search s → TellsNoFault e
-tells_no_fault config search room places s t k c e over is enough number done got = by_kind (discovery_of h told.front told.back told.entry number done told.is)
+pub tells_no_fault : {J : Type 0} {h : Ghosts J} {C A : Type 0} (setup : Setup) (room : ℕ) (places : List ℕ) (s t : SimState) (k : LogState) (c : ℕ) (e : ClientEnd J C A h) → IsEndOver setup room places s t k c e → IsCalmScene s → IsEnough setup s → TellsNoFault e
+tells_no_fault setup room places s t k c e over is enough number done got = by_kind (discovery_of h told.front told.back told.entry number done told.is)
   where
     o : Opening
     o = k.opening
@@ -218,10 +218,10 @@ tells_no_fault config search room places s t k c e over is enough number done go
     nobody : o.devices ≡ []
     nobody = ap (λ (o : Opening). o.devices) over.session.opening_is
 
-    calm : (r : ℕ) → IsCalmRun k.search o h r (uids_of_scene s.devices)
+    calm : (r : ℕ) → IsCalmRun k r (uids_of_scene s.devices)
     calm r = record {
       calm = calm_run s (run_exchanges r h) is (honest_in_log o h s t r legal.each is.staying.lossy.few_losses over.session.steps);
-      budgeted = rw (over.session.search_is, ap (λ (o : Opening). o.budget) over.session.opening_is) (enough_less search (uids_of_scene s.devices) (known_at_run o r h) (run_kind r h) config.budget (known_few o h s t legal nobody is.staying over.session.steps r) enough);
+      budgeted = rw (over.session.search_is, ap (λ (o : Opening). o.budget) over.session.opening_is) (enough_less setup.search (uids_of_scene s.devices) (known_at_run o r h) (run_kind r h) setup.config.budget (known_few o h s t legal nobody is.staying over.session.steps r) enough);
     }
 
     open_ : (front back : List Entry) (x : Entry) → h ≡ front ++ x ∷ back → is_closed o front ≡ true → ⊥
@@ -230,7 +230,7 @@ tells_no_fault config search room places s t k c e over is enough number done go
     by_fault : (n r : ℕ) (fault : Option AgentFault) → h ≡ told.front ++ Answer n r fault ∷ told.back → fault ≡ None
     by_fault n r None whole = refl
     by_fault n r (Some fault) whole =
-        absurd (open_ told.front told.back (Answer n r (Some fault)) whole (by_number k told.front told.back n r fault (uids_of_scene s.devices) legal.each whole (legal.each told.front told.back (Answer n r (Some fault)) whole) (over.session.in_bound.closed_first told.front told.back n r fault (uids_of_scene s.devices) whole) (calm r)))
+        absurd (open_ told.front told.back (Answer n r (Some fault)) whole (by_number k told.front told.back n r fault (uids_of_scene s.devices) legal.each whole (legal.each told.front told.back (Answer n r (Some fault)) whole) (over.session.promised.in_bound.closed_first told.front told.back n r fault (uids_of_scene s.devices) whole) (calm r)))
 
     by_kind : IsAnswered h told.front told.back told.entry number done ⊎ IsRefusedByClose told.entry done → done.fault ≡ None
     by_kind (inl a) = by_fault a.n a.run done.fault (told.whole ∙ ap (λ (x : Entry). told.front ++ x ∷ told.back) a.is)
@@ -242,13 +242,13 @@ tells_no_fault config search room places s t k c e over is enough number done go
         absurd (open_ told.front told.back entry whole (refused_closed o told.front c a.client a.call a.cause number done own outcome (legal.each told.front told.back entry whole).1))
 
 -- the budget by default is enough for a steady search
-pub default_enough : (config : Config) (how : Search) (s : SimState) → IsCalmScene s → IsByDefault config how → IsEnough config how s
-default_enough config how s is default =
+pub default_enough : (setup : Setup) (s : SimState) → IsCalmScene s → IsByDefault setup → IsEnough setup s
+default_enough setup s is default =
     let few : length (uids_of_scene s.devices) ≤ 1024 = omega (arith, length-map s.devices (λ (d : SceneDevice). d.device.uid), is.staying.lossy.scene.few) in
     rw (default.0, default.1) (within few)
   where
     within : length (uids_of_scene s.devices) ≤ 1024 → enough_by Steady (uids_of_scene s.devices) kinds.Incremental (uids_of_scene s.devices) ≤ DEFAULT_BUDGET
     within few = omega (arith, few)
 
-pub tells_none_by_default : {J : Type 0} {h : Ghosts J} {C A : Type 0} (config : Config) (search : Search) (room : ℕ) (places : List ℕ) (s t : SimState) (k : LogState) (c : ℕ) (e : ClientEnd J C A h) → IsEndOver config search room places s t k c e → IsCalmScene s → IsByDefault config search → TellsNoFault e
-tells_none_by_default config search room places s t k c e over is default = tells_no_fault config search room places s t k c e over is (default_enough config search s is default)
+pub tells_none_by_default : {J : Type 0} {h : Ghosts J} {C A : Type 0} (setup : Setup) (room : ℕ) (places : List ℕ) (s t : SimState) (k : LogState) (c : ℕ) (e : ClientEnd J C A h) → IsEndOver setup room places s t k c e → IsCalmScene s → IsByDefault setup → TellsNoFault e
+tells_none_by_default setup room places s t k c e over is default = tells_no_fault setup room places s t k c e over is (default_enough setup s is default)

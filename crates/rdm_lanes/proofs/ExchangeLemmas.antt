@@ -15,9 +15,6 @@ use Rattle.rdm_log.specs.log.LogState.{LogState, grown, is_full_log}
 use Rattle.rdm_log.specs.log.MaySend.{NoSend}
 use Rattle.rdm_log.specs.log.Legal.{Legal, MayFollow}
 use Rattle.rdm_log.specs.promises.Blocks.{GrowsBy, TakeLogs, DeliverAdds, AllResults}
-use Rattle.rdm_log.specs.promises.InBound.{AnswersInBound}
-use Rattle.rdm_log.specs.promises.LogInBound.{InBound}
-use Rattle.rdm_log.proofs.PromiseLemmas.LogInBoundLemmas.{in_bound_grows}
 use Rattle.rdm_log.proofs.LogLemmas.Grows.{front}
 use Rattle.rdm_log.proofs.LogLemmas.PushLemmas.{awaited-push}
 use Rattle.rdm_log.proofs.LogLemmas.LegalFacts.{legal_facts, sent_evenly}
@@ -68,10 +65,10 @@ pub record IsExchange (old new : LogState) (frame : ArrayVec ℕ) (event : LineE
   pub switches : SameSwitches old new
   pub wait : (c : ℕ) → IsOnlyTold c old new
 
-delivered : (old mid new : LogState) (owner : Owner) (frame : ArrayVec ℕ) (event : LineEvent) (block results : List Entry) → mid ≡ grown old (Send owner frame ∷ []) → new ≡ grown mid (Came event ∷ results) → AllResults results
-    → new ≡ grown mid block → AnswersInBound mid.search mid.opening mid.entries block → Legal mid.opening mid.entries → Legal new.opening new.entries → IsBetweenTurns old → IsExchange old new frame event
-delivered old mid new owner frame event block results sent came all grew bound legal_mid legal_new s = record {
-  served = record { answered = ap (λ (k : LogState). awaited k.entries) whole ∙ not_awaited; no_call_lost = subst NoCallLost (sym grew_all) (none_lost_grows old (Send owner frame ∷ Came event ∷ results) s.no_call_lost (rightly_without old.opening old.entries (Send owner frame ∷ Came event ∷ results) (refl, (refl, results_no_refusal results all)))); in_bound = subst InBound (sym grew) (in_bound_grows mid block (subst InBound (sym sent) (in_bound_grows old (Send owner frame ∷ []) s.in_bound (tt, tt))) bound) };
+delivered : (old mid new : LogState) (owner : Owner) (frame : ArrayVec ℕ) (event : LineEvent) (results : List Entry) → mid ≡ grown old (Send owner frame ∷ []) → new ≡ grown mid (Came event ∷ results) → AllResults results
+    → Legal mid.opening mid.entries → Legal new.opening new.entries → IsBetweenTurns old → IsExchange old new frame event
+delivered old mid new owner frame event results sent came all legal_mid legal_new s = record {
+  served = record { answered = ap (λ (k : LogState). awaited k.entries) whole ∙ not_awaited; no_call_lost = subst NoCallLost (sym grew_all) (none_lost_grows old (Send owner frame ∷ Came event ∷ results) s.no_call_lost (rightly_without old.opening old.entries (Send owner frame ∷ Came event ∷ results) (refl, (refl, results_no_refusal results all)))) };
   block = Send owner frame ∷ Came event ∷ results;
   grows = grew_all;
   nobody_joined = ap (λ (k : LogState). joins k.entries) grew_all ∙ joins_stay h (Send owner frame ∷ Came event ∷ results) (refl, (refl, results_no_join results all));
@@ -102,14 +99,14 @@ delivered old mid new owner frame event block results sent came all grew bound l
 awaits_sent : (old mid : LogState) (owner : Owner) (frame : ArrayVec ℕ) → mid ≡ grown old (Send owner frame ∷ []) → awaited mid.entries ≡ true
 awaits_sent old mid owner frame sent = ap (λ (k : LogState). awaited k.entries) sent ∙ awaited-push old.entries (Send owner frame)
 
-answered : (old mid new : LogState) (owner : Owner) (frame : ArrayVec ℕ) (event : LineEvent) (r : Result (Unit {0}) (NotAsked × LineEvent)) → mid ≡ grown old (Send owner frame ∷ []) → GrowsBy mid (DeliverAdds mid.search mid.opening mid.entries event r) new
+answered : (old mid new : LogState) (owner : Owner) (frame : ArrayVec ℕ) (event : LineEvent) (r : Result (Unit {0}) (NotAsked × LineEvent)) → mid ≡ grown old (Send owner frame ∷ []) → GrowsBy mid (DeliverAdds mid event r) new
     → Legal mid.opening mid.entries → Legal new.opening new.entries → IsBetweenTurns old → IsExchange old new frame event
 answered old mid new owner frame event (Ok x) sent g legal_mid legal_new s =
-    delivered old mid new owner frame event g.block g.adds.1.results sent (g.grows ∙ ap (λ (b : List Entry). grown mid b) g.adds.1.whole) g.adds.1.each g.grows g.adds.2 legal_mid legal_new s
+    delivered old mid new owner frame event g.adds.1.results sent (g.grows ∙ ap (λ (b : List Entry). grown mid b) g.adds.1.whole) g.adds.1.each legal_mid legal_new s
 answered old mid new owner frame event (Err e) sent g legal_mid legal_new s = absurd (true≢false (sym (awaits_sent old mid owner frame sent) ∙ g.adds.0))
 
 pub exchange_made : (old mid new : LogState) (frame : ArrayVec ℕ) (event : LineEvent) (t : Result (Option (ArrayVec ℕ)) LogFull) (r : Result (Unit {0}) (NotAsked × LineEvent)) → t ≡ Ok (Some frame) → GrowsBy old (TakeLogs old t) mid
-    → GrowsBy mid (DeliverAdds mid.search mid.opening mid.entries event r) new → Legal mid.opening mid.entries → Legal new.opening new.entries → IsBetweenTurns old → IsExchange old new frame event
+    → GrowsBy mid (DeliverAdds mid event r) new → Legal mid.opening mid.entries → Legal new.opening new.entries → IsBetweenTurns old → IsExchange old new frame event
 exchange_made old mid new frame event t r is taken g legal_mid legal_new s = by_result (rw is at taken)
   where
     by_result : GrowsBy old (TakeLogs old (Ok (Some frame))) mid → IsExchange old new frame event

@@ -4,7 +4,6 @@ use Rattle.std.specs.List.{AllByRecursion}
 use Rattle.std.proofs.lemmas.List.{map-append}
 use Rattle.std.proofs.lemmas.List.Elements.{filter_map-append}
 use Rattle.arrayvec.specs.ArrayVec.{ArrayVec}
-use Rattle.rdm_agent.specs.declared.search.Search.{Search}
 use Rattle.rdm_wire.specs.Lists.{EachAfter}
 use Rattle.rdm_wire.proofs.EachAfterLemmas.{EachAfter-push}
 use Rattle.rdm_join.specs.declared.event.LineEvent.{LineEvent}
@@ -16,11 +15,8 @@ use Rattle.rdm_log.specs.log.Entries.{sending_of, came_of, join_of, sends, cames
 use Rattle.rdm_log.specs.log.History.{awaited, is_closed, is_paused, closed_after as closed_by, paused_after as paused_by}
 use Rattle.rdm_log.specs.log.LogState.{LogState, grown}
 use Rattle.rdm_log.specs.promises.Blocks.{is_result, AllResults}
-use Rattle.rdm_log.specs.promises.InBound.{FaultNeedsClose, AnswersInBound}
 use Rattle.rdm_log.proofs.LogLemmas.PushLemmas.{awaited-push, is_closed-push, is_paused-push}
 use Rattle.rdm_log.proofs.LogLemmas.Places.{zip_both_more}
-use Rattle.rdm_log.proofs.PromiseLemmas.EventsInBound.{closed_in_bound}
-use Rattle.rdm_log.proofs.PromiseLemmas.LogInBoundLemmas.{in_bound_grows}
 use Rattle.rdm_lanes.specs.Lines.{exchange_of, exchanges, NoExchange, SameSwitches, IsBetweenTurns, NoCallLost, may_refuse}
 use Rattle.rdm_lanes.specs.Views.{views_found}
 use Rattle.rdm_lanes.proofs.ListLemmas.{filter_map_nothing, all_follow}
@@ -187,25 +183,6 @@ unfolding exchanges traded
 traded_one h owner frame event even =
     rw (sends_came (h ++ Send owner frame ∷ []) event, sends_one h owner frame, cames_one (h ++ Send owner frame ∷ []) event, cames_sent h owner frame, zip_both_more (sends h) (cames h) (record { owner = owner; frame = frame }) event even, map-append traded_of (zip (sends h) (cames h)) ((record { owner = owner; frame = frame }, event) ∷ []), map-append exchange_of (map traded_of (zip (sends h) (cames h))) (traded_of (record { owner = owner; frame = frame }, event) ∷ [])) refl
 
--- faults within the bound
-quiet_bound_one : (search : Search) (o : Opening) (h : List Entry) (e : Entry) → is_quiet e ≡ true → FaultNeedsClose search o h e
-quiet_bound_one search o h (Answer n r fault) is = absurd (true≢false (sym is))
-quiet_bound_one search o h (Join c n) is = tt
-quiet_bound_one search o h (Refuse c call cause) is = tt
-quiet_bound_one search o h (Accept c n request) is = tt
-quiet_bound_one search o h (Ask c n kind) is = tt
-quiet_bound_one search o h (Send owner frame) is = tt
-quiet_bound_one search o h (Came event) is = tt
-quiet_bound_one search o h (Finish n status len) is = tt
-quiet_bound_one search o h (Collect c) is = tt
-quiet_bound_one search o h Pause is = tt
-quiet_bound_one search o h Resume is = tt
-quiet_bound_one search o h Close is = tt
-
-pub quiet_bound : (search : Search) (o : Opening) (h block : List Entry) → AllQuiet block → AnswersInBound search o h block
-quiet_bound search o h [] all = tt
-quiet_bound search o h (e ∷ block) all = (quiet_bound_one search o h e all.0, quiet_bound search o (h ++ e ∷ []) block all.1)
-
 -- each refusal has its cause
 abbrev pub RefusedRightly : Opening → List Entry → Entry → Type 0
 RefusedRightly o h (Refuse c call cause) = may_refuse o h ≡ true
@@ -255,7 +232,6 @@ pub served_quiet : (old new : LogState) (block : List Entry) → new ≡ grown o
 served_quiet old new block is all rightly s = rw is (record {
   answered = awaited_off old.entries block (quiet_all_off block all) ∙ s.answered;
   no_call_lost = none_lost_grows old block s.no_call_lost rightly;
-  in_bound = in_bound_grows old block s.in_bound (quiet_bound old.search old.opening old.entries block all);
 })
 
 -- a block without frames and joins
@@ -288,5 +264,4 @@ pub served_closed : (old new : LogState) (results : List Entry) → new ≡ grow
 served_closed old new results is all s = rw is (record {
   answered = awaited_off old.entries (Close ∷ results) (refl, results_off results all) ∙ s.answered;
   no_call_lost = none_lost_grows old (Close ∷ results) s.no_call_lost (rightly_without old.opening old.entries (Close ∷ results) (refl, results_no_refusal results all));
-  in_bound = in_bound_grows old (Close ∷ results) s.in_bound (tt, closed_in_bound old.search old.opening (old.entries ++ Close ∷ []) results (closed_after old.opening old.entries));
 })

@@ -9,8 +9,8 @@ use Rattle.std.specs.declared.alloc.Global.{Global}
 use Rattle.rtrb.specs.declared.producer.Producer.{Producer}
 use Rattle.rtrb.specs.declared.consumer.Consumer.{Consumer}
 use Rattle.rtrb.specs.Ring.{sent as pushed, received as popped}
-use Rattle.rdm_agent.specs.declared.search.Search.{Search}
 use Rattle.rdm_log.specs.declared.config.Config.{Config}
+use Rattle.rdm_log.specs.declared.config.Setup.{Setup}
 use Rattle.rdm_log.specs.declared.entry.ClientId.{ClientId}
 use Rattle.rdm_log.specs.declared.entry.Opening.{Opening}
 use Rattle.rdm_log.specs.declared.entry.Entry.{Entry}
@@ -186,30 +186,29 @@ unfolding runs_found answers
 nothing_seen = refl
 
 -- readers may take the opening view, which is all that there is
-pub publishes_opened : (config : Config) (search : Search) (room : ℕ) (ps : List ℕ) (p : Publishing) → p.shown ≡ opening_view ∷ [] → p.added ≡ opening_view ∷ [] → Publishes (opened_with config search room ps) p
-publishes_opened config search room ps p shown added = record { no_run = refl; no_devices = refl; showing = showing_all (all_views (join_entries 0 ps)) p (subst NoneLater (sym all) none_later_opening) (shown ∙ sym all) (added ∙ sym all) }
+pub publishes_opened : (setup : Setup) (room : ℕ) (ps : List ℕ) (p : Publishing) → p.shown ≡ opening_view ∷ [] → p.added ≡ opening_view ∷ [] → Publishes (opened_with setup room ps) p
+publishes_opened setup room ps p shown added = record { no_run = refl; no_devices = refl; showing = showing_all (all_views (join_entries 0 ps)) p (subst NoneLater (sym all) none_later_opening) (shown ∙ sym all) (added ∙ sym all) }
   where
     all : all_views (join_entries 0 ps) ≡ opening_view ∷ []
     all = ap (λ vs. opening_view ∷ vs) (quiet_views [] (join_entries 0 ps) (quiet_all_off (join_entries 0 ps) (joins_quiet 0 ps)) (joins_unanswered 0 ps) ∙ nothing_seen)
 
 -- a session in which clients have joined
-abbrev pub empty_log : Config → Search → ℕ → LogState
-empty_log config search room = record { opening = opened config; entries = []; room = room; search = search }
+abbrev pub empty_log : Setup → ℕ → LogState
+empty_log setup room = record { opening = opened setup.config; entries = []; room = room; search = setup.search }
 
-served_empty : (config : Config) (search : Search) (room : ℕ) → IsBetweenTurns (empty_log config search room)
+served_empty : (setup : Setup) (room : ℕ) → IsBetweenTurns (empty_log setup room)
 unfolding awaited
-served_empty config search room = record {
+served_empty setup room = record {
   answered = refl;
   no_call_lost = record { rightly = λ front back c call cause at. absurd (not_empty front (Refuse c call cause) back at) };
-  in_bound = record { closed_first = λ front back n r fault present at calm. absurd (not_empty front (Answer n r (Some fault)) back at) };
 }
   where
     not_empty : (front : List Entry) (x : Entry) (back : List Entry) → [] ≡ front ++ x ∷ back → ⊥
     not_empty [] x back e = cc
     not_empty (y ∷ front) x back e = cc
 
-pub served_opened : (config : Config) (search : Search) (room : ℕ) (ps : List ℕ) → IsBetweenTurns (opened_with config search room ps)
-served_opened config search room ps = served_quiet (empty_log config search room) (opened_with config search room ps) (join_entries 0 ps) refl (joins_quiet 0 ps) (rightly_without (opened config) [] (join_entries 0 ps) (joins_no_refusal 0 ps)) (served_empty config search room)
+pub served_opened : (setup : Setup) (room : ℕ) (ps : List ℕ) → IsBetweenTurns (opened_with setup room ps)
+served_opened setup room ps = served_quiet (empty_log setup room) (opened_with setup room ps) (join_entries 0 ps) refl (joins_quiet 0 ps) (rightly_without (opened setup.config) [] (join_entries 0 ps) (joins_no_refusal 0 ps)) (served_empty setup room)
 
 closed_nothing : (config : Config) → is_closed (opened config) [] ≡ false
 unfolding is_closed
@@ -219,22 +218,22 @@ exchanges_nothing : exchanges [] ≡ []
 unfolding exchanges traded sends cames
 exchanges_nothing = refl
 
-pub open_opened : (config : Config) (search : Search) (room : ℕ) (ps : List ℕ) → is_closed (opened_with config search room ps).opening (opened_with config search room ps).entries ≡ false
-open_opened config search room ps = closed_stays (opened config) [] (join_entries 0 ps) (joins_no_switch 0 ps) ∙ closed_nothing config
+pub open_opened : (setup : Setup) (room : ℕ) (ps : List ℕ) → is_closed (opened_with setup room ps).opening (opened_with setup room ps).entries ≡ false
+open_opened setup room ps = closed_stays (opened setup.config) [] (join_entries 0 ps) (joins_no_switch 0 ps) ∙ closed_nothing setup.config
 
 paused_nothing : (config : Config) → is_paused (opened config) [] ≡ false
 unfolding is_paused
 paused_nothing config = refl
 
-pub not_paused_opened : (config : Config) (search : Search) (room : ℕ) (ps : List ℕ) → is_paused (opened_with config search room ps).opening (opened_with config search room ps).entries ≡ false
-not_paused_opened config search room ps = paused_stays (opened config) [] (join_entries 0 ps) (joins_no_switch 0 ps) ∙ paused_nothing config
+pub not_paused_opened : (setup : Setup) (room : ℕ) (ps : List ℕ) → is_paused (opened_with setup room ps).opening (opened_with setup room ps).entries ≡ false
+not_paused_opened setup room ps = paused_stays (opened setup.config) [] (join_entries 0 ps) (joins_no_switch 0 ps) ∙ paused_nothing setup.config
 
-pub no_exchanges_opened : (config : Config) (search : Search) (room : ℕ) (ps : List ℕ) → exchanges (opened_with config search room ps).entries ≡ []
-no_exchanges_opened config search room ps = exchanges_off [] (join_entries 0 ps) (quiet_all_off (join_entries 0 ps) (joins_quiet 0 ps)) ∙ exchanges_nothing
+pub no_exchanges_opened : (setup : Setup) (room : ℕ) (ps : List ℕ) → exchanges (opened_with setup room ps).entries ≡ []
+no_exchanges_opened setup room ps = exchanges_off [] (join_entries 0 ps) (quiet_all_off (join_entries 0 ps) (joins_quiet 0 ps)) ∙ exchanges_nothing
 
-fits_empty : (c p : ℕ) (config : Config) (search : Search) (room : ℕ) (lane : Lane) → popped lane.calls ≡ [] → pushed lane.replies ≡ [] → lane.requests ≡ 0 → lane.asks ≡ 0 → lane.left ≡ false → Fits c (empty_log config search room) lane
+fits_empty : (c p : ℕ) (setup : Setup) (room : ℕ) (lane : Lane) → popped lane.calls ≡ [] → pushed lane.replies ≡ [] → lane.requests ≡ 0 → lane.asks ≡ 0 → lane.left ≡ false → Fits c (empty_log setup room) lane
 unfolding work_in calls_by told_values uncollected_values values_in answers_to accepts asks finishes answers collectors
-fits_empty c p config search room lane got told no_requests no_asks left = record {
+fits_empty c p setup room lane got told no_requests no_asks left = record {
   calls_are = rw got refl;
   told_are = rw told refl;
   requests_are = no_requests;
@@ -259,15 +258,15 @@ lanes_places ring ps clients lanes all = same_list ps (map lane_places lanes) (s
     same_list (x ∷ xs) [] long each = absurd (omega (arith, long))
     same_list (x ∷ xs) (y ∷ ys) long each = rw (each 0 x y refl refl, same_list xs ys (omega (arith, long)) (λ i a b p q. each (suc i) a b p q)) refl
 
-pub fits_opened : {J : Type 0} {h : Ghosts J} {C A : Type 0} (config : Config) (search : Search) (room ring : ℕ) (ps : List ℕ) (clients : List (RingClient J C A h)) (lanes : List Lane) → Legal (opened config) (join_entries 0 ps) → AreNewWith ring ps clients lanes → AllFit (opened_with config search room ps) lanes
-fits_opened config search room ring ps clients lanes legal all = record {
+pub fits_opened : {J : Type 0} {h : Ghosts J} {C A : Type 0} (setup : Setup) (room ring : ℕ) (ps : List ℕ) (clients : List (RingClient J C A h)) (lanes : List Lane) → Legal (opened setup.config) (join_entries 0 ps) → AreNewWith ring ps clients lanes → AllFit (opened_with setup room ps) lanes
+fits_opened setup room ring ps clients lanes legal all = record {
   each = λ i lane here.
       let low = slice_get_within lanes i lane here in
       let p = within_get ps i (omega (arith, low, all.lanes_long)) in
       let client = within_get clients i (omega (arith, low, all.lanes_long, all.clients_long)) in
       let new = all.each i p.0 client.0 lane p.1 client.1 here in
-      fits_waits [] i (empty_log config search room) (opened_with config search room ps) lane (fits_empty i p.0 config search room lane new.nothing_received new.nothing_told new.no_requests new.no_asks new.not_received)
-      (waits i (empty_log config search room) (opened_with config search room ps) (join_entries 0 ps) refl legal (joins_untouched i 0 ps));
+      fits_waits [] i (empty_log setup room) (opened_with setup room ps) lane (fits_empty i p.0 setup room lane new.nothing_received new.nothing_told new.no_requests new.no_asks new.not_received)
+      (waits i (empty_log setup room) (opened_with setup room ps) (join_entries 0 ps) refl legal (joins_untouched i 0 ps));
   clients_are = joins_of 0 ps ∙ lanes_places ring ps clients lanes all;
   nobody_else = λ c out. calls_untouched c [] (join_entries 0 ps) (joins_untouched c 0 ps) ∙ no_calls c;
 }

@@ -3,7 +3,6 @@ use Rattle.std.proofs.Common.{◌≡◌, ◌≢◌, ℕ, zero, suc, true, List, 
 use Rattle.std.specs.Prelude.{◌⊎◌}
 use Rattle.std.specs.List.{AllByRecursion}
 use Rattle.std.proofs.lemmas.List.{length-map}
-use Rattle.rdm_agent.specs.declared.search.Search.{Search}
 use Rattle.rdm_wire.specs.Lists.{EachAfter}
 use Rattle.rdm_wire.specs.Uid.{has}
 use Rattle.rdm_wire.specs.Devices.{uids_of}
@@ -23,7 +22,7 @@ use Rattle.rdm_line.proofs.KeepsLemmas.{run_keeps, each_keeps, made_run, run_sou
 use Rattle.rdm_line.proofs.HonestRuns.{honest_run}
 use Rattle.rdm_line.proofs.LossLemmas.{few_losses}
 use Rattle.rdm_line.proofs.PresenceLemmas.{all_present}
-use Rattle.rdm_log.specs.declared.config.Config.{Config}
+use Rattle.rdm_log.specs.declared.config.Setup.{Setup}
 use Rattle.rdm_log.specs.declared.entry.Call.{Call}
 use Rattle.rdm_log.specs.declared.entry.Call.TheVariants as calls
 use Rattle.rdm_log.specs.declared.entry.Cause.{Cause}
@@ -178,8 +177,8 @@ discovery_of h front back Resume number done is = cc
 discovery_of h front back Close number done is = cc
 
 -- exactly the devices
-pub tells_devices : {J : Type 0} {h : Ghosts J} {C A : Type 0} (config : Config) (search : Search) (room : ℕ) (places : List ℕ) (s t : SimState) (k : LogState) (c : ℕ) (e : ClientEnd J C A h) → IsEndOver config search room places s t k c e → IsStayingScene s → TellsTheDevices s e
-tells_devices config search room places s t k c e over is number done got fault = by_kind (discovery_of k.entries told.front told.back told.entry number done told.is)
+pub tells_devices : {J : Type 0} {h : Ghosts J} {C A : Type 0} (setup : Setup) (room : ℕ) (places : List ℕ) (s t : SimState) (k : LogState) (c : ℕ) (e : ClientEnd J C A h) → IsEndOver setup room places s t k c e → IsStayingScene s → TellsTheDevices s e
+tells_devices setup room places s t k c e over is number done got fault = by_kind (discovery_of k.entries told.front told.back told.entry number done told.is)
   where
     told : IsToldBy k.opening k.entries c (DiscoveryValue number done)
     told = told_by k c e (DiscoveryValue number done) got.0 over.agrees got.1
@@ -207,8 +206,8 @@ in_one s u [] all one = absurd one
 in_one s u (y ∷ ys) all (inl here) = (y.before.exchanges, sym (ap (λ (us : List ℕ). has us u) (all.0 y.before.exchanges)) ∙ here)
 in_one s u (y ∷ ys) all (inr later) = in_one s u ys all.1 later
 
-pub tells_changing : {J : Type 0} {h : Ghosts J} {C A : Type 0} (config : Config) (search : Search) (room : ℕ) (places : List ℕ) (s t : SimState) (k : LogState) (c : ℕ) (e : ClientEnd J C A h) → IsEndOver config search room places s t k c e → IsLossyScene s → TellsTheChanging s e
-tells_changing config search room places s t k c e over is = record { staying = staying; no_stranger = no_stranger }
+pub tells_changing : {J : Type 0} {h : Ghosts J} {C A : Type 0} (setup : Setup) (room : ℕ) (places : List ℕ) (s t : SimState) (k : LogState) (c : ℕ) (e : ClientEnd J C A h) → IsEndOver setup room places s t k c e → IsLossyScene s → TellsTheChanging s e
+tells_changing setup room places s t k c e over is = record { staying = staying; no_stranger = no_stranger }
   where
     h : List Entry
     h = k.entries

@@ -1,12 +1,12 @@
 -- A whole session, from its opening to its end.
 use Rattle.std.proofs.Common.{◌≡◌, ℕ, List, ◌++◌, length, sym, ap, ◌∙◌, subst, arith}
-use Rattle.rdm_agent.specs.declared.search.Search.{Search}
 use Rattle.rdm_line.specs.Events.{Exchange, Makes}
-use Rattle.rdm_log.specs.declared.config.Config.{Config}
+use Rattle.rdm_log.specs.declared.config.Setup.{Setup}
 use Rattle.rdm_log.specs.log.Entries.{joins}
 use Rattle.rdm_log.specs.log.History.{is_closed, is_paused}
 use Rattle.rdm_log.specs.log.LogState.{LogState}
 use Rattle.rdm_log.specs.log.Legal.{Legal}
+use Rattle.rdm_log.specs.promises.Promised.{Promised}
 use Rattle.rdm_lanes.specs.declared.lane.Lane.{Lane}
 use Rattle.rdm_lanes.specs.Lines.{exchanges, exchange_count, Exchanged, SameSwitches, IsBetweenTurns}
 use Rattle.rdm_lanes.specs.Lanes.{AllFit}
@@ -14,9 +14,9 @@ use Rattle.rdm_lanes.specs.Opened.{opened_with}
 use Rattle.rdm_lanes.specs.Sessions.{SessionOver}
 use Rattle.rdm_lanes.proofs.OpenLemmas.{open_opened, not_paused_opened, no_exchanges_opened, joins_of}
 
-pub session_over : {L : Type 0} (step : L → Exchange → L → Type 0) (config : Config) (search : Search) (room : ℕ) (places : List ℕ) (before after : L) (first k : LogState) (lanes : List Lane) → first ≡ opened_with config search room places → Exchanged step before first after k
-    → IsBetweenTurns k → Legal k.opening k.entries → SameSwitches first k → length lanes ≡ length places → AllFit k lanes → SessionOver step config search room places before after k
-session_over {L} step config search room places before after first k lanes is x served legal switches long fits = record {
+pub session_over : {L : Type 0} (step : L → Exchange → L → Type 0) (setup : Setup) (room : ℕ) (places : List ℕ) (before after : L) (first k : LogState) (lanes : List Lane) → first ≡ opened_with setup room places → Exchanged step before first after k
+    → IsBetweenTurns k → Legal k.opening k.entries → Promised k → SameSwitches first k → length lanes ≡ length places → AllFit k lanes → SessionOver step setup room places before after k
+session_over {L} step setup room places before after first k lanes is x served legal promised switches long fits = record {
   opening_is = ap (λ (s : LogState). s.opening) (x.grows) ∙ ap (λ (s : LogState). s.opening) is;
   search_is = ap (λ (s : LogState). s.search) (x.grows) ∙ ap (λ (s : LogState). s.search) is;
   room_is = ap (λ (s : LogState). s.room) (x.grows) ∙ ap (λ (s : LogState). s.room) is;
@@ -24,12 +24,12 @@ session_over {L} step config search room places before after first k lanes is x 
   nobody_else = λ c out. fits.nobody_else c (omega (arith, out, long));
   legal = legal;
   answered = served.answered;
-  not_paused = switches.paused ∙ ap (λ (s : LogState). is_paused s.opening s.entries) is ∙ not_paused_opened config search room places;
-  not_closed = switches.closed ∙ ap (λ (s : LogState). is_closed s.opening s.entries) is ∙ open_opened config search room places;
+  not_paused = switches.paused ∙ ap (λ (s : LogState). is_paused s.opening s.entries) is ∙ not_paused_opened setup room places;
+  not_closed = switches.closed ∙ ap (λ (s : LogState). is_closed s.opening s.entries) is ∙ open_opened setup room places;
   no_call_lost = served.no_call_lost;
-  in_bound = served.in_bound;
-  steps = subst (λ (xs : List Exchange). Makes L step before xs after) (sym (x.added ∙ ap (λ (xs : List Exchange). xs ++ x.made) (ap (λ (s : LogState). exchanges s.entries) is ∙ no_exchanges_opened config search room places))) x.steps;
+  promised = promised;
+  steps = subst (λ (xs : List Exchange). Makes L step before xs after) (sym (x.added ∙ ap (λ (xs : List Exchange). xs ++ x.made) (ap (λ (s : LogState). exchanges s.entries) is ∙ no_exchanges_opened setup room places))) x.steps;
 }
 
-pub nothing_exchanged : (config : Config) (search : Search) (room : ℕ) (places : List ℕ) (first : LogState) → first ≡ opened_with config search room places → exchange_count first ≡ 0
-nothing_exchanged config search room places first is = ap exchange_count is ∙ ap length (no_exchanges_opened config search room places)
+pub nothing_exchanged : (setup : Setup) (room : ℕ) (places : List ℕ) (first : LogState) → first ≡ opened_with setup room places → exchange_count first ≡ 0
+nothing_exchanged setup room places first is = ap exchange_count is ∙ ap length (no_exchanges_opened setup room places)

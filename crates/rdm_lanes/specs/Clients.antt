@@ -10,8 +10,8 @@ use Rattle.rdm_lanes.specs.declared.client.RingClient.{RingClient}
 use Rattle.rdm_lanes.specs.Calls.{work_in}
 use Rattle.rdm_lanes.specs.Told.{values_in}
 
--- of the faults of a submit or a discover, the first that stands, but for a full ring: the client has left; its places
--- are taken, or it has sent as many calls as can be counted
+-- the fault of a submit or a discover that a client shows: Left if it has left, or else Full if as many are held as it
+-- may have or it has sent as many calls as can be counted. A full ring isn't shown here
 abbrev pub call_fault : Bool → ℕ → ℕ → ℕ → Option RingFault
 call_fault left places held sent =
     if left then Some Left
@@ -26,12 +26,14 @@ module _ {J : Type 0} {h : Ghosts J} {C A : Type 0} where
   abbrev pub got_by : RingClient J C A h → List OutcomeValue
   got_by client = values_in (popped client.replies)
 
-  -- the first fault of a submit that a client shows: Left, else Full
+  -- the fault of a submit that a client shows: Left, or else Full if the queue depth is reached or the calls have run
+  -- out. A full ring isn't shown here
   abbrev pub submit_fault : RingClient J C A h → Option RingFault
   submit_fault client =
       call_fault client.left client.desk.places (length client.desk.requests) client.sent
 
-  -- the first fault of a discover that a client shows: Left, else Full
+  -- the fault of a discover that a client shows: Left, or else Full if four discoveries are outstanding or the calls have
+  -- run out. A full ring isn't shown here
   abbrev pub discover_fault : RingClient J C A h → Option RingFault
   discover_fault client = call_fault client.left 4 (length client.desk.asks) client.sent
 

@@ -11,7 +11,6 @@ use Rattle.rdm_log.specs.declared.entry.Entry.TheVariants.{Collect, Refuse}
 use Rattle.rdm_log.specs.log.Entries.{Traded, traded, joins}
 use Rattle.rdm_log.specs.log.History.{awaited, is_closed, is_paused, next_request, next_ask}
 use Rattle.rdm_log.specs.log.LogState.{LogState, grown}
-use Rattle.rdm_log.specs.promises.LogInBound.{InBound}
 use Rattle.rdm_lanes.specs.Views.{views_found}
 
 -- a frame and what came for it
@@ -71,8 +70,7 @@ pub record NoCallLost (k : LogState) : Type 0 where
   pub rightly : (front back : List Entry) (c : Option ClientId) (call : Call) (cause : Cause)
       → k.entries ≡ front ++ Refuse c call cause ∷ back → may_refuse k.opening front ≡ true
 
--- no reply is awaited, as it is between the turns of a worker
+-- the log of a session between the turns of a worker: no reply is awaited, and no call was lost
 pub record IsBetweenTurns (k : LogState) : Type 0 where
   pub answered : awaited k.entries ≡ false
   pub no_call_lost : NoCallLost k
-  pub in_bound : InBound k

@@ -2,8 +2,7 @@
 use Rattle.std.specs.Prelude.{◌≡◌, ◌≢◌, ◌⊎◌, ℕ, ◌+◌, ◌<◌, false, List, [], ◌∷◌, length, sum, Option, Some, None}
 use Rattle.std.specs.Prelude.{nat_lt, slice_get, if◌then◌else◌}
 use Rattle.rtrb.specs.Ring.{sent as pushed, received as popped, producer_capacity, consumer_capacity}
-use Rattle.rdm_agent.specs.declared.search.Search.{Search}
-use Rattle.rdm_log.specs.declared.config.Config.{Config}
+use Rattle.rdm_log.specs.declared.config.Setup.{Setup}
 use Rattle.rdm_log.specs.declared.entry.Entry.{Entry}
 use Rattle.rdm_log.specs.declared.entry.Entry.TheVariants.{Join}
 use Rattle.rdm_log.specs.log.LogState.{LogState, opened}
@@ -34,11 +33,10 @@ abbrev pub join_entries : ℕ → List ℕ → List Entry
 join_entries n [] = []
 join_entries n (p ∷ ps) = Join (record { 0 = n }) p ∷ join_entries (n + 1) ps
 
--- a session that is set up so, and searches so, in which clients with these places have joined, and nothing else has
--- happened
-abbrev pub opened_with : Config → Search → ℕ → List ℕ → LogState
-opened_with config search room places =
-    record { opening = opened config; entries = join_entries 0 places; room = room; search = search }
+-- a session with this set-up, in which clients with these places have joined, and nothing else has happened
+abbrev pub opened_with : Setup → ℕ → List ℕ → LogState
+opened_with setup room places =
+    record { opening = opened setup.config; entries = join_entries 0 places; room = room; search = setup.search }
 
 module _ {J : Type 0} {h : Ghosts J} {C A : Type 0} where
   -- A client with this many places, and with rings of this many slots. It has neither sent nor got anything, nor left,

@@ -2,7 +2,6 @@
 use Rattle.std.specs.Prelude.{◌≡◌, ◌≤◌, ℕ, true, List, [], Option, Some, None, slice_get}
 use Rattle.std.specs.List.{AllByRecursion}
 use Rattle.rdm_agent.specs.Bound.{enough_by}
-use Rattle.rdm_agent.specs.declared.search.Search.{Search}
 use Rattle.rdm_agent.specs.declared.search.Search.TheVariants.{Steady}
 use Rattle.rdm_agent.specs.declared.kind.Kind.TheVariants.{Incremental}
 use Rattle.rdm_agent.specs.declared.limits.TheConstants.{DEFAULT_BUDGET}
@@ -11,7 +10,7 @@ use Rattle.rdm_wire.specs.Devices.{uids_of}
 use Rattle.rdm_line.specs.Scenes.{IsScene, Stays, present_at, uids_of_scene}
 use Rattle.rdm_line.specs.Sim.{SimState, SimStep}
 use Rattle.rdm_line.specs.SimRuns.{NoFiveSuccessive}
-use Rattle.rdm_log.specs.declared.config.Config.{Config}
+use Rattle.rdm_log.specs.declared.config.Setup.{Setup}
 use Rattle.rdm_log.specs.log.LogState.{LogState}
 use Rattle.rdm_log.specs.promises.Outcomes.{Discovered}
 use Rattle.rdm_log.specs.promises.Outcomes.OutcomeValue.{DiscoveryValue}
@@ -36,13 +35,13 @@ pub record IsCalmScene (s : SimState) : Type 0 where
   pub no_fails : s.fails ≡ []
 
 -- the budget is at least as large as this search's bound on frames asks, where all the scene's devices are known
-abbrev pub IsEnough : Config → Search → SimState → Type 0
-IsEnough config search s =
-    enough_by search (uids_of_scene s.devices) Incremental (uids_of_scene s.devices) ≤ config.budget
+abbrev pub IsEnough : Setup → SimState → Type 0
+IsEnough setup s =
+    enough_by setup.search (uids_of_scene s.devices) Incremental (uids_of_scene s.devices) ≤ setup.config.budget
 
 -- it is the budget by default, and the search is steady
-abbrev pub IsByDefault : Config → Search → Type 0
-IsByDefault config search = (config.budget ≡ DEFAULT_BUDGET) × (search ≡ Steady)
+abbrev pub IsByDefault : Setup → Type 0
+IsByDefault setup = (setup.config.budget ≡ DEFAULT_BUDGET) × (setup.search ≡ Steady)
 
 module _ {J : Type 0} {h : Ghosts J} {C A : Type 0} where
   -- the client got this outcome of a discovery
@@ -50,9 +49,9 @@ module _ {J : Type 0} {h : Ghosts J} {C A : Type 0} where
   HasGot e number done = (i : ℕ) × (slice_get (end_got e) i ≡ Some (DiscoveryValue number done))
 
   -- a session over the line, and the end of its client c
-  pub record IsEndOver (config : Config) (search : Search) (room : ℕ) (places : List ℕ) (s t : SimState)
-      (k : LogState) (c : ℕ) (e : ClientEnd J C A h) : Type 0 where
-    pub session : SessionOver SimStep config search room places s t k
+  pub record IsEndOver (setup : Setup) (room : ℕ) (places : List ℕ) (s t : SimState) (k : LogState)
+      (c : ℕ) (e : ClientEnd J C A h) : Type 0 where
+    pub session : SessionOver SimStep setup room places s t k
     pub agrees : Agrees c k e
 
   -- without fault exactly the line's devices

@@ -52,7 +52,7 @@ impl<J: ViewHistory, R: Wait + Drop> ViewWorker<J, Shown<J>, R> {
         ensures fits { AllFit (session_of self) (lanes_of self) }
         ensures served { IsBetweenTurns (session_of self) }
         ensures legal { Legal (session_of self).opening (session_of self).entries }
-        ensures promised { Promised (session_of self).opening (session_of self).entries }
+        ensures promised { Promised (session_of self) }
         ensures agree { AllAgree (session_of self) result.ends.items }
         ensures read { AllHaveLeft (lanes_of self) → AllRead result.ends.items }
         ensures told { AllTold ends.items result.ends.items }

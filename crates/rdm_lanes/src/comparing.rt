@@ -26,7 +26,7 @@ impl Worker {
         ensures fits { AllFit self.session self.lanes.items }
         ensures served { IsBetweenTurns self.session }
         ensures legal { Legal self.session.opening self.session.entries }
-        ensures promised { Promised self.session.opening self.session.entries }
+        ensures promised { Promised self.session }
         ensures agree { AllAgree self.session result.1.items }
         ensures read { AllHaveLeft self.lanes.items → AllRead result.1.items }
         ensures told { AllTold ends.items result.1.items }
@@ -56,9 +56,10 @@ fn compare<J: ViewHistory, C: Tells, A: TellsAsk>(lane: &mut Lane, end: &mut Cli
     end.calls.slots_beside(&mut lane.calls);
 }
 
-/// A session's log is legal. This tells it of this one.
+/// A session's log is legal, and keeps all that clients are promised. This tells it of this one.
 pub fn shows_legal(session: &Session)
-    ensures { Legal session.now.opening session.now.entries }
+    ensures legal { Legal session.now.opening session.now.entries }
+    ensures promised { Promised session.now }
 {
     session.log();
 }

@@ -1,10 +1,9 @@
 //! How clients, an operator and a worker are opened.
 ghost use Rattle.std.specs.Prelude.{◌≡◌, ◌≤◌, ◌∷◌, [], false, IfOk, IfErr, IsErr, MatchOption};
 ghost use Rattle.rtrb.specs.Ring.{producer_capacity};
-ghost use Rattle.rdm_log.specs.log.Config.{IsConfig};
+ghost use Rattle.rdm_log.specs.log.Config.{IsConfig, steady};
 ghost use Rattle.rdm_lanes.specs.Opened.{places_fault, opened_with, AreNew, IsFullFor, IsLaterFault};
 ghost use Rattle.rdm_log.specs.log.LogState.{blank_log};
-ghost use Rattle.rdm_agent.specs.declared.search.Search.TheVariants.{Steady};
 ghost use Rattle.rdm_lanes.specs.Pairs.{ClientsPair};
 ghost use Rattle.rdm_lanes.specs.Views.{opening_view};
 ghost use Rattle.rdm_lanes.specs.Workers.{session_of, lanes_of, operator_has_left, published_by};
@@ -19,9 +18,8 @@ use crate::publishing::{Publisher, Shown};
 use crate::view_worker::ViewWorker;
 use crate::worker::Worker;
 use left_right::Absorb;
-use rdm_agent::Search;
 use rdm_client::{AskCallback, Callback, DeviceView, Tells, TellsAsk};
-use rdm_queue::{Config, Log, MOST_CLIENTS};
+use rdm_queue::{Config, Log, MOST_CLIENTS, Setup};
 use rtrb::RingBuffer;
 use std::alloc::Global;
 use std::sync::Wait;
@@ -70,7 +68,7 @@ pub fn open_lanes<J: ViewHistory, C: Tells, A: TellsAsk, R: Wait + Drop>(
     requires config_is { IsConfig config }
     requires empty { log.entries ≡ [] }
     requires slots { 1 ≤ ring }
-    ensures session { IfOk result (λ lanes. session_of lanes.worker ≡ opened_with config Steady log.room places.now) }
+    ensures session { IfOk result (λ lanes. session_of lanes.worker ≡ opened_with (steady config) log.room places.now) }
     ensures clients { IfOk result (λ lanes. AreNew ring places.now lanes.clients.items) }
     ensures operator { IfOk result (λ lanes. (called_by lanes.operator ≡ []) × (has_left lanes.operator ≡ false)
         × (operator_has_left lanes.worker ≡ false) × (producer_capacity lanes.operator.calls ≡ ring)) }
@@ -81,45 +79,35 @@ pub fn open_lanes<J: ViewHistory, C: Tells, A: TellsAsk, R: Wait + Drop>(
         (λ fault. IsErr result × IfErr result (λ e. e.0 ≡ fault)) }
     ensures back { IfErr result (λ e. e.1 ≡ blank_log log.room) }
 {
-    open_lanes_by(
-        rt,
-        alloc,
-        history,
-        Search::Steady,
-        config,
-        log,
-        ring,
-        places,
-    )
+    open_lanes_with(rt, alloc, history, Setup::steady(config), log, ring, places)
 }
 
-/// The same under the same conditions and with the same errors, of a session whose runs search so.
-pub fn open_lanes_by<J: ViewHistory, C: Tells, A: TellsAsk, R: Wait + Drop>(
+/// The same under the same conditions and with the same errors, with a set-up that also says how runs search.
+pub fn open_lanes_with<J: ViewHistory, C: Tells, A: TellsAsk, R: Wait + Drop>(
     rt: R,
     alloc: Global,
     history: BlankHistory,
-    search: Search,
-    config: Config,
+    setup: Setup,
     log: Log,
     ring: u8,
     places: &[u8],
 ) -> Result<Lanes<J, Shown<J>, R, C, A>, (OpenFault, Log)>
     requires name { book_of history ≡ J.book }
-    requires config_is { IsConfig config }
+    requires config_is { IsConfig setup.config }
     requires empty { log.entries ≡ [] }
     requires slots { 1 ≤ ring }
-    ensures session { IfOk result (λ lanes. session_of lanes.worker ≡ opened_with config search log.room places.now) }
+    ensures session { IfOk result (λ lanes. session_of lanes.worker ≡ opened_with setup log.room places.now) }
     ensures clients { IfOk result (λ lanes. AreNew ring places.now lanes.clients.items) }
     ensures operator { IfOk result (λ lanes. (called_by lanes.operator ≡ []) × (has_left lanes.operator ≡ false)
         × (operator_has_left lanes.worker ≡ false) × (producer_capacity lanes.operator.calls ≡ ring)) }
     ensures pairs { IfOk result (λ lanes. ClientsPair (lanes_of lanes.worker) lanes.clients.items) }
     ensures published { IfOk result (λ lanes. published_by lanes.worker ≡ opening_view ∷ []) }
-    ensures fault { MatchOption (places_fault config.places places.now)
+    ensures fault { MatchOption (places_fault setup.config.places places.now)
         ((IsFullFor log.room places.now → IsErr result) × IfErr result (λ e. IsLaterFault log.room places.now e.0))
         (λ fault. IsErr result × IfErr result (λ e. e.0 ≡ fault)) }
     ensures back { IfErr result (λ e. e.1 ≡ blank_log log.room) }
 {
-    if let Some(fault) = fault_of_places(&config, places) {
+    if let Some(fault) = fault_of_places(&setup.config, places) {
         return Err((fault, log.cleared()));
     }
     let Ok((calls, heard)) = RingBuffer::new(alloc, usize::from(ring)) else {
@@ -131,7 +119,7 @@ pub fn open_lanes_by<J: ViewHistory, C: Tells, A: TellsAsk, R: Wait + Drop>(
     let Some((clients, lanes)) = open_clients(alloc, &views, ring, places) else {
         return Err((OpenFault::NoMemory, log.cleared()));
     };
-    match joined(alloc, search, config, log, places) {
+    match joined(alloc, setup, log, places) {
         Ok(session) => Ok(Lanes {
             clients,
             operator: Operator { calls, left: false },

@@ -13,9 +13,8 @@ use crate::fault::OpenFault;
 use crate::history::ViewHistory;
 use crate::lane::Lane;
 use crate::publishing::{Publisher, Shown};
-use rdm_agent::Search;
 use rdm_client::{Desk, DeviceView, Tells, TellsAsk};
-use rdm_queue::{Config, JoinFault, Log, Session};
+use rdm_queue::{JoinFault, Log, Session, Setup};
 use rdm_wire::DeviceSet;
 use rtrb::RingBuffer;
 use std::alloc::Global;
@@ -143,25 +142,24 @@ pub fn discard<J: ViewHistory, C: Tells, A: TellsAsk>(clients: Vec<RingClient<J,
     clients.destroy_empty();
 }
 
-/// A session whose runs search so, in which a client has joined with each of these places.
+/// A session with this set-up, in which a client has joined with each of these places.
 /// Err: there was no memory, or the log is full; it comes back as a new one with the same room.
 pub fn joined(
     alloc: Global,
-    search: Search,
-    config: Config,
+    setup: Setup,
     log: Log,
     places: &[u8],
 ) -> Result<Session, (OpenFault, Log)>
-    requires config_is { IsConfig config }
+    requires config_is { IsConfig setup.config }
     requires empty { log.entries ≡ [] }
-    ensures session { IfOk result (λ session. session ≡ opened_with config search log.room places.now) }
+    ensures session { IfOk result (λ session. session ≡ opened_with setup log.room places.now) }
     ensures legal { IfOk result (λ session. Legal session.opening session.entries) }
     ensures fits { OnOk result (IsFullFor log.room places.now → ⊥) }
     ensures fault { IfErr result (λ e. IsLaterFault log.room places.now e.0) }
     ensures back { IfErr result (λ e. e.1 ≡ blank_log log.room) }
 {
-    let mut session = match Session::new(alloc, config, log) {
-        Ok(session) => session.with_search(search),
+    let mut session = match Session::new_with(alloc, setup, log) {
+        Ok(session) => session,
         Err((_, log)) => return Err((OpenFault::NoMemory, log.cleared())),
     };
     match join_all(alloc, &mut session, places) {

@@ -1,13 +1,12 @@
 //! A whole session: clients, each with what it does, and a worker over a line, in threads.
 ghost use Rattle.std.specs.Prelude.{◌≡◌, ◌≢◌, ◌≤◌, [], length, true, false, IfOk, IfErr, IsErr, MatchOption};
-ghost use Rattle.rdm_log.specs.log.Config.{IsConfig};
+ghost use Rattle.rdm_log.specs.log.Config.{IsConfig, steady};
 ghost use Rattle.rdm_log.specs.log.LogState.{is_full_log};
 ghost use Rattle.rdm_log.specs.log.MaySend.{NoSend};
 ghost use Rattle.rdm_log.specs.promises.Promised.{Promised};
-ghost use Rattle.rdm_lanes.specs.declared.worker.WorkerEnd.TheVariants.{AllLeft, Turns, LogFull as FullLog};
+ghost use Rattle.rdm_client.specs.declared.worker_end.WorkerEnd.TheVariants.{AllLeft, Turns, LogFull as FullLog};
 ghost use Rattle.rdm_lanes.specs.Opened.{places_fault, IsFullFor, IsLaterFault};
 ghost use Rattle.rdm_log.specs.log.LogState.{blank_log};
-ghost use Rattle.rdm_agent.specs.declared.search.Search.TheVariants.{Steady};
 ghost use Rattle.rdm_lanes.specs.Lines.{exchange_count};
 ghost use Rattle.rdm_lanes.specs.Ends.{AllAgree, AllRead};
 ghost use Rattle.rdm_lanes.specs.Sessions.{SessionOver};
@@ -19,13 +18,12 @@ ghost use Rattle.rdm_lanes.specs.ViewsRead.{AllViewsRead, AllShownFirst};
 use crate::body::{Body, Gate};
 use crate::fault::OpenFault;
 use crate::history::{BlankHistory, ViewHistory};
-use crate::open::{fault_of_places, open_lanes_by};
+use crate::open::{fault_of_places, open_lanes_with};
 use crate::rooms::rooms_for;
 use crate::together::{LanesEnd, run_lanes};
-use rdm_agent::Search;
 use rdm_client::{Tells, TellsAsk};
 use rdm_line::Line;
-use rdm_queue::{Config, Log};
+use rdm_queue::{Config, Log, Setup};
 use std::alloc::Global;
 use std::sync::Wait;
 use std::thread::Threads;
@@ -69,9 +67,9 @@ pub fn run_session<
     requires empty { log.entries ≡ [] }
     requires slots { 1 ≤ ring }
     requires one_each { length bodies.items ≡ length places.now }
-    ensures session { IfOk result (λ end. SessionOver X.step config Steady log.room places.now line end.line
-        end.session) }
-    ensures promised { IfOk result (λ end. Promised end.session.opening end.session.entries) }
+    ensures session { IfOk result (λ end. SessionOver X.step (steady config) log.room places.now line
+        end.line end.session) }
+    ensures promised { IfOk result (λ end. Promised end.session) }
     ensures agree { IfOk result (λ end. AllAgree end.session end.ends.items) }
     ensures all_left { IfOk result (λ end. end.worker ≡ AllLeft → AllRead end.ends.items
         × NoSend end.session.opening end.session.entries) }
@@ -89,12 +87,11 @@ pub fn run_session<
         (λ fault. IsErr result × IfErr result (λ e. e.0 ≡ fault)) }
     ensures back { IfErr result (λ e. (e.1 ≡ blank_log log.room) × (e.2 ≡ bodies) × (e.3 ≡ line)) }
 {
-    run_session_by(
+    run_session_with(
         rt,
         alloc,
         history,
-        Search::Steady,
-        config,
+        Setup::steady(config),
         log,
         ring,
         places,
@@ -105,8 +102,8 @@ pub fn run_session<
     )
 }
 
-/// The same under the same conditions and with the same errors, of a session whose runs search so.
-pub fn run_session_by<
+/// The same under the same conditions and with the same errors, with a set-up that also says how runs search.
+pub fn run_session_with<
     J: ViewHistory + Send + Sync,
     B: Body<C, A> + Send,
     C: Tells + Send,
@@ -118,8 +115,7 @@ pub fn run_session_by<
     rt: &R,
     alloc: Global,
     history: BlankHistory,
-    search: Search,
-    config: Config,
+    setup: Setup,
     log: Log,
     ring: u8,
     places: &[u8],
@@ -129,13 +125,13 @@ pub fn run_session_by<
     turns: u64,
 ) -> Result<LanesEnd<J, B, X, C, A>, (RunFault, Log, Vec<B>, X)>
     requires name { book_of history ≡ J.book }
-    requires config_is { IsConfig config }
+    requires config_is { IsConfig setup.config }
     requires empty { log.entries ≡ [] }
     requires slots { 1 ≤ ring }
     requires one_each { length bodies.items ≡ length places.now }
-    ensures session { IfOk result (λ end. SessionOver X.step config search log.room places.now line end.line
-        end.session) }
-    ensures promised { IfOk result (λ end. Promised end.session.opening end.session.entries) }
+    ensures session { IfOk result (λ end. SessionOver X.step setup log.room places.now line
+        end.line end.session) }
+    ensures promised { IfOk result (λ end. Promised end.session) }
     ensures agree { IfOk result (λ end. AllAgree end.session end.ends.items) }
     ensures all_left { IfOk result (λ end. end.worker ≡ AllLeft → AllRead end.ends.items
         × NoSend end.session.opening end.session.entries) }
@@ -148,18 +144,18 @@ pub fn run_session_by<
     ensures all_published { IfOk result (λ end. end.worker ≢ Turns → end.published ≡ all_views end.session.entries) }
     ensures views { IfOk result (λ end. AllViewsRead end.published end.ends.items) }
     ensures shown_first { IfOk result (λ end. AllShownFirst end.published end.ends.items) }
-    ensures fault { MatchOption (places_fault config.places places.now)
+    ensures fault { MatchOption (places_fault setup.config.places places.now)
         ((IsFullFor log.room places.now → IsErr result) × IfErr result (λ e. IsLaterFault log.room places.now e.0))
         (λ fault. IsErr result × IfErr result (λ e. e.0 ≡ fault)) }
     ensures back { IfErr result (λ e. (e.1 ≡ blank_log log.room) × (e.2 ≡ bodies) × (e.3 ≡ line)) }
 {
-    if let Some(fault) = fault_of_places(&config, places) {
+    if let Some(fault) = fault_of_places(&setup.config, places) {
         return Err((fault, log.cleared(), bodies, line));
     }
     let Some(rooms) = rooms_for(alloc, bodies.len()) else {
         return Err((OpenFault::NoMemory, log.cleared(), bodies, line));
     };
-    match open_lanes_by(rt, alloc, history, search, config, log, ring, places) {
+    match open_lanes_with(rt, alloc, history, setup, log, ring, places) {
         Ok(lanes) => Ok(run_lanes(rt, alloc, lanes, rooms, bodies, gate, line, turns)),
         Err((fault, log)) => {
             rooms.give_up();

@@ -2,7 +2,7 @@
 ghost use Rattle.std.specs.Prelude.{◌≡◌, ◌≢◌, ◌≤◌, ◌+◌, true, false};
 ghost use Rattle.rdm_log.specs.log.LogState.{is_full_log};
 ghost use Rattle.rdm_log.specs.log.MaySend.{NoSend};
-ghost use Rattle.rdm_lanes.specs.declared.worker.WorkerEnd.TheVariants.{AllLeft, Turns, LogFull as FullLog};
+ghost use Rattle.rdm_client.specs.declared.worker_end.WorkerEnd.TheVariants.{AllLeft, Turns, LogFull as FullLog};
 ghost use Rattle.rdm_lanes.specs.Lines.{Exchanged, SameSwitches, exchange_count};
 ghost use Rattle.rdm_lanes.specs.Lanes.{SameLanes, AllHaveLeft};
 ghost use Rattle.rdm_lanes.specs.Pairs.{SameSeats};
@@ -13,7 +13,7 @@ use crate::history::ViewHistory;
 use crate::publishing::Shown;
 use crate::seat::Seat;
 use crate::view_worker::ViewWorker;
-use crate::worker::WorkerEnd;
+use rdm_client::WorkerEnd;
 use rdm_line::Line;
 use rdm_queue::MOST_CLIENTS;
 use std::alloc::Global;

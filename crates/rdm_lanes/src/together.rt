@@ -4,7 +4,7 @@ ghost use Rattle.rdm_log.specs.log.Legal.{Legal};
 ghost use Rattle.rdm_log.specs.log.LogState.{is_full_log};
 ghost use Rattle.rdm_log.specs.log.MaySend.{NoSend};
 ghost use Rattle.rdm_log.specs.promises.Promised.{Promised};
-ghost use Rattle.rdm_lanes.specs.declared.worker.WorkerEnd.TheVariants.{AllLeft, Turns, LogFull as FullLog};
+ghost use Rattle.rdm_client.specs.declared.worker_end.WorkerEnd.TheVariants.{AllLeft, Turns, LogFull as FullLog};
 ghost use Rattle.rdm_lanes.specs.declared.lane.Lane.{Lane};
 ghost use Rattle.rdm_lanes.specs.Lines.{Exchanged, SameSwitches, IsBetweenTurns, exchange_count};
 ghost use Rattle.rdm_lanes.specs.Lanes.{AllFit};
@@ -24,8 +24,7 @@ use crate::open::Lanes;
 use crate::publishing::Shown;
 use crate::rooms::{Rooms, seated, unseated};
 use crate::threads::run_together;
-use crate::worker::WorkerEnd;
-use rdm_client::{AskCallback, Callback, Tells, TellsAsk};
+use rdm_client::{AskCallback, Callback, Tells, TellsAsk, WorkerEnd};
 use rdm_line::Line;
 use rdm_queue::Session;
 use std::alloc::Global;
@@ -76,7 +75,7 @@ pub fn run_lanes<
     ensures exchanged { Exchanged X.step line (session_of lanes.worker) result.line result.session }
     ensures served { IsBetweenTurns result.session }
     ensures legal { Legal result.session.opening result.session.entries }
-    ensures promised { Promised result.session.opening result.session.entries }
+    ensures promised { Promised result.session }
     ensures switches { SameSwitches (session_of lanes.worker) result.session }
     ensures fits { (lanes_left : List Lane) × (length lanes_left ≡ length (lanes_of lanes.worker))
         × AllFit result.session lanes_left }

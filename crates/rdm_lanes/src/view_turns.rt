@@ -9,15 +9,15 @@ ghost use Rattle.rdm_lanes.specs.Lanes.{SameLanes, AllHaveLeft};
 ghost use Rattle.rdm_lanes.specs.Views.{all_views};
 ghost use Rattle.rdm_lanes.specs.Publishing.{Publishes, AllPublished};
 ghost use Rattle.rdm_lanes.specs.Workers.{session_of, lanes_of, operator_has_left, published_by, HasPublishedAll};
-ghost use Rattle.rdm_lanes.specs.declared.worker.WorkerEnd.TheVariants.{AllLeft, Turns, LogFull as FullLog};
+ghost use Rattle.rdm_client.specs.declared.worker_end.WorkerEnd.TheVariants.{AllLeft, Turns, LogFull as FullLog};
 ghost use Rattle.rdm_lanes.specs.declared.working.Attempt.TheVariants.{NothingToSend, LogFull as NoRoom};
 
 use crate::comparing::shows_legal;
 use crate::history::ViewHistory;
 use crate::publishing::{Publisher, Shown};
 use crate::view_worker::ViewWorker;
-use crate::worker::WorkerEnd;
 use crate::working::Attempt;
+use rdm_client::WorkerEnd;
 use rdm_line::Line;
 use rdm_queue::Session;
 use std::alloc::Global;

@@ -23,15 +23,3 @@ pub struct Worker {
     ghost served: { IsBetweenTurns session },
     ghost fits: { AllFit session lanes.items },
 }
-
-/// Why the worker stopped (profile of this project).
-#[derive(Clone, Copy, Debug, PartialEq, Eq)]
-pub enum WorkerEnd {
-    /// All clients and the operator have left, their rings of calls are empty, and there is no frame to send. Outcomes
-    /// may still wait for a free slot of their client's ring, or for memory.
-    AllLeft,
-    /// It made as many turns as it was to make.
-    Turns,
-    /// The log has fewer than three free entries.
-    LogFull,
-}

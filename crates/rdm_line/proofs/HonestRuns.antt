@@ -1,5 +1,7 @@
 -- Runs of the simulated line are honest.
-use Rattle.std.proofs.Common.{◌≡◌, ℕ, ◌+◌, ◌<◌, ◌≤◌, Bool, true, false, cond, List, [], ◌∷◌, ◌++◌, length, map, Option, Some, None, refl, sym, ap, ◌∙◌, subst, inl, inr, true≢false, append-nil, append_assoc, length-append, arith}
+use Rattle.std.proofs.Common.{◌≡◌, ℕ, ◌+◌, ◌<◌, ◌≤◌, Bool, true, false, cond, List, [], ◌∷◌, ◌++◌, length, map, Option}
+use Rattle.std.proofs.Common.{Some, None, refl, sym, ap, ◌∙◌, subst, inl, inr, true≢false, append-nil, append_assoc}
+use Rattle.std.proofs.Common.{length-append, arith}
 use Rattle.std.specs.Prelude.{◌⊎◌, ◌==◌, ◌&&◌, nat_le, nat_lt, is_some, option_map, option_and_then, MatchBool}
 use Rattle.std.specs.List.{AllByRecursion}
 use Rattle.std.proofs.lemmas.Bool.{or_cases, and_parts, cases_Bool, leb-true, ltb-true, lt-ltb, le-leb}
@@ -179,7 +181,10 @@ tracks_after done x next k earlier last ls sound t leaves after = record {
 chain : (done rest : List Step) (s new : SimState) (k : ℕ) (earlier last : List ℕ) (ls : LineState) → IsRun s rest new → LosesFew (done ++ rest) → Tracks done s k earlier last ls
     → ChainOver earlier last ls (map present_in rest) (map seen_in rest)
 chain done [] s new k earlier last ls run few t = tt
-chain done (x ∷ rest) s new k earlier last ls run few t = by_rule (is_among x.before.exchanges x.before.fails) refl run.2.rule (λ after tracks. chain (done ++ x ∷ []) rest run.1 new x.before.exchanges (present_in x ++ earlier) (present_in x) after run.3 few_after tracks)
+chain done (x ∷ rest) s new k earlier last ls run few t =
+    by_rule (is_among x.before.exchanges x.before.fails) refl run.2.rule
+    (λ after tracks. chain (done ++ x ∷ []) rest run.1 new x.before.exchanges (present_in x ++ earlier) (present_in x)
+    after run.3 few_after tracks)
   where
     tracks : Tracks done x.before k earlier last ls
     tracks = subst (λ r. Tracks done r k earlier last ls) (sym run.0) t
@@ -194,11 +199,15 @@ chain done (x ∷ rest) s new k earlier last ls run few t = by_rule (is_among x.
     moved = line_state (present_in x) x.before.muted ls.lost_branches ls.lost_mutes ls.unmutes
 
     by_rule : (fails : Bool) → is_among x.before.exchanges x.before.fails ≡ fails → MatchBool fails (FailsOnly x.before x.exchange.1 run.1) (Exchanges x.before x.exchange run.1)
-        → ((after : LineState) → Tracks (done ++ x ∷ []) run.1 x.before.exchanges (present_in x ++ earlier) (present_in x) after → ChainOver (present_in x ++ earlier) (present_in x) after (map present_in rest) (map seen_in rest))
+        → ((after : LineState) → Tracks (done ++ x ∷ []) run.1 x.before.exchanges (present_in x ++ earlier)
+        (present_in x) after → ChainOver (present_in x ++ earlier) (present_in x) after (map present_in rest)
+        (map seen_in rest))
         → ChainOver earlier last ls (map present_in (x ∷ rest)) (map seen_in (x ∷ rest))
     by_rule true is h go_on = (moved, moves done x.before k earlier last ls sound tracks, inl (ap (λ e. heard_in x.exchange.0.items (bytes_heard e)) h.failed))
     by_rule false is h go_on =
-        let after = honest_after x run.1 ls.lost_branches ls.lost_mutes ls.unmutes sound h (room LosesBranch done rest ls.lost_branches x few.branches tracks.branches tracks.few_branches) (room LosesMute done rest ls.lost_mutes x few.mutes tracks.mutes tracks.few_mutes) in
+        let after = honest_after x run.1 ls.lost_branches ls.lost_mutes ls.unmutes sound h
+        (room LosesBranch done rest ls.lost_branches x few.branches tracks.branches tracks.few_branches)
+        (room LosesMute done rest ls.lost_mutes x few.mutes tracks.mutes tracks.few_mutes) in
         let leaves = acts_leave x.before run.1 _ h.reply h.acts in (
           moved,
           moves done x.before k earlier last ls sound tracks,
@@ -217,15 +226,18 @@ honest_run s new (x ∷ xs) run few = record {
   devices = sets_of_run (x ∷ xs) s new run;
   muted = muted_among (present_in x) x.before.muted;
   present = λ u h. (and_parts (has (present_in x) u) (has x.before.muted u) h).0;
-  chain = chain [] (x ∷ xs) s new x.before.exchanges (present_in x) (present_in x) (before_run (muted_among (present_in x) x.before.muted)) run few (subst (λ r. Tracks [] r x.before.exchanges (present_in x) (present_in x) (before_run (muted_among (present_in x) x.before.muted))) run.0 (record {
-    last_is = refl;
-    low = omega arith;
-    high = omega arith;
-    came = λ u from h f. came_by x.before.devices x.before.exchanges u from run.2.sound.scene h f;
-    muted = λ u. refl;
-    branches = trails_none LosesBranch [];
-    mutes = trails_none LosesMute [];
-    few_branches = omega arith;
-    few_mutes = omega arith;
-  }));
+  chain = chain [] (x ∷ xs) s new x.before.exchanges (present_in x) (present_in x)
+      (before_run (muted_among (present_in x) x.before.muted)) run few
+      (subst (λ r. Tracks [] r x.before.exchanges (present_in x) (present_in x)
+      (before_run (muted_among (present_in x) x.before.muted))) run.0 (record {
+        last_is = refl;
+        low = omega arith;
+        high = omega arith;
+        came = λ u from h f. came_by x.before.devices x.before.exchanges u from run.2.sound.scene h f;
+        muted = λ u. refl;
+        branches = trails_none LosesBranch [];
+        mutes = trails_none LosesMute [];
+        few_branches = omega arith;
+        few_mutes = omega arith;
+      }));
 }

@@ -34,7 +34,9 @@ use Rattle.rdm_join.specs.Exchange.{bytes_heard}
 use Rattle.rdm_join.specs.declared.event.LineEvent.TheVariants.{Reply}
 use Rattle.rdm_line.specs.Parameters.{ParameterState, parameter_of}
 use Rattle.rdm_line.specs.Scenes.{IsSceneDevice, uids_of_scene, device_at, present_at}
-use Rattle.rdm_line.specs.Sim.{SimState, IsSoundState, Exchanges, Acts, ActsOn, AnswersBranch, AnswersRequest, AnswersOf, Refuses, KeepsSilent, Mutes, answers_class, answering, is_among, counted, next_exchange}
+use Rattle.rdm_line.specs.Sim.{SimState, IsSoundState, Exchanges, Acts, ActsOn, AnswersBranch, AnswersRequest}
+use Rattle.rdm_line.specs.Sim.{AnswersOf, Refuses, KeepsSilent, Mutes, answers_class, answering, is_among, counted}
+use Rattle.rdm_line.specs.Sim.{next_exchange}
 use Rattle.rdm_line.specs.SimSound.{from_of}
 use Rattle.rdm_line.specs.SimRuns.{Step, present_in, seen_in, LosesBranch, LosesMute}
 use Rattle.rdm_line.specs.declared.scene.SceneDevice.{SceneDevice}
@@ -75,10 +77,20 @@ after_request s new r source tn reply (Some d) h = of_parameter (parameter_of r.
     same is = kept_request s new (counted s) is (record { leaves = leaves_devices s (counted s) refl refl; muted = refl })
 
     of_class : (p : ParameterState) (k : ReqClass) → AnswersOf (counted s) r source tn p k reply new → KeepsRequest s new
-    of_class p Get g = kept_request s new _ g.sent (record { leaves = record { exchanges = refl; present = present-sent r.target r.pid s.devices; from = from-sent r.target r.pid s.devices }; muted = refl })
+    of_class p Get g = kept_request s new _ g.sent
+        (record {
+          leaves = record {
+            exchanges = refl;
+            present = present-sent r.target r.pid s.devices;
+            from = from-sent r.target r.pid s.devices;
+          };
+          muted = refl;
+        })
     of_class p Set g = same g.same
 
-    of_parameter : (q : Option ParameterState) → MatchOption q (Refuses (counted s) r source tn (answers_class r.class) reply new) (λ p. AnswersOf (counted s) r source tn p r.class reply new) → KeepsRequest s new
+    of_parameter : (q : Option ParameterState) → MatchOption q
+        (Refuses (counted s) r source tn (answers_class r.class) reply new)
+        (λ p. AnswersOf (counted s) r source tn p r.class reply new) → KeepsRequest s new
     of_parameter None g = same g.same
     of_parameter (Some p) g = of_class p r.class g
 
@@ -116,14 +128,18 @@ pub record HonestAfter (x : Step) (next : SimState) (b m n : ℕ) : Type 0 where
   pub few_mutes : lost_mutes ≤ 4
 
 -- a step with the counts 0
-quiet : (x : Step) (next : SimState) (b m n k : ℕ) → HonestStep (present_in x) (line_state (present_in x) x.before.muted b m n) (seen_in x).asked (seen_in x).heard (line_state (present_in x) next.muted 0 0 k) → HonestAfter x next b m n
+quiet : (x : Step) (next : SimState) (b m n k : ℕ)
+    → HonestStep (present_in x) (line_state (present_in x) x.before.muted b m n) (seen_in x).asked (seen_in x).heard
+    (line_state (present_in x) next.muted 0 0 k) → HonestAfter x next b m n
 quiet x next b m n k step = record { lost_branches = 0; lost_mutes = 0; unmutes = k; step = step; branches = inl refl; mutes = inl refl; few_branches = omega arith; few_mutes = omega arith }
 
 seen_as : (p : List ℕ) (old new : LineState) (asked a : Asked) (heard h : Heard) → asked ≡ a → heard ≡ h → HonestStep p old a h new → HonestStep p old asked heard new
 seen_as p old new asked a heard h q r step = subst (λ y. HonestStep p old y heard new) (sym q) (subst (λ y. HonestStep p old a y new) (sym r) step)
 
 -- how an exchange is heard
-heard_as : (x : Step) (bytes : List ℕ) → x.exchange.1 ≡ Reply (record { items = bytes }) → (a : Asked) (s tn : ℕ) → asked_in x.exchange.0.items ≡ a → (fields_at x.exchange.0.items).source ≡ s → (fields_at x.exchange.0.items).tn ≡ tn
+heard_as : (x : Step) (bytes : List ℕ) → x.exchange.1 ≡ Reply (record { items = bytes }) → (a : Asked) (s tn : ℕ)
+    → asked_in x.exchange.0.items ≡ a → (fields_at x.exchange.0.items).source ≡ s
+    → (fields_at x.exchange.0.items).tn ≡ tn
     → (seen_in x).heard ≡ heard_bytes s tn a bytes
 heard_as x bytes event a s tn p q r =
     ap (λ e. heard_in x.exchange.0.items (bytes_heard e)) event ∙ ap (λ y. heard_bytes y (fields_at x.exchange.0.items).tn (asked_in x.exchange.0.items) bytes) q
@@ -159,10 +175,13 @@ no_device (v ∷ us) u own all = elim (cases_Bool (u == v)) [
   | inr isnt ↦ ap (λ b. b || has us u) isnt ∙ no_device us u own.1 all
 ]
 
-mute_absent : (p : List ℕ) (old new : LineState) (u : ℕ) (heard : Heard) → has p u ≡ false → heard ≡ Silent → ((v : ℕ) → new.muted v ≡ old.muted v) → Counts new 0 0 0 → HonestStep p old (Muted u) heard new
+mute_absent : (p : List ℕ) (old new : LineState) (u : ℕ) (heard : Heard) → has p u ≡ false → heard ≡ Silent
+    → ((v : ℕ) → new.muted v ≡ old.muted v) → Counts new 0 0 0 → HonestStep p old (Muted u) heard new
 mute_absent p old new u heard absent silent same count = (λ v other. same v, rw absent (silent, same u, count))
 
-mute_present : (p : List ℕ) (old new : LineState) (u : ℕ) (heard : Heard) → has p u ≡ true → ((v : ℕ) → (u == v) ≡ false → new.muted v ≡ old.muted v) → MuteMoves u old heard new → HonestStep p old (Muted u) heard new
+mute_present : (p : List ℕ) (old new : LineState) (u : ℕ) (heard : Heard) → has p u ≡ true
+    → ((v : ℕ) → (u == v) ≡ false → new.muted v ≡ old.muted v) → MuteMoves u old heard new
+    → HonestStep p old (Muted u) heard new
 mute_present p old new u heard there others moves = (others, rw there moves)
 
 -- bytes that are no command
@@ -187,7 +206,9 @@ nobody_steps x next b m n sound bytes is same event = by_asked (asked_in x.excha
     by_asked (Branched lo hi) q h = quiet x next b m n 0 (seen_as p old new _ (Branched lo hi) _ Silent q silent
         (branch_step p old new lo hi Silent [] (crossed lo hi old.muted p h) refl (keeps p next.muted x.before.muted same) (counts p next.muted 0 0 0 (omega arith) (omega arith))))
     by_asked (Muted u) q h = quiet x next b m n 0 (seen_as p old new _ (Muted u) _ Silent q silent
-        (mute_absent p old new u Silent (no_device p u (present_set x.before.devices x.before.exchanges sound.scene).devices h) refl (keeps p next.muted x.before.muted same) (counts p next.muted 0 0 0 (omega arith) (omega arith))))
+        (mute_absent p old new u Silent (no_device p u
+        (present_set x.before.devices x.before.exchanges sound.scene).devices h) refl
+        (keeps p next.muted x.before.muted same) (counts p next.muted 0 0 0 (omega arith) (omega arith))))
     by_asked Other q h = quiet x next b m n 0 (seen_as p old new _ Other _ Silent q silent (keeps p next.muted x.before.muted same, counts p next.muted 0 0 0 (omega arith) (omega arith)))
 
 -- a command that was read
@@ -224,11 +245,14 @@ unmute_after x next b m n so tn asks gone =
     unmuted u = ap (λ us. muted_among p us u) gone ∙ and-false (has p u)
 
 -- a mute of a UID that isn't present
-mute_nobody_after : (x : Step) (next : SimState) (b m n u so tn : ℕ) → IsSoundState x.before → Asks x (Mute u) so tn → device_at x.before.exchanges x.before.devices u ≡ None → next.muted ≡ x.before.muted
+mute_nobody_after : (x : Step) (next : SimState) (b m n u so tn : ℕ) → IsSoundState x.before → Asks x (Mute u) so tn
+    → device_at x.before.exchanges x.before.devices u ≡ None → next.muted ≡ x.before.muted
     → x.exchange.1 ≡ Reply (record { items = [] }) → HonestAfter x next b m n
 mute_nobody_after x next b m n u so tn sound asks absent same event =
     quiet x next b m n 0 (seen_as p (line_state p x.before.muted b m n) (line_state p next.muted 0 0 0) _ (Muted u) _ Silent asks.asked (ap (λ e. heard_in x.exchange.0.items (bytes_heard e)) event)
-    (mute_absent p (line_state p x.before.muted b m n) (line_state p next.muted 0 0 0) u Silent (present_is x.before.devices x.before.exchanges u sound.scene.uids.ascending ∙ ap is_some absent) refl (keeps p next.muted x.before.muted same) (counts p next.muted 0 0 0 (omega arith) (omega arith))))
+    (mute_absent p (line_state p x.before.muted b m n) (line_state p next.muted 0 0 0) u Silent
+    (present_is x.before.devices x.before.exchanges u sound.scene.uids.ascending ∙ ap is_some absent) refl
+    (keeps p next.muted x.before.muted same) (counts p next.muted 0 0 0 (omega arith) (omega arith))))
   where
     p : List ℕ
     p = present_in x
@@ -269,14 +293,16 @@ acknowledged d u so tn same in_range from_range tn_range = record {
     sizes None = inl refl
     sizes (Some v) = inr refl
 
-hears_ack : (d : SceneDevice) (u so tn : ℕ) → MuteAcked u so tn (packet (fields_of (mute_response d.device so tn))) → is_acked (heard_bytes so tn (Muted u) (packet (fields_of (mute_response d.device so tn)))) ≡ true
+hears_ack : (d : SceneDevice) (u so tn : ℕ) → MuteAcked u so tn (packet (fields_of (mute_response d.device so tn)))
+    → is_acked (heard_bytes so tn (Muted u) (packet (fields_of (mute_response d.device so tn)))) ≡ true
 hears_ack d u so tn acked = ap (λ o. is_acked (acked_or_noise o)) (ack_read-of u so tn _ acked)
 
 other_way : (u v : ℕ) → (u == v) ≡ false → (v == u) ≡ false
 other_way u v isnt = elim (cases_Bool (v == u)) [ inl is ↦ absurd (true≢false (sym (eq-eqb u v (sym (eqb-true v u is))) ∙ isnt)) | inr differs ↦ differs ]
 
 -- a mute of a present device
-mute_device_after : (x : Step) (next : SimState) (b m n u so tn : ℕ) (d : SceneDevice) (reply : List ℕ) → IsSoundState x.before → Asks x (Mute u) so tn → command_read x.exchange.0.items ≡ Some (Mute u, so, tn)
+mute_device_after : (x : Step) (next : SimState) (b m n u so tn : ℕ) (d : SceneDevice) (reply : List ℕ)
+    → IsSoundState x.before → Asks x (Mute u) so tn → command_read x.exchange.0.items ≡ Some (Mute u, so, tn)
     → device_at x.before.exchanges x.before.devices u ≡ Some d → reply ≡ packet (fields_of (mute_response d.device so tn)) → next.muted ≡ with_uid d.device.uid x.before.muted
     → (lost : Bool) → is_among x.before.exchanges x.before.losses ≡ lost → x.exchange.1 ≡ Reply (record { items = cond lost [] reply }) → (LosesMute x → m + 1 ≤ 4) → HonestAfter x next b m n
 mute_device_after x next b m n u so tn d reply sound asks is found says muted = by_loss
@@ -291,7 +317,9 @@ mute_device_after x next b m n u so tn d reply sound asks is found says muted = 
     there = present_is x.before.devices x.before.exchanges u sound.scene.uids.ascending ∙ ap is_some found
 
     is_muted : muted_among p next.muted u ≡ true
-    is_muted = ap (λ us. muted_among p us u) (muted ∙ ap (λ v. with_uid v x.before.muted) at.uid) ∙ ap (λ t. t && has (with_uid u x.before.muted) u) there ∙ has-with_uid u x.before.muted u ∙ ap (λ t. t || has x.before.muted u) (eq-eqb u u refl)
+    is_muted = ap (λ us. muted_among p us u) (muted ∙ ap (λ v. with_uid v x.before.muted) at.uid)
+        ∙ ap (λ t. t && has (with_uid u x.before.muted) u) there ∙ has-with_uid u x.before.muted u
+        ∙ ap (λ t. t || has x.before.muted u) (eq-eqb u u refl)
 
     others : (v : ℕ) → (u == v) ≡ false → muted_among p next.muted v ≡ muted_among p x.before.muted v
     others v differs =
@@ -306,7 +334,8 @@ mute_device_after x next b m n u so tn d reply sound asks is found says muted = 
           lost_mutes = m + 1;
           unmutes = 0;
           step = seen_as p (line_state p x.before.muted b m n) (line_state p next.muted 0 (m + 1) 0) _ (Muted u) _ Silent asks.asked (ap (λ e. heard_in x.exchange.0.items (bytes_heard e)) event)
-              (mute_present p (line_state p x.before.muted b m n) (line_state p next.muted 0 (m + 1) 0) u Silent there others (inr (refl, inl is_muted, counts p next.muted 0 (m + 1) 0 (omega arith) (few loses))));
+              (mute_present p (line_state p x.before.muted b m n) (line_state p next.muted 0 (m + 1) 0) u Silent there
+              others (inr (refl, inl is_muted, counts p next.muted 0 (m + 1) 0 (omega arith) (few loses))));
           branches = inl refl;
           mutes = inr (refl, loses);
           few_branches = omega arith;
@@ -316,9 +345,16 @@ mute_device_after x next b m n u so tn d reply sound asks is found says muted = 
         some_is_none : Some d ≡ None → ⊥
         some_is_none e = cc
     by_loss false kept event few =
-        quiet x next b m n 0 (seen_as p (line_state p x.before.muted b m n) (line_state p next.muted 0 0 0) _ (Muted u) _ (heard_bytes so tn (Muted u) (packet (fields_of (mute_response d.device so tn)))) asks.asked
+        quiet x next b m n 0 (seen_as p (line_state p x.before.muted b m n) (line_state p next.muted 0 0 0) _ (Muted u)
+        _ (heard_bytes so tn (Muted u) (packet (fields_of (mute_response d.device so tn)))) asks.asked
         (heard_as x (packet (fields_of (mute_response d.device so tn))) (event ∙ ap (λ l. Reply (record { items = l })) says) (Muted u) so tn asks.asked asks.source asks.number)
-        (mute_present p (line_state p x.before.muted b m n) (line_state p next.muted 0 0 0) u _ there others (inl (hears_ack d u so tn (acknowledged d u so tn at.uid at.own.in_range asks.writes.frame.fits.source asks.writes.frame.fits.tn), is_muted, counts p next.muted 0 0 0 (omega arith) (omega arith)))))
+        (mute_present p (line_state p x.before.muted b m n) (line_state p next.muted 0 0 0) u _ there others
+        (inl (
+          hears_ack d u so tn (acknowledged d u so tn at.uid at.own.in_range asks.writes.frame.fits.source
+              asks.writes.frame.fits.tn),
+          is_muted,
+          counts p next.muted 0 0 0 (omega arith) (omega arith),
+        ))))
 
 -- what comes after a branch
 heard_text : (so tn lo hi : ℕ) (b : List ℕ) (u : ℕ) → text_read b ≡ Some u → 0 < length b → heard_bytes so tn (Branched lo hi) b ≡ One u
@@ -347,7 +383,8 @@ own_uids [] all = tt
 own_uids (d ∷ ds) all = (all.0, own_uids ds all.1)
 
 -- a branch
-branch_after : (x : Step) (next : SimState) (b m n so tn : ℕ) (range : Span) (reply : List ℕ) → IsSoundState x.before → Asks x (Branch range) so tn → command_read x.exchange.0.items ≡ Some (Branch range, so, tn)
+branch_after : (x : Step) (next : SimState) (b m n so tn : ℕ) (range : Span) (reply : List ℕ) → IsSoundState x.before
+    → Asks x (Branch range) so tn → command_read x.exchange.0.items ≡ Some (Branch range, so, tn)
     → (lost : Bool) → is_among x.before.exchanges x.before.losses ≡ lost → x.exchange.1 ≡ Reply (record { items = cond lost [] reply }) → (LosesBranch x → b + 1 ≤ 4)
     → (ds : List SceneDevice) → answering x.before.exchanges x.before range ≡ ds → AnswersBranch (counted x.before) ds reply next → HonestAfter x next b m n
 branch_after x next b m n so tn range reply sound asks is = by_devices
@@ -362,7 +399,9 @@ branch_after x next b m n so tn range reply sound asks is = by_devices
     due ds e = due_is x.before.exchanges x.before range ∙ ap uids_of_scene e
 
     -- the reply isn't lost, or nobody is due
-    heard_so : (h : Heard) (ds : List SceneDevice) → answering x.before.exchanges x.before range ≡ ds → (seen_in x).heard ≡ h → MayReply (uids_of_scene ds) h → lost_after (uids_of_scene ds) h b ≡ 0 → next.muted ≡ x.before.muted → HonestAfter x next b m n
+    heard_so : (h : Heard) (ds : List SceneDevice) → answering x.before.exchanges x.before range ≡ ds
+        → (seen_in x).heard ≡ h → MayReply (uids_of_scene ds) h → lost_after (uids_of_scene ds) h b ≡ 0
+        → next.muted ≡ x.before.muted → HonestAfter x next b m n
     heard_so h ds e q may zero_lost same =
         quiet x next b m n 0 (seen_as p old (line_state p next.muted 0 0 0) _ (Branched range.lo range.hi) _ h asks.asked q
         (branch_step p old (line_state p next.muted 0 0 0) range.lo range.hi h (uids_of_scene ds) (due ds e) may (keeps p next.muted x.before.muted same)
@@ -374,14 +413,18 @@ branch_after x next b m n so tn range reply sound asks is = by_devices
         some_is_nil : d ∷ ds ≡ [] → ⊥
         some_is_nil g = cc
 
-    lost_so : (d : SceneDevice) (ds : List SceneDevice) → answering x.before.exchanges x.before range ≡ d ∷ ds → (seen_in x).heard ≡ Silent → MayReply (uids_of_scene (d ∷ ds)) Silent → is_among x.before.exchanges x.before.losses ≡ true
+    lost_so : (d : SceneDevice) (ds : List SceneDevice) → answering x.before.exchanges x.before range ≡ d ∷ ds
+        → (seen_in x).heard ≡ Silent → MayReply (uids_of_scene (d ∷ ds)) Silent
+        → is_among x.before.exchanges x.before.losses ≡ true
         → (LosesBranch x → b + 1 ≤ 4) → next.muted ≡ x.before.muted → HonestAfter x next b m n
     lost_so d ds e q may is_lost few same = record {
       lost_branches = b + 1;
       lost_mutes = 0;
       unmutes = 0;
       step = seen_as p old (line_state p next.muted (b + 1) 0 0) _ (Branched range.lo range.hi) _ Silent asks.asked q
-          (branch_step p old (line_state p next.muted (b + 1) 0 0) range.lo range.hi Silent (uids_of_scene (d ∷ ds)) (due (d ∷ ds) e) may (keeps p next.muted x.before.muted same) (counts p next.muted (b + 1) 0 0 (few (loses d ds e is_lost)) (omega arith)));
+          (branch_step p old (line_state p next.muted (b + 1) 0 0) range.lo range.hi Silent (uids_of_scene (d ∷ ds))
+          (due (d ∷ ds) e) may (keeps p next.muted x.before.muted same)
+          (counts p next.muted (b + 1) 0 0 (few (loses d ds e is_lost)) (omega arith)));
       branches = inr (refl, loses d ds e is_lost);
       mutes = inl refl;
       few_branches = few (loses d ds e is_lost);
@@ -397,7 +440,9 @@ branch_after x next b m n so tn range reply sound asks is = by_devices
     by_devices false kept event few [] e h = heard_so Silent [] e (silence (event ∙ ap (λ l. Reply (record { items = l })) h.silent)) refl refl (ap (λ (t : SimState). t.muted) h.same)
     by_devices true is_lost event few (d ∷ []) e h = lost_so d [] e (silence event) (inr refl) is_lost few (ap (λ (t : SimState). t.muted) h.1)
     by_devices false kept event few (d ∷ []) e h =
-        let own : IsDevice d.device.uid = (subst (AllByRecursion (λ f. IsDevice f.device.uid)) e (all-some (λ f. IsDevice f.device.uid) _ x.before.devices (own_uids x.before.devices sound.scene.uids.devices))).0 in
+        let own : IsDevice d.device.uid = (subst (AllByRecursion (λ f. IsDevice f.device.uid)) e
+        (all-some (λ f. IsDevice f.device.uid) _ x.before.devices
+        (own_uids x.before.devices sound.scene.uids.devices))).0 in
         let of_scene = (subst (AllByRecursion IsSceneDevice) e (all-some IsSceneDevice _ x.before.devices sound.scene.each)).0 in
         let reads = text_read-of (branch_text d.device.uid d.preamble) d.device.uid (branch_text_reads d.device.uid d.preamble own.in_range of_scene.preamble) in
         heard_so (One d.device.uid) (d ∷ []) e
@@ -410,7 +455,8 @@ branch_after x next b m n so tn range reply sound asks is = by_devices
         (ap (λ t. cond t (b + 1) 0) (not_silent so tn range.lo range.hi reply h.some)) (ap (λ (t : SimState). t.muted) h.next)
 
 -- every step at which the line doesn't fail
-pub honest_after : (x : Step) (next : SimState) (b m n : ℕ) → IsSoundState x.before → Exchanges x.before x.exchange next → (LosesBranch x → b + 1 ≤ 4) → (LosesMute x → m + 1 ≤ 4) → HonestAfter x next b m n
+pub honest_after : (x : Step) (next : SimState) (b m n : ℕ) → IsSoundState x.before → Exchanges x.before x.exchange next
+    → (LosesBranch x → b + 1 ≤ 4) → (LosesMute x → m + 1 ≤ 4) → HonestAfter x next b m n
 honest_after x next b m n sound h few_b few_m = by_command (command_read x.exchange.0.items) refl h.acts
   where
     silent : h.reply ≡ [] → x.exchange.1 ≡ Reply (record { items = [] })
@@ -424,12 +470,16 @@ honest_after x next b m n sound h few_b few_m = by_command (command_read x.excha
         → MatchOption o (KeepsSilent (counted x.before) h.reply next) (λ d. Mutes (counted x.before) d so tn h.reply next) → HonestAfter x next b m n
     of_mute u so tn is None found g = mute_nobody_after x next b m n u so tn sound (asks_command x (Mute u) so tn h.frame is) found (ap (λ (t : SimState). t.muted) g.same) (silent g.silent)
     of_mute u so tn is (Some d) found g =
-        mute_device_after x next b m n u so tn d h.reply sound (asks_command x (Mute u) so tn h.frame is) is found g.bytes (ap (λ (t : SimState). t.muted) g.mutes) (is_among x.before.exchanges x.before.losses) refl h.heard few_m
+        mute_device_after x next b m n u so tn d h.reply sound (asks_command x (Mute u) so tn h.frame is) is found
+        g.bytes (ap (λ (t : SimState). t.muted) g.mutes) (is_among x.before.exchanges x.before.losses) refl h.heard
+        few_m
 
     of_command : (c : Command) (so tn : ℕ) → command_read x.exchange.0.items ≡ Some (c, so, tn) → ActsOn x.before.exchanges (counted x.before) c so tn h.reply next → HonestAfter x next b m n
     of_command Unmute so tn is g = unmute_after x next b m n so tn (asks_command x Unmute so tn h.frame is) (ap (λ (t : SimState). t.muted) g.unmuted)
     of_command (Branch range) so tn is g =
-        branch_after x next b m n so tn range h.reply sound (asks_command x (Branch range) so tn h.frame is) is (is_among x.before.exchanges x.before.losses) refl h.heard few_b (answering x.before.exchanges x.before range) refl g
+        branch_after x next b m n so tn range h.reply sound (asks_command x (Branch range) so tn h.frame is) is
+        (is_among x.before.exchanges x.before.losses) refl h.heard few_b
+        (answering x.before.exchanges x.before range) refl g
     of_command (Mute u) so tn is g = of_mute u so tn is (device_at x.before.exchanges x.before.devices u) refl g
     of_command (Requested r) so tn is g =
         let asks = asks_command x (Requested r) so tn h.frame is in

@@ -106,7 +106,12 @@ event_failed frame (Reply bytes) h = absurd (bytes_sound (fields_at frame).sourc
 -- where none is named, none fails
 sound_from : (xs : List Step) → AllByRecursion (FailsAsNamed []) xs → AllByRecursion (λ x. (seen_in x).heard ≢ HeardFailed) xs
 sound_from [] all = tt
-sound_from (x ∷ xs) all = (λ failed. true≢false (sym ((and_parts (nat_lt x.before.exchanges 0xffffffffffffffff) false (all.0.0 (event_failed x.exchange.0.items x.exchange.1 failed))).1)), sound_from xs all.1)
+sound_from (x ∷ xs) all = (
+  λ failed. true≢false
+      (sym ((and_parts (nat_lt x.before.exchanges 0xffffffffffffffff) false
+      (all.0.0 (event_failed x.exchange.0.items x.exchange.1 failed))).1)),
+  sound_from xs all.1,
+)
 
 pub run_sound : (s new : SimState) (xs : List Step) → IsRun s xs new → s.fails ≡ [] → AllByRecursion (λ x. (seen_in x).heard ≢ HeardFailed) xs
 run_sound s new xs run none = sound_from xs (subst (λ named. AllByRecursion (FailsAsNamed named) xs) none (run_fails s new xs run))
@@ -120,7 +125,9 @@ same_sets devices (x ∷ xs) stay all = cons (all.0 x.before.exchanges ∙ all_p
     cons : {p q : List ℕ} {ps qs : List (List ℕ)} → p ≡ q → ps ≡ qs → p ∷ ps ≡ q ∷ qs
     cons a b = rw (a, b) refl
 
-each_present : (devices : List SceneDevice) (first : SimState) (xs : List Step) → AllByRecursion (λ x. KeepsScene first x.before) xs → AllByRecursion (λ x. (i : ℕ) → present_at x.before.devices i ≡ present_at first.devices i) xs
+each_present : (devices : List SceneDevice) (first : SimState) (xs : List Step)
+    → AllByRecursion (λ x. KeepsScene first x.before) xs
+    → AllByRecursion (λ x. (i : ℕ) → present_at x.before.devices i ≡ present_at first.devices i) xs
 each_present devices first [] all = tt
 each_present devices first (x ∷ xs) all = (all.0.present, each_present devices first xs all.1)
 

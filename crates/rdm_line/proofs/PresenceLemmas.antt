@@ -74,7 +74,10 @@ each_present i (d ∷ ds) P all = by_test (is_present i d) refl (each_present i 
   where
     by_test : (t : Bool) → is_present i d ≡ t → (((u : ℕ) → has (present_at ds i) u ≡ true → P u ≡ true) → AllByRecursion (λ e. is_present i e ≡ true → P e.device.uid ≡ true) ds)
         → AllByRecursion (λ e. is_present i e ≡ true → P e.device.uid ≡ true) (d ∷ ds)
-    by_test true here rest = (λ h. all d.device.uid (rw (here, eq-eqb d.device.uid d.device.uid refl) refl), rest (λ u h. all u (rw here (ap (λ b. (u == d.device.uid) || b) h ∙ or-true (u == d.device.uid)))))
+    by_test true here rest = (
+      λ h. all d.device.uid (rw (here, eq-eqb d.device.uid d.device.uid refl) refl),
+      rest (λ u h. all u (rw here (ap (λ b. (u == d.device.uid) || b) h ∙ or-true (u == d.device.uid)))),
+    )
     by_test false here rest = (λ h. absurd (true≢false (sym h ∙ here)), rest (λ u h. all u (rw here h)))
 
 due-some : (i lo hi : ℕ) (muted : List ℕ) (P : ℕ → Bool) (ds : List SceneDevice) → AllByRecursion (λ d. is_present i d ≡ true → P d.device.uid ≡ true) ds
@@ -85,10 +88,13 @@ due-some i lo hi muted P (d ∷ ds) all = by_test (is_present i d) refl (due-som
     by_test : (t : Bool) → is_present i d ≡ t
         → filter (λ u. is_within lo hi u && not (P u && has muted u)) (present_at ds i) ≡ uids_of_scene (filter (answers_branch i muted (record { lo = lo; hi = hi })) ds)
         → filter (λ u. is_within lo hi u && not (P u && has muted u)) (uids_of_scene (cond t (d ∷ filter (is_present i) ds) (filter (is_present i) ds)))
-        ≡ uids_of_scene (cond ((t && is_within lo hi d.device.uid) && not (has muted d.device.uid)) (d ∷ filter (answers_branch i muted (record { lo = lo; hi = hi })) ds) (filter (answers_branch i muted (record { lo = lo; hi = hi })) ds))
+        ≡ uids_of_scene (cond ((t && is_within lo hi d.device.uid) && not (has muted d.device.uid))
+        (d ∷ filter (answers_branch i muted (record { lo = lo; hi = hi })) ds)
+        (filter (answers_branch i muted (record { lo = lo; hi = hi })) ds))
     by_test true here rest = rw (all.0 here) (either (is_within lo hi d.device.uid && not (has muted d.device.uid)))
       where
-        either : (b : Bool) → cond b (d.device.uid ∷ filter (λ u. is_within lo hi u && not (P u && has muted u)) (present_at ds i)) (filter (λ u. is_within lo hi u && not (P u && has muted u)) (present_at ds i))
+        either : (b : Bool) → cond b (d.device.uid ∷ filter (λ u. is_within lo hi u && not (P u && has muted u))
+            (present_at ds i)) (filter (λ u. is_within lo hi u && not (P u && has muted u)) (present_at ds i))
             ≡ uids_of_scene (cond b (d ∷ filter (answers_branch i muted (record { lo = lo; hi = hi })) ds) (filter (answers_branch i muted (record { lo = lo; hi = hi })) ds))
         either true = ap (λ l. d.device.uid ∷ l) rest
         either false = rest
@@ -107,11 +113,14 @@ present-sent u pid [] i = refl
 present-sent u pid (d ∷ ds) i = by_test (d.device.uid == u) (present-sent u pid ds i)
   where
     either : (t : Bool) → present_at (sent_by u pid ds) i ≡ present_at ds i
-        → uids_of_scene (cond t (d ∷ filter (is_present i) (sent_by u pid ds)) (filter (is_present i) (sent_by u pid ds))) ≡ uids_of_scene (cond t (d ∷ filter (is_present i) ds) (filter (is_present i) ds))
+        → uids_of_scene (cond t (d ∷ filter (is_present i) (sent_by u pid ds))
+        (filter (is_present i) (sent_by u pid ds))) ≡ uids_of_scene
+        (cond t (d ∷ filter (is_present i) ds) (filter (is_present i) ds))
     either true rest = ap (λ l. d.device.uid ∷ l) rest
     either false rest = rest
 
-    first : (t : Bool) → uids_of_scene (cond t (with_params d (sent_of pid d.params) ∷ filter (is_present i) ds) (filter (is_present i) ds)) ≡ uids_of_scene (cond t (d ∷ filter (is_present i) ds) (filter (is_present i) ds))
+    first : (t : Bool) → uids_of_scene (cond t (with_params d (sent_of pid d.params) ∷ filter (is_present i) ds)
+        (filter (is_present i) ds)) ≡ uids_of_scene (cond t (d ∷ filter (is_present i) ds) (filter (is_present i) ds))
     first true = refl
     first false = refl
 

@@ -1,4 +1,4 @@
--- Devices of a scene, by their places.
+-- Devices of a scene, by their indices.
 use Rattle.std.proofs.Common.{◌≡◌, ◌≢◌, ℕ, suc, ◌<◌, ◌≤◌, Bool, true, false, cond, List, [], ◌∷◌, length, get_or, Option, Some, None, refl, sym, ap, ◌∙◌, subst, arith}
 use Rattle.std.specs.Prelude.{◌==◌, nat_lt, slice_get, option_and_then}
 use Rattle.std.proofs.lemmas.Option.{slice_get-get_or}
@@ -9,23 +9,24 @@ use Rattle.std.proofs.Math.ListN.{set}
 use Rattle.std.proofs.lemmas.Bool.{eqb-true, eqb-false, eq-eqb, ne_eqb, lt-ltb, le-ltb, ltb-true, ltb-false}
 use Rattle.rdm_wire.specs.Uid.{has, with_uid, IsDevice, IsAscending}
 use Rattle.rdm_wire.proofs.SetLemmas.{devices-with_uid}
-use Rattle.rdm_line.specs.Parameters.{ParameterState, parameter_of, sent_of, AnswersPart}
-use Rattle.rdm_line.specs.Scenes.{IsScene, IsSceneDevice, uids_of_scene, with_scene_device, find_device, parameter_at, sent_by}
-use Rattle.rdm_line.specs.ScenePlaces.{place_in, has_at, IsFoundAt, IsFreeAt}
+use Rattle.rdm_line.specs.Parameters.{ParameterState, parameter_of, sent_of}
+use Rattle.rdm_line.specs.body.Parts.{AnswersPart, parameter_at}
+use Rattle.rdm_line.specs.Scenes.{IsScene, IsSceneDevice, uids_of_scene, with_scene_device, find_device, sent_by}
+use Rattle.rdm_line.specs.body.SceneIndices.{index_in, has_at, IsFoundAt, IsFreeAt}
 use Rattle.rdm_line.specs.declared.scene.SceneDevice.{SceneDevice}
 
 -- a device with other parameters
 abbrev pub with_params : SceneDevice → List ParameterState → SceneDevice
 with_params d ps = record d { params = ps }
 
--- the place in a list with one more device in front
-place_after : (d : SceneDevice) (ds : List SceneDevice) (u : ℕ) → nat_lt d.device.uid u ≡ true → place_in (d ∷ ds) u ≡ suc (place_in ds u)
+-- the index in a list with one more device in front
+place_after : (d : SceneDevice) (ds : List SceneDevice) (u : ℕ) → nat_lt d.device.uid u ≡ true → index_in (d ∷ ds) u ≡ suc (index_in ds u)
 place_after d ds u is = rw is (omega arith)
 
-place_first : (d : SceneDevice) (ds : List SceneDevice) (u : ℕ) → nat_lt d.device.uid u ≡ false → place_in (d ∷ ds) u ≡ 0
+place_first : (d : SceneDevice) (ds : List SceneDevice) (u : ℕ) → nat_lt d.device.uid u ≡ false → index_in (d ∷ ds) u ≡ 0
 place_first d ds u is = rw is refl
 
--- the device that stands at its place is found there
+-- the device that stands at its index is found there
 record Stands (ds : List SceneDevice) (u i : ℕ) : Type 0 where
   within : i < length ds
   found : find_device ds u ≡ slice_get ds i
@@ -43,23 +44,23 @@ stands-after d ds u i below s = record {
   sent = λ pid e. rw (ne_eqb d.device.uid u (omega arith)) (ap (λ l. d ∷ l) (s.sent pid e));
 }
 
-stands : (ds : List SceneDevice) (u : ℕ) → has_at (place_in ds u) u ds ≡ true → Stands ds u (place_in ds u)
+stands : (ds : List SceneDevice) (u : ℕ) → has_at (index_in ds u) u ds ≡ true → Stands ds u (index_in ds u)
 stands [] u h = absurd (let wrong : ⊥ = cc in wrong)
 stands (d ∷ ds) u h = by_test (nat_lt d.device.uid u) refl (stands ds u)
   where
-    by_test : (t : Bool) → nat_lt d.device.uid u ≡ t → (has_at (place_in ds u) u ds ≡ true → Stands ds u (place_in ds u)) → Stands (d ∷ ds) u (place_in (d ∷ ds) u)
+    by_test : (t : Bool) → nat_lt d.device.uid u ≡ t → (has_at (index_in ds u) u ds ≡ true → Stands ds u (index_in ds u)) → Stands (d ∷ ds) u (index_in (d ∷ ds) u)
     by_test true is rest =
         let at = place_after d ds u is in
-        subst (Stands (d ∷ ds) u) (sym at) (stands-after d ds u (place_in ds u) (ltb-true d.device.uid u is) (rest (subst (λ i. has_at i u (d ∷ ds) ≡ true) at h)))
+        subst (Stands (d ∷ ds) u) (sym at) (stands-after d ds u (index_in ds u) (ltb-true d.device.uid u is) (rest (subst (λ i. has_at i u (d ∷ ds) ≡ true) at h)))
     by_test false is rest = let at = place_first d ds u is in subst (Stands (d ∷ ds) u) (sym at) (stands-first d ds u (subst (λ i. has_at i u (d ∷ ds) ≡ true) at h))
 
-pub found_at : (ds : List SceneDevice) (u i : ℕ) → i ≡ place_in ds u → has_at i u ds ≡ true → (i < length ds) × IsFoundAt i u ds
+pub found_at : (ds : List SceneDevice) (u i : ℕ) → i ≡ index_in ds u → has_at i u ds ≡ true → (i < length ds) × IsFoundAt i u ds
 found_at ds u i at h =
     let s = stands ds u (subst (λ n. has_at n u ds ≡ true) at h) in
     let within : i < length ds = subst (λ n. n < length ds) (sym at) s.within in
-    (within, record { is_place = at; there = h; found = s.found ∙ ap (slice_get ds) (sym at) })
+    (within, record { is_index = at; there = h; found = s.found ∙ ap (slice_get ds) (sym at) })
 
-pub is_there : (ds : List SceneDevice) (u i : ℕ) → i ≡ place_in ds u → has_at i u ds ≡ true → has (uids_of_scene ds) u ≡ true
+pub is_there : (ds : List SceneDevice) (u i : ℕ) → i ≡ index_in ds u → has_at i u ds ≡ true → has (uids_of_scene ds) u ≡ true
 is_there ds u i at h = (stands ds u (subst (λ n. has_at n u ds ≡ true) at h)).there
 
 -- the device that doesn't isn't there
@@ -78,11 +79,11 @@ above_more : (n m : ℕ) (us : List ℕ) → n < m → AllByRecursion (λ w. m <
 above_more n m [] p all = tt
 above_more n m (v ∷ us) p all = let q : m < v = all.0 in (omega arith, above_more n m us p all.1)
 
-absent : (ds : List SceneDevice) (u : ℕ) → IsAscending (uids_of_scene ds) → has_at (place_in ds u) u ds ≡ false → IsAbsent ds u
+absent : (ds : List SceneDevice) (u : ℕ) → IsAscending (uids_of_scene ds) → has_at (index_in ds u) u ds ≡ false → IsAbsent ds u
 absent [] u a h = record { none = refl; not_there = refl }
 absent (d ∷ ds) u a h = by_test (nat_lt d.device.uid u) refl (absent ds u a.1)
   where
-    by_test : (t : Bool) → nat_lt d.device.uid u ≡ t → (has_at (place_in ds u) u ds ≡ false → IsAbsent ds u) → IsAbsent (d ∷ ds) u
+    by_test : (t : Bool) → nat_lt d.device.uid u ≡ t → (has_at (index_in ds u) u ds ≡ false → IsAbsent ds u) → IsAbsent (d ∷ ds) u
     by_test true is rest =
         let below : d.device.uid < u = ltb-true d.device.uid u is in
         let later = rest (subst (λ i. has_at i u (d ∷ ds) ≡ false) (place_after d ds u is) h) in
@@ -94,31 +95,31 @@ absent (d ∷ ds) u a h = by_test (nat_lt d.device.uid u) refl (absent ds u a.1)
         let above : u < d.device.uid = grind (arith, differs) in
         absent-above (d ∷ ds) u (above, above_more u d.device.uid (uids_of_scene ds) above a.0)
 
-pub none_at : (ds : List SceneDevice) (u i : ℕ) → IsScene ds → i ≡ place_in ds u → has_at i u ds ≡ false → find_device ds u ≡ None
+pub none_at : (ds : List SceneDevice) (u i : ℕ) → IsScene ds → i ≡ index_in ds u → has_at i u ds ≡ false → find_device ds u ≡ None
 none_at ds u i scene at h = (absent ds u scene.uids.ascending (subst (λ n. has_at n u ds ≡ false) at h)).none
 
-pub not_there_at : (ds : List SceneDevice) (u i : ℕ) → IsScene ds → i ≡ place_in ds u → has_at i u ds ≡ false → has (uids_of_scene ds) u ≡ false
+pub not_there_at : (ds : List SceneDevice) (u i : ℕ) → IsScene ds → i ≡ index_in ds u → has_at i u ds ≡ false → has (uids_of_scene ds) u ≡ false
 not_there_at ds u i scene at h = (absent ds u scene.uids.ascending (subst (λ n. has_at n u ds ≡ false) at h)).not_there
 
 -- one more device
-inserted : (d : SceneDevice) (ds : List SceneDevice) → insert ds (place_in ds d.device.uid) d ≡ with_scene_device d ds
+inserted : (d : SceneDevice) (ds : List SceneDevice) → insert ds (index_in ds d.device.uid) d ≡ with_scene_device d ds
 inserted d [] = refl
 inserted d (e ∷ es) = by_test (nat_lt e.device.uid d.device.uid) refl (inserted d es)
   where
-    by_test : (t : Bool) → nat_lt e.device.uid d.device.uid ≡ t → insert es (place_in es d.device.uid) d ≡ with_scene_device d es
-        → insert (e ∷ es) (place_in (e ∷ es) d.device.uid) d ≡ cond t (e ∷ with_scene_device d es) (d ∷ e ∷ es)
+    by_test : (t : Bool) → nat_lt e.device.uid d.device.uid ≡ t → insert es (index_in es d.device.uid) d ≡ with_scene_device d es
+        → insert (e ∷ es) (index_in (e ∷ es) d.device.uid) d ≡ cond t (e ∷ with_scene_device d es) (d ∷ e ∷ es)
     by_test true is rest = rw (place_after e es d.device.uid is) (ap (λ l. e ∷ l) rest)
     by_test false is rest = rw (place_first e es d.device.uid is) refl
 
-pub insert_is : (d : SceneDevice) (ds : List SceneDevice) (i : ℕ) → i ≡ place_in ds d.device.uid → insert ds i d ≡ with_scene_device d ds
+pub insert_is : (d : SceneDevice) (ds : List SceneDevice) (i : ℕ) → i ≡ index_in ds d.device.uid → insert ds i d ≡ with_scene_device d ds
 insert_is d ds i at = rw at (inserted d ds)
 
-uids-with : (d : SceneDevice) (ds : List SceneDevice) → has_at (place_in ds d.device.uid) d.device.uid ds ≡ false → uids_of_scene (with_scene_device d ds) ≡ with_uid d.device.uid (uids_of_scene ds)
+uids-with : (d : SceneDevice) (ds : List SceneDevice) → has_at (index_in ds d.device.uid) d.device.uid ds ≡ false → uids_of_scene (with_scene_device d ds) ≡ with_uid d.device.uid (uids_of_scene ds)
 uids-with d [] h = refl
 uids-with d (e ∷ es) h = by_test (nat_lt e.device.uid d.device.uid) refl (uids-with d es)
   where
     by_test : (t : Bool) → nat_lt e.device.uid d.device.uid ≡ t
-        → (has_at (place_in es d.device.uid) d.device.uid es ≡ false → uids_of_scene (with_scene_device d es) ≡ with_uid d.device.uid (uids_of_scene es))
+        → (has_at (index_in es d.device.uid) d.device.uid es ≡ false → uids_of_scene (with_scene_device d es) ≡ with_uid d.device.uid (uids_of_scene es))
         → uids_of_scene (cond t (e ∷ with_scene_device d es) (d ∷ e ∷ es)) ≡ with_uid d.device.uid (uids_of_scene (e ∷ es))
     by_test true is rest =
         let below : e.device.uid < d.device.uid = ltb-true e.device.uid d.device.uid is in
@@ -150,7 +151,7 @@ all-with P d (e ∷ es) p all = by_test (nat_lt e.device.uid d.device.uid) (all-
 scene-with : (d : SceneDevice) (ds : List SceneDevice) (i : ℕ) → IsScene ds → IsDevice d.device.uid → IsSceneDevice d → IsFreeAt i d.device.uid ds
     → length ds < 1024 → IsScene (with_scene_device d ds)
 scene-with d ds i scene own is free few = record {
-  uids = rw (uids-with d ds (subst (λ n. has_at n d.device.uid ds ≡ false) free.is_place free.free)) (devices-with_uid d.device.uid (uids_of_scene ds) own scene.uids);
+  uids = rw (uids-with d ds (subst (λ n. has_at n d.device.uid ds ≡ false) free.is_index free.free)) (devices-with_uid d.device.uid (uids_of_scene ds) own scene.uids);
   few = let size = length-with d ds in omega arith;
   each = all-with IsSceneDevice d ds is scene.each;
 }
@@ -158,19 +159,19 @@ scene-with d ds i scene own is free few = record {
 -- the devices after that one more was inserted, or was not
 pub scene-inserted : (t : Bool) (d : SceneDevice) (ds new : List SceneDevice) (i : ℕ) → new ≡ cond t (insert ds i d) ds → IsScene ds → IsDevice d.device.uid → IsSceneDevice d
     → IsFreeAt i d.device.uid ds → length ds < 1024 → IsScene new
-scene-inserted true d ds new i is scene own of_scene free few = rw (is, insert_is d ds i free.is_place) (scene-with d ds i scene own of_scene free few)
+scene-inserted true d ds new i is scene own of_scene free few = rw (is, insert_is d ds i free.is_index) (scene-with d ds i scene own of_scene free few)
 scene-inserted false d ds new i is scene own of_scene free few = rw is scene
 
 pub inserted_ok : (t : Bool) (d : SceneDevice) (ds new : List SceneDevice) (i : ℕ) → t ≡ true → new ≡ cond t (insert ds i d) ds → IsFreeAt i d.device.uid ds → new ≡ with_scene_device d ds
-inserted_ok t d ds new i ok is free = is ∙ ap (λ b. cond b (insert ds i d) ds) ok ∙ insert_is d ds i free.is_place
+inserted_ok t d ds new i ok is free = is ∙ ap (λ b. cond b (insert ds i d) ds) ok ∙ insert_is d ds i free.is_index
 
 -- a device that is found was asked for a parameter
 pub sent_at : (ds : List SceneDevice) (u pid i : ℕ) (d : SceneDevice) (ps : List ParameterState) → IsFoundAt i u ds → d ≡ get_or ds i d → ps ≡ sent_of pid d.params
     → set ds i (with_params d ps) ≡ sent_by u pid ds
 sent_at ds u pid i d ps at is sent =
-    let s = stands ds u (subst (λ n. has_at n u ds ≡ true) at.is_place at.there) in
+    let s = stands ds u (subst (λ n. has_at n u ds ≡ true) at.is_index at.there) in
     ap (λ qs. set ds i (with_params d qs)) sent ∙ ap (λ e. set ds i (with_params e (sent_of pid e.params))) is
-    ∙ ap (λ n. set ds n (with_params (get_or ds n d) (sent_of pid (get_or ds n d).params))) at.is_place ∙ sym (s.sent pid d)
+    ∙ ap (λ n. set ds n (with_params (get_or ds n d) (sent_of pid (get_or ds n d).params))) at.is_index ∙ sym (s.sent pid d)
 
 pub sent_to_nobody : (ds : List SceneDevice) (u pid : ℕ) → find_device ds u ≡ None → sent_by u pid ds ≡ ds
 sent_to_nobody [] u pid h = refl

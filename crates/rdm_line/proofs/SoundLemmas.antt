@@ -168,7 +168,9 @@ sound-muted u i d ds muted losses fails exchanges failures s at counted = record
 pub not_full : (u i : ℕ) (d : SceneDevice) (ds : List SceneDevice) (muted losses fails : List ℕ) (exchanges failures : ℕ)
     → IsSound ds muted losses fails exchanges failures → IsDeviceAt i u ds d → has muted u ≡ false → length muted ≡ 1024 → ⊥
 not_full u i d ds muted losses fails exchanges failures s at absent full =
-    let few : length (with_uid u muted) ≤ length (uids_of_scene ds) = no_longer (with_uid u muted) (uids_of_scene ds) (devices-with_uid u muted at.own s.muted_set).ascending s.scene.uids.ascending within in
+    let few : length (with_uid u muted) ≤ length (uids_of_scene ds) =
+    no_longer (with_uid u muted) (uids_of_scene ds) (devices-with_uid u muted at.own s.muted_set).ascending
+    s.scene.uids.ascending within in
     let size : length (uids_of_scene ds) ≡ length ds = length-map ds (λ d. d.device.uid) in
     let most : length ds ≤ 1024 = s.scene.few in
     let grown : length (with_uid u muted) ≡ suc (length muted) = length-new u muted absent in
@@ -209,12 +211,16 @@ from-sent u pid (d ∷ ds) v = by_test (d.device.uid == u) (d.device.uid == v) (
         ≡ option_map (λ (e : SceneDevice). e.from) (cond (d.device.uid == v) (Some d) (find_device ds v))
     by_test true k rest = either (d.device.uid == v)
       where
-        either : (b : Bool) → option_map (λ (e : SceneDevice). e.from) (cond b (Some (with_params d (sent_of pid d.params))) (find_device ds v)) ≡ option_map (λ (e : SceneDevice). e.from) (cond b (Some d) (find_device ds v))
+        either : (b : Bool) → option_map (λ (e : SceneDevice). e.from)
+            (cond b (Some (with_params d (sent_of pid d.params))) (find_device ds v)) ≡ option_map
+            (λ (e : SceneDevice). e.from) (cond b (Some d) (find_device ds v))
         either true = refl
         either false = refl
     by_test false k rest = either (d.device.uid == v)
       where
-        either : (b : Bool) → option_map (λ (e : SceneDevice). e.from) (cond b (Some d) (find_device (sent_by u pid ds) v)) ≡ option_map (λ (e : SceneDevice). e.from) (cond b (Some d) (find_device ds v))
+        either : (b : Bool) → option_map (λ (e : SceneDevice). e.from)
+            (cond b (Some d) (find_device (sent_by u pid ds) v)) ≡ option_map (λ (e : SceneDevice). e.from)
+            (cond b (Some d) (find_device ds v))
         either true = refl
         either false = rest
 

@@ -15,15 +15,18 @@ use Rattle.rdm_wire.specs.declared.request.ReqClass.TheVariants.{Get, Set}
 use Rattle.rdm_wire.specs.declared.response.AckType.{AckType}
 use Rattle.rdm_wire.specs.declared.response.RespClass.TheVariants as responses
 use Rattle.rdm_line.specs.Events.{Exchange}
-use Rattle.rdm_line.specs.Parameters.{ParameterState, parameter_of, ack_of_part, sent_of, AnswersPart}
-use Rattle.rdm_line.specs.Scenes.{device_at, parameter_at, sent_by}
-use Rattle.rdm_line.specs.Sim.{SimState, IsSoundState, SimStep, FailsOnly, Exchanges, Acts, ActsOn, AnswersBranch, AnswersRequest, AnswersOf, AnswersGet, Refuses, TellsPart, KeepsSilent, Mutes, response_to, is_among, answering, answers_class, IsHeard, next_exchange, last_exchange}
+use Rattle.rdm_line.specs.Parameters.{ParameterState, parameter_of, ack_of_part, sent_of}
+use Rattle.rdm_line.specs.body.Parts.{AnswersPart, parameter_at, SendsPart}
+use Rattle.rdm_line.specs.Scenes.{device_at, sent_by}
+use Rattle.rdm_line.specs.Sim.{SimState, IsSoundState, SimStep, FailsOnly, Exchanges, Acts, ActsOn, AnswersBranch}
+use Rattle.rdm_line.specs.Sim.{AnswersRequest, AnswersOf, AnswersGet, Refuses, KeepsSilent, Mutes, response_to}
+use Rattle.rdm_line.specs.Sim.{is_among, answering, answers_class, IsHeard, next_exchange, last_exchange}
 use Rattle.rdm_line.specs.declared.scene.SceneDevice.{SceneDevice}
 use Rattle.rdm_line.proofs.SceneLemmas.{with_params}
 
 -- a GET, by the part that was sent
 pub answered : (o : Option ParameterState) (answer : Option (ArrayVec ℕ × AckType)) (s new : SimState) (r : Request) (source tn : ℕ) (reply : List ℕ)
-    → AnswersPart o answer → TellsPart r source tn answer reply → new ≡ record s { devices = sent_by r.target r.pid s.devices }
+    → AnswersPart o answer → SendsPart r source tn answer reply → new ≡ record s { devices = sent_by r.target r.pid s.devices }
     → (o ≡ None → sent_by r.target r.pid s.devices ≡ s.devices)
     → MatchOption o (Refuses s r source tn responses.Get reply new) (λ p. AnswersGet s r source tn p reply new)
 answered None None s new r source tn reply part tells sent none = record { bytes = tells; same = sent ∙ ap (λ ds. record s { devices = ds }) (none refl) }
@@ -79,7 +82,9 @@ keeps_numbers i s new (Some sent) reply acts = by_command sent.0 acts
     of_class r p Get h = kept _ h.sent refl refl refl
     of_class r p Set h = kept _ h.same refl refl refl
 
-    of_parameter : (r : Request) (o : Option ParameterState) → MatchOption o (Refuses s r sent.1 sent.2 (answers_class r.class) reply new) (λ p. AnswersOf s r sent.1 sent.2 p r.class reply new) → KeepsNumbers s new
+    of_parameter : (r : Request) (o : Option ParameterState)
+        → MatchOption o (Refuses s r sent.1 sent.2 (answers_class r.class) reply new)
+        (λ p. AnswersOf s r sent.1 sent.2 p r.class reply new) → KeepsNumbers s new
     of_parameter r None h = kept _ h.same refl refl refl
     of_parameter r (Some p) h = of_class r p r.class h
 

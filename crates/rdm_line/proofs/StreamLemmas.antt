@@ -1,5 +1,7 @@
 -- What is taken byte by byte, and which lines say a reply.
-use Rattle.std.proofs.Common.{◌≡◌, ◌≢◌, ◌⊎◌, inl, inr, ℕ, ◌+◌, ◌-◌, ◌*◌, ◌/◌, ◌≤◌, List, [], ◌∷◌, ◌++◌, All, Option, None, Some, Bor, Result, Ok, Err, false, length, take, drop, nat_eq, unwrap_or, refl, subst, sym, ◌∙◌, ap, append_assoc, arith, true, true≢false}
+use Rattle.std.proofs.Common.{◌≡◌, ◌≢◌, ◌⊎◌, inl, inr, ℕ, ◌+◌, ◌-◌, ◌*◌, ◌/◌, ◌≤◌, List, [], ◌∷◌, ◌++◌, All, Option}
+use Rattle.std.proofs.Common.{None, Some, Bor, Result, Ok, Err, false, length, take, drop, nat_eq, unwrap_or, refl}
+use Rattle.std.proofs.Common.{subst, sym, ◌∙◌, ap, append_assoc, arith, true, true≢false}
 use Rattle.std.specs.Prelude.{IfNone, IsOk, MatchOption, MatchResult}
 use Rattle.std.specs.Io.KnownBytes.{Appends, Consumes}
 use Rattle.std.specs.Cmp.Lexicographic.{pointwise}

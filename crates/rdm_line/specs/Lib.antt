@@ -2,7 +2,6 @@ pub mod Events
 pub mod Parameters
 pub mod Overlays
 pub mod Scenes
-pub mod ScenePlaces
 pub mod Tape
 pub mod Sim
 pub mod SimSound

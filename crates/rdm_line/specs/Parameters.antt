@@ -1,7 +1,6 @@
 -- A parameter of a simulated device.
-use Rattle.std.specs.Prelude.{not, ◌≡◌, true, is_some, IfSome, ℕ, ◌+◌, Bool, List, [], ◌∷◌, length, Option, Some, None}
+use Rattle.std.specs.Prelude.{ℕ, ◌+◌, Bool, List, [], ◌∷◌, length, Option, Some, None}
 use Rattle.std.specs.Prelude.{◌==◌, nat_lt, slice_index_or, if◌then◌else◌}
-use Rattle.std.specs.List.{prefix_len}
 use Rattle.arrayvec.specs.ArrayVec.{ArrayVec}
 use Rattle.rdm_wire.specs.declared.response.AckType.{AckType}
 use Rattle.rdm_wire.specs.declared.response.AckType.TheVariants.{Ack, Overflow}
@@ -37,13 +36,3 @@ part_sent p = record p { next = if has_more p then p.next + 1 else 0 }
 abbrev pub sent_of : ℕ → List ParameterState → List ParameterState
 sent_of pid [] = []
 sent_of pid (p ∷ ps) = if p.pid == pid then part_sent p ∷ ps else p ∷ sent_of pid ps
-
--- a part that is sent is that of the parameter, if there is one
-abbrev pub AnswersPart : Option ParameterState → Option (ArrayVec ℕ × AckType) → Type 0
-AnswersPart None answer = answer ≡ None
-AnswersPart (Some p) answer =
-    IfSome answer (λ a. (a.0.items ≡ part_of p) × (a.1 ≡ ack_of_part p)) × (is_some answer ≡ true)
-
--- how many parameters stand before the first one with this PID
-abbrev pub place_of : ℕ → List ParameterState → ℕ
-place_of pid ps = prefix_len (λ p. not (p.pid == pid)) ps

@@ -3,7 +3,7 @@ use Rattle.std.specs.Prelude.{option_and_then, ◌≡◌, ℕ, ◌≤◌, Bool, 
 use Rattle.std.specs.Prelude.{Option, Some, None, nat_lt, nat_le, if◌then◌else◌}
 use Rattle.std.specs.List.{AllByRecursion}
 use Rattle.rdm_wire.specs.Uid.{IsDeviceSet}
-use Rattle.rdm_line.specs.Parameters.{ParameterState, parameter_of, sent_of}
+use Rattle.rdm_line.specs.Parameters.{sent_of}
 use Rattle.rdm_line.specs.declared.scene.SceneDevice.{SceneDevice}
 
 -- the devices' UIDs
@@ -30,7 +30,7 @@ pub record IsScene (devices : List SceneDevice) : Type 0 where
   pub few : length devices ≤ 1024
   pub each : AllByRecursion IsSceneDevice devices
 
--- the devices with one more, in its place by UID
+-- the devices with one more, ascending by UID
 abbrev pub with_scene_device : SceneDevice → List SceneDevice → List SceneDevice
 with_scene_device d [] = d ∷ []
 with_scene_device d (e ∷ es) = if nat_lt e.device.uid d.device.uid then e ∷ with_scene_device d es else d ∷ e ∷ es
@@ -47,10 +47,6 @@ find_device (d ∷ ds) u = if d.device.uid == u then Some d else find_device ds 
 -- the device with this UID, if it is present at exchange i
 abbrev pub device_at : ℕ → List SceneDevice → ℕ → Option SceneDevice
 device_at i devices u = option_and_then (λ d. if is_present i d then Some d else None) (find_device devices u)
-
--- the parameter with this PID of the device with this UID
-abbrev pub parameter_at : ℕ → ℕ → List SceneDevice → Option ParameterState
-parameter_at u pid devices = option_and_then (λ (d : SceneDevice). parameter_of pid d.params) (find_device devices u)
 
 -- the devices after that one was asked for this parameter
 abbrev pub sent_by : ℕ → ℕ → List SceneDevice → List SceneDevice

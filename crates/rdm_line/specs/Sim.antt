@@ -1,7 +1,6 @@
 -- The simulated line: its state, and a rule for each thing that it is asked.
 use Rattle.std.specs.Prelude.{◌≡◌, ℕ, ◌+◌, ◌<◌, Bool, ◌&&◌, not, List, [], ◌∷◌, length, map, filter, Option, Some, None}
 use Rattle.std.specs.Prelude.{MatchOption, nat_lt, if◌then◌else◌, MatchBool}
-use Rattle.arrayvec.specs.ArrayVec.{ArrayVec}
 use Rattle.hex.specs.Hex.{IsBytes}
 use Rattle.rdm_wire.specs.Uid.{has, with_uid, is_within}
 use Rattle.rdm_wire.specs.Span.{Span}
@@ -72,7 +71,7 @@ answering i s range = filter (answers_branch i s.muted range) s.devices
 abbrev pub branch_reply_of : SceneDevice → List ℕ
 branch_reply_of d = branch_text d.device.uid d.preamble
 
--- what comes of a collision, where the replies lie over one another as these bytes
+-- what comes of a collision, if the replies lie over one another as these bytes
 abbrev pub collided : List Collision → List ℕ → List ℕ
 collided [] over = over
 collided (collisions.Or ∷ cs) over = over
@@ -130,13 +129,6 @@ response_to r source tn class ack bytes = record {
 abbrev pub answers_class : ReqClass → RespClass
 answers_class Get = responses.Get
 answers_class Set = responses.Set
-
--- the response to a GET of which this part was sent; a parameter that the device doesn't have is refused, with reason 0
-abbrev pub TellsPart : Request → ℕ → ℕ → Option (ArrayVec ℕ × AckType) → List ℕ → Type 0
-TellsPart r source tn None reply =
-    reply ≡ packet (fields_of (response_to r source tn responses.Get Nack (two_bytes 0)))
-TellsPart r source tn (Some sent) reply =
-    reply ≡ packet (fields_of (response_to r source tn responses.Get sent.1 sent.0.items))
 
 -- a GET is answered with the parameter's next part
 pub record AnswersGet (s : SimState) (r : Request) (source tn : ℕ) (p : ParameterState)

@@ -62,16 +62,16 @@ pub record LosesMute (x : Step) : Type 0 where
   pub due : device_at x.before.exchanges x.before.devices u ≢ None
   pub lost : is_lost x
 
--- there aren't five such steps in succession
+-- no five consecutive steps have P
 abbrev pub NeverFive : (Step → Type 0) → List Step → Type 0
 NeverFive P xs =
     (front five back : List Step) → xs ≡ front ++ five ++ back → length five ≡ 5 → AllByRecursion P five → ⊥
 
--- what is demanded of the losses of a run
+-- what a run may lose
 pub record LosesFew (xs : List Step) : Type 0 where
   pub branches : NeverFive LosesBranch xs
   pub mutes : NeverFive LosesMute xs
 
--- no five numbers of losses are successive
+-- no five of these numbers are consecutive
 abbrev pub NoFiveSuccessive : List ℕ → Type 0
 NoFiveSuccessive losses = (i : ℕ) → ((j : ℕ) → j < 5 → has losses (i + j) ≡ true) → ⊥

@@ -42,8 +42,8 @@ abbrev pub GoesUnanswered : StreamState → List ℕ → StreamState → Type 0
 GoesUnanswered old frame new =
     (new.left ≡ old.left) ⊎ (Appends old.held new.held (frame_line frame) × TakesNoReply old.left new.left)
 
--- A reply is what one line says, after the frame's line was written. Failures are counted. At the greatest count a
--- failure is silence.
+-- A reply is what one line says, after the frame's line was written. A failure takes no reply. At the greatest count of
+-- failures a failure is silence.
 abbrev pub StreamStep : StreamState → Exchange → StreamState → Type 0
 StreamStep old (frame, Failed) new = GoesUnanswered old frame.items new
 StreamStep old (frame, Reply reply) new =

@@ -19,7 +19,7 @@ abbrev pub later_events : List LineEvent → List LineEvent
 later_events [] = []
 later_events (event ∷ events) = events
 
--- what is told of an event, and the count of failures: at the greatest count a failure is silence
+-- what an exchange gives for an event, and the count of failures after it: at the greatest count a failure is silence
 abbrev pub IsTold : LineEvent → ℕ → LineEvent → ℕ → Type 0
 IsTold (Reply reply) failures told counted = (told ≡ Reply reply) × (counted ≡ failures)
 IsTold Failed failures told counted =

@@ -1,2 +1,4 @@
 -- What only the proofs need.
 pub mod Taking
+pub mod SceneIndices
+pub mod Parts

@@ -33,7 +33,7 @@ impl Model for CollisionBytes {
 }
 
 impl CollisionBytes {
-    /// These bytes; `None` where there is none.
+    /// These bytes; `None` if there is none.
     pub fn new(bytes: LineReply) -> Option<CollisionBytes>
         ensures none { IsNone result ↔ (bytes.items ≡ []) }
         ensures some { IfSome result (λ c. c ≡ bytes.items) }

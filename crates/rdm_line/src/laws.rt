@@ -1,4 +1,4 @@
-//! Laws of the simulated line, each the contract of a function that does nothing. The definitions stand in `specs`.
+//! Laws of the simulated line, each the contract of a function that does nothing. The definitions are in `specs`.
 ghost use Rattle.std.specs.Prelude.{◌≡◌, ◌≢◌, ℕ, List, [], map};
 ghost use Rattle.rdm_wire.specs.Honest.{HonestTrace};
 ghost use Rattle.rdm_wire.specs.Honest.Heard.{Failed};
@@ -12,7 +12,7 @@ ghost use Rattle.rdm_line.specs.declared.scene.SceneDevice.{SceneDevice};
 ghost use Rattle.std.specs.List.{AllByRecursion};
 
 /// A simulated line is honest towards the devices that are present at each exchange. The premise is that no five
-/// replies of a kind are lost in succession: to branches that a device is due to answer, and to mutes of a present
+/// replies of a kind are lost in a row: to branches that a device is due to answer, and to mutes of a present
 /// device. This holds of a run of exchanges that begins at any moment, up to its first failure, if there is one. It
 /// holds whatever the frames, the collisions and the devices that come and leave.
 pub fn simulated_line_is_honest()
@@ -27,7 +27,7 @@ pub fn staying_line_is_honest()
         IsRun s steps new → LosesFew steps → HonestTrace (uids_of_scene s.devices) (map seen_in steps) }
 {}
 
-/// An exchange fails exactly when the scene names its number; where it names none, none fails.
+/// An exchange fails exactly when the scene names its number; if it names none, none fails.
 pub fn fails_are_named()
     ensures named { (s new : SimState) (steps : List Step) →
         IsRun s steps new → AllByRecursion (FailsAsNamed s.fails) steps }
@@ -48,13 +48,13 @@ pub fn exchanges_are_a_run()
         (steps : List Step) × IsRun s steps new × (map (λ x. x.exchange) steps ≡ xs) }
 {}
 
-/// Losses of which no five have successive numbers are as they are demanded, whatever the frames are.
+/// Losses of which no five have consecutive numbers are few enough, whatever the frames are.
 pub fn few_losses_suffice()
     ensures { (s new : SimState) (steps : List Step) →
         IsRun s steps new → NoFiveSuccessive s.losses → LosesFew steps }
 {}
 
-/// Where no device of a scene comes late or leaves, all are present at each exchange.
+/// If no device of a scene comes late or leaves, all are present at each exchange.
 pub fn devices_may_stay()
     ensures { (devices : List SceneDevice) (i : ℕ) → AllByRecursion Stays devices →
         present_at devices i ≡ uids_of_scene devices }

@@ -1,5 +1,5 @@
-//! A line of devices: what it owes, a tape that replays events, a line over streams of text, and a simulation of devices
-//! from a description.
+//! A line of devices: what it has to do, a tape that replays events, a line over streams of text, and a simulation of
+//! devices from a description. All of it is the profile of this project.
 #![tactic(auto)]
 
 mod collision;

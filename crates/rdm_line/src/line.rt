@@ -11,8 +11,8 @@ use thiserror::Error;
 #[error("the line failed")]
 pub struct LineFault;
 
-/// A line on which frames are sent and replies come (profile of this project). Each line names its step: the relation
-/// between its value before an exchange, the frame with what came after it, and its value afterwards.
+/// A line on which frames are sent and replies come. Each line names its step: the relation between its value before an
+/// exchange, the frame with what came after it, and its value afterwards.
 pub trait Line {
     /// The line's step.
     ghost step: { Self → Exchange → Self → Type 0 };
@@ -20,7 +20,7 @@ pub trait Line {
     /// How many exchanges have failed.
     ghost failures_of: { Self → ℕ };
 
-    /// Sends a frame, and gives the bytes that came after it; no bytes are silence. [`LineFault`]: the line failed.
+    /// Sends a frame, and returns the bytes that came after it; no bytes are silence. [`LineFault`]: the line failed.
     /// It fails exactly when [`failures`](Line::failures) rises by one. That count ends at `u64::MAX`, where an
     /// exchange that would fail gives silence.
     fn exchange(&mut self, frame: &Frame) -> Result<LineReply, LineFault>

@@ -1,7 +1,7 @@
 //! The parameters of a simulated device.
 ghost use Rattle.std.specs.Prelude.{◌≡◌, ◌<◌, ◌≤◌, length, is_some};
-ghost use Rattle.rdm_line.specs.Parameters.{part_of, ack_of_part, part_sent, parameter_of, sent_of, place_of};
-ghost use Rattle.rdm_line.specs.Parameters.{AnswersPart};
+ghost use Rattle.rdm_line.specs.Parameters.{part_of, ack_of_part, part_sent, parameter_of, sent_of};
+ghost use Rattle.rdm_line.specs.body.Parts.{index_of, AnswersPart};
 
 use arrayvec::ArrayVec;
 use rdm_wire::{AckType, MOST_PARAMETER_BYTES};
@@ -86,7 +86,7 @@ impl Parameters {
 
     // How many stand before the first one with this PID.
     fn count_before(&self, pid: u16) -> usize
-        ensures value { result ≡ place_of pid self.now }
+        ensures value { result ≡ index_of pid self.now }
         ensures bound { result ≤ length self.now }
     {
         self.parameters
@@ -108,9 +108,9 @@ impl Parameters {
         ensures value { AnswersPart (parameter_of pid self.old) result }
         ensures sent { self.new ≡ sent_of pid self.old }
     {
-        let place = self.count_before(pid);
-        if place < self.parameters.len() {
-            Some(self.parameters[place].send())
+        let index = self.count_before(pid);
+        if index < self.parameters.len() {
+            Some(self.parameters[index].send())
         } else {
             None
         }

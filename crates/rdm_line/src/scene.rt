@@ -8,24 +8,24 @@ use crate::scene_devices::SceneDevices;
 use rdm_wire::{Device, Uid};
 use thiserror::Error;
 
-/// Memory was refused.
+/// Memory ran out.
 #[derive(Clone, Copy, Debug, PartialEq, Eq, Error)]
 #[error("out of memory")]
 pub struct NoMemory;
 
-/// A line to be simulated (profile of this project). Exchanges are numbered from 0.
+/// A line to be simulated. Exchanges are numbered from 0.
 #[derive(Debug, Drop)]
 pub struct Scene {
     /// The controller on the line.
     pub source: Uid,
     /// The devices.
     pub devices: SceneDevices,
-    /// What comes of replies to a branch that collide, one after another; the last one stays in force, and where there
-    /// is none it is [`Collision::Or`].
+    /// What comes of replies to a branch that collide, one after another; the last one stays in force, and if there is
+    /// none it is [`Collision::Or`].
     pub collisions: Vec<Collision>,
-    /// The exchanges whose reply is lost, in any order.
+    /// The exchanges whose reply is lost, in any order. `u64::MAX` names none.
     pub losses: Vec<u64>,
-    /// The exchanges at which the line fails, in any order.
+    /// The exchanges at which the line fails, in any order. `u64::MAX` names none.
     pub fails: Vec<u64>,
 }
 

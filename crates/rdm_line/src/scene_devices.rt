@@ -3,9 +3,9 @@ ghost use Rattle.std.specs.Prelude.{◌≡◌, ◌↔◌, ◌≤◌, ◌<◌, �
 ghost use Rattle.std.specs.Prelude.{OnSome, IfNone, IfSome, is_some, option_map};
 ghost use Rattle.rdm_wire.specs.Uid.{is_broadcast, has};
 ghost use Rattle.rdm_line.specs.Scenes.{IsScene, uids_of_scene, with_scene_device, find_device, device_at};
-ghost use Rattle.rdm_line.specs.Scenes.{parameter_at, sent_by};
-ghost use Rattle.rdm_line.specs.ScenePlaces.{place_in, has_at, IsFoundAt, IsFreeAt};
-ghost use Rattle.rdm_line.specs.Parameters.{AnswersPart};
+ghost use Rattle.rdm_line.specs.Scenes.{sent_by};
+ghost use Rattle.rdm_line.specs.body.Parts.{parameter_at, AnswersPart};
+ghost use Rattle.rdm_line.specs.body.SceneIndices.{index_in, has_at, IsFoundAt, IsFreeAt};
 
 use crate::parameter::ParameterPart;
 use crate::scene::SceneDevice;
@@ -41,7 +41,7 @@ pub enum AddFault {
     /// There are 1,024 devices.
     #[error("there are 1,024 devices")]
     Full,
-    /// Memory was refused.
+    /// Memory ran out.
     #[error("out of memory")]
     NoMemory,
 }
@@ -56,8 +56,7 @@ impl SceneDevices {
         }
     }
 
-    /// Puts in a device, in its place by UID. An error is the first fault, in the order of [`AddFault`], and leaves
-    /// the devices as they were.
+    /// Puts in a device. An error is the first fault, in the order of [`AddFault`], and leaves the devices unchanged.
     pub fn add(&mut self, device: SceneDevice) -> Result<(), AddFault>
         requires own { is_broadcast device.device.uid ≡ false }
         requires preamble { device.preamble ≤ 7 }
@@ -68,21 +67,21 @@ impl SceneDevices {
         ensures added { OnOk result (self.new ≡ with_scene_device device self.old) }
         ensures unchanged { OnErr result (self.new ≡ self.old) }
     {
-        let Some(place) = self.free_place(device.uid()) else {
+        let Some(index) = self.free_index(device.uid()) else {
             return Err(AddFault::Repeated);
         };
         if self.devices.len() == MOST_DEVICES {
             return Err(AddFault::Full);
         }
-        match self.devices.insert(place, device) {
+        match self.devices.insert(index, device) {
             Ok(()) => Ok(()),
             Err(_) => Err(AddFault::NoMemory),
         }
     }
 
-    // How many devices have a lesser UID, which is the place of the one with this UID.
+    // How many devices have a lesser UID, which is the index of the one with this UID.
     fn count_below(&self, uid: Uid) -> usize
-        ensures value { result ≡ place_in self.now uid }
+        ensures value { result ≡ index_in self.now uid }
         ensures bound { result ≤ length self.now }
         ensures scene { IsScene self.now }
     {
@@ -92,43 +91,43 @@ impl SceneDevices {
             .count()
     }
 
-    // Whether the device at this place has this UID.
-    fn has_at(&self, place: usize, uid: Uid) -> bool
-        ensures { result ≡ has_at place uid self.now }
+    // Whether the device at this index has this UID.
+    fn has_at(&self, index: usize, uid: Uid) -> bool
+        ensures { result ≡ has_at index uid self.now }
     {
-        match self.devices.get(place) {
+        match self.devices.get(index) {
             Some(device) => device.device.uid == uid,
             None => false,
         }
     }
 
-    // The place that a device with this UID would have; `None` where there is one.
-    fn free_place(&self, uid: Uid) -> Option<usize>
+    // The index that a device with this UID would have; `None` if there is one.
+    fn free_index(&self, uid: Uid) -> Option<usize>
         ensures there { IfNone result (has (uids_of_scene self.now) uid ≡ true) }
         ensures absent { OnSome result (has (uids_of_scene self.now) uid ≡ false) }
-        ensures place { IfSome result (λ i. (i ≤ length self.now) × IsFreeAt i uid self.now) }
+        ensures index { IfSome result (λ i. (i ≤ length self.now) × IsFreeAt i uid self.now) }
         ensures few { length self.now ≤ MOST_DEVICES }
         ensures in_range { uid < 2 ^ 48 }
     {
         // For the proof alone: a UID's number is below 2^48.
         let _in_range = uid.number();
-        let place = self.count_below(uid);
-        if self.has_at(place, uid) {
+        let index = self.count_below(uid);
+        if self.has_at(index, uid) {
             None
         } else {
-            Some(place)
+            Some(index)
         }
     }
 
-    // The place of the device with this UID.
-    fn place_of(&self, uid: Uid) -> Option<usize>
+    // The index of the device with this UID.
+    fn index_of(&self, uid: Uid) -> Option<usize>
         ensures none { IfNone result (find_device self.now uid ≡ None) }
         ensures some { IfSome result (λ i. (i < length self.now) × IsFoundAt i uid self.now) }
         ensures scene { IsScene self.now }
     {
-        let place = self.count_below(uid);
-        if self.has_at(place, uid) {
-            Some(place)
+        let index = self.count_below(uid);
+        if self.has_at(index, uid) {
+            Some(index)
         } else {
             None
         }
@@ -147,7 +146,7 @@ impl SceneDevices {
         ensures value { option_map (λ d. d.now) result ≡ device_at exchange self.now uid }
         ensures scene { IsScene self.now }
     {
-        let device = &self.devices[self.place_of(uid)?];
+        let device = &self.devices[self.index_of(uid)?];
         if device.is_present(exchange) {
             Some(device)
         } else {
@@ -159,8 +158,8 @@ impl SceneDevices {
     pub(crate) fn has_parameter(&self, uid: Uid, pid: u16) -> bool
         ensures { result ≡ is_some (parameter_at uid pid self.now) }
     {
-        match self.place_of(uid) {
-            Some(place) => self.devices[place].params.has(pid),
+        match self.index_of(uid) {
+            Some(index) => self.devices[index].params.has(pid),
             None => false,
         }
     }
@@ -171,7 +170,7 @@ impl SceneDevices {
         ensures value { AnswersPart (parameter_at uid pid self.old) result }
         ensures sent { self.new ≡ sent_by uid pid self.old }
     {
-        let place = self.place_of(uid)?;
-        self.devices[place].params.send(pid)
+        let index = self.index_of(uid)?;
+        self.devices[index].params.send(pid)
     }
 }

@@ -6,11 +6,11 @@ ghost use Rattle.rdm_wire.specs.Packet.{packet};
 ghost use Rattle.rdm_wire.specs.Responses.{fields_of};
 ghost use Rattle.rdm_wire.specs.Commands.{command_read};
 ghost use Rattle.rdm_line.specs.Overlays.{all_laid_over};
-ghost use Rattle.rdm_line.specs.Scenes.{parameter_at};
+ghost use Rattle.rdm_line.specs.body.Parts.{parameter_at, SendsPart};
 ghost use Rattle.rdm_line.specs.Sim.{SimStep, Acts, ActsOn, Unmutes, AnswersBranch, AnswersGet, AnswersSet, Refuses};
 ghost use Rattle.rdm_line.specs.Sim.{is_among, next_exchange, answers_branch, answering, branch_reply_of, collided};
 ghost use Rattle.rdm_line.specs.Sim.{later_collisions};
-ghost use Rattle.rdm_line.specs.Sim.{response_to, TellsPart};
+ghost use Rattle.rdm_line.specs.Sim.{response_to};
 
 use crate::collision::Collision;
 use crate::line::{Line, LineFault};
@@ -29,8 +29,10 @@ use std::marker::Model;
 // The reason for which a device refuses a parameter that it doesn't have (E1.20, NR_UNKNOWN_PID).
 const UNKNOWN_PID: [u8; 2] = [0, 0];
 
-/// A line of simulated devices (profile of this project). Contracts see its state, and its step is that of the rules
-/// for simulated lines.
+/// A line of simulated devices. Contracts see its state, and its step is that of the rules for simulated lines.
+///
+/// Exchanges are counted up to `u64::MAX`, where the count stays. The number of an exchange that is lost or that fails
+/// is therefore below `u64::MAX`: that number names none.
 #[derive(Debug, Drop)]
 pub struct SimLine {
     scene: Scene,
@@ -66,8 +68,8 @@ impl Model for SimLine {
 }
 
 impl SimLine {
-    /// A line of the scene's devices, all of them unmuted, before its first exchange. Where memory is refused the
-    /// scene comes back.
+    /// A line of the scene's devices, all of them unmuted, before its first exchange. If memory runs out, the
+    /// scene is returned.
     pub fn new(alloc: Global, scene: Scene) -> Result<SimLine, (NoMemory, Scene)>
         ensures devices { IfOk result (λ s. s.devices ≡ scene.devices) }
         ensures unmuted { IfOk result (λ s. s.muted ≡ []) }
@@ -166,8 +168,8 @@ impl SimLine {
         device.is_present(exchange) && range.contains(uid) && !self.muted.contains(uid)
     }
 
-    // What comes of a collision of replies that lie over one another so; the next collision is to come, or the last
-    // one again.
+    // What comes of a collision of replies that lie over one another like this; the next collision is to come, or the
+    // last one again.
     fn collide(&mut self, replies: LineReply) -> LineReply
         requires { 0 < length replies.items }
         ensures some { 0 < length result.items }
@@ -281,7 +283,7 @@ fn answer_get(
     tn: u8,
     sent: Option<(ParameterPart, AckType)>,
 ) -> LineReply
-    ensures { TellsPart request.now source tn sent result.items }
+    ensures { SendsPart request.now source tn sent result.items }
 {
     match sent {
         Some((part, ack)) => respond(request, source, tn, RespClass::Get, ack, &part),

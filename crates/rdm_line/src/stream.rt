@@ -22,8 +22,8 @@ const MOST_LINE_BYTES: usize = MOST_DIGITS + 1;
 // A line without its newline.
 type Text = ArrayVec<u8, MOST_LINE_BYTES>;
 
-/// A line whose far end is another program, which is reached by text (profile of this project). Each exchange writes
-/// its frame as a line of lower-case hexadecimal, flushes, and then reads one line, which says what came:
+/// A line whose far end is another program, which is reached by text. Each exchange writes its frame as a line of
+/// lower-case hexadecimal, flushes, and then reads one line, which says what came:
 ///
 /// - at most 257 bytes in hexadecimal of either case: a reply with these bytes;
 /// - an empty line: silence;
@@ -74,7 +74,7 @@ impl<R: Read, W: Write> StreamLine<R, W> {
         (self.reader, self.writer)
     }
 
-    // Writes the frame and reads its reply; None where the exchange failed.
+    // Writes the frame and reads its reply; None if the exchange failed.
     fn ask(&mut self, frame: &Frame) -> Option<LineReply>
         ensures written { OnSome result (Appends self.old.held self.new.held (frame_line frame.now.items)) }
         ensures taken { IfSome result (λ reply. TakesReply self.old.left self.new.left reply.items) }
@@ -120,7 +120,7 @@ fn write_frame<W: Write>(writer: &mut W, frame: &Frame) -> io::Result<()>
     writer.flush()
 }
 
-// The next byte; None at the end of the input or where the reader fails, and then none is taken.
+// The next byte; None at the end of the input or if the reader fails, and then none is taken.
 fn next_byte<R: Read>(reader: &mut R) -> Option<u8>
     ensures some { IfSome result (λ b. Consumes (R.remaining reader.old) (R.remaining reader.new) (b ∷ [])) }
     ensures none { IfNone result (Consumes (R.remaining reader.old) (R.remaining reader.new) []) }
@@ -137,8 +137,8 @@ fn next_byte<R: Read>(reader: &mut R) -> Option<u8>
     None
 }
 
-// The next line, without its newline; None where it is longer than a reply's may be, where it has no newline or where
-// the reader fails. A line that is too long is read to its end.
+// The next line, without its newline; None if it is longer than a reply's may be, has no newline, or if the reader
+// fails. A line that is too long is read to its end.
 fn read_line<R: Read>(reader: &mut R) -> Option<Text>
     ensures taken { IfSome result (λ line. Consumes (R.remaining reader.old) (R.remaining reader.new)
         (line.items ++ 10 ∷ [])) }
@@ -172,7 +172,7 @@ fn skip_line<R: Read>(reader: &mut R)
     }
 }
 
-// The bytes that a line says; None where it says none.
+// The bytes that a line says; None if it says none.
 fn parse_reply(line: &[u8]) -> Option<LineReply>
     requires { length line.now ≤ MOST_LINE_BYTES }
     ensures some { IfSome result (λ reply. SaysReply line.now reply.items) }

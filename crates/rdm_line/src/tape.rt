@@ -8,8 +8,8 @@ use rdm_join::{LineEvent, LineReply};
 use rdm_wire::Frame;
 use std::marker::Model;
 
-/// A line that gives these events in order, whatever the frames are, and then fails at each exchange (profile of this
-/// project). Contracts see the events to come and the count of failures.
+/// A line that gives these events in order, whatever the frames are, and then fails at each exchange. An event that is
+/// a failure is used up as any other, and counted. Contracts see the events to come and the count of failures.
 #[derive(Debug, Drop)]
 pub struct TapeLine {
     events: Vec<LineEvent>,

@@ -8,7 +8,6 @@ use Rattle.arrayvec.specs.ArrayVec.{ArrayVec}
 use Rattle.rdm_wire.specs.declared.request.Request.{Request}
 use Rattle.rdm_join.specs.declared.event.LineEvent.{LineEvent}
 use Rattle.rdm_agent.specs.declared.kind.Kind.{Kind}
-use Rattle.rdm_agent.specs.declared.search.Search.{Search}
 use Rattle.rdm_log.specs.declared.entry.ClientId.{ClientId}
 use Rattle.rdm_log.specs.declared.entry.Opening.{Opening}
 use Rattle.rdm_log.specs.declared.entry.Entry.{Entry}
@@ -194,6 +193,6 @@ take_brings k (Ok (Some frame)) block is = rw is.1.2 (before (Send is.1.0 frame)
 take_brings k (Ok None) block is = nothing block is.1.1
 take_brings k (Err x) block is = nothing block is.1
 
-pub deliver_brings : (search : Search) (o : Opening) (h : List Entry) (event : LineEvent) (answer : Result (Unit {0}) (NotAsked × LineEvent)) (block : List Entry) → DeliverAdds search o h event answer block → Brings 0 0 block
-deliver_brings search o h event (Ok x) block is = with_results (Came event) block refl refl is.1
-deliver_brings search o h event (Err e) block is = nothing block is.2
+pub deliver_brings : (k : LogState) (event : LineEvent) (answer : Result (Unit {0}) (NotAsked × LineEvent)) (block : List Entry) → DeliverAdds k event answer block → Brings 0 0 block
+deliver_brings k event (Ok x) block is = with_results (Came event) block refl refl is.1
+deliver_brings k event (Err e) block is = nothing block is.2

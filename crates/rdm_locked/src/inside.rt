@@ -1,15 +1,14 @@
 //! What lies under the lock.
 ghost use Rattle.std.specs.Prelude.{◌≡◌, ◌≢◌, ◌≤◌, ◌+◌, [], Ok, Err, Some, OnOk, OnErr, IfOk, IfErr, IfSome, IfNone};
 ghost use Rattle.std.specs.Prelude.{OnSome, nat_lt, if◌then◌else◌};
-ghost use Rattle.rdm_agent.specs.declared.search.Search.TheVariants.{Steady};
-ghost use Rattle.rdm_log.specs.log.Config.{IsConfig};
+ghost use Rattle.rdm_log.specs.log.Config.{IsConfig, steady};
 ghost use Rattle.rdm_log.specs.log.History.{next_client};
 ghost use Rattle.rdm_log.specs.log.Legal.{Legal};
-ghost use Rattle.rdm_log.specs.log.LogState.{opened};
+ghost use Rattle.rdm_log.specs.log.LogState.{begun};
 ghost use Rattle.rdm_log.specs.log.Runs.{known_devices, devices_run};
 ghost use Rattle.rdm_log.specs.promises.Blocks.{JoinLogs, SubmitLogs, DiscoverLogs, PauseLogs, ResumeLogs, GrowsBy};
 ghost use Rattle.rdm_log.specs.promises.Blocks.{CloseAdds, DeliverAdds, CollectAdds};
-ghost use Rattle.rdm_log.specs.promises.LogInBound.{InBound};
+ghost use Rattle.rdm_log.specs.promises.Promised.{Promised};
 ghost use Rattle.rdm_log.specs.promises.Outcomes.{oldest_kind, request_outcome, discovery_outcome};
 ghost use Rattle.rdm_log.specs.declared.outcome.OutcomeKind.TheVariants as kinds;
 ghost use Rattle.rdm_locked.specs.Calls.{count_calls, submits_logged, discovers_logged};
@@ -20,12 +19,12 @@ mod finish;
 use crate::share::CallShare;
 use crate::turn::Turn;
 pub use finish::SessionEnd;
-use rdm_agent::{Kind, Search};
+use rdm_agent::Kind;
 use rdm_client::DeviceView;
 use rdm_join::LineEvent;
 use rdm_queue::{
     AskFault, ClientId, Completion, Config, DiscoveryEnd, JoinFault, Log, LogFull, NoMemory,
-    NotAsked, OutcomeKind, Session, SubmitFault,
+    NotAsked, OutcomeKind, Session, Setup, SubmitFault,
 };
 use rdm_wire::{DeviceSet, Request};
 use std::alloc::Global;
@@ -35,8 +34,9 @@ use std::sync::ledger::{Blank, Book, Ledger, Share};
 /// project). Each of its calls is made while the lock is held, and is one call of the session.
 ///
 /// Whenever the lock is free these hold:
-/// - The log is legal and in bound, and the session stands after it. In bound means: a run on an honest line that
-///   doesn't fail, with a budget that suffices, is answered without fault unless the queue is closed.
+/// - The log is legal and keeps all that clients are promised, and the session stands after it. One promise is the
+///   bound: a run on an honest line that doesn't fail, with a budget that suffices, is answered without fault unless
+///   the queue is closed.
 /// - The book has as many calls as the log: an Accept, an Ask, a Collect, and a Refuse of a client's call count one
 ///   each.
 /// - There are 17 parts of the book: each client that joined has one, and the rest lies here.
@@ -53,12 +53,11 @@ pub struct Inside<L: Ledger> {
     ghost few: { joined ≤ 16 },
     ghost unused: { rest.amount ≡ 0 },
     ghost left_once: { left ≤ joined },
-    ghost in_bound: { InBound session },
 }
 
 impl<L: Ledger> Inside<L> {
-    /// A session that is set up so, without clients, whose runs search steadily. The blank has 17 parts; the other
-    /// conditions are those of [`Session::new`].
+    /// A session with this configuration, without clients, whose runs search steadily. The blank has 17 parts; the
+    /// other conditions are those of [`Session::new`].
     /// Err: there was no memory; the blank and the log come back as they were.
     pub fn new(
         alloc: Global,
@@ -70,31 +69,30 @@ impl<L: Ledger> Inside<L> {
         requires parts { (blank.parts ≡ L.parts) × (L.parts ≡ 17) }
         requires config_is { IsConfig config }
         requires empty { log.entries ≡ [] }
-        ensures session { IfOk result (λ i. i.session ≡ record log { opening = opened config; search = Steady }) }
+        ensures session { IfOk result (λ i. i.session ≡ begun (steady config) log) }
         ensures clients { IfOk result (λ i. (i.joined ≡ 0) × (i.left ≡ 0)) }
         ensures back { IfErr result (λ e. (e.1 ≡ blank) × (e.2 ≡ log)) }
     {
-        Inside::new_by(alloc, Search::Steady, blank, config, log)
+        Inside::new_with(alloc, blank, Setup::steady(config), log)
     }
 
-    /// The same under the same conditions and with the same error, of a session whose runs search so.
-    pub fn new_by(
+    /// The same under the same conditions and with the same error, with a set-up that also says how runs search.
+    pub fn new_with(
         alloc: Global,
-        search: Search,
         blank: Blank,
-        config: Config,
+        setup: Setup,
         log: Log,
     ) -> Result<Inside<L>, (NoMemory, Blank, Log)>
         requires name { blank.name ≡ L.name }
         requires parts { (blank.parts ≡ L.parts) × (L.parts ≡ 17) }
-        requires config_is { IsConfig config }
+        requires config_is { IsConfig setup.config }
         requires empty { log.entries ≡ [] }
-        ensures session { IfOk result (λ i. i.session ≡ record log { opening = opened config; search = search }) }
+        ensures session { IfOk result (λ i. i.session ≡ begun setup log) }
         ensures clients { IfOk result (λ i. (i.joined ≡ 0) × (i.left ≡ 0)) }
         ensures back { IfErr result (λ e. (e.1 ≡ blank) × (e.2 ≡ log)) }
     {
-        let session = match Session::new(alloc, config, log) {
-            Ok(session) => session.with_search(search),
+        let session = match Session::new_with(alloc, setup, log) {
+            Ok(session) => session,
             Err((fault, log)) => return Err((fault, blank, log)),
         };
         let (calls, rest) = blank.open::<L>();
@@ -280,8 +278,7 @@ impl<L: Ledger> Inside<L> {
     /// Takes what the line answered, as [`Session::deliver`] does.
     /// Err: no reply is awaited; nothing has changed, and the event comes back.
     pub fn deliver(&mut self, alloc: Global, event: LineEvent) -> Result<(), (NotAsked, LineEvent)>
-        ensures adds { GrowsBy self.old.session (DeliverAdds self.old.session.search
-            self.old.session.opening self.old.session.entries event result) self.new.session }
+        ensures adds { GrowsBy self.old.session (DeliverAdds self.old.session event result) self.new.session }
         ensures clients { (self.new.joined ≡ self.old.joined) × (self.new.left ≡ self.old.left) }
     {
         self.session.deliver(alloc, event)
@@ -309,16 +306,16 @@ impl<L: Ledger> Inside<L> {
         }
     }
 
-    /// The session. Whatever the calls were, its log is legal and in bound, its calls are those of the book, and its
-    /// clients are those that joined.
+    /// The session. Whatever the calls were, its log is legal and keeps all that clients are promised, its calls are
+    /// those of the book, and its clients are those that joined.
     pub fn session(&self) -> &Session
         ensures session { result.now ≡ self.now.session }
         ensures legal { Legal self.now.session.opening self.now.session.entries }
-        ensures in_bound { InBound self.now.session }
+        ensures promised { Promised self.now.session }
         ensures counted { count_calls self.now.session.entries ≡ self.now.calls.total }
         ensures clients { next_client self.now.session.opening self.now.session.entries ≡ self.now.joined }
     {
-        // For the proof alone: the log says that it is legal.
+        // For the proof alone: the log says that it is legal, and what it promises.
         self.session.log();
         &self.session
     }

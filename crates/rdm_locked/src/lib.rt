@@ -18,6 +18,7 @@ pub use client::{Left, LockedClient};
 pub use exchange::Exchange;
 pub use fault::FinishFault;
 pub use inside::{Inside, SessionEnd};
-pub use port::{Port, WorkerEnd};
+pub use port::Port;
+pub use rdm_client::WorkerEnd;
 pub use share::CallShare;
 pub use turn::Turn;

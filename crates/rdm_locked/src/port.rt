@@ -4,7 +4,6 @@ ghost use Rattle.std.specs.List.{sum_by};
 ghost use Rattle.rdm_log.specs.log.Config.{IsConfig};
 ghost use Rattle.rdm_log.specs.log.History.{next_client};
 ghost use Rattle.rdm_log.specs.log.Legal.{Legal};
-ghost use Rattle.rdm_log.specs.promises.LogInBound.{InBound};
 ghost use Rattle.rdm_log.specs.promises.Promised.{Promised};
 ghost use Rattle.rdm_locked.specs.Calls.{count_calls};
 ghost use Rattle.rdm_locked.specs.Exchanges.{exchanges_in, recorded, Records};
@@ -15,11 +14,10 @@ use crate::fault::FinishFault;
 use crate::inside::{Inside, SessionEnd};
 use crate::share::CallShare;
 use crate::turn::Turn;
-use rdm_agent::Search;
-use rdm_client::{Desk, Tells, TellsAsk};
+use rdm_client::{Desk, Tells, TellsAsk, WorkerEnd};
 use rdm_join::LineEvent;
 use rdm_line::{Line, LineFault};
-use rdm_queue::{Config, JoinFault, Log, LogFull, NoMemory};
+use rdm_queue::{Config, JoinFault, Log, LogFull, NoMemory, Setup};
 use rdm_wire::Frame;
 use std::alloc::Global;
 use std::sync::ledger::{Blank, Ledger};
@@ -36,20 +34,9 @@ pub struct Port<L: Ledger> {
     pub(crate) inside: Mutex<Inside<L>>,
 }
 
-/// Why a worker has stopped (profile of this project).
-#[derive(Clone, Copy, Debug, PartialEq, Eq)]
-pub enum WorkerEnd {
-    /// Each client that had joined by then has left, and no frame may be sent.
-    AllLeft,
-    /// It made all its turns.
-    Turns,
-    /// The log has fewer than three free entries.
-    LogFull,
-}
-
 impl<L: Ledger> Port<L> {
-    /// A session that is set up so, without clients, behind a lock; its runs search steadily. The blank has 17 parts:
-    /// one for each client, and one for the rest. The other conditions are those of
+    /// A session with this configuration, without clients, behind a lock; its runs search steadily. The blank has 17
+    /// parts: one for each client, and one for the rest. The other conditions are those of
     /// [`Session::new`](rdm_queue::Session::new).
     /// Err: there was no memory; the blank and the log come back as they were.
     pub fn new(
@@ -64,24 +51,23 @@ impl<L: Ledger> Port<L> {
         requires empty { log.entries ≡ [] }
         ensures back { IfErr result (λ e. (e.1 ≡ blank) × (e.2 ≡ log)) }
     {
-        Port::new_by(alloc, Search::Steady, blank, config, log)
+        Port::new_with(alloc, blank, Setup::steady(config), log)
     }
 
-    /// The same under the same conditions and with the same error, of a session whose runs search so.
-    pub fn new_by(
+    /// The same under the same conditions and with the same error, with a set-up that also says how runs search.
+    pub fn new_with(
         alloc: Global,
-        search: Search,
         blank: Blank,
-        config: Config,
+        setup: Setup,
         log: Log,
     ) -> Result<Port<L>, (NoMemory, Blank, Log)>
         requires name { blank.name ≡ L.name }
         requires parts { (blank.parts ≡ L.parts) × (L.parts ≡ 17) }
-        requires config_is { IsConfig config }
+        requires config_is { IsConfig setup.config }
         requires empty { log.entries ≡ [] }
         ensures back { IfErr result (λ e. (e.1 ≡ blank) × (e.2 ≡ log)) }
     {
-        let inside = Inside::new_by(alloc, search, blank, config, log)?;
+        let inside = Inside::new_with(alloc, blank, setup, log)?;
         Ok(Port::holding(inside))
     }
 
@@ -189,8 +175,7 @@ impl<L: Ledger> Port<L> {
         ensures counted { IfOk result (λ e. e.calls ≡ count_calls e.session.entries) }
         ensures exchanges { IfOk result (λ e. exchanges_in e.session.entries ≡ recorded exchanges.now) }
         ensures legal { IfOk result (λ e. Legal e.session.opening e.session.entries) }
-        ensures promised { IfOk result (λ e. Promised e.session.opening e.session.entries) }
-        ensures in_bound { IfOk result (λ e. InBound e.session) }
+        ensures promised { IfOk result (λ e. Promised e.session) }
         ensures back { IfErr result (λ e. e.2 ≡ shares) }
     {
         let Port { inside } = self;

@@ -1,4 +1,5 @@
 //! How a controller is set up.
+use rdm_agent::Search;
 use rdm_wire::Uid;
 
 /// The greatest number of places for all clients together: sixteen clients with 255 each (profile of this project).
@@ -13,4 +14,29 @@ pub struct Config {
     pub places: u16,
     /// How many frames a discovery may take, from 1.
     pub budget: u64,
+}
+
+/// How a session is set up: the configuration of its controller, and how the discovery runs search (profile of this
+/// project).
+#[derive(Clone, Copy, Debug)]
+pub struct Setup {
+    /// The configuration of the controller.
+    pub config: Config,
+    /// How all runs search.
+    pub search: Search,
+}
+
+impl Setup {
+    ghost use Rattle.std.specs.Prelude.{◌≡◌};
+    ghost use Rattle.rdm_log.specs.log.Config.{steady};
+
+    /// The plain set-up with this configuration: runs search steadily.
+    pub fn steady(config: Config) -> Setup
+        ensures { result ≡ steady config }
+    {
+        Setup {
+            config,
+            search: Search::Steady,
+        }
+    }
 }

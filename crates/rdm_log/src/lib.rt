@@ -19,7 +19,7 @@ pub mod laws;
 mod log;
 mod outcome;
 
-pub use config::{Config, MOST_PLACES};
+pub use config::{Config, MOST_PLACES, Setup};
 pub use entry::{
     Call, Cause, ClientId, Entry, MOST_CLIENTS, MOST_DISCOVERIES, NEVER_GIVEN,
     NEVER_GIVEN_TO_A_DISCOVERY, Opening, Owner,

@@ -21,7 +21,7 @@ pub struct Log {
     opening: Box<Opening>,
     entries: Vec<Entry>,
     room: usize,
-    /// How the runs of its session search from now on. No entry says so, and no rule on logs looks at it.
+    /// How the runs of its session search. No entry says it, and no rule on logs looks at it.
     search: Search,
 }
 
@@ -83,7 +83,7 @@ impl Log {
         self.entries.as_slice()
     }
 
-    /// How the runs of its session search from now on; steadily, until a session is told otherwise.
+    /// How the runs of its session search, as the session was set up. A log that no session has written says steadily.
     pub fn search(&self) -> Search
         ensures { result ≡ self.now.search }
     {
@@ -106,15 +106,8 @@ impl Log {
         ensures some { 1 ≤ self.room }
     {
         *self.opening = opening;
-        self.set_search(search);
-        self
-    }
-
-    /// Notes how the runs of its session search from now on. Its opening, its entries and its room are unchanged.
-    pub fn set_search(&mut self, search: Search)
-        ensures { self.new ≡ record self.old { search = search } }
-    {
         self.search = search;
+        self
     }
 
     /// The log without its entries, with the same room, and with the opening of a new log.
@@ -123,7 +116,7 @@ impl Log {
     {
         self.entries.clear();
         *self.opening = Log::blank();
-        self.set_search(Search::Steady);
+        self.search = Search::Steady;
         self
     }
 

@@ -8,6 +8,7 @@ use Rattle.rdm_port.specs.declared.complaint.Complaint.{Complaint}
 use Rattle.rdm_port.specs.declared.complaint.Complaint.TheVariants.{Help, Version, NoCommand, UnknownCommand}
 use Rattle.rdm_port.specs.declared.complaint.Complaint.TheVariants.{UnknownOption, Repeated, HasValue, NoPort}
 use Rattle.rdm_port.specs.declared.complaint.Complaint.TheVariants.{UnknownPort, NoArgument, OneTooMany, NoText, Words}
+use Rattle.rdm_port.specs.declared.complaint.Complaint.TheVariants.{NoValue, NoOption, UnknownBudget}
 
 -- a list of one word has no other
 only : (word other : Bor Text) → Contains (word ∷ []) other → word ≡ other
@@ -28,3 +29,6 @@ among name word words Version has told = told
 among name word words NoCommand has told = told
 among name word words (UnknownCommand other) has told = told
 among name word words NoText has told = told
+among name word words (NoValue option) has told = tt
+among name word words (NoOption command option) has told = told
+among name word words (UnknownBudget text) has told = told

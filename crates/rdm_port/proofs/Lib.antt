@@ -1,2 +1,3 @@
 pub mod WordsLemmas
 mod ComplaintLemmas
+mod LineLemmas

@@ -1,20 +1,14 @@
 -- What is said of words that fit no command.
-use Rattle.std.specs.Prelude.{◌≡◌, ◌≢◌, ◌⊎◌, List, [], ◌∷◌, None, false, ⊤, codes, Contains}
+use Rattle.std.specs.Prelude.{◌≡◌, ◌≢◌, ◌⊎◌, ℕ, List, [], ◌∷◌, Some, None, false, ⊤, codes, Contains}
 use Rattle.std.specs.Borrow.{Bor}
 use Rattle.clap.specs.Words.{Text}
 use Rattle.rdm_port.specs.Words.{is_plain, port_named}
-use Rattle.rdm_port.specs.declared.complaint.Command.{Command}
-use Rattle.rdm_port.specs.declared.complaint.Command.TheVariants.{Decode, Encode, Discover, Run}
 use Rattle.rdm_port.specs.declared.complaint.Complaint.{Complaint}
 use Rattle.rdm_port.specs.declared.complaint.Complaint.TheVariants.{Help, Version, NoCommand, UnknownCommand}
 use Rattle.rdm_port.specs.declared.complaint.Complaint.TheVariants.{UnknownOption, Repeated, HasValue, NoPort}
 use Rattle.rdm_port.specs.declared.complaint.Complaint.TheVariants.{UnknownPort, NoArgument, OneTooMany, Words}
-
-abbrev pub command_name : Command → Text
-command_name Decode = codes "decode"
-command_name Encode = codes "encode"
-command_name Discover = codes "discover"
-command_name Run = codes "run"
+use Rattle.rdm_port.specs.declared.complaint.Complaint.TheVariants.{NoValue, NoOption, UnknownBudget}
+use Rattle.rdm_port.specs.LineWords.{IsBudget}
 
 -- the text is no command's name
 pub record IsNoCommand (text : Text) : Type 0 where
@@ -43,6 +37,9 @@ IsTrueAfter name words (UnknownPort port) = port_named port.now ≡ None
 IsTrueAfter name words (NoArgument command argument) = command.now ≡ name
 IsTrueAfter name words (OneTooMany word) = Contains words word
 IsTrueAfter name words Words = ⊤
+IsTrueAfter name words (NoValue option) = ⊤
+IsTrueAfter name words (NoOption command option) = command.now ≡ name
+IsTrueAfter name words (UnknownBudget text) = (budget : ℕ) → IsBudget (Some text.now) budget → ⊥
 IsTrueAfter name words _ = ⊥
 
 -- the same of all words, of which the first is a command's name

@@ -1,4 +1,4 @@
--- Faults of a command line: where each stands, and what tells it.
+-- Faults of a command line: when each occurs, and the line that reports it.
 use Rattle.std.specs.Prelude.{◌≡◌, ◌⊎◌, ℕ, true, false, List, Option, Some, None, codes}
 use Rattle.std.specs.Prelude.{Result, Ok, Err, ⊤, IsErr, IsUtf8}
 use Rattle.hex.specs.Hex.{decode_of}
@@ -19,7 +19,7 @@ use Rattle.rdm_files.specs.declared.session.file.SessionFile.{SessionFile}
 use Rattle.rdm_port.specs.declared.job.WordsFault.{WordsFault}
 use Rattle.rdm_port.specs.declared.job.WordsFault.TheVariants.{Words, NoMemory}
 
--- the line that tells a fault
+-- the line that reports a fault
 abbrev pub fault_line : Fault → List ℕ
 fault_line CommandLine = codes "fault: command line"
 fault_line Hex = codes "fault: hex"

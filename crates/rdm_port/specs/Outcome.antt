@@ -16,8 +16,6 @@ use Rattle.rdm_line.specs.SimRuns.{NoFiveSuccessive}
 use Rattle.rdm_port.specs.declared.job.Job.{Job}
 use Rattle.rdm_port.specs.declared.job.Job.TheVariants.{Decode, Encode, Discover, Run}
 use Rattle.rdm_port.specs.declared.job.WordsFault.{WordsFault}
-use Rattle.rdm_port.specs.declared.answer.Answer.{Answer}
-use Rattle.rdm_port.specs.declared.answer.Answer.TheVariants.{Line, Lines}
 use Rattle.rdm_files.specs.declared.scene.file.SceneFile.{SceneFile}
 use Rattle.rdm_files.specs.declared.session.file.SessionFile.{SessionFile}
 use Rattle.rdm_port.specs.declared.fault.Fault.{Fault}
@@ -28,18 +26,13 @@ use Rattle.rdm_serving.specs.LoggedOutcomes.{HasLog}
 use Rattle.rdm_serving.specs.declared.outcomes.Outcomes.{Outcomes}
 use Rattle.rdm_serving.specs.SceneDiscovery.{IsSceneDiscovery, IsHonestReport}
 
--- the bytes of an answer
-abbrev pub answer_bytes : Answer → List ℕ
-answer_bytes (Line line) = line.items
-answer_bytes (Lines lines) = lines.items
-
--- how a reply to a branch is told
+-- how a reply to a branch is printed
 abbrev pub reply_text : BranchReply → List ℕ
 reply_text (One u) = uid_text u
 reply_text Silent = codes "silent"
 reply_text Collision = codes "collision"
 
--- the text tells what the bytes with these digits say
+-- the text says what the bytes with these digits mean
 abbrev pub Decodes : List ℕ → List ℕ → Type 0
 Decodes digits text =
     (bytes : List ℕ) × (reply : BranchReply) × (decode_of digits ≡ Ok bytes) × ReadsAs bytes reply
@@ -66,14 +59,14 @@ pub record Discovers (incremental quick : Bool) (known : Option (List ℕ)) (tex
   pub found : Result (List Device) (AgentFault × List Device)
   pub frames : ℕ
   pub run : IsSceneDiscovery file.scene (search_of quick) (kind_of incremental) file.known file.budget found frames
-  -- as long as no five exchanges are lost in succession, it finds the devices
+  -- as long as no five exchanges are lost in a row, it finds the devices
   pub honest : NoFiveSuccessive file.scene.losses.items
       → IsHonestReport file.scene (search_of quick) (kind_of incremental) file.known file.budget found frames
   pub prints : text ≡ report_text found frames
   pub ends : status ≡ report_status found
 
--- The text tells outcomes of all calls of the session that the file's bytes say, and they ended as a legal log says.
--- Which log the threads come to isn't said.
+-- The text has the outcomes of all calls of the session that the file's bytes say, and they ended as a legal log says.
+-- Which log the threads arrive at isn't said.
 pub record Runs (known : Option (List ℕ)) (text : List ℕ) (status : ℕ) : Type 0 where
   pub file : SessionFile
   pub reads : ReadsSession known file
@@ -97,7 +90,7 @@ IsOutcome command known text status =
     ⊎ ((fault : Fault) × IsFaultOf command known fault × (text ≡ line_of (fault_line fault))
     × (status ≡ fault_status fault))
 
--- a writer that had old has new, which is old and a front of the text, but not all of it
+-- a writer that had old has new, which is old and a prefix of the text, but not all of it
 abbrev pub IsCutShort : Option (List ℕ) → Option (List ℕ) → List ℕ → Type 0
 IsCutShort old new text = (front rest : List ℕ) × (text ≡ front ++ rest) × (rest ≢ []) × Appends old new front
 

@@ -74,7 +74,7 @@ port_named name =
     if bytes_eq name (codes "locked") then Some Locked
     else (if bytes_eq name (codes "rings") then Some Rings else None)
 
--- the port that is named, which is the locked one where none is
+-- the port that is named, or else the locked one
 abbrev pub port_in : List Row → Option PortKind
 port_in given = option_map_or port_named (first_of (codes "port") given) (Some Locked)
 

@@ -1,7 +1,7 @@
 //! What is printed.
 ghost use Rattle.std.specs.Prelude.{◌≡◌, ◌≤◌, length};
 ghost use Rattle.rdm_serving.specs.Report.{line_of};
-ghost use Rattle.rdm_port.specs.Outcome.{answer_bytes};
+ghost use Rattle.rdm_port.specs.body.Texts.{answer_bytes};
 
 use crate::fault::Fault;
 use crate::reason::Reason;
@@ -45,10 +45,10 @@ impl Answer {
     }
 }
 
-/// Why a command line has no answer: its fault, and the reason for people; none where memory was refused.
+/// Why a command line has no answer: its fault, and the reason for people; none if memory ran out.
 pub type Refused<'a> = (Fault, Option<Reason<'a>>);
 
-/// What answers a command line, with its status, and what people are told besides.
+/// What answers a command line, with its status, and what is said to people.
 #[derive(Debug, Drop)]
 pub struct Answered<'a> {
     /// What is printed.

@@ -3,7 +3,8 @@ ghost use Rattle.std.specs.Prelude.{◌≡◌, ◌≤◌, IfOk, IfErr, length};
 ghost use Rattle.hex.specs.Hex.{encode_lower};
 ghost use Rattle.rdm_port.specs.Fault.{IsDecodeFault, IsEncodeFault};
 ghost use Rattle.rdm_serving.specs.Report.{line_of};
-ghost use Rattle.rdm_port.specs.Outcome.{Decodes, Encodes, reply_text, answer_bytes};
+ghost use Rattle.rdm_port.specs.Outcome.{Decodes, Encodes, reply_text};
+ghost use Rattle.rdm_port.specs.body.Texts.{answer_bytes};
 
 use crate::answer::{Answer, Answered, LONGEST_TEXT, Refused};
 use crate::fault::Fault;
@@ -14,7 +15,7 @@ use rdm_wire::{
 };
 use std::alloc::Global;
 
-/// Tells what the bytes that answered a branch say.
+/// Says what the bytes that answered a branch mean.
 pub fn decode<'a>(alloc: Global, digits: &'a str) -> Result<Answered<'a>, Refused<'a>>
     ensures ok { IfOk result (λ a. Decodes digits.now (answer_bytes a.text)) }
     ensures status { IfOk result (λ a. a.status ≡ 0) }
@@ -27,7 +28,7 @@ pub fn decode<'a>(alloc: Global, digits: &'a str) -> Result<Answered<'a>, Refuse
     }
 }
 
-// How a reply to a branch is told.
+// How a reply to a branch is printed.
 fn told<'a>(reply: BranchReply) -> Answered<'a>
     ensures text { answer_bytes result.text ≡ line_of (reply_text reply) }
     ensures status { result.status ≡ 0 }
@@ -43,7 +44,7 @@ fn told<'a>(reply: BranchReply) -> Answered<'a>
     }
 }
 
-// Why no device sends a reply with this UID; none where one may.
+// Why no device sends a reply with this UID; none if one may.
 fn broadcast<'a>(uid: Uid) -> Option<Reason<'a>> {
     if uid.is_broadcast() {
         Some(Reason::Broadcast)

@@ -3,8 +3,10 @@ ghost use Rattle.std.specs.Prelude.{◌≡◌, ◌∷◌, [], List, IfSome, IfNo
 ghost use Rattle.std.specs.Borrow.{Bor};
 ghost use Rattle.clap.specs.Words.{Text};
 ghost use Rattle.rdm_port.specs.Words.{is_plain};
-ghost use Rattle.rdm_port.specs.Complaints.{IsTrueOf, IsTrueAfter, IsNoCommand, command_name};
+ghost use Rattle.rdm_port.specs.Complaints.{IsTrueOf, IsTrueAfter, IsNoCommand};
+ghost use Rattle.rdm_port.specs.body.Texts.{command_name};
 
+use crate::line_complaint::{complaint_on_line, has_line};
 use crate::usage::{USAGE, VERSION};
 use std::{fmt, mem};
 
@@ -44,6 +46,17 @@ pub enum Complaint<'a> {
     },
     /// This one is one too many.
     OneTooMany(&'a str),
+    /// This option has no value.
+    NoValue(&'static str),
+    /// The command's option is missing.
+    NoOption {
+        /// The command's name.
+        command: &'static str,
+        /// The option.
+        option: &'static str,
+    },
+    /// `--budget` has this value.
+    UnknownBudget(&'a str),
     /// One of them is no text.
     NoText,
     /// Anything else.
@@ -62,6 +75,7 @@ pub fn complaint_of<'a>(words: &[&'a str]) -> Complaint<'a>
         return Complaint::NoCommand;
     };
     match Command::named(name) {
+        Some(Command::Discover) if has_line(rest) => complaint_on_line(rest),
         Some(command) => complaint_after(command, rest),
         None => Complaint::UnknownCommand(name),
     }
@@ -199,7 +213,7 @@ impl Given {
         }
     }
 
-    // Takes the next word, or tells what is wrong with it.
+    // Takes the next word, or says what is wrong with it.
     fn take<'a>(&mut self, word: &'a str) -> Option<Complaint<'a>>
         ensures told { IfSome result (IsTrueAfter (command_name self.old.command) (word.entry ∷ [])) }
         ensures kept { self.new.command ≡ self.old.command }
@@ -269,7 +283,7 @@ impl Given {
         }
     }
 
-    // What is wrong where no words are left.
+    // What is wrong if no words are left.
     fn end<'a>(&self) -> Complaint<'a>
         ensures { IsTrueAfter (command_name self.now.command) [] result }
     {
@@ -286,8 +300,8 @@ impl Given {
     }
 }
 
-// Whether a word is no argument. A hyphen alone is one.
-fn is_option(word: &str) -> bool
+/// Whether a word is no argument. A hyphen alone is one.
+pub(crate) fn is_option(word: &str) -> bool
     ensures { IsTrue result → is_plain word.now ≡ false }
 {
     word.starts_with('-') && word != "-"
@@ -348,6 +362,13 @@ fn write_complaint<W: fmt::Write>(
             write!(f, "the {argument} of {command} is missing")
         }
         Complaint::OneTooMany(word) => write!(f, "{word:?} is one word too many"),
+        Complaint::NoValue(option) => write!(f, "the value of {option} is missing"),
+        Complaint::NoOption { command, option } => {
+            write!(f, "the option {option} of {command} is missing")
+        }
+        Complaint::UnknownBudget(text) => {
+            write!(f, "--budget is a whole number from 1 to 1000000000, not {text:?}")
+        }
         Complaint::NoText => write!(f, "one of the words is no UTF-8 text"),
         _ => write!(f, "the words fit no command"),
     }

@@ -2,7 +2,8 @@
 ghost use Rattle.std.specs.Prelude.{◌≡◌, ◌⊎◌, IfOk, IfErr};
 ghost use Rattle.serde_json.specs.Errors.{IsMemory};
 ghost use Rattle.rdm_port.specs.Fault.{ReadsScene, SaysScene, IsFileFault, IsTextFault};
-ghost use Rattle.rdm_port.specs.Outcome.{Discovers, answer_bytes, kind_of, search_of};
+ghost use Rattle.rdm_port.specs.Outcome.{Discovers, kind_of, search_of};
+ghost use Rattle.rdm_port.specs.body.Texts.{answer_bytes};
 ghost use Rattle.rdm_serving.specs.Report.{report_text, report_status};
 
 use crate::answer::{Answer, Answered, Refused};
@@ -19,9 +20,9 @@ use serde_json::{Category, Value};
 use std::alloc::Global;
 use std::io::Read;
 
-/// What a run reports of the scene in the reader's file, which is the one at the path. It tells what people should know
-/// of the scene, and then how far it is.
-// It isn't inlined: a run's values are large, and no other answer is to have places for them.
+/// What a run reports of the scene in the reader's file, which is the one at the path. The progress hears what people
+/// should know of the scene, and then how far it is.
+// It isn't inlined: a run's values are large, and no other answer is to have stack for them.
 #[inline(never)]
 pub fn answer_discover<'a, R: Read, P: Progress>(
     alloc: Global,
@@ -52,7 +53,8 @@ pub fn answer_discover<'a, R: Read, P: Progress>(
     answered(alloc, &run)
 }
 
-fn kind_of(incremental: bool) -> Kind
+/// The kind of a run.
+pub(crate) fn kind_of(incremental: bool) -> Kind
     ensures { result ≡ kind_of incremental }
 {
     if incremental {
@@ -62,7 +64,8 @@ fn kind_of(incremental: bool) -> Kind
     }
 }
 
-fn search_of(quick: bool) -> Search
+/// How a run searches.
+pub(crate) fn search_of(quick: bool) -> Search
     ensures { result ≡ search_of quick }
 {
     if quick { Search::Quick } else { Search::Steady }
@@ -140,8 +143,8 @@ fn cut_short<'a>(bytes: &[u8]) -> Reason<'a> {
     }
 }
 
-// What is printed of a run; with a fault, what it found until then is the reason.
-fn answered<'a>(alloc: Global, run: &Discovery) -> Result<Answered<'a>, Refused<'a>>
+/// What is printed of a run; with a fault, what it found until then is the reason.
+pub(crate) fn answered<'a>(alloc: Global, run: &Discovery) -> Result<Answered<'a>, Refused<'a>>
     ensures text { IfOk result (λ a. answer_bytes a.text ≡ report_text run.now.found run.now.frames) }
     ensures status { IfOk result (λ a. a.status ≡ report_status run.now.found) }
     ensures memory { IfErr result (λ e. e.0 ≡ Fault.Memory) }

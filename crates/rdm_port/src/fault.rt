@@ -1,4 +1,4 @@
-//! What the program prints where it has no answer.
+//! What the program prints if it has no answer.
 ghost use Rattle.std.specs.Prelude.{◌≡◌};
 ghost use Rattle.rdm_port.specs.Fault.{fault_line, fault_status};
 
@@ -25,12 +25,12 @@ pub enum Fault {
     Log,
     /// A client or the worker has made all its turns.
     Turns,
-    /// Memory was refused.
+    /// Memory ran out.
     Memory,
 }
 
 impl Fault {
-    /// The line that tells it.
+    /// The line that reports it.
     pub fn line(self) -> &'static str
         ensures { result.now ≡ fault_line self }
     {

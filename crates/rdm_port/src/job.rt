@@ -55,14 +55,14 @@ pub enum WordsFault {
     /// The words fit no command.
     #[error("the words fit no command")]
     Words,
-    /// Memory was refused.
+    /// Memory ran out.
     #[error("out of memory")]
     NoMemory,
 }
 
 /// What the words after the program's name ask for, as `clap` reads them: a command's name and its argument. A word
-/// that begins with `-` and isn't `-` alone is an argument only after a word `--` (profile of this project). Err: the
-/// words fit no command, or there was no memory, whichever is met first.
+/// that begins with `-` and isn't `-` alone is an argument only after a word `--`. Err: the
+/// words fit no command, or memory ran out, whichever is met first.
 pub fn parse_words<'a>(alloc: Global, words: &'a [&'a str]) -> Result<Job<'a>, WordsFault>
     ensures job { IfOk result (λ job. Asks (texts_of words.now) job) }
     ensures words { result ≡ Err WordsFault.Words → AsksNothing (texts_of words.now) }
@@ -96,16 +96,16 @@ fn reply_commands<'a>(alloc: Global) -> Result<Command<'a>, AllocError>
     with_command(command, encode)
 }
 
-// The command line with one more command.
-fn with_command<'a>(line: Command<'a>, command: Command<'a>) -> Result<Command<'a>, AllocError>
+/// The command line with one more command.
+pub(crate) fn with_command<'a>(line: Command<'a>, command: Command<'a>) -> Result<Command<'a>, AllocError>
     requires { (fields_of command).has_globals ≡ false }
     ensures { IfOk result (λ r. app_of r ≡ with_subcommand (app_of line.entry) (app_of command.entry).top) }
 {
     line.subcommand(command)
 }
 
-// The program's command line, before its commands.
-fn bare<'a>(alloc: Global) -> Command<'a>
+/// The program's command line, before its commands.
+pub(crate) fn bare<'a>(alloc: Global) -> Command<'a>
     ensures app { app_of result ≡ bare }
     ensures local { (fields_of result).has_globals ≡ false }
 {
@@ -177,8 +177,8 @@ fn given<'a>(matches: &ArgMatches<'a>) -> Option<Job<'a>>
     }
 }
 
-// Whether a flag was given: `clap` gives it the text of a truth value.
-fn has_flag(given: &ArgMatches<'_>, flag: &str) -> bool
+/// Whether a flag was given: `clap` gives it the text of a truth value.
+pub(crate) fn has_flag(given: &ArgMatches<'_>, flag: &str) -> bool
     ensures { result ≡ is_set flag.now (rows_of (found_of given.now)) }
 {
     match given.get_str(flag) {
@@ -207,8 +207,8 @@ fn port_named(name: &str) -> Option<PortKind>
     }
 }
 
-// Why words weren't taken.
-fn fault_of(error: &Error) -> WordsFault
+/// Why words weren't taken.
+pub(crate) fn fault_of(error: &Error) -> WordsFault
     ensures words { result ≡ WordsFault.Words → kind_of error.now ≢ ErrorKind.OutOfMemory }
     ensures memory { result ≡ WordsFault.NoMemory → kind_of error.now ≡ ErrorKind.OutOfMemory }
 {

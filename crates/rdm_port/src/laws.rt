@@ -1,4 +1,4 @@
-//! Laws of words and of runs, each the contract of a function that does nothing. The definitions stand in `specs`.
+//! Laws of words and of runs, each the contract of a function that does nothing. The definitions are in `specs`.
 ghost use Rattle.std.specs.Prelude.{◌≡◌, ℕ, List, [], ◌∷◌, true, codes};
 ghost use Rattle.std.specs.Borrow.{Bor};
 ghost use Rattle.rdm_port.specs.Words.{Asks, AsksNothing, is_plain};

@@ -3,7 +3,8 @@ ghost use Rattle.std.specs.Prelude.{◌≡◌, ℕ, List, IfOk, IfErr, OnOk, OnE
 ghost use Rattle.std.specs.Io.KnownBytes.{Appends};
 ghost use Rattle.rdm_port.specs.Fault.{IsFaultOf, fault_line, fault_status};
 ghost use Rattle.rdm_serving.specs.Report.{line_of};
-ghost use Rattle.rdm_port.specs.Outcome.{Answers, IsOutcome, IsPrinted, IsCutShort, answer_bytes};
+ghost use Rattle.rdm_port.specs.Outcome.{Answers, IsOutcome, IsPrinted, IsCutShort};
+ghost use Rattle.rdm_port.specs.body.Texts.{answer_bytes};
 
 use crate::answer::{Answer, Answered, Refused};
 use crate::branch::{decode, encode};
@@ -19,18 +20,19 @@ use std::io::{ErrorKind, Read, Write};
 use std::sync::Wait;
 use std::thread::Threads;
 
-const NOT_WRITTEN: u8 = 1;
+/// The status if the writer failed.
+pub(crate) const NOT_WRITTEN: u8 = 1;
 
-/// Prints what answers a command line, and gives its status (profile of this project):
-/// - 0 where it is done;
-/// - 1 where there is a fault, or the writer fails;
-/// - 2 where the words fit no command.
+/// Prints what answers a command line, and gives its status:
+/// - 0 if it is done;
+/// - 1 if there is a fault, or the writer fails;
+/// - 2 if the words fit no command.
 ///
 /// Of several faults the first in this order is printed: the words; `fault: hex` or `fault: uid`; `fault: file`;
 /// `fault: json`; `fault: discovery command`; `fault: scene`; then those of the run, with `fault: log` before
-/// `fault: turns`. `fault: memory` is printed where it is met. If the writer fails, it has a front of the text.
+/// `fault: turns`. `fault: memory` is printed when it is met. If the writer fails, it has a prefix of the text.
 ///
-/// The reader is for a command that reads a file; one whose reads fail stands for a file that can't be opened.
+/// The reader is for a command that reads a file; a reader whose reads fail is a file that can't be opened.
 pub fn perform<R: Read, W: Write, T: Threads + Wait + Sync>(
     rt: &T,
     alloc: Global,
@@ -45,8 +47,8 @@ pub fn perform<R: Read, W: Write, T: Threads + Wait + Sync>(
     status
 }
 
-/// As [`perform`], and gives the reason too where it isn't done; a writer that fails is one. Of a file it tells first
-/// what people should know of it, and then how far its session or its discovery is.
+/// As [`perform`], and returns the reason too if it isn't done; a writer that fails is one. The progress first hears
+/// what people should know of a file, and then how far its session or its discovery is.
 pub fn carry_out<'a, R: Read, W: Write, P: Progress + Send, T: Threads + Wait + Sync>(
     rt: &T,
     alloc: Global,
@@ -58,7 +60,7 @@ pub fn carry_out<'a, R: Read, W: Write, P: Progress + Send, T: Threads + Wait + 
     ensures { (text : List ℕ) × (status : ℕ) × IsOutcome job.entry (R.remaining reader.old) text status
         × IsPrinted (W.contents writer.old) (W.contents writer.new) text status result.0 }
 {
-    let Outcome {
+    let Answered {
         text,
         status,
         reason,
@@ -79,36 +81,19 @@ impl Progress for Silent {
     fn tell(&mut self, _exchanges: usize) {}
 }
 
-// What is printed, the status, and the reason of what isn't done.
-#[derive(Drop)]
-struct Outcome<'a> {
-    text: Answer,
-    status: u8,
-    reason: Option<Reason<'a>>,
-}
-
+// What is printed, the status, and the reason of what isn't done; a fault has its line and its status.
 fn outcome_of<'a, R: Read, P: Progress + Send, T: Threads + Wait + Sync>(
     rt: &T,
     alloc: Global,
     job: Result<Job<'a>, WordsFault>,
     reader: &mut R,
     progress: &mut P,
-) -> Outcome<'a>
+) -> Answered<'a>
     ensures { IsOutcome job.entry (R.remaining reader.old) (answer_bytes result.text) result.status }
 {
     match answer(rt, alloc, job, reader, progress) {
-        Ok(
-            Answered {
-                text,
-                status,
-                reason,
-            },
-        ) => Outcome {
-            text,
-            status,
-            reason,
-        },
-        Err((fault, reason)) => Outcome {
+        Ok(answered) => answered,
+        Err((fault, reason)) => Answered {
             text: Answer::line(fault.line().as_bytes()),
             status: fault.status(),
             reason,
@@ -144,9 +129,9 @@ fn answer<'a, R: Read, P: Progress + Send, T: Threads + Wait + Sync>(
     }
 }
 
-// Writes the bytes. Err: the writer failed so, or takes nothing more. The writer's own `write_all` doesn't say what it
-// wrote where it fails.
-fn write_all<W: Write>(writer: &mut W, bytes: &[u8]) -> Result<(), ErrorKind>
+/// Writes the bytes. Err: the writer failed with this error, or takes nothing more. The writer's own `write_all` doesn't
+/// say what it wrote if it fails.
+pub(crate) fn write_all<W: Write>(writer: &mut W, bytes: &[u8]) -> Result<(), ErrorKind>
     ensures all { OnOk result (Appends (W.contents writer.old) (W.contents writer.new) bytes.now) }
     ensures some { OnErr result (IsCutShort (W.contents writer.old) (W.contents writer.new) bytes.now) }
 {

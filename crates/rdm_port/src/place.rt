@@ -11,7 +11,7 @@ pub struct Place {
 }
 
 impl Place {
-    /// The place of the last character of these bytes; none where they have only white space.
+    /// The place of the last character of these bytes; none if they have only white space.
     pub(crate) fn of_last(bytes: &[u8]) -> Option<Place> {
         let text = bytes.trim_ascii_end();
         let line = text.split(|byte| *byte == b'\n').last()?;

@@ -3,8 +3,8 @@ use crate::place::Place;
 use crate::usage::USAGE;
 use rdm_agent::AgentFault;
 use rdm_files::{FileFault, FileKind, MOST_BYTES, Mismatch, SceneFault, looks_like};
-use rdm_serving::device_lines;
-use rdm_wire::DeviceSet;
+use rdm_serving::{Discovered, Outcomes, device_lines};
+use rdm_wire::{DeviceSet, Uid};
 use serde_json::Value;
 use std::alloc::Global;
 use std::io::ErrorKind;
@@ -13,7 +13,7 @@ use std::{fmt, str};
 // How many characters a UID has.
 const UID_LEN: usize = 13;
 
-// The place of a UID's colon.
+// The index of a UID's colon.
 const COLON_AT: usize = 4;
 
 /// Why something isn't done, or what people should know of what is. It borrows the words of the command line.
@@ -47,19 +47,25 @@ pub enum Reason<'a> {
     TooLittle {
         /// The key.
         key: &'static str,
-        /// What stands there.
+        /// The value.
         found: u64,
         /// How much may be enough.
         hint: &'static str,
     },
-    /// A run had this fault; these lines tell the devices that it found until then.
+    /// A run had this fault; these lines have the devices that it found until then.
     Fault(AgentFault, Vec<u8>),
+    /// Discoveries of a session's clients had faults.
+    Discoveries(Vec<Outcomes>),
     /// The answer couldn't be written.
     Unwritten(ErrorKind),
+    /// The text of this option spells no device's UID.
+    NoDevice(&'static str, &'a str),
+    /// The stream at this path can't be opened.
+    Unopened(&'a str, ErrorKind),
 }
 
 impl<'a> Reason<'a> {
-    /// The reason for which the file at a path wasn't read; none where memory was refused.
+    /// The reason for which the file at a path wasn't read; none if memory ran out.
     pub fn of_file(path: &'a str, fault: FileFault) -> Option<Reason<'a>> {
         match fault {
             FileFault::TooLong => Some(Reason::TooLong(path)),
@@ -68,7 +74,7 @@ impl<'a> Reason<'a> {
         }
     }
 
-    /// The reason for which a scene or a session wasn't read; none where memory was refused.
+    /// The reason for which a scene or a session wasn't read; none if memory ran out.
     pub fn of_scene(fault: SceneFault) -> Option<Reason<'a>> {
         match fault {
             SceneFault::Mismatch(mismatch) => Some(Reason::NoScene(mismatch)),
@@ -84,7 +90,20 @@ impl<'a> Reason<'a> {
         }
     }
 
-    /// The reason of a run's fault; none where memory is refused.
+    /// The reason of the faults of discoveries; none if no discovery had one.
+    pub fn of_discoveries(outcomes: Vec<Outcomes>) -> Option<Reason<'a>> {
+        let faulty = outcomes.iter().any(|client| client
+            .discoveries
+            .iter()
+            .any(|each| each.fault.is_some()));
+        if faulty {
+            Some(Reason::Discoveries(outcomes))
+        } else {
+            None
+        }
+    }
+
+    /// The reason of a run's fault; none if memory runs out.
     pub fn of_fault(alloc: Global, fault: AgentFault, found: &DeviceSet) -> Option<Reason<'a>> {
         let lines = device_lines(alloc, found).ok()?;
         Some(Reason::Fault(fault, lines))
@@ -120,12 +139,18 @@ impl fmt::Display for Reason<'_> {
                 )
             }
             Reason::Fault(fault, found) => write_fault(f, *fault, found),
+            Reason::Discoveries(outcomes) => write_discoveries(f, outcomes),
             Reason::Unwritten(kind) => write!(f, "the answer can't be written: {kind}"),
+            Reason::NoDevice(option, text) => {
+                write!(f, "{option} {text:?}: ")?;
+                write_no_device(f, text)
+            }
+            Reason::Unopened(path, kind) => write_unopened(f, path, *kind),
         }
     }
 }
 
-// Where all characters are digits, their number is odd.
+// If all characters are digits, their number is odd.
 fn write_no_bytes<W: fmt::Write>(f: &mut fmt::Formatter<W>, text: &str) -> fmt::Result {
     match no_digit(text, None) {
         Some(place) => write_no_digit(f, place),
@@ -155,14 +180,22 @@ fn write_no_uid<W: fmt::Write>(f: &mut fmt::Formatter<W>, text: &str) -> fmt::Re
     }
 }
 
-// The first character that is no hexadecimal digit, and its place; the one at the place of a colon doesn't count.
+// What a text lacks of a device's UID. A UID that isn't a device's is a broadcast one.
+fn write_no_device<W: fmt::Write>(f: &mut fmt::Formatter<W>, text: &str) -> fmt::Result {
+    match Uid::parse(text) {
+        Ok(_) => write!(f, "a broadcast UID is no device's own"),
+        Err(_) => write_no_uid(f, text),
+    }
+}
+
+// The first character that is no hexadecimal digit, and its index; the one at the index of a colon doesn't count.
 fn no_digit(text: &str, colon_at: Option<usize>) -> Option<(usize, char)> {
     text.chars()
         .enumerate()
         .find(|(at, c)| !c.is_ascii_hexdigit() && Some(*at) != colon_at)
 }
 
-// Characters are told from 1.
+// Characters are numbered from 1.
 fn write_no_digit<W: fmt::Write>(f: &mut fmt::Formatter<W>, (at, c): (usize, char)) -> fmt::Result {
     let number = at.saturating_add(1);
     write!(f, "character {number}, {c:?}, is no hexadecimal digit")
@@ -189,6 +222,20 @@ fn write_unreadable<W: fmt::Write>(
     }
 }
 
+fn write_unopened<W: fmt::Write>(
+    f: &mut fmt::Formatter<W>,
+    path: &str,
+    kind: ErrorKind,
+) -> fmt::Result {
+    match kind {
+        ErrorKind::NotFound | ErrorKind::PermissionDenied | ErrorKind::NotADirectory => {
+            write_unreadable(f, path, kind)
+        }
+        ErrorKind::IsADirectory => write!(f, "{path:?} can't be opened: it is a folder"),
+        kind => write!(f, "{path:?} can't be opened: {kind}"),
+    }
+}
+
 fn write_fault<W: fmt::Write>(
     f: &mut fmt::Formatter<W>,
     fault: AgentFault,
@@ -198,4 +245,48 @@ fn write_fault<W: fmt::Write>(
         Ok("") | Err(_) => write!(f, "{fault}; no device was found until then"),
         Ok(lines) => write!(f, "{fault}; found until then:\n{}", lines.trim_end()),
     }
+}
+
+// One line for each discovery that had a fault. The first one's beginning is written by who prints the reason.
+fn write_discoveries<W: fmt::Write>(
+    f: &mut fmt::Formatter<W>,
+    outcomes: &[Outcomes],
+) -> fmt::Result {
+    let mut is_first = true;
+    for (client, of_client) in outcomes.iter().enumerate() {
+        write_faulty(f, client, &of_client.discoveries, &mut is_first)?;
+    }
+    Ok(())
+}
+
+// The same for the discoveries of one client.
+fn write_faulty<W: fmt::Write>(
+    f: &mut fmt::Formatter<W>,
+    client: usize,
+    discoveries: &[Discovered],
+    is_first: &mut bool,
+) -> fmt::Result {
+    for (number, discovered) in discoveries.iter().enumerate() {
+        let Some(fault) = discovered.fault else {
+            continue;
+        };
+        if !*is_first {
+            write!(f, "\nwurstlinen: ")?;
+        }
+        *is_first = false;
+        write!(f, "client {client} discovery {number}: {fault}; ")?;
+        write_found(f, &discovered.uids)?;
+    }
+    Ok(())
+}
+
+fn write_found<W: fmt::Write>(f: &mut fmt::Formatter<W>, uids: &[Uid]) -> fmt::Result {
+    if uids.is_empty() {
+        return write!(f, "no device was found until then");
+    }
+    write!(f, "found until then:")?;
+    for uid in uids {
+        write!(f, " {uid}")?;
+    }
+    Ok(())
 }

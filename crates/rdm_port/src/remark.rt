@@ -1,10 +1,10 @@
-//! Tells people what they should know of a file before its work begins.
+//! What people should know of a file before its work begins.
 use rdm_files::{Remark, UnknownKey, five_losses};
 use rdm_serving::Progress;
 use std::alloc::Global;
 
-/// Tells of the first unknown key, if there is one, and then of five losses in succession, if this key has them. Where
-/// memory is refused, nothing is told of losses.
+/// Reports the first unknown key, if there is one, and then five losses in a row, if this key has them. If memory runs
+/// out, losses aren't reported.
 pub(crate) fn remark_on<P: Progress>(
     alloc: Global,
     unknown: Option<UnknownKey>,

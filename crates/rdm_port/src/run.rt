@@ -2,7 +2,8 @@
 ghost use Rattle.std.specs.Prelude.{◌≡◌, ◌⊎◌, ◌≤◌, IfOk, IfErr};
 ghost use Rattle.rdm_wire.specs.Uid.{IsDevice};
 ghost use Rattle.rdm_port.specs.Fault.{SaysSession, ReadsSession, IsSessionTextFault, IsSessionFileFault, IsServeFault};
-ghost use Rattle.rdm_port.specs.Outcome.{Runs, answer_bytes};
+ghost use Rattle.rdm_port.specs.Outcome.{Runs};
+ghost use Rattle.rdm_port.specs.body.Texts.{answer_bytes};
 
 use crate::answer::{Answer, Answered, Refused};
 use crate::discovering::no_json;
@@ -23,8 +24,8 @@ use std::sync::ledger::Blank;
 use std::thread::Threads;
 
 /// What is printed of the session in the reader's file, which is the one at the path: of each client its requests in
-/// order, and then its discoveries in order. Each client has a thread, and the worker another. It tells what people
-/// should know of the session, and then how far it is.
+/// order, and then its discoveries in order. Each client has a thread, and the worker another. The progress hears
+/// what people should know of the session, and then how far it is.
 // It isn't inlined, as `answer_discover`.
 #[inline(never)]
 pub fn answer_run<'a, R: Read, P: Progress + Send, T: Threads + Wait + Sync>(
@@ -49,10 +50,14 @@ pub fn answer_run<'a, R: Read, P: Progress + Send, T: Threads + Wait + Sync>(
         Ok(outcomes) => outcomes,
         Err(fault) => return Err(refused(fault, log, turns)),
     };
-    match session_text(alloc, &outcomes) {
-        Ok(text) => Ok(Answered::done(Answer::Lines(text))),
-        Err(_) => Err((Fault::Memory, None)),
-    }
+    let Ok(text) = session_text(alloc, &outcomes) else {
+        return Err((Fault::Memory, None));
+    };
+    Ok(Answered {
+        text: Answer::Lines(text),
+        status: 0,
+        reason: Reason::of_discoveries(outcomes),
+    })
 }
 
 // Why a session with this log and these turns isn't answered.

@@ -1,4 +1,4 @@
-//! Tells people on standard error why something isn't done, what they should know of a file, and how far a session or a
+//! Standard error, for people: why something isn't done, what they should know of a file, and how far a session or a
 //! discovery is.
 use crate::complaint::Complaint;
 use crate::reason::Reason;
@@ -8,7 +8,7 @@ use std::io;
 use std::rt::Clock;
 use std::time::Instant;
 
-/// Tells a reason. Err: the error of standard error, which may have got a front of the line.
+/// Tells a reason. Err: the error of standard error, which may have got a prefix of the line.
 pub fn tell(rt: &impl Eprint, reason: &Reason<'_>) -> io::Result<()> {
     match reason {
         Reason::Usage => eprintln!(rt; "{reason}"),
@@ -17,7 +17,7 @@ pub fn tell(rt: &impl Eprint, reason: &Reason<'_>) -> io::Result<()> {
 }
 
 /// Tells what is wrong with words that fit no command, and then how the program is used. To words that ask for that it
-/// tells nothing else. Err: the error of standard error, which may have got a front of the text.
+/// tells nothing else. Err: the error of standard error, which may have got a prefix of the text.
 pub fn tell_usage(rt: &impl Eprint, complaint: &Complaint<'_>) -> io::Result<()> {
     match complaint {
         Complaint::Help | Complaint::Version => eprintln!(rt; "{complaint}"),
@@ -25,21 +25,21 @@ pub fn tell_usage(rt: &impl Eprint, complaint: &Complaint<'_>) -> io::Result<()>
     }
 }
 
-// How often people are told how far a session or a discovery is.
+// How often it is reported how far a session or a discovery is.
 const SECONDS: u64 = 2;
 
 /// Tells each remark at once, and every two seconds how far a session or a discovery is.
 #[derive(Drop)]
 pub struct Progressing<'a, R: Clock + Eprint> {
     rt: &'a R,
-    // When it began; none where there is no clock.
+    // When it began; none if there is no clock.
     began: Option<Instant>,
-    // The seconds at which it tells next.
+    // The seconds at which it reports next.
     next: u64,
 }
 
 impl<'a, R: Clock + Eprint> Progressing<'a, R> {
-    /// From now on. Without a clock nothing is told.
+    /// From now on. Without a clock nothing is reported.
     pub fn new(rt: &'a R) -> Progressing<'a, R> {
         Progressing {
             rt,

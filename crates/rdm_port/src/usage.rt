@@ -8,14 +8,21 @@ pub const USAGE: &str = "\
 usage: wurstlinen decode HEX
        wurstlinen encode UID
        wurstlinen discover FILE [--incremental] [--quick]
+       wurstlinen discover --line OUT [--replies IN] --source UID [--known UID].. [--budget N]
+                           [--incremental] [--quick]
        wurstlinen run FILE [--port locked|rings]
   decode         what the bytes of a reply to a branch say
   encode         the reply of the device with this UID
   discover       the devices that a run finds on the line of a scene file
   --incremental  mutes the file's known devices first
   --quick        sweeps first, which takes fewer frames on a large rig
+  --line         sends frames to this stream as text, and reads replies from it
+  --replies      reads replies from this stream instead
+  --source       the controller's UID
+  --known        a device that --incremental mutes first; may be given often
+  --budget       how many frames the run may send
   run            the results of the clients of a session file
-  --port         what the clients share: a session behind a lock (locked), as without this word, or rings (rings)
+  --port         how the clients share the session: with a mutex (locked), the default, or with ring buffers (rings)
 HEX: bytes as pairs of hexadecimal digits. UID: a device, as 7a70:00000001. FILE: JSON; docs/FORMATS.md has its keys.
 examples: wurstlinen decode fefefefefefefeaafa7ffa75aa55aa55aa55ab55ae57eff5
           wurstlinen encode 7a70:00000001

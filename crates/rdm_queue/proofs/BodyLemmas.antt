@@ -21,6 +21,7 @@ pub mod EndRequests
 pub mod EndRuns
 pub mod EndLemmas
 pub mod CallLemmas
+pub mod LengthLemmas
 pub mod SessionLemmas
 pub mod RotateLemmas
 pub mod SearchLemmas

@@ -5,6 +5,7 @@ pub mod Merged
 pub mod Sending
 pub mod Ending
 pub mod Rings
+pub mod Lengths
 pub mod Fields
 pub mod Agrees
 pub mod QueueInvariant

@@ -1,2 +1,3 @@
 -- What a controller's calls say.
 pub mod EachLog
+pub mod Lengths

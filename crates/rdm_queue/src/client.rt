@@ -2,6 +2,8 @@
 ghost use Rattle.std.specs.Prelude.{◌≡◌, ◌≢◌, ◌+◌, ◌-◌, ◌<◌, ◌≤◌, IfOk, IfSome, IfNone, Some, option_map, slice_get};
 ghost use Rattle.std.specs.VecDeque.{deque_len, deque_capacity};
 
+mod lengths;
+
 use rdm_agent::AgentFault;
 use rdm_log::{Completion, DiscoveryEnd, Entry, MOST_DISCOVERIES, OutcomeKind};
 use rdm_wire::{DeviceSet, Request};

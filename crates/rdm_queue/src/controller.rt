@@ -1,10 +1,12 @@
 //! The queue of requests and discoveries on one RDM line.
+mod lengths;
+
 use crate::queue::Queue;
 use rdm_agent::{Kind, Search};
 use rdm_join::LineEvent;
 use rdm_log::{
     AskFault, ClientId, Completion, Config, DiscoveryEnd, Entry, JoinFault, NoMemory, NotAsked,
-    Opening, Outcome, OutcomeKind, Owner, SubmitFault,
+    Opening, Outcome, OutcomeKind, Owner, Setup, SubmitFault,
 };
 use rdm_wire::{DeviceSet, Frame, Request};
 use std::alloc::Global;
@@ -31,57 +33,42 @@ impl Model for Controller {
 }
 
 impl Controller {
-    ghost use Rattle.std.specs.Prelude.{◌≡◌, ◌++◌, ◌∷◌, ◌<◌, [], List, true, false, length, IfOk, IfErr, IfSome};
+    ghost use Rattle.std.specs.Prelude.{◌≡◌, ◌∷◌, ◌<◌, [], true, false, length, IfOk, IfErr, IfSome};
     ghost use Rattle.std.specs.Prelude.{IfNone, OnErr, OnSome, Some, ◌≢◌};
-    ghost use Rattle.rdm_log.specs.declared.entry.Opening.{Opening};
-    ghost use Rattle.rdm_log.specs.declared.entry.Entry.{Entry};
     ghost use Rattle.rdm_log.specs.declared.entry.Entry.TheVariants.{Send, Came, Close};
     ghost use Rattle.rdm_log.specs.log.History.{awaited, is_paused, is_closed, can_pause, can_resume, is_idle};
     ghost use Rattle.rdm_log.specs.log.MaySend.{MaySend, NoSend};
-    ghost use Rattle.rdm_log.specs.log.Config.{IsConfig};
-    ghost use Rattle.rdm_log.specs.log.LogState.{opened, opening_after};
+    ghost use Rattle.rdm_log.specs.log.Config.{IsConfig, steady};
+    ghost use Rattle.rdm_log.specs.log.LogState.{opening_after};
     ghost use Rattle.rdm_log.specs.promises.Blocks.{JoinAdds, SubmitAdds, PauseAdds, ResumeAdds, CloseAdds};
-    ghost use Rattle.rdm_log.specs.promises.Blocks.{DiscoverAdds, TakeAdds, DeliverAdds, CollectAdds, is_result};
-    ghost use Rattle.rdm_queue.specs.promises.EachLog.{ForEachLog, AddsToEach};
-    ghost use Rattle.rdm_queue.specs.body.Agrees.{StandsAfter, StandsAmid, ForEachBlock, FinishesAll};
+    ghost use Rattle.rdm_log.specs.promises.Blocks.{DiscoverAdds, TakeAdds, DeliverAdds, CollectAdds};
+    ghost use Rattle.rdm_queue.specs.promises.EachLog.{ForEachLog, AddsToEach, IsSetUp};
+    ghost use Rattle.rdm_queue.specs.body.Agrees.{StandsAfter, ForEachBlock, AddsAmid, Ends, FinishesEach};
     ghost use Rattle.rdm_queue.specs.body.State.{unended, uncollected};
-    ghost use Rattle.rdm_log.specs.promises.InBound.{FaultNeedsClose};
     ghost use Rattle.rdm_log.specs.log.Runs.{known_devices, devices_run};
-    ghost use Rattle.rdm_agent.specs.declared.search.Search.TheVariants.{Steady};
     ghost use Rattle.rdm_log.specs.promises.Outcomes.{oldest_kind, request_outcome, discovery_outcome};
     ghost use Rattle.rdm_log.specs.declared.outcome.OutcomeKind.TheVariants as kinds;
 
-    /// A controller without clients, neither paused nor closed, whose numbers begin at 0. Its UID isn't broadcast,
-    /// there are at most [`MOST_PLACES`](crate::MOST_PLACES) places, and the budget is at least 1.
+    /// A controller without clients, neither paused nor closed, whose numbers begin at 0, and whose runs search
+    /// steadily. Its UID isn't broadcast, there are at most [`MOST_PLACES`](crate::MOST_PLACES) places, and the budget
+    /// is at least 1.
     /// Err: there was no memory.
     pub fn new(alloc: Global, config: Config) -> Result<Controller, NoMemory>
         requires { IsConfig config }
-        ensures stands { IfOk result (λ c. StandsAfter (opened config) [] c) }
-        ensures search { IfOk result (λ c. c.search ≡ Steady) }
+        ensures { IfOk result (λ c. IsSetUp (steady config) c) }
     {
-        match Box::new(alloc, Queue::new(alloc, config)) {
+        Controller::new_with(alloc, Setup::steady(config))
+    }
+
+    /// The same under the same conditions and with the same error, with a set-up that also says how runs search.
+    pub fn new_with(alloc: Global, setup: Setup) -> Result<Controller, NoMemory>
+        requires { IsConfig setup.config }
+        ensures { IfOk result (λ c. IsSetUp setup c) }
+    {
+        match Box::new(alloc, Queue::new(alloc, setup)) {
             Ok(queue) => Ok(Controller { queue }),
             Err(_) => Err(NoMemory),
         }
-    }
-
-    /// The same controller, whose runs search so from now on; those of a new one search steadily. As in a new one,
-    /// nothing waits, is under way, is asked or is uncollected.
-    pub fn with_search(mut self, search: Search) -> Controller
-        requires idle { ForEachLog self (λ o h. is_idle h ≡ true) }
-        ensures search { result.search ≡ search }
-        ensures stands { ForEachLog self (λ o h. StandsAfter o h result) }
-    {
-        self.set_search(search);
-        self
-    }
-
-    /// Lets its runs search so, where it is idle.
-    pub(crate) fn set_search(&mut self, search: Search)
-        ensures search { self.new.search ≡ search }
-        ensures stands { ForEachLog self.old (λ o h. is_idle h ≡ true → StandsAfter o h self.new) }
-    {
-        self.queue.set_search(search);
     }
 
     /// How its runs search.
@@ -95,9 +82,8 @@ impl Controller {
     /// until their outcomes are collected. The memory for them is reserved here.
     /// Err: the first fault that stands; nothing has changed.
     pub fn join_client(&mut self, alloc: Global, places: u8) -> Result<ClientId, JoinFault>
-        ensures adds { AddsToEach self.old (λ o h. JoinAdds o h places result) self.new }
+        ensures adds { AddsToEach self.old (λ k. JoinAdds k.opening k.entries places result) self.new }
         ensures unchanged { OnErr result (self.new ≡ self.old) }
-        ensures search { self.new.search ≡ self.old.search }
     {
         self.queue.join_client(alloc, places)
     }
@@ -109,9 +95,8 @@ impl Controller {
         client: ClientId,
         request: Request,
     ) -> Result<u64, (SubmitFault, Request)>
-        ensures adds { AddsToEach self.old (λ o h. SubmitAdds o h client request result) self.new }
+        ensures adds { AddsToEach self.old (λ k. SubmitAdds k.opening k.entries client request result) self.new }
         ensures unchanged { IfErr result (λ e. (e.1 ≡ request) × (self.new ≡ self.old)) }
-        ensures search { self.new.search ≡ self.old.search }
     {
         self.queue.submit(client, request)
     }
@@ -120,9 +105,8 @@ impl Controller {
     /// It is a full one where one of them is, else an incremental one, which mutes the devices known first.
     /// Err: the first fault that stands; nothing has changed.
     pub fn discover(&mut self, client: ClientId, kind: Kind) -> Result<u64, AskFault>
-        ensures adds { AddsToEach self.old (λ o h. DiscoverAdds o h client kind result) self.new }
+        ensures adds { AddsToEach self.old (λ k. DiscoverAdds k.opening k.entries client kind result) self.new }
         ensures unchanged { OnErr result (self.new ≡ self.old) }
-        ensures search { self.new.search ≡ self.old.search }
     {
         self.queue.discover(client, kind)
     }
@@ -130,9 +114,8 @@ impl Controller {
     /// Begins no run and sends no request until `resume`; a run that has begun goes on, and a reply that is awaited is
     /// still taken. Without effect where it is paused or closed.
     pub fn pause(&mut self)
-        ensures adds { AddsToEach self.old PauseAdds self.new }
+        ensures adds { AddsToEach self.old (λ k. PauseAdds k.opening k.entries) self.new }
         ensures unchanged { ForEachLog self.old (λ o h. can_pause o h ≡ false → self.new ≡ self.old) }
-        ensures search { self.new.search ≡ self.old.search }
     {
         if self.can_pause() {
             self.queue.set_paused(true);
@@ -141,9 +124,8 @@ impl Controller {
 
     /// Begins runs and sends requests again. Without effect where it isn't paused, or is closed.
     pub fn resume(&mut self)
-        ensures adds { AddsToEach self.old ResumeAdds self.new }
+        ensures adds { AddsToEach self.old (λ k. ResumeAdds k.opening k.entries) self.new }
         ensures unchanged { ForEachLog self.old (λ o h. can_resume o h ≡ false → self.new ≡ self.old) }
-        ensures search { self.new.search ≡ self.old.search }
     {
         if self.can_resume() {
             self.queue.set_paused(false);
@@ -155,9 +137,8 @@ impl Controller {
     /// requests that wait, with status FailedToSend; the other discoveries, with Aborted and run 0. Without effect
     /// where it is closed.
     pub fn close(&mut self)
-        ensures adds { AddsToEach self.old CloseAdds self.new }
+        ensures adds { AddsToEach self.old (λ k. CloseAdds k.opening k.entries) self.new }
         ensures unchanged { ForEachLog self.old (λ o h. is_closed o h ≡ true → self.new ≡ self.old) }
-        ensures search { self.new.search ≡ self.old.search }
     {
         if !self.queue.is_closed() {
             self.shut();
@@ -173,9 +154,8 @@ impl Controller {
     ///
     /// None while a reply is awaited, where it is closed, and where there is none of these.
     pub fn take(&mut self) -> Option<Frame>
-        ensures adds { AddsToEach self.old (λ o h. TakeAdds o h result) self.new }
+        ensures adds { AddsToEach self.old (λ k. TakeAdds k.opening k.entries result) self.new }
         ensures unchanged { IfNone result (self.new ≡ self.old) }
-        ensures search { self.new.search ≡ self.old.search }
     {
         let (_, frame) = self.give()?;
         Some(frame)
@@ -193,9 +173,8 @@ impl Controller {
     ///
     /// Err: no reply is awaited; nothing has changed, and the event comes back.
     pub fn deliver(&mut self, alloc: Global, event: LineEvent) -> Result<(), (NotAsked, LineEvent)>
-        ensures adds { AddsToEach self.old (λ o h. DeliverAdds self.old.search o h event result) self.new }
+        ensures adds { AddsToEach self.old (λ k. DeliverAdds k event result) self.new }
         ensures unchanged { IfErr result (λ e. (e.1 ≡ event) × (self.new ≡ self.old)) }
-        ensures search { self.new.search ≡ self.old.search }
     {
         if !self.awaits() {
             return Err((NotAsked, event));
@@ -208,9 +187,8 @@ impl Controller {
     /// A client's oldest outcome that it hasn't collected, whose place is free again. None where there is none, or
     /// no such client.
     pub fn next_outcome(&mut self, client: ClientId) -> Option<Outcome>
-        ensures adds { AddsToEach self.old (λ o h. CollectAdds o h client result) self.new }
+        ensures adds { AddsToEach self.old (λ k. CollectAdds k.opening k.entries client result) self.new }
         ensures unchanged { IfNone result (self.new ≡ self.old) }
-        ensures search { self.new.search ≡ self.old.search }
     {
         self.queue.next_outcome(client)
     }
@@ -227,10 +205,9 @@ impl Controller {
     /// set. None: there is no outcome, it is a discovery's, or there is no such client; nothing has changed.
     pub fn next_completion(&mut self, client: ClientId) -> Option<(u64, Completion)>
         ensures adds { IfSome result (λ r. AddsToEach self.old
-            (λ o h. CollectAdds o h client (Some (request_outcome r))) self.new) }
+            (λ k. CollectAdds k.opening k.entries client (Some (request_outcome r))) self.new) }
         ensures none { IfNone result (ForEachLog self.old (λ o h. oldest_kind o h client.0 ≢ Some kinds.Request)) }
         ensures unchanged { IfNone result (self.new ≡ self.old) }
-        ensures search { self.new.search ≡ self.old.search }
     {
         self.queue.next_completion(client)
     }
@@ -240,10 +217,9 @@ impl Controller {
     /// nothing has changed, and `set` is as it was.
     pub fn next_discovery(&mut self, client: ClientId, set: &mut DeviceSet) -> Option<DiscoveryEnd>
         ensures adds { IfSome result (λ end. AddsToEach self.old
-            (λ o h. CollectAdds o h client (Some (discovery_outcome end set.new))) self.new) }
+            (λ k. CollectAdds k.opening k.entries client (Some (discovery_outcome end set.new))) self.new) }
         ensures none { IfNone result (ForEachLog self.old (λ o h. oldest_kind o h client.0 ≢ Some kinds.Discovery)) }
         ensures unchanged { IfNone result ((self.new ≡ self.old) × (set.new ≡ set.old)) }
-        ensures search { self.new.search ≡ self.old.search }
     {
         self.queue.next_discovery(client, set)
     }
@@ -306,49 +282,40 @@ impl Controller {
 
     /// The next frame for the line, and whose it is.
     pub(crate) fn give(&mut self) -> Option<(Owner, Frame)>
-        ensures frame { IfSome result (λ given. ForEachLog self.old (λ o h. MaySend o h given.0 given.1
-            × StandsAfter o (h ++ Send given.0 given.1 ∷ []) self.new)) }
+        ensures frame { IfSome result (λ given. AddsToEach self.old
+            (λ k block. MaySend k.opening k.entries given.0 given.1 × (block ≡ Send given.0 given.1 ∷ [])) self.new) }
         ensures none { IfNone result (ForEachLog self.old (λ o h. NoSend o h) × (self.new ≡ self.old)) }
-        ensures search { self.new.search ≡ self.old.search }
     {
         self.queue.take()
     }
 
     /// Closes, where it isn't closed. What is then due is still to be finished.
     pub(crate) fn shut(&mut self)
-        ensures closes { ForEachLog self.old (λ o h. is_closed o h ≡ false → StandsAmid o (h ++ Close ∷ []) self.new) }
-        ensures search { self.new.search ≡ self.old.search }
+        ensures { AddsAmid self.old (λ o h. is_closed o h ≡ false) Close self.new }
     {
         self.queue.set_closed();
     }
 
     /// Takes what the line answered, where a reply is awaited. What is then due is still to be finished.
     pub(crate) fn hear(&mut self, alloc: Global, event: &LineEvent)
-        ensures hears { ForEachLog self.old (λ o h. awaited h ≡ true
-            → StandsAmid o (h ++ Came event.now ∷ []) self.new) }
-        ensures search { self.new.search ≡ self.old.search }
+        ensures { AddsAmid self.old (λ o h. awaited h ≡ true) (Came event.now) self.new }
     {
         self.queue.hear(alloc, event);
     }
 
     /// Ends what is due next, and gives its entry: a Finish or an Answer. None where nothing is due.
     pub(crate) fn finish_next(&mut self) -> Option<Entry>
-        ensures finished { IfSome result (λ entry. (is_result entry ≡ true)
-            × ForEachBlock self.old (λ o h. StandsAmid o (h ++ entry ∷ []) self.new)) }
+        ensures ended { IfSome result (λ entry. Ends self.old entry self.new) }
         ensures fewer { OnSome result (unended self.new < unended self.old) }
-        ensures in_bound { IfSome result (λ entry.
-            ForEachBlock self.old (λ o h. FaultNeedsClose self.old.search o h entry)) }
         ensures settled { IfNone result (ForEachBlock self.old (λ o h. StandsAfter o h self.old)
             × (self.new ≡ self.old)) }
-        ensures search { self.new.search ≡ self.old.search }
     {
         self.queue.finish_next()
     }
 
     // Ends all that is due.
     fn finish_due(&mut self)
-        ensures finishes { ForEachBlock self.old (λ o h. FinishesAll self.old.search o h self.new) }
-        ensures search { self.new.search ≡ self.old.search }
+        ensures { FinishesEach self.old self.new }
     {
         while self.finish_next().is_some() {}
     }

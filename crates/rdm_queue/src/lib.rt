@@ -37,6 +37,6 @@ pub use rdm_log::{
     Answer, AskCompletion, AskFault, Call, Cause, ClientId, Completion, Config, DiscoveryEnd,
     Entry, Event, JoinFault, LEAST_FREE, Log, LogFull, MOST_CLIENTS, MOST_DISCOVERIES,
     MOST_FREE_ENTRIES, MOST_PLACES, NEVER_GIVEN, NEVER_GIVEN_TO_A_DISCOVERY, NoMemory, NotAsked,
-    NotIdle, Opening, Outcome, OutcomeKind, Owner, SubmitFault, laws,
+    NotIdle, Opening, Outcome, OutcomeKind, Owner, Setup, SubmitFault, laws,
 };
 pub use session::Session;

@@ -5,6 +5,7 @@ ghost use Rattle.rdm_queue.specs.body.Rings.{NoneWaits, IsFirstInLine};
 ghost use Rattle.rdm_queue.specs.body.Fields.{places_of};
 
 mod ending;
+mod lengths;
 
 use crate::client::{Client, Waiting};
 use crate::pending::{Asked, Awaited, Running};
@@ -14,7 +15,7 @@ use rdm_join::{Joiner, Sent};
 use rdm_log::{
     AskCompletion, AskFault, ClientId, Completion, Config, DiscoveryEnd, JoinFault, MOST_CLIENTS,
     MOST_DISCOVERIES, NEVER_GIVEN, NEVER_GIVEN_TO_A_DISCOVERY, Opening, Outcome, OutcomeKind,
-    Owner, SubmitFault,
+    Owner, Setup, SubmitFault,
 };
 use rdm_wire::{DeviceSet, Frame, Request, UidSet, encode_request};
 use std::alloc::Global;
@@ -89,13 +90,13 @@ impl Queue {
     ghost use Rattle.rdm_queue.specs.body.Sending.{GivesRun, begun, kind_of};
 
     /// A queue without clients, neither paused nor closed, whose numbers begin at 0.
-    pub(crate) fn new(alloc: Global, config: Config) -> Queue
-        requires { IsConfig config }
-        ensures { result ≡ first_state config }
+    pub(crate) fn new(alloc: Global, setup: Setup) -> Queue
+        requires { IsConfig setup.config }
+        ensures { result ≡ first_state setup }
     {
         Queue {
-            config,
-            search: Search::Steady,
+            config: setup.config,
+            search: setup.search,
             clients: ArrayVec::new_in(alloc),
             paused: false,
             closed: false,
@@ -109,7 +110,7 @@ impl Queue {
             next_run: 1,
             asked: ArrayVec::new_in(alloc),
             run: None,
-            agent: Agent::start(Kind::Full, &UidSet::new(), config.budget),
+            agent: Agent::start(Kind::Full, &UidSet::new(), setup.config.budget),
             devices: DeviceSet::new(),
             devices_run: 0,
         }
@@ -120,13 +121,6 @@ impl Queue {
         ensures { result ≡ self.now.search }
     {
         self.search
-    }
-
-    /// Lets the runs that begin from now on search so.
-    pub(crate) fn set_search(&mut self, search: Search)
-        ensures { self.new ≡ record self.old { search = search } }
-    {
-        self.search = search;
     }
 
     // The first fault of a join, want of memory aside.

@@ -3,14 +3,16 @@ ghost use Rattle.std.specs.Prelude.{◌≡◌, if◌then◌else◌};
 ghost use Rattle.rdm_log.specs.log.LogState.{opened};
 ghost use Rattle.rdm_queue.specs.body.SessionInvariant.{SessionAmid, FinishesDue};
 
+mod lengths;
+
 use crate::controller::Controller;
 use crate::copies::{copy_of_frame, copy_of_request};
 use arrayvec::ArrayVec;
-use rdm_agent::{Kind, Search};
+use rdm_agent::Kind;
 use rdm_join::LineEvent;
 use rdm_log::{
     AskFault, Call, Cause, ClientId, Completion, Config, DiscoveryEnd, Entry, JoinFault,
-    LEAST_FREE, Log, LogFull, NoMemory, NotAsked, NotIdle, Opening, Outcome, OutcomeKind,
+    LEAST_FREE, Log, LogFull, NoMemory, NotAsked, NotIdle, Opening, Outcome, OutcomeKind, Setup,
     SubmitFault,
 };
 use rdm_wire::{DeviceSet, Frame, Request};
@@ -43,45 +45,45 @@ impl Session {
     ghost use Rattle.std.specs.Prelude.{true, false};
     ghost use Rattle.rdm_log.specs.log.History.{awaited, is_paused, is_closed, is_idle, reserved};
     ghost use Rattle.rdm_log.specs.log.Legal.{Legal};
-    ghost use Rattle.rdm_log.specs.log.Config.{IsConfig};
-    ghost use Rattle.rdm_log.specs.log.LogState.{free_entries, is_full_log, opened, opening_after};
+    ghost use Rattle.rdm_log.specs.log.Config.{IsConfig, steady};
+    ghost use Rattle.rdm_log.specs.log.LogState.{free_entries, is_full_log, begun, opening_after};
+    ghost use Rattle.rdm_log.specs.promises.Promised.{Promised};
     ghost use Rattle.rdm_log.specs.promises.Blocks.{JoinLogs, SubmitLogs, PauseLogs, ResumeLogs, TakeLogs};
     ghost use Rattle.rdm_log.specs.log.Runs.{known_devices, devices_run};
     ghost use Rattle.rdm_log.specs.promises.Blocks.{DiscoverLogs, CloseAdds, DeliverAdds, CollectAdds, GrowsBy};
     ghost use Rattle.rdm_log.specs.promises.Outcomes.{oldest_kind, request_outcome, discovery_outcome};
     ghost use Rattle.rdm_log.specs.declared.outcome.OutcomeKind.TheVariants as kinds;
     ghost use Rattle.rdm_queue.specs.body.Agrees.{StandsAfter};
-    ghost use Rattle.rdm_agent.specs.declared.search.Search.TheVariants.{Steady};
 
     /// A session without clients, neither paused nor closed, whose numbers begin at 0, and those of its discovery runs
-    /// at 1. It writes the log's opening. The controller's UID isn't broadcast, there are at most
-    /// [`MOST_PLACES`](crate::MOST_PLACES) places, the budget is at least 1, and the log has no entries.
+    /// at 1. Its runs search steadily. It writes the log's opening. The controller's UID isn't broadcast, there are at
+    /// most [`MOST_PLACES`](crate::MOST_PLACES) places, the budget is at least 1, and the log has no entries.
     /// Err: there was no memory; the log comes back as it was.
     pub fn new(alloc: Global, config: Config, log: Log) -> Result<Session, (NoMemory, Log)>
         requires config_is { IsConfig config }
         requires empty { log.entries ≡ [] }
-        ensures ok { IfOk result (λ s. s ≡ record log { opening = opened config; search = Steady }) }
+        ensures ok { IfOk result (λ s. s ≡ begun (steady config) log) }
         ensures err { IfErr result (λ e. e.1 ≡ log) }
     {
-        let opening = opening_of(&config);
-        let Ok(controller) = Controller::new(alloc, config) else {
+        Session::new_with(alloc, Setup::steady(config), log)
+    }
+
+    /// The same under the same conditions and with the same error, with a set-up that also says how runs search. The
+    /// log says it too ([`Log::search`]).
+    pub fn new_with(alloc: Global, setup: Setup, log: Log) -> Result<Session, (NoMemory, Log)>
+        requires config_is { IsConfig setup.config }
+        requires empty { log.entries ≡ [] }
+        ensures ok { IfOk result (λ s. s ≡ begun setup log) }
+        ensures err { IfErr result (λ e. e.1 ≡ log) }
+    {
+        let opening = opening_of(&setup.config);
+        let Ok(controller) = Controller::new_with(alloc, setup) else {
             return Err((NoMemory, log));
         };
         Ok(Session {
             controller,
-            log: log.after(opening, Search::Steady),
+            log: log.after(opening, setup.search),
         })
-    }
-
-    /// The same session, whose runs search so from now on; those of a new one search steadily. It is idle, as a new one
-    /// is. Its log says how ([`Log::search`]).
-    pub fn with_search(mut self, search: Search) -> Session
-        requires idle { is_idle self.entries ≡ true }
-        ensures { result ≡ record self { search = search } }
-    {
-        self.controller.set_search(search);
-        self.log.set_search(search);
-        self
     }
 
     /// Lets a client join, as [`Controller::join_client`] does. LogFull leaves no entry. Any other refusal is a Refuse
@@ -248,8 +250,7 @@ impl Session {
     ///
     /// Err: no reply is awaited; nothing has changed, and the event comes back.
     pub fn deliver(&mut self, alloc: Global, event: LineEvent) -> Result<(), (NotAsked, LineEvent)>
-        ensures adds { GrowsBy self.old
-            (DeliverAdds self.old.search self.old.opening self.old.entries event result) self.new }
+        ensures adds { GrowsBy self.old (DeliverAdds self.old event result) self.new }
         ensures legal { Legal self.new.opening self.new.entries }
     {
         if !self.controller.awaits() {
@@ -335,10 +336,11 @@ impl Session {
         self.free() < LEAST_FREE
     }
 
-    /// The log.
+    /// The log. It is legal, and keeps all that clients are promised.
     pub fn log(&self) -> &Log
         ensures log { result.now ≡ self.now }
         ensures legal { Legal self.now.opening self.now.entries }
+        ensures promised { Promised self.now }
     {
         &self.log
     }
@@ -418,17 +420,18 @@ impl Session {
         Ok((self, old_log))
     }
 
-    /// The controller, and the log that it stands after.
+    /// The controller, and the log that it stands after. The controller searches as the session did.
     pub fn end(self) -> (Controller, Log)
         ensures log { result.1 ≡ self }
         ensures controller { StandsAfter self.opening self.entries result.0 }
+        ensures search { result.0.search ≡ self.search }
     {
         let Session { controller, log } = self;
         (controller, log)
     }
 }
 
-// What a session that is set up so stands after.
+// What a session with this configuration stands after at its start.
 fn opening_of(config: &Config) -> Opening
     ensures { result ≡ opened config.now }
 {

@@ -23,12 +23,16 @@ drives_more L step source n k a b c old line new (x ∷ xs) is d e =
     (d.0, d.1, d.2, d.3, drives_more L step source (n + 1) k d.0 b c d.1 line new xs (omega arith) d.4 e)
 
 -- before the first exchange
-pub none_driven : (L : Type 0) (step : L → Exchange → L → Type 0) (source : ℕ) (search : Search) (kind : Kind) (known : List ℕ) (budget : ℕ) (old : L) (a : AgentState) → a ≡ start_by search kind known budget → HasRunBy search kind known budget false [] a
+pub none_driven : (L : Type 0) (step : L → Exchange → L → Type 0) (source : ℕ) (search : Search) (kind : Kind)
+    (known : List ℕ) (budget : ℕ) (old : L) (a : AgentState) → a ≡ start_by search kind known budget
+    → HasRunBy search kind known budget false [] a
     → HasDriven L step source search kind known budget old 0 a old
 none_driven L step source search kind known budget old a is run = record { exchanges = []; many = refl; drives = (is, refl); run = run }
 
 -- after one more
-pub one_driven : (L : Type 0) (step : L → Exchange → L → Type 0) (source : ℕ) (search : Search) (kind : Kind) (known : List ℕ) (budget n : ℕ) (old line new : L) (a b : AgentState) → HasDriven L step source search kind known budget old n a line
+pub one_driven : (L : Type 0) (step : L → Exchange → L → Type 0) (source : ℕ) (search : Search) (kind : Kind)
+    (known : List ℕ) (budget n : ℕ) (old line new : L) (a b : AgentState)
+    → HasDriven L step source search kind known budget old n a line
     → GoesOn L step source (n % 256) a line b new → HasDriven L step source search kind known budget old (n + 1) b new
 one_driven L step source search kind known budget n old line new a b before e = record {
   exchanges = before.exchanges ++ e.exchange ∷ [];
@@ -44,12 +48,16 @@ seen_many [] = refl
 seen_many (x ∷ xs) = ap suc (seen_many xs)
 
 -- after as many as the budget allows nothing is asked
-pub all_driven : (L : Type 0) (step : L → Exchange → L → Type 0) (source : ℕ) (search : Search) (kind : Kind) (known : List ℕ) (budget : ℕ) (old line : L) (a : AgentState) → HasDriven L step source search kind known budget old budget a line → next_op a ≡ End
+pub all_driven : (L : Type 0) (step : L → Exchange → L → Type 0) (source : ℕ) (search : Search) (kind : Kind)
+    (known : List ℕ) (budget : ℕ) (old line : L) (a : AgentState)
+    → HasDriven L step source search kind known budget old budget a line → next_op a ≡ End
 all_driven L step source search kind known budget old line a d =
     next-in_budget a kind known budget false (map seen_event d.exchanges) d.run (seen_many d.exchanges ∙ d.many)
 
 -- what is reported at the end
-pub reported : (L : Type 0) (step : L → Exchange → L → Type 0) (source : ℕ) (search : Search) (kind : Kind) (known : List ℕ) (budget n frames : ℕ) (old line : L) (a : AgentState) (found : Result (List Device) (AgentFault × List Device))
+pub reported : (L : Type 0) (step : L → Exchange → L → Type 0) (source : ℕ) (search : Search) (kind : Kind)
+    (known : List ℕ) (budget n frames : ℕ) (old line : L) (a : AgentState)
+    (found : Result (List Device) (AgentFault × List Device))
     → HasDriven L step source search kind known budget old n a line → next_op a ≡ End → found ≡ run_result (fault_of a.phase) a.found
     → AfterEach a (λ run. (frames ≡ length run.exchanges) × (frames ≤ run.budget))
     → IsDiscovery L step source search kind known budget old line found frames

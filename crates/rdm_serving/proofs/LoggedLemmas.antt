@@ -19,7 +19,7 @@ use Rattle.rdm_client.specs.declared.told.AskTold.{AskTold}
 use Rattle.rdm_client.specs.declared.told.Collected.{Collected}
 use Rattle.rdm_client.specs.declared.told.Collected.TheVariants as collected
 use Rattle.rdm_serving.specs.LoggedOutcomes.{AreLogged, AllLogged, end_told, ends_logged, faults_logged}
-use Rattle.rdm_serving.specs.Scripts.{Notes, IsToldBy}
+use Rattle.rdm_serving.specs.body.Scripts.{Notes, IsToldBy}
 use Rattle.rdm_serving.specs.declared.outcomes.Discovered.{Discovered}
 use Rattle.rdm_serving.specs.declared.outcomes.Outcomes.{Outcomes}
 
@@ -145,7 +145,8 @@ logged_next o h told i x lt at all here =
     none_more n = omega arith
 
 -- a client's requests and its discoveries
-pub logged_both : (o p : Opening) (h k : List Entry) (c : ℕ) (told : Outcomes) (rs : List Told) (ds : List Discovered) (b : Bool) → p ≡ o → k ≡ h → rs ≡ told.requests.items → ds ≡ told.discoveries.items
+pub logged_both : (o p : Opening) (h k : List Entry) (c : ℕ) (told : Outcomes) (rs : List Told) (ds : List Discovered)
+    (b : Bool) → p ≡ o → k ≡ h → rs ≡ told.requests.items → ds ≡ told.discoveries.items
     → ends_logged p c k ≡ map end_told rs → OnTrue b (faults_logged p c k ≡ map (λ (d : Discovered). d.fault) ds) → OnTrue b (AreLogged o h c told)
 logged_both o p h k c told rs ds true opening entries requests discoveries ends faults =
     record { requests = rw (opening, entries, requests) at ends; discoveries = rw (opening, entries, discoveries) at faults }

@@ -1,5 +1,7 @@
 -- Discovery runs on a simulated line are runs of that line, and so honest.
-use Rattle.std.proofs.Common.{◌≡◌, ◌≢◌, ℕ, zero, suc, ◌+◌, ◌<◌, ◌≤◌, ◌^◌, Bool, true, false, cond, List, [], ◌∷◌, length, map, Result, Option, Some, None, refl, sym, ap, ◌∙◌, subst, inl, inr, replicate, arith, true≢false}
+use Rattle.std.proofs.Common.{◌≡◌, ◌≢◌, ℕ, zero, suc, ◌+◌, ◌<◌, ◌≤◌, ◌^◌, Bool, true, false, cond, List, [], ◌∷◌}
+use Rattle.std.proofs.Common.{length, map, Result, Option, Some, None, refl, sym, ap, ◌∙◌, subst, inl, inr, replicate}
+use Rattle.std.proofs.Common.{arith, true≢false}
 use Rattle.std.specs.Prelude.{◌&&◌, ◌==◌, MatchBool, IfOk, IfErr, IsOkAnd, nat_lt}
 use Rattle.std.specs.List.{AllByRecursion}
 use Rattle.std.specs.List.Sorted.{IsPermutation}
@@ -147,11 +149,16 @@ never_fails (x ∷ steps) s new run none = by_rule (is_among x.before.exchanges 
         and_false true = refl
         and_false false = refl
 
-    by_rule : (t : Bool) → is_among x.before.exchanges x.before.fails ≡ t → MatchBool t (FailsOnly x.before x.exchange.1 run.1) (Exchanges x.before x.exchange run.1) → (run.1.fails ≡ [] → AllByRecursion (λ (e : Seen). e.heard ≢ Failed) (map seen_in steps)) → AllByRecursion (λ (e : Seen). e.heard ≢ Failed) (map seen_in (x ∷ steps))
+    by_rule : (t : Bool) → is_among x.before.exchanges x.before.fails ≡ t
+        → MatchBool t (FailsOnly x.before x.exchange.1 run.1) (Exchanges x.before x.exchange run.1)
+        → (run.1.fails ≡ [] → AllByRecursion (λ (e : Seen). e.heard ≢ Failed) (map seen_in steps))
+        → AllByRecursion (λ (e : Seen). e.heard ≢ Failed) (map seen_in (x ∷ steps))
     by_rule true is h rest = absurd (true≢false (sym is ∙ not_among))
     by_rule false is h rest =
         let keeps = keeps_numbers x.before.exchanges (counted x.before) run.1 _ h.reply h.acts in (
-          λ failed. no_failure_heard (fields_at x.exchange.0.items).source (fields_at x.exchange.0.items).tn (asked_in x.exchange.0.items) _ (sym (ap (λ e. heard_in x.exchange.0.items (bytes_heard e)) h.heard) ∙ failed),
+          λ failed. no_failure_heard (fields_at x.exchange.0.items).source (fields_at x.exchange.0.items).tn
+              (asked_in x.exchange.0.items) _ (sym (ap (λ e. heard_in x.exchange.0.items (bytes_heard e)) h.heard)
+              ∙ failed),
           rest (keeps.fails ∙ no_fails),
         )
 
@@ -173,7 +180,9 @@ needs_some : (search : Search) (present : List ℕ) (kind : Kind) (known : List 
 needs_some Steady present kind known budget enough = omega arith
 needs_some Quick present kind known budget enough = omega arith
 
-module _ (scene : Scene) (search : Search) (kind : Kind) (known : List ℕ) (budget : ℕ) (found : Result (List Device) (AgentFault × List Device)) (n : ℕ) (d : IsSceneDiscovery scene search kind known budget found n) where
+module _ (scene : Scene) (search : Search) (kind : Kind) (known : List ℕ) (budget : ℕ)
+    (found : Result (List Device) (AgentFault × List Device)) (n : ℕ)
+    (d : IsSceneDiscovery scene search kind known budget found n) where
   abbrev last : AgentState
   last = d.discovery.last
 
@@ -212,7 +221,9 @@ module _ (scene : Scene) (search : Search) (kind : Kind) (known : List ℕ) (bud
 
   trace : LosesFew d.steps → AllByRecursion Stays scene.devices → IsScene scene.devices → HonestTrace (uids_of_scene scene.devices) seen
   trace few stay is_scene =
-      (trace-over (uids_of_scene scene.devices) seen is_scene.uids).1 (subst (λ sets. HonestOver sets seen) (staying_during scene.devices 0 n stay ∙ ap (λ k. replicate k (uids_of_scene scene.devices)) seen_many) (over few))
+      (trace-over (uids_of_scene scene.devices) seen is_scene.uids).1
+      (subst (λ sets. HonestOver sets seen) (staying_during scene.devices 0 n stay
+      ∙ ap (λ k. replicate k (uids_of_scene scene.devices)) seen_many) (over few))
     where
       seen_many : n ≡ length seen
       seen_many = sym d.discovery.driven.many ∙ sym (length-map d.discovery.driven.exchanges seen_event)
@@ -232,7 +243,10 @@ module _ (scene : Scene) (search : Search) (kind : Kind) (known : List ℕ) (bud
   true_report : LosesFew d.steps → IsTrueReport scene.devices n found
   true_report few = record {
     finds_staying = λ u always. subst (λ r. IfOk r (λ s. has (uids_of s) u ≡ true)) (sym d.discovery.report)
-        (ok_of (fault_of last.phase) last.found (λ s. has (uids_of s) u ≡ true) (λ fault. finds_staying_by search kind known budget seen last set runs (present_during scene.devices 0 n) u end fault (over few) (in_each scene.devices u 0 n (λ k low high. let below : k < 0 + n = high in always k (omega arith)))));
+        (ok_of (fault_of last.phase) last.found (λ s. has (uids_of s) u ≡ true)
+        (λ fault. finds_staying_by search kind known budget seen last set runs (present_during scene.devices 0 n) u
+        end fault (over few) (in_each scene.devices u 0 n
+        (λ k low high. let below : k < 0 + n = high in always k (omega arith)))));
     no_stranger = λ u. subst (λ r. IfOk r (λ s. has (uids_of s) u ≡ true → WasPresent scene.devices n u)) (sym d.discovery.report)
         (ok_of (fault_of last.phase) last.found (λ s. has (uids_of s) u ≡ true → WasPresent scene.devices n u) (λ fault here. was u here));
     no_stranger_in_fault = λ u. subst (λ r. IfErr r (λ e. has (uids_of e.1) u ≡ true → WasPresent scene.devices n u)) (sym d.discovery.report)
@@ -282,7 +296,8 @@ module _ (scene : Scene) (search : Search) (kind : Kind) (known : List ℕ) (bud
   honest_report few = record { devices = true_report few; all = finds_them few; no_fault = without_fault few }
 
 -- a run on a line of a scene
-pub on_scene : (scene : Scene) (search : Search) (kind : Kind) (known : List ℕ) (budget n : ℕ) (found : Result (List Device) (AgentFault × List Device)) (before after : SimState) → IsStartOf scene before
+pub on_scene : (scene : Scene) (search : Search) (kind : Kind) (known : List ℕ) (budget n : ℕ)
+    (found : Result (List Device) (AgentFault × List Device)) (before after : SimState) → IsStartOf scene before
     → IsDiscovery SimState SimStep scene.source search kind known budget before after found n → n < 2 ^ 64 → IsSceneDiscovery scene search kind known budget found n
 on_scene scene search kind known budget n found before after begins discovery countable =
     let steps = traced scene.source 0 (start_by search kind known budget) discovery.last before after discovery.driven.exchanges discovery.driven.drives in record {
@@ -297,5 +312,10 @@ on_scene scene search kind known budget n found before after begins discovery co
     }
 
 -- losses without five successive numbers are few
-pub loses_few : (scene : Scene) (search : Search) (kind : Kind) (known : List ℕ) (budget n : ℕ) (found : Result (List Device) (AgentFault × List Device)) (d : IsSceneDiscovery scene search kind known budget found n) → NoFiveSuccessive scene.losses.items → LosesFew d.steps
-loses_few scene search kind known budget n found d few = few_losses d.before d.after d.steps d.runs (λ i all. few i (λ j lt. list_any-IsPermutation (λ v. (i + j) == v) scene.losses.items d.before.losses d.begins.losses ∙ all j lt))
+pub loses_few : (scene : Scene) (search : Search) (kind : Kind) (known : List ℕ) (budget n : ℕ)
+    (found : Result (List Device) (AgentFault × List Device))
+    (d : IsSceneDiscovery scene search kind known budget found n) → NoFiveSuccessive scene.losses.items
+    → LosesFew d.steps
+loses_few scene search kind known budget n found d few =
+    few_losses d.before d.after d.steps d.runs (λ i all. few i
+    (λ j lt. list_any-IsPermutation (λ v. (i + j) == v) scene.losses.items d.before.losses d.begins.losses ∙ all j lt))

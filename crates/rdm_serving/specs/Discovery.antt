@@ -32,7 +32,8 @@ Drives L step source n a old (x ∷ xs) b new =
     (after : AgentState) × (line : L) × (e : GoesOn L step source (n % 256) a old after line) × (e.exchange ≡ x)
     × Drives L step source (n + 1) after line xs b new
 
--- an agent that was started so stands so after n exchanges with the line
+-- an agent that was started by this search with this kind, known set and budget made n exchanges with the line, whose
+-- frames are numbered from 0; then the agent and the line were these
 pub record HasDriven (L : Type 0) (step : L → Exchange → L → Type 0) (source : ℕ) (search : Search) (kind : Kind)
     (known : List ℕ) (budget : ℕ) (old : L) (n : ℕ) (a : AgentState) (line : L) : Type 0 where
   pub exchanges : List Exchange

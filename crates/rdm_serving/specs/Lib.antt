@@ -2,5 +2,5 @@ pub mod Discovery
 pub mod SceneDiscovery
 pub mod Report
 pub mod SessionReport
-pub mod Scripts
 pub mod LoggedOutcomes
+pub mod body

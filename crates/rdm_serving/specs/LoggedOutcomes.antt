@@ -8,7 +8,7 @@ use Rattle.rdm_log.specs.declared.entry.Entry.{Entry}
 use Rattle.rdm_log.specs.declared.entry.Entry.TheVariants.{Finish, Answer}
 use Rattle.rdm_log.specs.log.Clients.{is_client_of, client_of_request, client_of_discovery}
 use Rattle.rdm_log.specs.log.Legal.{Legal}
-use Rattle.rdm_log.specs.promises.Promised.{Promised}
+use Rattle.rdm_log.specs.promises.Promised.{LegalPromised}
 use Rattle.rdm_serving.specs.declared.outcomes.Outcomes.{Outcomes}
 use Rattle.rdm_serving.specs.declared.outcomes.Discovered.{Discovered}
 
@@ -39,15 +39,16 @@ pub record AreLogged (o : Opening) (h : List Entry) (c : ℕ) (told : Outcomes) 
   pub requests : ends_logged o c h ≡ map end_told told.requests.items
   pub discoveries : faults_logged o c h ≡ map (λ (d : Discovered). d.fault) told.discoveries.items
 
--- so was each of these clients, which are numbered from c on
+-- the same of each of these clients, which are numbered from c on
 abbrev pub AllLogged : Opening → List Entry → ℕ → List Outcomes → Type 0
 AllLogged o h c [] = Unit {0}
 AllLogged o h c (told ∷ later) = AreLogged o h c told × AllLogged o h (c + 1) later
 
--- a legal log, which keeps all that clients are promised, says so of these clients
+-- there is a legal log, which keeps all that clients are promised of one, and each of these clients, numbered from 0, was
+-- told of all its requests and discoveries that ended in it
 pub record HasLog (told : List Outcomes) : Type 0 where
   pub opening : Opening
   pub entries : List Entry
   pub legal : Legal opening entries
-  pub promised : Promised opening entries
+  pub promised : LegalPromised opening entries
   pub logged : AllLogged opening entries 0 told

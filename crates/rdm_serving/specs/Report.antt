@@ -16,7 +16,7 @@ line_of text = text ++ 10 ∷ []
 abbrev pub four_digits : ℕ → List ℕ
 four_digits n = encode_lower (two_bytes n)
 
--- what a device says of itself: nothing where its control field is 0 and it is bound to none
+-- what a device says of itself: nothing if its control field is 0 and it is bound to none
 abbrev pub details : ℕ → Option ℕ → List ℕ
 details control None = if control == 0 then [] else 32 ∷ four_digits control
 details control (Some binding) = (32 ∷ four_digits control) ++ (32 ∷ uid_text binding)

@@ -12,7 +12,7 @@ ghost use Rattle.rdm_line.specs.SimRuns.{NoFiveSuccessive};
 ghost use Rattle.rdm_serving.specs.Discovery.{GoesOn, IsDiscovery};
 ghost use Rattle.rdm_serving.specs.SceneDiscovery.{IsSceneDiscovery, IsHonestReport};
 
-use crate::progress::{Progress, tell_often};
+use crate::progress::{Progress, write_often};
 use rdm_agent::{Agent, AgentFault, Kind, Op, OpReply, Search};
 use rdm_join::LineReply;
 use rdm_line::{Line, LineFault, NoMemory, Scene, SimLine};
@@ -28,8 +28,8 @@ pub struct Discovery {
     pub frames: u64,
 }
 
-/// Makes a discovery run on a line, from the controller `source`, that searches so: the agent's frames, numbered from
-/// 0, go over the line, and the agent hears what came, until it asks nothing more. Every thousandth exchange is told.
+/// Makes a discovery run with this search on a line, from the controller `source`: the agent's frames, numbered from 0,
+/// go over the line, and the agent hears what came, until it asks nothing more. Every thousandth exchange is reported.
 pub fn discover<L: Line, P: Progress>(
     line: &mut L,
     source: Uid,
@@ -49,7 +49,7 @@ pub fn discover<L: Line, P: Progress>(
             break;
         }
         ask(&mut agent, line, source, (made % 256) as u8);
-        tell_often(progress, (made + 1) as usize);
+        write_often(progress, (made + 1) as usize);
     }
     // For the proof alone: after as many exchanges as the budget allows, nothing is asked next.
     let _end = agent.next();
@@ -83,11 +83,11 @@ fn read(op: Op, source: Uid, tn: u8, answer: &Result<LineReply, LineFault>) -> O
     }
 }
 
-/// Makes a discovery run on a simulated line of this scene. A run's fault is in the answer. [`NoMemory`]: there was no
-/// memory, and no run was made; the scene doesn't come back.
+/// Makes a discovery run on a simulated line of this scene. A run's fault is in the answer. [`NoMemory`]: memory
+/// ran out, and no run was made; the scene isn't returned.
 ///
 /// It finds each device that is on the line throughout, and none that never is. The premise: no five replies of a kind
-/// are lost in succession. Every thousandth exchange is told.
+/// are lost in a row. Every thousandth exchange is reported.
 pub fn discover_in<P: Progress>(
     alloc: Global,
     scene: Scene,

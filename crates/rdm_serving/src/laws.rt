@@ -1,4 +1,4 @@
-//! Laws of runs, each the contract of a function that does nothing. The definitions stand in `specs`.
+//! Laws of runs, each the contract of a function that does nothing. The definitions are in `specs`.
 ghost use Rattle.std.specs.Prelude.{ℕ, List, Result};
 ghost use Rattle.rdm_wire.specs.declared.device.Device.{Device};
 ghost use Rattle.rdm_agent.specs.declared.fault.AgentFault.{AgentFault};
@@ -8,7 +8,7 @@ ghost use Rattle.rdm_line.specs.SimRuns.{LosesFew};
 ghost use Rattle.rdm_line.specs.declared.scene.Scene.{Scene};
 ghost use Rattle.rdm_serving.specs.SceneDiscovery.{IsSceneDiscovery, IsHonestReport};
 
-/// A run on the line of a scene reports honestly, as long as its steps lost no five replies of a kind in succession.
+/// A run on the line of a scene reports honestly, as long as its steps lost no five replies of a kind in a row.
 /// Such a reply is that to a branch which a device was due to answer, or to a mute of a present device.
 pub fn few_losses_are_honest()
     ensures { (scene : Scene) (search : Search) (kind : Kind) (known : List ℕ) (budget : ℕ)

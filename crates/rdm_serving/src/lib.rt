@@ -1,8 +1,8 @@
 //! Discovery runs and sessions of clients on a simulated line, and the texts that report them.
 //!
-//! [`discover_in`] makes a run on the line of a scene, and [`report`] says what is printed of it. [`serve`] serves the
-//! clients of a session file, each in a thread of its own, and [`session_text`] says what is printed of them. A
-//! [`Progress`] is told how far they are.
+//! [`discover_in`] makes a run on the line of a scene, and [`report`] returns what is printed of it. [`serve`] serves
+//! the clients of a session file, each in a thread of its own, and [`session_text`] returns what is printed of them. A
+//! [`Progress`] hears how far they are. All of it is the profile of this project.
 #![tactic(auto)]
 
 mod discovery;

@@ -5,7 +5,7 @@ ghost use Rattle.rdm_serving.specs.SessionReport.{session_text, client_text, req
 ghost use Rattle.rdm_serving.specs.SessionReport.{request_line, discovery_line, whose};
 ghost use Rattle.rdm_serving.specs.SessionReport.{reply_told, type_text, uids_text};
 
-use crate::reporting::{tell_fault, tell_uid};
+use crate::reporting::{write_fault, write_uid};
 use itoa::Buffer;
 use rdm_agent::AgentFault;
 use rdm_client::{AskTold, Told};
@@ -22,12 +22,12 @@ pub struct Outcomes {
     pub discoveries: Vec<Discovered>,
 }
 
-/// What a discovery's callback told. It takes room for the UIDs of the devices, and not for a whole set.
+/// What a discovery's callback told. It has memory for the UIDs of these devices, and not for a whole set.
 #[derive(Debug, Drop)]
 pub struct Discovered {
     /// The callback's tag.
     pub tag: u64,
-    /// Why its run ended early; None where it ended without fault.
+    /// Why its run ended early; None if it ended without fault.
     pub fault: Option<AgentFault>,
     /// The UIDs of the devices, ascending.
     pub uids: Vec<Uid>,
@@ -47,7 +47,7 @@ impl Outcomes {
 }
 
 impl Discovered {
-    /// What a discovery's callback told. Err: there was no memory.
+    /// What a discovery's callback told. Err: memory ran out.
     pub fn new(alloc: Global, told: &AskTold) -> Result<Discovered, AllocError>
         ensures tag { IfOk result (λ d. d.tag ≡ told.now.tag) }
         ensures fault { IfOk result (λ d. d.fault ≡ told.now.done.fault) }
@@ -65,18 +65,18 @@ impl Discovered {
     }
 }
 
-/// The lines of all clients, in their order: of each its requests, and then its discoveries. Err: there was no memory.
+/// The lines of all clients, in their order: of each its requests, and then its discoveries. Err: memory ran out.
 pub fn session_text(alloc: Global, outcomes: &[Outcomes]) -> Result<Vec<u8>, AllocError>
     ensures { IfOk result (λ text. text.items ≡ session_text outcomes.now) }
 {
     let mut text = Vec::new(alloc);
     'clients: for client in 0..outcomes.len() {
-        tell_client(alloc, &mut text, client, &outcomes[client])?;
+        write_client(alloc, &mut text, client, &outcomes[client])?;
     }
     Ok(text)
 }
 
-fn tell_client(
+fn write_client(
     alloc: Global,
     text: &mut Vec<u8>,
     client: usize,
@@ -84,11 +84,11 @@ fn tell_client(
 ) -> Result<(), AllocError>
     ensures { OnOk result (text.new.items ≡ text.old.items ++ client_text client outcomes.now) }
 {
-    tell_requests(alloc, text, client, &outcomes.requests)?;
-    tell_discoveries(text, client, &outcomes.discoveries)
+    write_requests(alloc, text, client, &outcomes.requests)?;
+    write_discoveries(text, client, &outcomes.discoveries)
 }
 
-fn tell_requests(
+fn write_requests(
     alloc: Global,
     text: &mut Vec<u8>,
     client: usize,
@@ -97,12 +97,12 @@ fn tell_requests(
     ensures { OnOk result (text.new.items ≡ text.old.items ++ request_lines client requests.now) }
 {
     'requests: for number in 0..requests.len() {
-        tell_request(alloc, text, client, number, &requests[number])?;
+        write_request(alloc, text, client, number, &requests[number])?;
     }
     Ok(())
 }
 
-fn tell_discoveries(
+fn write_discoveries(
     text: &mut Vec<u8>,
     client: usize,
     discoveries: &[Discovered],
@@ -110,12 +110,12 @@ fn tell_discoveries(
     ensures { OnOk result (text.new.items ≡ text.old.items ++ discovery_lines client discoveries.now) }
 {
     'discoveries: for number in 0..discoveries.len() {
-        tell_discovery(text, client, number, &discoveries[number])?;
+        write_discovery(text, client, number, &discoveries[number])?;
     }
     Ok(())
 }
 
-fn tell_request(
+fn write_request(
     alloc: Global,
     text: &mut Vec<u8>,
     client: usize,
@@ -125,14 +125,14 @@ fn tell_request(
     ensures { OnOk result (text.new.items ≡ text.old.items ++ request_line client number told.now) }
 {
     let done = &told.done;
-    tell_whose(text, client, b" request ", number)?;
+    write_whose(text, client, b" request ", number)?;
     text.extend_from_slice(Buffer::new().format(done.status.number()).as_bytes())?;
-    tell_reply(alloc, text, done.status, &done.reply, &done.bytes)?;
+    write_reply(alloc, text, done.status, &done.reply, &done.bytes)?;
     text.push(b'\n')?;
     Ok(())
 }
 
-fn tell_discovery(
+fn write_discovery(
     text: &mut Vec<u8>,
     client: usize,
     number: usize,
@@ -140,18 +140,18 @@ fn tell_discovery(
 ) -> Result<(), AllocError>
     ensures { OnOk result (text.new.items ≡ text.old.items ++ discovery_line client number discovered.now) }
 {
-    tell_whose(text, client, b" discovery ", number)?;
+    write_whose(text, client, b" discovery ", number)?;
     if let Some(fault) = discovered.fault {
-        return tell_fault(text, fault);
+        return write_fault(text, fault);
     }
     text.extend_from_slice(b"ok")?;
-    tell_uids(text, &discovered.uids)?;
+    write_uids(text, &discovered.uids)?;
     text.push(b'\n')?;
     Ok(())
 }
 
 // Whose outcome it is.
-fn tell_whose(
+fn write_whose(
     text: &mut Vec<u8>,
     client: usize,
     kind: &[u8],
@@ -167,7 +167,7 @@ fn tell_whose(
 }
 
 // The type and the data of a completed request's reply.
-fn tell_reply(
+fn write_reply(
     alloc: Global,
     text: &mut Vec<u8>,
     status: Status,
@@ -200,12 +200,12 @@ fn type_text(ack: AckType) -> &'static [u8]
 }
 
 // A blank and the UID, for each.
-fn tell_uids(text: &mut Vec<u8>, uids: &[Uid]) -> Result<(), AllocError>
+fn write_uids(text: &mut Vec<u8>, uids: &[Uid]) -> Result<(), AllocError>
     ensures { OnOk result (text.new.items ≡ text.old.items ++ uids_text uids.now) }
 {
     'uids: for uid in uids {
         text.push(b' ')?;
-        tell_uid(text, *uid)?;
+        write_uid(text, *uid)?;
     }
     Ok(())
 }

@@ -1,10 +1,10 @@
-//! The two ports of a session.
+//! The two kinds of port of a session.
 
-/// What stands between the clients of a session and its worker.
+/// How the clients of a session and its worker share it.
 #[derive(Clone, Copy, Debug, PartialEq, Eq)]
 pub enum PortKind {
-    /// A lock.
+    /// With a mutex.
     Locked,
-    /// Two rings for each client.
+    /// With two ring buffers for each client.
     Rings,
 }

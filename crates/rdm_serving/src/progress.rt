@@ -1,10 +1,10 @@
 //! How far a session or a discovery is.
 use rdm_files::Remark;
 
-// How many exchanges are made before it is told again.
+// How many exchanges are made before the next report.
 const OFTEN: usize = 1000;
 
-/// Who is told what people should know of a file, and how far its session or its discovery is.
+/// Hears what people should know of a file, and how far its session or its discovery is.
 pub trait Progress {
     /// People should know this of the file, whose work hasn't begun.
     fn remark(&mut self, remark: &Remark);
@@ -13,8 +13,8 @@ pub trait Progress {
     fn tell(&mut self, exchanges: usize);
 }
 
-/// Tells every thousandth exchange.
-pub(crate) fn tell_often<P: Progress>(progress: &mut P, made: usize) {
+/// Reports every thousandth exchange.
+pub(crate) fn write_often<P: Progress>(progress: &mut P, made: usize) {
     if made > 0 && made % OFTEN == 0 {
         progress.tell(made);
     }

@@ -17,8 +17,8 @@ pub fn report(alloc: Global, discovery: &Discovery) -> Result<Vec<u8>, AllocErro
 {
     let mut text = Vec::new(alloc);
     match &discovery.found {
-        Ok(devices) => tell_devices(&mut text, devices.as_slice())?,
-        Err((fault, _)) => tell_fault(&mut text, *fault)?,
+        Ok(devices) => write_devices(&mut text, devices.as_slice())?,
+        Err((fault, _)) => write_fault(&mut text, *fault)?,
     }
     text.extend_from_slice(b"frames ")?;
     text.extend_from_slice(Buffer::new().format(discovery.frames).as_bytes())?;
@@ -26,50 +26,50 @@ pub fn report(alloc: Global, discovery: &Discovery) -> Result<Vec<u8>, AllocErro
     Ok(text)
 }
 
-/// The lines of these devices, ascending by UID, as a report has them. Err: memory was refused.
+/// The lines of these devices, ascending by UID, as a report has them. Err: memory ran out.
 pub fn device_lines(alloc: Global, devices: &DeviceSet) -> Result<Vec<u8>, AllocError>
     ensures { IfOk result (λ text. text.items ≡ flat_map device_line devices.now) }
 {
     let mut text = Vec::new(alloc);
-    tell_devices(&mut text, devices.as_slice())?;
+    write_devices(&mut text, devices.as_slice())?;
     Ok(text)
 }
 
-fn tell_devices(text: &mut Vec<u8>, devices: &[Device]) -> Result<(), AllocError>
+fn write_devices(text: &mut Vec<u8>, devices: &[Device]) -> Result<(), AllocError>
     ensures { OnOk result (text.new.items ≡ text.old.items ++ flat_map device_line devices.now) }
 {
     'devices: for device in devices {
-        tell_device(text, device)?;
+        write_device(text, device)?;
     }
     Ok(())
 }
 
-fn tell_device(text: &mut Vec<u8>, device: &Device) -> Result<(), AllocError>
+fn write_device(text: &mut Vec<u8>, device: &Device) -> Result<(), AllocError>
     ensures { OnOk result (text.new.items ≡ text.old.items ++ device_line device.now) }
 {
-    tell_uid(text, device.uid)?;
-    tell_details(text, device.control, device.binding)?;
+    write_uid(text, device.uid)?;
+    write_details(text, device.control, device.binding)?;
     text.push(b'\n')?;
     Ok(())
 }
 
 // What a device says of itself, unless it is nothing.
-fn tell_details(text: &mut Vec<u8>, control: u16, binding: Option<Uid>) -> Result<(), AllocError>
+fn write_details(text: &mut Vec<u8>, control: u16, binding: Option<Uid>) -> Result<(), AllocError>
     ensures { OnOk result (text.new.items ≡ text.old.items ++ details control binding) }
 {
     match binding {
         None if control == 0 => Ok(()),
-        None => tell_control(text, control),
+        None => write_control(text, control),
         Some(binding) => {
-            tell_control(text, control)?;
+            write_control(text, control)?;
             text.push(b' ')?;
-            tell_uid(text, binding)
+            write_uid(text, binding)
         }
     }
 }
 
 // A blank and the control field.
-fn tell_control(text: &mut Vec<u8>, control: u16) -> Result<(), AllocError>
+fn write_control(text: &mut Vec<u8>, control: u16) -> Result<(), AllocError>
     ensures { OnOk result (text.new.items ≡ text.old.items ++ (32 ∷ four_digits control)) }
 {
     let mut digits = [0; 4];
@@ -78,19 +78,19 @@ fn tell_control(text: &mut Vec<u8>, control: u16) -> Result<(), AllocError>
     text.extend_from_slice(&digits)
 }
 
-pub(crate) fn tell_uid(text: &mut Vec<u8>, uid: Uid) -> Result<(), AllocError>
+pub(crate) fn write_uid(text: &mut Vec<u8>, uid: Uid) -> Result<(), AllocError>
     ensures { OnOk result (text.new.items ≡ text.old.items ++ uid_text uid) }
 {
     text.extend_from_slice(&uid.to_text())
 }
 
-pub(crate) fn tell_fault(text: &mut Vec<u8>, fault: AgentFault) -> Result<(), AllocError>
+pub(crate) fn write_fault(text: &mut Vec<u8>, fault: AgentFault) -> Result<(), AllocError>
     ensures { OnOk result (text.new.items ≡ text.old.items ++ line_of (fault_text fault)) }
 {
     match fault {
         AgentFault::Corrupt(uid) => {
             text.extend_from_slice(b"fault 1 ")?;
-            tell_uid(text, uid)?;
+            write_uid(text, uid)?;
         }
         AgentFault::TooMany => text.extend_from_slice(b"fault 2")?,
         AgentFault::Exhausted => text.extend_from_slice(b"fault 3")?,

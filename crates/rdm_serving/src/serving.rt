@@ -37,7 +37,7 @@ use std::thread::Threads;
 /// Why not all calls of a session are settled.
 #[derive(Clone, Copy, Debug, PartialEq, Eq)]
 pub enum ServeFault {
-    /// Memory was refused.
+    /// Memory ran out.
     Memory,
     /// The log is full.
     Log,
@@ -67,9 +67,9 @@ pub struct Served {
     pub session: Session,
 }
 
-/// Serves a session, and gives what came of each client's calls, in the order of the clients. Each outcome has its
+/// Serves a session, and returns what came of each client's calls, in the order of the clients. Each outcome has its
 /// call's tag, and ended as a legal log says: its status and how many bytes it has, or its fault.
-/// Err: memory was refused; or else the log is full; or else a client or the worker has made all its turns.
+/// Err: memory ran out; or else the log is full; or else a client or the worker has made all its turns.
 pub fn serve<L: Ledger + Send + Sync, P: Progress + Send, R: Threads + Wait + Sync>(
     rt: &R,
     alloc: Global,
@@ -120,8 +120,8 @@ pub fn serve<L: Ledger + Send + Sync, P: Progress + Send, R: Threads + Wait + Sy
     }
 }
 
-// The outcomes, where each call has one. A log with fewer than three free entries would have refused the worker's next
-// frame, so it is full, also where no frame was left. It doesn't come to outcomes that the log doesn't have.
+// The outcomes, if each call has one. A log with fewer than three free entries would have refused the worker's next
+// frame, so it is full, even if no frame was left. Outcomes that the log doesn't have never come.
 fn settled(
     alloc: Global,
     clients: &[ClientFile],
@@ -144,7 +144,7 @@ fn settled(
     }
 }
 
-// The greatest queue has the sum of the clients' places.
+// The largest queue has the sum of the clients' queue depths.
 fn config_of(source: Uid, budget: u64, clients: &[ClientFile]) -> Config
     requires source { IsDevice source }
     requires budget { 1 ≤ budget }

@@ -12,10 +12,10 @@ use rdm_agent::Kind;
 use rdm_client::DeviceView;
 use rdm_lanes::{
     BlankHistory, ClientEnd, Compared, Lanes, OpenFault, Operator, RingClient, RingFault, RingFull,
-    Shown, ViewHistory, ViewWorker, WorkerEnd, open_lanes, open_lanes_by,
+    Shown, ViewHistory, ViewWorker, WorkerEnd, open_lanes, open_lanes_with,
 };
 use rdm_line::{Line, TapeLine};
-use rdm_queue::Log;
+use rdm_queue::{Log, Setup as SessionSetup};
 use rdm_rig::{
     Act, AskNote, Came, Heard, Move, Note, Refusal, Said, Stage, State, Step, Stop, Wrong, cancels,
     config, found_in, log, log_of, moved, request, state_of, tape_of, told,
@@ -91,7 +91,13 @@ pub(crate) fn opened<'a, J: ViewHistory, R: Wait, X: Drop>(
     let ring = setup.ring.max(1);
     let opened: Opened<J, &'a R> = match setup.search {
         None => open_lanes(rt, alloc, history, set, log, ring, setup.places),
-        Some(by) => open_lanes_by(rt, alloc, history, by, set, log, ring, setup.places),
+        Some(search) => {
+            let set = SessionSetup {
+                config: set,
+                search,
+            };
+            open_lanes_with(rt, alloc, history, set, log, ring, setup.places)
+        }
     };
     match opened {
         Ok(

@@ -8,6 +8,7 @@ use rdm_line::Line;
 use rdm_locked::{
     CallShare, Exchange, FinishFault, Left, LockedClient, Port, SessionEnd, WorkerEnd,
 };
+use rdm_queue::Setup as SessionSetup;
 use rdm_rig::{
     Act, Heard, Move, Refusal, Said, Stage, State, Step, Stop, Wrong, cancels, config, found_in,
     log, log_of, moved, request, state_of, switched, told,
@@ -339,7 +340,7 @@ pub(crate) fn port_of<L: Ledger>(
     let config = config(setup.places);
     let port = match setup.search {
         None => Port::new(alloc, blank, config, log),
-        Some(search) => Port::new_by(alloc, search, blank, config, log),
+        Some(search) => Port::new_with(alloc, blank, SessionSetup { config, search }, log),
     };
     match port {
         Ok(port) => Ok(port),

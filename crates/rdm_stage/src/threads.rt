@@ -10,10 +10,10 @@ use crate::player::{Play, Player, Points, TRIES, waits};
 use crate::setup::Setup;
 use rdm_lanes::{
     BlankHistory, Body, Gate, LanesEnd, OpenFault, Operator, RingClient, RunFault, Shown,
-    ViewHistory, ViewWorker, run_session, run_session_by,
+    ViewHistory, ViewWorker, run_session, run_session_with,
 };
 use rdm_line::Line;
-use rdm_queue::Log;
+use rdm_queue::{Log, Setup as SessionSetup};
 use rdm_rig::{AskNote, Heard, Note, Said, State, Stop, Wrong, config, log, log_of, state_of};
 use std::alloc::Global;
 use std::marker::Brand;
@@ -186,9 +186,15 @@ fn run<J: ViewHistory + Send + Sync, X: Line + Send, R: Threads + Wait + Sync>(
         None => run_session(
             rt, alloc, history, set, log, ring, places, players, &gate, line, TURNS,
         ),
-        Some(by) => run_session_by(
-            rt, alloc, history, by, set, log, ring, places, players, &gate, line, TURNS,
-        ),
+        Some(search) => {
+            let set = SessionSetup {
+                config: set,
+                search,
+            };
+            run_session_with(
+                rt, alloc, history, set, log, ring, places, players, &gate, line, TURNS,
+            )
+        }
     }
 }
 

@@ -47,7 +47,8 @@ mute_fits f fits = discovery_fits f f.dest 2 [] fits fits.dest (omega arith) (om
 fields_ask : (c : asked.Command) (s tn : ℕ) (b : List ℕ) → Writes c s tn b → asked_with b (command_fields c s tn) ≡ asked_by_command c
 fields_ask asks.Unmute s tn b w = rw (equal_bytes b (unmute_frame s tn) w.bytes) refl
 fields_ask (asks.Branch r) s tn b w =
-    asks_with b f false true _ (differs b f (unmute_fields s tn) w.bytes w.frame.fits (unmute_fits f w.frame.fits) (λ e. no_pid (ap (λ x. x.pid) e))) (equal_bytes b _ (w.bytes ∙ bounds lo hi)) refl ∙ both _ _ lo hi
+    asks_with b f false true _ (differs b f (unmute_fields s tn) w.bytes w.frame.fits (unmute_fits f w.frame.fits)
+    (λ e. no_pid (ap (λ x. x.pid) e))) (equal_bytes b _ (w.bytes ∙ bounds lo hi)) refl ∙ both _ _ lo hi
   where
     f : Fields
     f = command_fields (asks.Branch r) s tn
@@ -113,7 +114,10 @@ nobody b bytes none = subst AsksNobody (sym (asks_with b (fields_at b) _ _ _ ref
         not_read asks.Unmute (record { frame = record { fits = unmute_fits f has.fits; bounds = tt }; in_order = tt; bytes = is })
 
     crossed : bytes_eq b (branch_frame (lower_bound f) (upper_bound f) f.source f.tn) ≡ true → upper_bound f < lower_bound f
-    crossed same = elim (cases_order_of (lower_bound f) (upper_bound f)) [ inl below ↦ below | inr in_order ↦ absurd (not_read (asks.Branch (record { lo = lower_bound f; hi = upper_bound f })) (written in_order)) ]
+    crossed same = elim (cases_order_of (lower_bound f) (upper_bound f)) [
+      | inl below ↦ below
+      | inr in_order ↦ absurd (not_read (asks.Branch (record { lo = lower_bound f; hi = upper_bound f })) (written in_order))
+    ]
       where
         cases_order_of : (lo hi : ℕ) → (hi < lo) ⊎ (lo ≤ hi)
         cases_order_of lo hi = grind arith

@@ -86,7 +86,14 @@ reads_so b c s tn h = by_option (command_in (fields_at b)) refl h
         let source : (fields_at b).source ≡ s = ap (λ (x : asked.Command × ℕ × ℕ). x.1) all in
         let number : (fields_at b).tn ≡ tn = ap (λ (x : asked.Command × ℕ × ℕ). x.2) all in
         let same : b ≡ command_frame d (fields_at b).source (fields_at b).tn = (bytes_eq-Decides b _).0 eq in
-        record { in_fields = is ∙ ap Some command; source = source; number = number; bytes = subst (λ x. b ≡ command_frame x s tn) command (subst (λ x. b ≡ command_frame d s x) number (subst (λ x. b ≡ command_frame d x (fields_at b).tn) source same)) }
+        record {
+          in_fields = is ∙ ap Some command;
+          source = source;
+          number = number;
+          bytes = subst (λ x. b ≡ command_frame x s tn) command
+              (subst (λ x. b ≡ command_frame d s x) number
+              (subst (λ x. b ≡ command_frame d x (fields_at b).tn) source same));
+        }
     by_test d is false eq h = absurd (let wrong : ⊥ = cc in wrong)
 
     by_option : (o : Option asked.Command) → command_in (fields_at b) ≡ o → written_so b (fields_at b).source (fields_at b).tn o ≡ Some (c, s, tn) → ReadsSo b c s tn

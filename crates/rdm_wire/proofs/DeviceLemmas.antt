@@ -1,5 +1,7 @@
 -- Devices that ascend by UID: where a UID stands among them, and the set with one more.
-use Rattle.std.proofs.Common.{◌≡◌, ℕ, zero, suc, ◌<◌, ◌≤◌, Bool, true, false, cond, List, [], ◌∷◌, length, get_or, Some, None, Result, Ok, Err, OnOk, OnErr, IfOk, IfErr, slice_get, refl, sym, ap, ◌∙◌, subst, inl, inr, true≢false, arith}
+use Rattle.std.proofs.Common.{◌≡◌, ℕ, zero, suc, ◌<◌, ◌≤◌, Bool, true, false, cond, List, [], ◌∷◌, length, get_or, Some}
+use Rattle.std.proofs.Common.{None, Result, Ok, Err, OnOk, OnErr, IfOk, IfErr, slice_get, refl, sym, ap, ◌∙◌, subst}
+use Rattle.std.proofs.Common.{inl, inr, true≢false, arith}
 use Rattle.std.specs.Prelude.{◌==◌, ◌||◌, nat_lt}
 use Rattle.std.specs.List.{insert}
 use Rattle.std.specs.List.Sorted.{IsSearchInRange, IsBinarySearchResult, IsNonDecreasingBy}
@@ -103,7 +105,7 @@ pub record Searched (ds : List Device) (u : ℕ) (r : Result ℕ ℕ) : Type 0 w
   pub found : IfOk r (λ i. slice_get ds i ≡ device_with ds u)
   pub absent : OnErr r (has (uids_of ds) u ≡ false)
   pub none : OnErr r (device_with ds u ≡ None)
-  pub place : IfErr r (λ i. (i ≤ length ds) × ((d : Device) → d.uid ≡ u → with_device d ds ≡ insert ds i d))
+  pub index : IfErr r (λ i. (i ≤ length ds) × ((d : Device) → d.uid ≡ u → with_device d ds ≡ insert ds i d))
 
 pub searched-device : (ds : List Device) (u : ℕ) (r : Result ℕ ℕ) → IsSearchInRange r (length ds) → IsBinarySearchResult (λ d. nat_cmp d.uid u) ds r
     → IsAscending (uids_of ds) → Searched ds u r
@@ -112,7 +114,7 @@ searched-device ds u (Ok i) p found a = record {
   found = device-found ds u i p found a;
   absent = tt;
   none = tt;
-  place = tt;
+  index = tt;
 }
 searched-device ds u (Err i) p found a =
     let place = device-absent ds u i p found a in
@@ -121,5 +123,5 @@ searched-device ds u (Err i) p found a =
       found = tt;
       absent = has-at_place u (uids_of ds) i place;
       none = no-device_with ds u (has-at_place u (uids_of ds) i place);
-      place = (p, λ d same. with_device-insert d ds i (subst (λ v. IsPlace (uids_of ds) v i) (sym same) place));
+      index = (p, λ d same. with_device-insert d ds i (subst (λ v. IsPlace (uids_of ds) v i) (sym same) place));
     }

@@ -14,14 +14,20 @@ whole : (f : Fields) (rest : List ℕ) → packet f ++ rest ≡ body_of f ++ (tw
 whole f rest = append_assoc (body_of f) (two_bytes (checksum (body_of f))) rest
 
 pub front : (f : Fields) (rest : List ℕ) → take (24 + length f.param) (packet f ++ rest) ≡ body_of f
-front f rest = subst (λ (n : ℕ). take n (packet f ++ rest) ≡ body_of f) (body_length f) (ap (take (length (body_of f))) (whole f rest) ∙ take-append_seam (body_of f) (two_bytes (checksum (body_of f)) ++ rest))
+front f rest = subst (λ (n : ℕ). take n (packet f ++ rest) ≡ body_of f) (body_length f)
+    (ap (take (length (body_of f))) (whole f rest)
+    ∙ take-append_seam (body_of f) (two_bytes (checksum (body_of f)) ++ rest))
 
 pub after : (f : Fields) (rest : List ℕ) → drop (24 + length f.param) (packet f ++ rest) ≡ two_bytes (checksum (body_of f)) ++ rest
-after f rest = subst (λ (n : ℕ). drop n (packet f ++ rest) ≡ two_bytes (checksum (body_of f)) ++ rest) (body_length f) (ap (drop (length (body_of f))) (whole f rest) ∙ drop-append_seam (body_of f) (two_bytes (checksum (body_of f)) ++ rest))
+after f rest = subst (λ (n : ℕ). drop n (packet f ++ rest) ≡ two_bytes (checksum (body_of f)) ++ rest) (body_length f)
+    (ap (drop (length (body_of f))) (whole f rest)
+    ∙ drop-append_seam (body_of f) (two_bytes (checksum (body_of f)) ++ rest))
 
 -- the sum stands after the body
 pub sum_at : (f : Fields) (rest : List ℕ) → number_at (24 + length f.param) 2 (packet f ++ rest) ≡ checksum (body_of f)
-sum_at f rest = ap (λ l. number_of (take (24 + length f.param + 2 - (24 + length f.param)) l)) (after f rest) ∙ two_of (checksum (body_of f)) (24 + length f.param + 2 - (24 + length f.param)) (omega arith) ∙ number_of-two_bytes (checksum (body_of f)) (omega arith)
+sum_at f rest = ap (λ l. number_of (take (24 + length f.param + 2 - (24 + length f.param)) l)) (after f rest)
+    ∙ two_of (checksum (body_of f)) (24 + length f.param + 2 - (24 + length f.param)) (omega arith)
+    ∙ number_of-two_bytes (checksum (body_of f)) (omega arith)
   where
     two_of : (c n : ℕ) → n ≡ 2 → number_of (take n (two_bytes c ++ rest)) ≡ number_of (two_bytes c)
     two_of c n h = rw h refl
@@ -34,7 +40,10 @@ param_at f rest = counted (24 + length f.param - 24) (omega arith)
     counted n h = rw h (ap (take (length f.param)) (append_assoc f.param (two_bytes (checksum (body_of f))) rest) ∙ take-append_seam f.param (two_bytes (checksum (body_of f)) ++ rest))
 
 pub fields_back : (f : Fields) (rest : List ℕ) → Fits f → fields_at (packet f ++ rest) ≡ f
-fields_back f rest fits = same _ _ _ _ _ _ _ _ _ (number_of-uid_bytes f.dest fits.dest) (number_of-uid_bytes f.source fits.source) (one_spell f.tn) (one_spell f.port) (one_spell f.count) (number_of-two_bytes f.sub_device fits.sub_device) (one_spell f.class) (number_of-two_bytes f.pid fits.pid) (param_at f rest)
+fields_back f rest fits = same _ _ _ _ _ _ _ _ _ (number_of-uid_bytes f.dest fits.dest)
+    (number_of-uid_bytes f.source fits.source) (one_spell f.tn) (one_spell f.port) (one_spell f.count)
+    (number_of-two_bytes f.sub_device fits.sub_device) (one_spell f.class) (number_of-two_bytes f.pid fits.pid)
+    (param_at f rest)
   where
     one_spell : (n : ℕ) → 0 + n ≡ n
     one_spell n = omega arith

@@ -1,5 +1,7 @@
 -- Bytes that decode begin with the packet of the response.
-use Rattle.std.proofs.Common.{◌≡◌, ℕ, suc, ◌+◌, ◌-◌, ◌<◌, ◌≤◌, Bool, true, false, ◌||◌, not, cond, List, ◌∷◌, ◌++◌, length, take, drop, Option, Some, None, Result, Ok, Err, refl, sym, ap, ◌∙◌, subst, inl, inr, append_assoc, length-append, arith, drop-cons}
+use Rattle.std.proofs.Common.{◌≡◌, ℕ, suc, ◌+◌, ◌-◌, ◌<◌, ◌≤◌, Bool, true, false, ◌||◌, not, cond, List, ◌∷◌, ◌++◌}
+use Rattle.std.proofs.Common.{length, take, drop, Option, Some, None, Result, Ok, Err, refl, sym, ap, ◌∙◌, subst, inl}
+use Rattle.std.proofs.Common.{inr, append_assoc, length-append, arith, drop-cons}
 use Rattle.std.specs.Prelude.{◌⊎◌, ◌↔◌, ◌==◌, nat_lt, slice_index}
 use Rattle.std.proofs.lemmas.Bool.{eqb-true, ltb-false, not-false, cases_Bool}
 use Rattle.std.proofs.lemmas.List.{drop-drop, length-drop, take-append-drop, length-take-le}
@@ -184,7 +186,8 @@ has_packet b n bytes has len long sum =
     last = (two_at n b bytes long).bytes ∙ ap (λ m. two_bytes m ++ drop (n + 2) b) two
 
 -- the fields of the response are those at the offsets
-fields_are : (b : List ℕ) (class : RespClass) (ack : AckType) → 24 ≤ length b → code_of_class class ≡ slice_index b 20 → code_of_ack ack ≡ slice_index b 16 → fields_of (response_at class ack b) ≡ fields_at b
+fields_are : (b : List ℕ) (class : RespClass) (ack : AckType) → 24 ≤ length b → code_of_class class ≡ slice_index b 20
+    → code_of_ack ack ≡ slice_index b 16 → fields_of (response_at class ack b) ≡ fields_at b
 fields_are b class ack long class_is ack_is = same _ _ (ack_is ∙ sym (number_of-one 16 b (omega arith))) (class_is ∙ sym (number_of-one 20 b (omega arith)))
   where
     same : (port code : ℕ) → port ≡ (fields_at b).port → code ≡ (fields_at b).class → ◌≡◌ {A = Fields} (record (fields_at b) { port = port; class = code }) (fields_at b)
@@ -192,7 +195,8 @@ fields_are b class ack long class_is ack_is = same _ _ (ack_is ∙ sym (number_o
 
 -- bytes that decode to a response begin with its packet
 pub read_back : (b : List ℕ) (r : Response) → IsBytes b → decoded b ≡ Ok r → Reads r b
-read_back b r bytes h = subst (λ (f : Fields). Fits f × (rest : List ℕ) × (b ≡ packet f ++ rest)) (sym fields) (has.fits, drop (slice_index b 2 + 2) b, has_packet b (slice_index b 2) bytes has len d.form.all_there d.form.sum)
+read_back b r bytes h = subst (λ (f : Fields). Fits f × (rest : List ℕ) × (b ≡ packet f ++ rest)) (sym fields)
+    (has.fits, drop (slice_index b 2 + 2) b, has_packet b (slice_index b 2) bytes has len d.form.all_there d.form.sum)
   where
     d : Decodes b r
     d = decodes b r h

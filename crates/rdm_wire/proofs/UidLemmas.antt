@@ -1,9 +1,14 @@
 -- Facts on the bytes and the text of UIDs.
-use Rattle.std.proofs.Common.{◌≡◌, ℕ, ◌^◌, ◌<◌, List, [], ◌∷◌, ◌++◌, length, take, drop, get_or, refl, sym, ap, ◌∙◌, arith}
-use Rattle.std.specs.Prelude.{◌↔◌, Result, Ok, Err}
+use Rattle.std.proofs.Common.{◌≡◌, ℕ, ◌^◌, ◌<◌, Bool, true, false, ◌&&◌, List, [], ◌∷◌, ◌++◌, length, take, drop, get_or}
+use Rattle.std.proofs.Common.{refl, sym, ap, ◌∙◌, arith, true≢false}
+use Rattle.std.specs.Prelude.{◌↔◌, Result, Ok, Err, nat_lt}
+use Rattle.std.proofs.lemmas.Bool.{ltb-true}
 use Rattle.std.proofs.lemmas.List.{take-append-drop, take_at, drop_at, drop_more, append_assoc, append-nil, length-append}
 use Rattle.hex.specs.Hex.{decode_of, encode_lower, lower_digits}
-use Rattle.hex.proofs.HexLemmas.{decode_of-same, length-encode_with, decode_of-encode_lower}
+use Rattle.hex.proofs.HexLemmas.{decode_of-same, length-encode_with, decode_of-encode_lower, IsAscii-encode_with}
+use Rattle.std.specs.Str.{IsUtf8, IsAscii}
+use Rattle.std.proofs.lemmas.Str.{IsUtf8-from_ascii, IsUtf8-append}
+use Rattle.std.proofs.lemmas.Str.Ascii.{IsAscii-nil, IsAscii-cons}
 use borrow.Rule.Slice.PartMut.{put_mid}
 use Rattle.rdm_wire.specs.Bytes.{number_of, uid_bytes}
 use Rattle.rdm_wire.specs.Uid.{manufacturer_of, device_of}
@@ -62,6 +67,31 @@ uid_text_reads u h = record {
   manufacturer_digits = decode_of-encode_lower (take 2 (uid_bytes u)) (IsBytes-two_bytes (manufacturer_of u));
   device_digits = decode_of-encode_lower (drop 2 (uid_bytes u)) (IsBytes-four_bytes (device_of u));
 }
+
+-- whether all bytes are below 128
+are_ascii : List ℕ → Bool
+are_ascii [] = true
+are_ascii (x ∷ xs) = nat_lt x 128 && are_ascii xs
+
+ascii_of : (xs : List ℕ) → are_ascii xs ≡ true → IsAscii xs
+unfolding are_ascii
+ascii_of [] h = IsAscii-nil
+ascii_of (x ∷ xs) h = let both = parts (nat_lt x 128) (are_ascii xs) h in IsAscii-cons x xs (ltb-true x 128 both.0) (ascii_of xs both.1)
+  where
+    parts : (a b : Bool) → (a && b) ≡ true → (a ≡ true) × (b ≡ true)
+    parts true b h = (refl, h)
+    parts false b h = absurd (true≢false (sym h))
+
+-- a UID's text is UTF-8
+pub IsUtf8-uid_text : (u : ℕ) → IsUtf8 (uid_text u)
+unfolding are_ascii
+IsUtf8-uid_text u =
+    IsUtf8-append (encode_lower (take 2 (uid_bytes u))) (colon ∷ encode_lower (drop 2 (uid_bytes u)))
+    (IsUtf8-from_ascii _ (digits (take 2 (uid_bytes u))))
+    (IsUtf8-from_ascii _ (IsAscii-cons colon _ (omega arith) (digits (drop 2 (uid_bytes u)))))
+  where
+    digits : (xs : List ℕ) → IsAscii (encode_lower xs)
+    digits xs = IsAscii-encode_with lower_digits xs (ascii_of lower_digits refl)
 
 -- a list of two and one of four, by their elements
 pub two_of : (xs : List ℕ) → length xs ≡ 2 → get_or xs 0 0 ∷ get_or xs 1 0 ∷ [] ≡ xs

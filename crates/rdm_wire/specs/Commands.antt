@@ -34,7 +34,7 @@ pub record FitsFrame (command : Command) (s tn : ℕ) : Type 0 where
   pub fits : Fits (command_fields command s tn)
   pub bounds : HasUids command
 
--- what its encoder wants besides: a branch's bounds aren't crossed, and a mute is to a device
+-- what its encoder requires besides: a branch's bounds aren't crossed, and a mute is to a device
 abbrev pub IsInOrder : Command → Type 0
 IsInOrder (asks.Branch range) = range.lo ≤ range.hi
 IsInOrder (asks.Mute u) = is_broadcast u ≡ false

@@ -17,9 +17,8 @@ lower_bound f = number_at 0 6 f.param
 abbrev pub upper_bound : Fields → ℕ
 upper_bound f = number_at 6 6 f.param
 
--- what a frame with these fields asks: it is a discovery frame where it is that frame, byte for byte. So a branch
--- whose bounds are crossed asks an empty range, and a mute may name a broadcast UID: which frames may be sent is said
--- elsewhere
+-- what a frame with these fields asks: it is a discovery frame if it is exactly that frame, byte for byte. A branch
+-- whose bounds are crossed therefore asks an empty range, and a mute may name a broadcast UID
 abbrev pub asked_with : List ℕ → Fields → Asked
 asked_with frame f =
     if bytes_eq frame (unmute_frame f.source f.tn) then Unmute
@@ -49,7 +48,7 @@ heard_bytes s tn (Mute u) (b ∷ bs) = acked_or_noise (ack_read u s tn (b ∷ bs
 heard_bytes s tn Unmute (b ∷ bs) = Noise
 heard_bytes s tn Other (b ∷ bs) = Noise
 
--- how an answer is heard: bytes, or None where the line failed
+-- how an answer is heard: bytes, or None if the line failed
 abbrev pub heard_in : List ℕ → Option (List ℕ) → Heard
 heard_in frame None = Failed
 heard_in frame (Some bytes) = heard_bytes (fields_at frame).source (fields_at frame).tn (asked_in frame) bytes

@@ -35,7 +35,7 @@ abbrev pub is_acked : Heard → Bool
 is_acked (Acked ack) = true
 is_acked _ = false
 
--- which devices are muted, and how many branch replies were lost, acknowledgements lost and unmutes made in succession
+-- which devices are muted, and how many branch replies were lost, acknowledgements lost and unmutes made in a row
 pub record LineState : Type 0 where
   pub muted : ℕ → Bool
   pub lost_branches : ℕ
@@ -50,7 +50,7 @@ due_in present muted lo hi = filter (λ u. is_within lo hi u && not (muted u)) p
 abbrev pub KeepsMuted : ℕ → LineState → LineState → Type 0
 KeepsMuted u old new = new.muted u ≡ old.muted u
 
--- new has these counts, no more than four replies lost in succession
+-- new has these counts, no more than four replies lost in a row
 pub record Counts (new : LineState) (b m n : ℕ) : Type 0 where
   pub branches : new.lost_branches ≡ b
   pub mutes : new.lost_mutes ≡ m
@@ -64,7 +64,7 @@ MayReply [] heard = heard ≡ Silent
 MayReply (u ∷ []) heard = (heard ≡ One u) ⊎ (heard ≡ Silent)
 MayReply (u ∷ v ∷ us) heard = Unit {0}
 
--- replies lost in succession after a branch that these devices were due to answer
+-- replies lost in a row after a branch that these devices were due to answer
 abbrev pub lost_after : List ℕ → Heard → ℕ → ℕ
 lost_after [] heard before = 0
 lost_after (u ∷ us) heard before = if is_silent heard then before + 1 else 0
@@ -75,12 +75,12 @@ MuteMoves u old heard new =
     ((is_acked heard ≡ true) × (new.muted u ≡ true) × Counts new 0 0 0)
     ⊎ ((heard ≡ Silent) × ((new.muted u ≡ true) ⊎ KeepsMuted u old new) × Counts new 0 (old.lost_mutes + 1) 0)
 
--- an unmute doesn't mute u; the third in succession, and each after it, leaves it unmuted
+-- an unmute doesn't mute u; the third in a row, and each after it, leaves it unmuted
 pub record UnmuteMoves (u : ℕ) (old new : LineState) : Type 0 where
   pub fewer : new.muted u ≡ true → old.muted u ≡ true
   pub third : 3 ≤ old.unmutes + 1 → new.muted u ≡ false
 
--- a line with these devices may answer so, and go on to new
+-- a line with these devices may give this answer, and go on to the state new
 abbrev pub HonestStep : List ℕ → LineState → Asked → Heard → LineState → Type 0
 HonestStep present old (Branch lo hi) heard new =
     MayReply (due_in present old.muted lo hi) heard

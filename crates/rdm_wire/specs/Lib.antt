@@ -9,7 +9,6 @@ pub mod Responses
 pub mod MuteAcks
 pub mod MuteResponses
 pub mod CommandFrames
-pub mod Header
 pub mod Commands
 pub mod Reading
 pub mod Honest
@@ -18,3 +17,4 @@ pub mod Frames
 pub mod Lists
 pub mod SampleFrames
 pub mod SampleLines
+pub mod body

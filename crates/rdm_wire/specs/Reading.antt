@@ -9,7 +9,7 @@ use Rattle.rdm_wire.specs.declared.response.Response.{Response}
 use Rattle.rdm_wire.specs.declared.response.PacketFault.{PacketFault}
 use Rattle.rdm_wire.specs.declared.mute_ack.MuteAck.{MuteAck}
 
--- what stands after at most n bytes fe and one aa
+-- what follows at most n bytes fe and one aa
 abbrev pub after_preamble : ℕ → List ℕ → Option (List ℕ)
 after_preamble n [] = None
 after_preamble n (x ∷ xs) =

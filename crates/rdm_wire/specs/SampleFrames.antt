@@ -1,4 +1,4 @@
--- Frames whose reading is told by a law.
+-- Frames that laws read.
 use Rattle.std.specs.Prelude.{ℕ, List, [], ◌∷◌}
 
 -- an unmute from 7a70:00000100, its checksum one too great

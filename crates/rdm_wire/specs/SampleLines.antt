@@ -1,4 +1,4 @@
--- Lines of one and of two devices, of which laws tell what is honest.
+-- Lines of one and of two devices, for the laws on honest lines.
 use Rattle.std.specs.Prelude.{ℕ, List, [], ◌∷◌}
 use Rattle.rdm_wire.specs.Honest.{Heard, Seen}
 use Rattle.rdm_wire.specs.Honest.Asked.{Branch}

@@ -1,7 +1,10 @@
 -- UIDs as text.
-use Rattle.std.specs.Prelude.{◌≡◌, ℕ, ◌^◌, ◌<◌, List, ◌∷◌, ◌++◌, length, take, drop, Ok}
+use Rattle.std.specs.Prelude.{◌≡◌, ◌≢◌, ◌↔◌, ℕ, ◌^◌, ◌<◌, List, ◌∷◌, ◌++◌, length, take, drop, slice_index, Ok, Result}
+use Rattle.std.specs.Prelude.{IsErrOf}
 use Rattle.hex.specs.Hex.{decode_of, encode_lower}
 use Rattle.rdm_wire.specs.Bytes.{uid_bytes}
+use Rattle.rdm_wire.specs.declared.uid.UidFault.{UidFault}
+use Rattle.rdm_wire.specs.declared.uid.UidFault.TheVariants.{Length, Separator}
 
 -- the code of a colon
 abbrev pub colon : ℕ
@@ -21,3 +24,9 @@ pub record UidText (text : List ℕ) (u : ℕ) : Type 0 where
 -- the text of the UID u in lower case
 abbrev pub uid_text : ℕ → List ℕ
 uid_text u = encode_lower (take 2 (uid_bytes u)) ++ colon ∷ encode_lower (drop 2 (uid_bytes u))
+
+-- what reading a text as a UID gives: the UID that it spells; or else the first fault, and any other is of the digits
+pub record ParsesUid (text : List ℕ) (result : Result ℕ UidFault) : Type 0 where
+  pub ok : (u : ℕ) → (result ≡ Ok u) ↔ UidText text u
+  pub length_fault : IsErrOf result Length ↔ (length text ≢ 13)
+  pub separator_fault : IsErrOf result Separator ↔ ((length text ≡ 13) × (slice_index text 4 ≢ colon))

@@ -16,7 +16,7 @@ pub enum BranchReply {
     Silent,
     /// The text of this UID came.
     One(Uid),
-    /// Other bytes came, as where several devices reply at once.
+    /// Other bytes came, such as those of several devices that reply at once.
     Collision,
 }
 
@@ -65,7 +65,7 @@ fn uid_of_text(bytes: &[u8]) -> Option<Uid>
     uid_of_encoded(after_preamble(bytes)?)
 }
 
-// What stands after the preamble and the separator.
+// What follows the preamble and the separator.
 fn after_preamble(bytes: &[u8]) -> Option<&[u8]>
     ensures { MatchOption result (after_preamble_of LONGEST_PREAMBLE bytes.now ≡ None)
         (λ rest. after_preamble_of LONGEST_PREAMBLE bytes.now ≡ Some rest.now) }

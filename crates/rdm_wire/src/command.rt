@@ -1,7 +1,7 @@
 //! Commands of a controller, and how bytes are read as one.
 ghost use Rattle.std.specs.Prelude.{◌≡◌, ◌≤◌, ◌↔◌, ℕ, Some, None, IfNone, IfSome, length, slice_index, ◌+◌};
 ghost use Rattle.hex.specs.Hex.{IsBytes};
-ghost use Rattle.rdm_wire.specs.Header.{header_fields};
+ghost use Rattle.rdm_wire.specs.body.Header.{header_fields};
 ghost use Rattle.rdm_wire.specs.Packet.{Packet};
 ghost use Rattle.rdm_wire.specs.Commands.{Writes, IsInOrder, command_read, command_in, discovery_in, branch_in};
 ghost use Rattle.rdm_wire.specs.Commands.{request_in, command_fields};
@@ -34,9 +34,9 @@ pub enum Command {
     Request(Request),
 }
 
-/// The command whose frame the bytes are, with the controller that sent it and its transaction number. `None` where
-/// none of the four encoders writes exactly these bytes (profile of this project). So a frame with a wrong checksum, a
-/// branch whose bounds are crossed and a mute of a broadcast UID are no commands.
+/// The command whose frame the bytes are, with the controller that sent it and its transaction number. `None` if
+/// none of the four encoders writes exactly these bytes. So a frame with a wrong checksum, a branch whose bounds are
+/// crossed and a mute of a broadcast UID are no commands.
 pub fn read_command(bytes: &[u8]) -> Option<(Command, Uid, u8)>
     ensures value { result ≡ command_read bytes.now }
     ensures written { (command : Command) (source tn : ℕ) →

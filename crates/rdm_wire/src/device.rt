@@ -10,7 +10,7 @@ pub struct Device {
     pub uid: Uid,
     /// The control field's bits: 1 managed proxy, 2 sub-device, 4 boot-loader, 8 proxied device; others pass.
     pub control: u16,
-    /// The binding UID, where the device gave one.
+    /// The binding UID, if the device gave one.
     pub binding: Option<Uid>,
 }
 

@@ -15,14 +15,14 @@ use std::marker::Model;
 use std::mem::size_of;
 use std::slice;
 
-/// Devices, ascending by UID and one for each UID: [`MOST_DEVICES`] at most (profile of this project). Contracts see
-/// the list of the devices. A set lies in its value, 32 KB large, so it is best passed by reference.
+/// Devices, ascending by UID and one for each UID: [`MOST_DEVICES`] at most. Contracts see the list of the devices. A
+/// set is a value of 32 KB, so it is best passed by reference.
 #[derive(Debug, Drop, PartialEq, Eq)]
 pub struct DeviceSet {
     devices: ArrayVec<Device, MOST_DEVICES>,
 }
 
-// What the docs say of its size: 32 bytes for each place, and 8 for how many are taken.
+// What the docs say of its size: 32 bytes for each device that fits, and 8 for how many are taken.
 const _: () = prove!(size_of::<DeviceSet>() == 32 * MOST_DEVICES + 8);
 
 impl Model for DeviceSet {
@@ -66,7 +66,7 @@ impl DeviceSet {
         self.devices.is_empty()
     }
 
-    /// Whether there is no room for another device.
+    /// Whether the set is full: no other device fits.
     pub fn is_full(&self) -> bool
         ensures value { result ≡ (length self.now == MOST_DEVICES) }
         ensures fits { length self.now ≤ MOST_DEVICES }
@@ -92,13 +92,13 @@ impl DeviceSet {
         self.as_slice().iter()
     }
 
-    /// The device with this UID; `None` where there is none.
+    /// The device with this UID; `None` if there is none.
     pub fn get(&self, uid: Uid) -> Option<Device>
         ensures value { result ≡ device_with self.now uid }
         ensures devices { IsDeviceSet (uids_of self.now) }
     {
         match self.search(uid) {
-            Ok(place) => Some(self.as_slice()[place]),
+            Ok(index) => Some(self.as_slice()[index]),
             Err(_) => None,
         }
     }
@@ -111,8 +111,8 @@ impl DeviceSet {
         self.search(uid).is_ok()
     }
 
-    /// Puts in a device; `false` where one with its UID was there already, which stays as it was. [`SetFull`]: none
-    /// was there and there is no room. Where it isn't put in, the set is unchanged.
+    /// Puts in a device; `false` if one with its UID was there already, which is unchanged. [`SetFull`]: none was there
+    /// and the set is full. If the device isn't put in, the set is unchanged.
     pub fn insert(&mut self, device: Device) -> Result<bool, SetFull>
         requires { is_broadcast device.uid ≡ false }
         ensures there { (result ≡ Ok false) ↔ (has (uids_of self.old) device.uid ≡ true) }
@@ -124,21 +124,21 @@ impl DeviceSet {
         ensures fits { length self.old ≤ MOST_DEVICES }
         ensures devices { IsDeviceSet (uids_of self.old) × IsDeviceSet (uids_of self.new) }
     {
-        let Some(place) = self.place(device.uid) else {
+        let Some(index) = self.index_for(device.uid) else {
             return Ok(false);
         };
         if self.is_full() {
             return Err(SetFull);
         }
-        self.devices.insert(place, device);
+        self.devices.insert(index, device);
         Ok(true)
     }
 
-    // The index at which a device with this UID is to be put in; `None` where one is there.
-    fn place(&self, uid: Uid) -> Option<usize>
+    // The index at which a device with this UID is to be put in; `None` if one is there.
+    fn index_for(&self, uid: Uid) -> Option<usize>
         ensures there { IfNone result (has (uids_of self.now) uid ≡ true) }
         ensures absent { OnSome result (has (uids_of self.now) uid ≡ false) }
-        ensures place { IfSome result (λ i. (i ≤ length self.now)
+        ensures index { IfSome result (λ i. (i ≤ length self.now)
             × ((d : Device) → d.uid ≡ uid → with_device d self.now ≡ insert self.now i d)) }
         ensures uid_in_range { uid < 2 ^ 48 }
         ensures fits { length self.now ≤ MOST_DEVICES }
@@ -154,7 +154,7 @@ impl DeviceSet {
         ensures in_range { IfOk result (λ i. i < length self.now) }
         ensures absent { OnErr result (has (uids_of self.now) uid ≡ false) }
         ensures none { OnErr result (device_with self.now uid ≡ None) }
-        ensures place { IfErr result (λ i. (i ≤ length self.now)
+        ensures index { IfErr result (λ i. (i ≤ length self.now)
             × ((d : Device) → d.uid ≡ uid → with_device d self.now ≡ insert self.now i d)) }
         ensures uid_in_range { uid < 2 ^ 48 }
         ensures fits { length self.now ≤ MOST_DEVICES }
@@ -206,6 +206,7 @@ impl Clone for DeviceSet {
 
     ghost is_infallible = { λ _. ⊤ };
 
+    /// The same set again. It allocates nothing, and can't fail.
     fn clone(&self) -> Result<DeviceSet, AllocError> {
         Ok(self.copied())
     }

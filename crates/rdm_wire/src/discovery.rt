@@ -2,7 +2,7 @@
 ghost use Rattle.std.specs.Prelude.{◌≡◌, ◌++◌, ℕ, List, false};
 ghost use Rattle.rdm_wire.specs.Uid.{is_broadcast};
 ghost use Rattle.rdm_wire.specs.Bytes.{uid_bytes};
-ghost use Rattle.rdm_wire.specs.Header.{header_fields};
+ghost use Rattle.rdm_wire.specs.body.Header.{header_fields};
 ghost use Rattle.rdm_wire.specs.Packet.{Packet};
 ghost use Rattle.rdm_wire.specs.CommandFrames.{branch_frame, mute_frame, unmute_frame};
 ghost use Rattle.rdm_wire.specs.CommandFrames.{discovery_fields, branch_fields, mute_fields, unmute_fields};

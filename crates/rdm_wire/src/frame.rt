@@ -2,16 +2,16 @@
 ghost use Rattle.std.specs.Prelude.{◌≡◌, ◌≤◌, ◌+◌, ℕ, List, length};
 ghost use Rattle.rdm_wire.specs.Bytes.{number_at};
 ghost use Rattle.rdm_wire.specs.Packet.{Packet, Fits, fields_at, header_of};
-ghost use Rattle.rdm_wire.specs.Header.{header_fields};
+ghost use Rattle.rdm_wire.specs.body.Header.{header_fields};
 
 use crate::checksum::checksum;
 use crate::uid::Uid;
 use arrayvec::ArrayVec;
 
-/// How many bytes of parameter data a packet has room for (E1.20, parameter data length).
+/// The most bytes of parameter data in a packet (E1.20, parameter data length).
 pub const MOST_PARAMETER_BYTES: usize = 231;
 
-/// How many bytes stand before the parameter data (E1.20, packet format).
+/// How many bytes precede the parameter data (E1.20, packet format).
 pub(crate) const HEADER_LENGTH: usize = 24;
 
 /// How many bytes the checksum has.
@@ -26,19 +26,26 @@ pub const MOST_FRAME_BYTES: usize = HEADER_LENGTH + MOST_PARAMETER_BYTES + CHECK
 /// A packet's bytes, from the start code to the checksum (E1.20, packet format): [`MOST_FRAME_BYTES`] at most.
 pub type Frame = ArrayVec<u8, MOST_FRAME_BYTES>;
 
+/// The same frame again. It allocates nothing.
+pub fn copy_of_frame(frame: &Frame) -> Frame
+    ensures { result ≡ frame.now }
+{
+    ArrayVec::try_from(frame.as_slice()).unwrap()
+}
+
 /// The first byte of a packet (E1.20, start code).
 pub(crate) const START_CODE: u8 = 0xcc;
 
 /// The second byte of a packet (E1.20, sub start code).
 pub(crate) const SUB_START_CODE: u8 = 0x01;
 
-/// The port id of this controller's commands (profile of this project).
+/// The port id of this controller's commands (E1.20, port ID): this project's is 1.
 pub(crate) const PORT_ID: u8 = 1;
 
 /// The message count of a command (E1.20, message count).
 pub(crate) const NO_MESSAGES: u8 = 0;
 
-/// Where the fields stand (E1.20, packet format). Those of several bytes have the high byte first.
+/// Where the fields are (E1.20, packet format). Those of several bytes have the high byte first.
 pub(crate) mod offset {
     /// The message length, from the start code to the end of the parameter data: 1 byte.
     pub(crate) const MESSAGE_LENGTH: usize = 2;
@@ -58,7 +65,7 @@ pub(crate) mod offset {
     pub(crate) const COMMAND_CLASS: usize = 20;
     /// The parameter's identifier: 2 bytes.
     pub(crate) const PID: usize = 21;
-    /// The parameter data's length: 1 byte, after which the data stand.
+    /// The parameter data's length: 1 byte, which the data follow.
     pub(crate) const PDL: usize = 23;
 }
 

@@ -1,4 +1,4 @@
-//! Laws of bytes, each the contract of a function that does nothing. The definitions stand in `specs`.
+//! Laws of bytes, each the contract of a function that does nothing. The definitions are in `specs`.
 ghost use Rattle.std.specs.Prelude.{◌≡◌, ◌≢◌, ◌↔◌, ℕ, List, [], ◌∷◌, Some, Ok, ◌++◌, length, replicate};
 ghost use Rattle.hex.specs.Hex.{IsBytes};
 ghost use Rattle.rdm_wire.specs.BranchText.{BranchText};
@@ -49,7 +49,7 @@ pub fn responses_decode()
         → ack_read u s n b ≡ Some (ack_data a.response.param.items) }
 {}
 
-/// A packet determines its fields, which stand at the table's offsets; no packet begins with another.
+/// A packet determines its fields, which are at the table's offsets; no packet begins with another.
 pub fn packets_tell_fields()
     ensures fields { (f : Fields) → Fits f → fields_at (packet f) ≡ f }
     ensures one { (f g : Fields) (rest more : List ℕ) → Fits f → Fits g
@@ -73,7 +73,7 @@ pub fn what_frames_ask()
 {}
 
 /// What an encoder writes is read as its command, and a frame asks the devices what the command does that it is read
-/// as; bytes that are no command ask no device anything. The definitions stand in `specs`.
+/// as; bytes that are no command ask no device anything. The definitions are in `specs`.
 pub fn commands_read_back()
     ensures read { (command : Command) (s tn : ℕ) (b : List ℕ) →
         Writes command s tn b → command_read b ≡ Some (command, s, tn) }

@@ -1,4 +1,5 @@
-//! What goes over an RDM line: UIDs, packets, and the replies to a discovery's branch.
+//! What goes over an RDM line: UIDs, packets, and the replies to a discovery's branch. What isn't marked as E1.20's is
+//! the profile of this project.
 #![tactic(auto)]
 
 mod branch;
@@ -24,7 +25,7 @@ pub use command::{Command, read_command};
 pub use device::Device;
 pub use device_set::DeviceSet;
 pub use discovery::{encode_branch, encode_mute, encode_unmute};
-pub use frame::{Frame, MOST_FRAME_BYTES, MOST_PARAMETER_BYTES};
+pub use frame::{Frame, MOST_FRAME_BYTES, MOST_PARAMETER_BYTES, copy_of_frame};
 pub use mute_ack::{MuteAck, reads_mute_ack};
 pub use muted::mute_response;
 pub use request::{QUEUED_MESSAGE, ReqClass, Request, encode_request};

@@ -18,13 +18,13 @@ const CONTROL_AND_BINDING_LENGTH: usize = 8;
 pub struct MuteAck {
     /// The control field's bits: 1 managed proxy, 2 sub-device, 4 boot-loader, 8 proxied device; others pass.
     pub control: u16,
-    /// The binding UID, where the device gave one.
+    /// The binding UID, if the device gave one.
     pub binding: Option<Uid>,
 }
 
 /// The acknowledgement of a mute of `uid` that the controller `source` sent with the transaction number `tn`
-/// (E1.20, discovery mute). `None` where the bytes don't begin with that device's ACK of that command, or where its
-/// parameter data have neither 2 bytes nor 8.
+/// (E1.20, discovery mute). `None` if the bytes don't begin with that device's ACK of that command, or its parameter
+/// data have neither 2 bytes nor 8.
 pub fn reads_mute_ack(uid: Uid, source: Uid, tn: u8, bytes: &[u8]) -> Option<MuteAck>
     ensures value { result ≡ ack_read uid source tn bytes.now }
     ensures acknowledged { (ack : MuteAck) → (result ≡ Some ack) ↔ MuteAckedWith uid source tn bytes.now ack }
@@ -50,7 +50,7 @@ fn acknowledges(response: &Response, uid: Uid, source: Uid, tn: u8) -> bool
         && (size == CONTROL_LENGTH || size == CONTROL_AND_BINDING_LENGTH)
 }
 
-// What an acknowledgement's parameter data say: the control field, and the binding UID where it follows.
+// What an acknowledgement's parameter data say: the control field, and the binding UID if it follows.
 fn ack_of_data(param: &[u8]) -> MuteAck
     requires { 2 ≤ length param.now }
     ensures { result ≡ ack_data param.now }

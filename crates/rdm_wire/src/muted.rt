@@ -10,7 +10,7 @@ use crate::uid::Uid;
 use arrayvec::ArrayVec;
 
 /// The response of a device that was muted by the controller `source` with the transaction number `tn` (E1.20,
-/// discovery mute): an ACK with the device's control field, and with its binding UID where it has one.
+/// discovery mute): an ACK with the device's control field, and with its binding UID if it has one.
 pub fn mute_response(device: &Device, source: Uid, tn: u8) -> Response
     ensures { result ≡ mute_response device.now source tn }
 {

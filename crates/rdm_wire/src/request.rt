@@ -34,6 +34,21 @@ pub struct Request {
     pub param: ArrayVec<u8, MOST_PARAMETER_BYTES>,
 }
 
+impl Request {
+    /// The same request again. It allocates nothing.
+    pub fn copied(&self) -> Request
+        ensures { result ≡ self.now }
+    {
+        Request {
+            target: self.target,
+            sub_device: self.sub_device,
+            class: self.class,
+            pid: self.pid,
+            param: ArrayVec::try_from(self.param.as_slice()).unwrap(),
+        }
+    }
+}
+
 impl ReqClass {
     // The code of its command class.
     fn code(self) -> u8

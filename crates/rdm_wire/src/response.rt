@@ -37,7 +37,7 @@ pub enum AckType {
     Overflow,
 }
 
-/// Why bytes are no response, in the order in which it is tested (profile of this project).
+/// Why bytes are no response, in the order in which it is tested.
 #[derive(Clone, Copy, Debug, PartialEq, Eq, Error)]
 pub enum PacketFault {
     /// There are fewer than 26 bytes.
@@ -61,7 +61,7 @@ pub enum PacketFault {
     /// The command class isn't that of a response.
     #[error("the command class is not that of a response")]
     InvalidClass,
-    /// The response type is none that there is.
+    /// There is no such response type.
     #[error("there is no such response type")]
     InvalidResponseType,
 }
@@ -141,8 +141,8 @@ impl AckType {
     }
 }
 
-/// The response whose packet the bytes begin with (E1.20, packet format). What stands after the checksum is ignored.
-/// Otherwise the first fault that holds, in the order in which `PacketFault` names them (profile of this project).
+/// The response whose packet the bytes begin with (E1.20, packet format). What follows the
+/// checksum is ignored. Otherwise the first fault that holds, in the order in which `PacketFault` names them.
 pub fn decode_response(bytes: &[u8]) -> Result<Response, PacketFault>
     ensures value { result ≡ decoded bytes.now }
     ensures reads { (r : Response) → (result ≡ Ok r) ↔ Reads r bytes.now }

@@ -4,10 +4,12 @@ ghost use Rattle.std.specs.Prelude.{length, slice_index};
 ghost use Rattle.hex.specs.Hex.{decode_of};
 ghost use Rattle.rdm_wire.specs.Uid.{is_broadcast};
 ghost use Rattle.rdm_wire.specs.Bytes.{number_of, uid_bytes};
-ghost use Rattle.rdm_wire.specs.UidText.{UidText, uid_text, colon};
+ghost use Rattle.rdm_wire.specs.UidText.{UidText, ParsesUid, uid_text, colon};
 
 use hex::FromHex;
 use std::marker::Model;
+use std::str::FromStr;
+use std::{fmt, str};
 use thiserror::Error;
 
 /// A UID: 16 bits of manufacturer and 32 of device (E1.20, unique identifier). Contracts see it as its number,
@@ -33,13 +35,13 @@ const DEVICE_BITS: u64 = 0xffff_ffff;
 // How many bytes a text has.
 const TEXT_LEN: usize = 13;
 
-// What stands between the manufacturer's digits and the device's.
+// What separates the manufacturer's digits from the device's.
 const SEPARATOR: u8 = b':';
 
-// The place of the separator, after the manufacturer's digits.
+// The index of the separator, after the manufacturer's digits.
 const SEPARATOR_AT: usize = 4;
 
-/// Why a text is no UID, in the order in which it is tested (profile of this project).
+/// Why a text is no UID, in the order in which it is tested.
 #[derive(Clone, Copy, Debug, PartialEq, Eq, Error)]
 pub enum UidFault {
     /// It doesn't have 13 bytes.
@@ -88,15 +90,15 @@ impl Uid {
         self.number
     }
 
-    /// Whether it addresses many devices, and so is none's own: its device's bits are all set (E1.20, broadcast).
+    /// Whether it addresses many devices, so that no device has it: its device's bits are all set (E1.20, broadcast).
     pub fn is_broadcast(self) -> bool
         ensures { result ≡ is_broadcast self }
     {
         self.number & DEVICE_BITS == DEVICE_BITS
     }
 
-    /// The UID that a text spells: four hexadecimal digits, a colon and eight hexadecimal digits, in either case
-    /// (profile of this project). An error is the first fault, in the order of `UidFault`.
+    /// The UID that a text spells: four hexadecimal digits, a colon and eight hexadecimal digits, in either case. An
+    /// error is the first fault, in the order of `UidFault`. `from_str` gives the same.
     pub fn parse(text: &str) -> Result<Uid, UidFault>
         ensures ok { (u : ℕ) → (result ≡ Ok u) ↔ UidText text.now u }
         ensures length { IsErrOf result UidFault.Length ↔ (length text.now ≢ 13) }
@@ -122,7 +124,7 @@ impl Uid {
         Ok(Uid::from_bytes([m0, m1, d0, d1, d2, d3]))
     }
 
-    /// Its text in lower case, as `7a70:00000001` (profile of this project).
+    /// Its text in lower case, as `7a70:00000001`. `{}` writes the same.
     pub fn to_text(self) -> [u8; TEXT_LEN]
         ensures text { result ≡ uid_text self }
         ensures reads { UidText result self }
@@ -153,6 +155,28 @@ impl Uid {
     {
         let [_, _, m0, m1, d0, d1, d2, d3] = self.number.to_be_bytes();
         [m0, m1, d0, d1, d2, d3]
+    }
+}
+
+impl fmt::Display for Uid {
+    ghost output = { λ u. Some (uid_text u) };
+
+    fn fmt<W: fmt::Write>(&self, f: &mut fmt::Formatter<W>) -> fmt::Result {
+        let bytes = self.to_text();
+        let Ok(text) = str::from_utf8(&bytes) else {
+            unreachable!();
+        };
+        f.write_str(text)
+    }
+}
+
+impl FromStr for Uid {
+    type Err = UidFault;
+
+    ghost from_str_gives = { ParsesUid };
+
+    fn from_str(text: &str) -> Result<Uid, UidFault> {
+        Uid::parse(text)
     }
 }
 

@@ -6,10 +6,10 @@ ghost use Rattle.rdm_wire.specs.Uid.{is_within};
 use crate::uid::Uid;
 use std::marker::Model;
 
-/// The UIDs from `lo` to `hi`, both among them, so there is at least one: the range of a branch (E1.20, discovery
-/// unique branch). Contracts see the two numbers.
+/// The UIDs from `lo` to `hi`, both included, and at least one: the range of a branch (E1.20, discovery unique
+/// branch). Contracts see the two numbers.
 ///
-/// The default, which stands in the places of an array that aren't used, is UID 0 alone.
+/// The default, which fills the unused elements of an array, is UID 0 alone.
 #[derive(Clone, Copy, Debug, Default, PartialEq, Eq)]
 pub struct UidRange {
     /// The least.
@@ -32,7 +32,7 @@ impl Model for UidRange {
 }
 
 impl UidRange {
-    /// The UIDs from `lo` to `hi`; `None` where `lo` is above `hi`.
+    /// The UIDs from `lo` to `hi`; `None` if `lo` is above `hi`.
     pub fn new(lo: Uid, hi: Uid) -> Option<UidRange>
         ensures { result ≡ (if nat_le lo hi then Some (record { lo = lo; hi = hi }) else None) }
     {

@@ -15,17 +15,16 @@ use std::mem::size_of;
 use std::slice;
 use thiserror::Error;
 
-/// How many devices a set has room for: 1,024 (profile of this project).
+/// The most devices in a set: 1,024.
 pub const MOST_DEVICES: usize = 1024;
 
-/// UIDs of devices, ascending and without repeats: [`MOST_DEVICES`] at most (profile of this project). Contracts see
-/// the list of their numbers.
+/// UIDs of devices, ascending and without repeats: [`MOST_DEVICES`] at most. Contracts see the list of their numbers.
 #[derive(Debug, Drop, PartialEq, Eq)]
 pub struct UidSet {
     uids: ArrayVec<Uid, MOST_DEVICES>,
 }
 
-// What the docs say of its size: 8 bytes for each place, and 8 for how many are taken.
+// What the docs say of its size: 8 bytes for each device that fits, and 8 for how many are taken.
 const _: () = prove!(size_of::<UidSet>() == 8 * MOST_DEVICES + 8);
 
 impl Model for UidSet {
@@ -41,7 +40,7 @@ impl Model for UidSet {
     ghost inverse = { λ us. record { uids = record { items = us } } };
 }
 
-/// A set has no room for another device.
+/// A set is full: another device doesn't fit.
 #[derive(Clone, Copy, Debug, PartialEq, Eq, Error)]
 #[error("a set has room for 1,024 devices")]
 pub struct SetFull;
@@ -72,7 +71,7 @@ impl UidSet {
         self.uids.is_empty()
     }
 
-    /// Whether there is no room for another device.
+    /// Whether the set is full: no other device fits.
     pub fn is_full(&self) -> bool
         ensures value { result ≡ (length self.now == MOST_DEVICES) }
         ensures fits { length self.now ≤ MOST_DEVICES }
@@ -103,11 +102,11 @@ impl UidSet {
         ensures value { result ≡ has self.now uid }
         ensures devices { IsDeviceSet self.now }
     {
-        self.place(uid).is_none()
+        self.index_for(uid).is_none()
     }
 
-    /// Puts in `uid`, a device's; `false` where it was there already. [`SetFull`]: it isn't there and there is no
-    /// room. Where it isn't put in, the set is unchanged.
+    /// Puts in `uid`, a device's; `false` if it was there already. [`SetFull`]: it isn't there and the set is full. If
+    /// it isn't put in, the set is unchanged.
     pub fn insert(&mut self, uid: Uid) -> Result<bool, SetFull>
         requires { is_broadcast uid ≡ false }
         ensures there { (result ≡ Ok false) ↔ (has self.old uid ≡ true) }
@@ -117,21 +116,21 @@ impl UidSet {
         ensures fits { length self.old ≤ MOST_DEVICES }
         ensures devices { IsDeviceSet self.old × IsDeviceSet self.new }
     {
-        let Some(place) = self.place(uid) else {
+        let Some(index) = self.index_for(uid) else {
             return Ok(false);
         };
         if self.is_full() {
             return Err(SetFull);
         }
-        self.uids.insert(place, uid);
+        self.uids.insert(index, uid);
         Ok(true)
     }
 
-    // The index at which `uid` is to be put in; `None` where it is there.
-    fn place(&self, uid: Uid) -> Option<usize>
+    // The index at which `uid` is to be put in; `None` if it is there.
+    fn index_for(&self, uid: Uid) -> Option<usize>
         ensures there { IfNone result (has self.now uid ≡ true) }
         ensures absent { OnSome result (has self.now uid ≡ false) }
-        ensures place { IfSome result (λ i. (i ≤ length self.now) × (with_uid uid self.now ≡ insert self.now i uid)) }
+        ensures index { IfSome result (λ i. (i ≤ length self.now) × (with_uid uid self.now ≡ insert self.now i uid)) }
         ensures in_range { uid < 2 ^ 48 }
         ensures fits { length self.now ≤ MOST_DEVICES }
         ensures devices { IsDeviceSet self.now }
@@ -140,7 +139,7 @@ impl UidSet {
         let _in_range = uid.number();
         match self.as_slice().binary_search(&uid) {
             Ok(_) => None,
-            Err(place) => Some(place),
+            Err(index) => Some(index),
         }
     }
 
@@ -187,6 +186,7 @@ impl Clone for UidSet {
 
     ghost is_infallible = { λ _. ⊤ };
 
+    /// The same set again. It allocates nothing, and can't fail.
     fn clone(&self) -> Result<UidSet, AllocError> {
         Ok(self.copied())
     }

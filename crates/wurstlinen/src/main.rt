@@ -6,14 +6,18 @@
 ghost use Rattle.std.specs.Prelude.{◌≡◌, IfOk, map, string_bytes};
 ghost use Rattle.rdm_port.specs.Words.{texts_of};
 
+mod opening;
+
+use crate::opening::{FileOpener, TextLine};
 use rdm_port::{
-    Complaint, Job, Progressing, Reason, WordsFault, carry_out, complaint_of, parse_words, tell,
-    tell_usage,
+    Complaint, Job, LineDiscovery, Progressing, Reason, WordsFault, carry_out, carry_out_on_line,
+    complaint_of, parse_line_words, parse_words, tell, tell_usage,
 };
 use std::alloc::{AllocError, Global};
 use std::io::Read;
 use std::process::ExitCode;
-use std::rt::Runtime;
+use std::fs::File;
+use std::rt::{Files, Runtime};
 use std::sync::Wait;
 use std::thread::Threads;
 use std::{env, fs, io};
@@ -26,14 +30,53 @@ fn main(rt: HostRuntime) -> ExitCode {
     ExitCode::from(status)
 }
 
-fn obey<T: Runtime + Threads + Wait + Sync>(rt: &T, alloc: Global, args: &[String]) -> u8 {
+fn obey<T: Runtime + Threads + Wait + Sync + Files<File = File>>(rt: &T, alloc: Global, args: &[String]) -> u8
+where
+    T::Dir: Send,
+{
     match words(alloc, args) {
-        Ok(words) => print(rt, alloc, parse_words(alloc, &words), &complaint_of(&words)),
+        Ok(words) => obey_words(rt, alloc, &words),
         Err(_) => print(rt, alloc, Err(WordsFault::NoMemory), &Complaint::Words),
     }
 }
 
-// Prints the answer on standard output, and the reason of what isn't done on standard error: the complaint, where the
+// Words that fit no command on a simulated line may fit one on a line of the caller's own.
+fn obey_words<T: Runtime + Threads + Wait + Sync + Files<File = File>>(rt: &T, alloc: Global, words: &[&str]) -> u8
+where
+    T::Dir: Send,
+{
+    match parse_words(alloc, words) {
+        Err(WordsFault::Words) => match parse_line_words(alloc, words) {
+            Ok(job) => print_on_line(rt, alloc, &job),
+            Err(fault) => print(rt, alloc, Err(fault), &complaint_of(words)),
+        },
+        job => print(rt, alloc, job, &complaint_of(words)),
+    }
+}
+
+// Prints the answer of a discovery on a line on standard output, and the reason of what isn't done on standard error.
+fn print_on_line<T: Runtime + Threads + Wait + Sync + Files<File = File>>(rt: &T, alloc: Global, job: &LineDiscovery<'_>) -> u8
+where
+    T::Dir: Send,
+{
+    let mut progress = Progressing::new(rt);
+    let mut opener = FileOpener::new(rt, alloc);
+    let (status, reason) = carry_out_on_line::<TextLine, _, _, _>(
+        alloc,
+        job,
+        &mut opener,
+        &mut io::writer(rt),
+        &mut progress,
+    );
+    // Where standard error fails too, the status tells of it.
+    let _ = match reason {
+        Some(reason) => tell(rt, &reason),
+        None => Ok(()),
+    };
+    status
+}
+
+// Prints the answer on standard output, and the reason of what isn't done on standard error: the complaint, if the
 // words fit no command.
 fn print<T: Runtime + Threads + Wait + Sync>(
     rt: &T,
@@ -63,7 +106,7 @@ fn print_from<R: Read, T: Runtime + Threads + Wait + Sync>(
 ) -> u8 {
     let mut progress = Progressing::new(rt);
     let (status, reason) = carry_out(rt, alloc, job, reader, &mut io::writer(rt), &mut progress);
-    // Where standard error fails too, the status tells of it.
+    // If standard error fails too, the status shows it.
     let _ = match reason {
         Some(Reason::Usage) => tell_usage(rt, complaint),
         Some(reason) => tell(rt, &reason),
@@ -72,7 +115,7 @@ fn print_from<R: Read, T: Runtime + Threads + Wait + Sync>(
     status
 }
 
-// A file that can't be opened: each read of it fails so.
+// A file that can't be opened: each read of it fails with this error.
 #[derive(Clone, Copy, Drop)]
 struct Unopened(io::ErrorKind);
 

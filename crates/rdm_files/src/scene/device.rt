@@ -4,7 +4,8 @@ ghost use Rattle.serde_json.specs.View.{view};
 ghost use Rattle.rdm_wire.specs.Uid.{has};
 ghost use Rattle.rdm_line.specs.Scenes.{uids_of_scene};
 ghost use Rattle.rdm_files.specs.Forms.{is_memory};
-ghost use Rattle.rdm_files.specs.SceneFiles.{IsDeviceOf, AreDevices, IsAdded, leaves_first};
+ghost use Rattle.rdm_files.specs.SceneFiles.{IsDeviceOf, AreDevices, leaves_first};
+ghost use Rattle.rdm_files.specs.body.Elements.{IsAdded};
 
 use crate::scene::fault::SceneFault;
 use crate::scene::form::{Form, ListOf, Listed, given, optional, required};
@@ -146,7 +147,7 @@ impl Form for DevicesForm {
     }
 }
 
-// Reads a device and puts it in its place.
+// Reads a device and puts it among the others.
 fn add(alloc: Global, devices: &mut SceneDevices, value: &Value) -> Result<(), SceneFault>
     ensures added { OnOk result (IsAdded (view value.now) devices.old devices.new) }
     ensures refused { IfErr result (λ fault. is_memory fault ≡ false → (d : SceneDevice) →

@@ -10,22 +10,22 @@ use std::{fmt, str};
 /// Why a scene file isn't read.
 #[derive(Debug, Drop)]
 pub enum SceneFault {
-    /// What stands at a place isn't what the place asks for.
+    /// The value at some path isn't what is expected there.
     Mismatch(Mismatch),
-    /// Memory was refused.
+    /// Memory ran out.
     NoMemory,
 }
 
-/// A place of a file, what stands there and what was expected.
+/// A path in a file, what is found there and what was expected.
 #[derive(Debug, Drop)]
 pub struct Mismatch {
     path: Path,
     found: Found,
-    // Why the key may not stand there, where it is unwanted.
+    // Why the key may not be there, if it is unwanted.
     expected: &'static str,
 }
 
-/// What stands at a place.
+/// What is found at a path.
 #[derive(Debug, Drop)]
 pub enum Found {
     /// Nothing, since the key is missing.
@@ -48,11 +48,11 @@ pub enum Found {
     Object,
     /// An object that has these of the keys of which it should have one.
     Keys(&'static str),
-    /// A value under a key that may not stand there.
+    /// A value under a key that may not be there.
     Unwanted,
 }
 
-// How many bytes of a text are told.
+// How many bytes of a text are quoted.
 const EXCERPT: usize = 40;
 
 type Excerpt = ArrayVec<u8, EXCERPT>;
@@ -79,7 +79,7 @@ impl SceneFault {
         SceneFault::expecting(Found::Keys(keys), expected)
     }
 
-    /// A key may not stand there, and why.
+    /// A key may not be there, and why.
     pub(crate) fn unwanted(why: &'static str) -> SceneFault
         ensures { is_memory result ≡ false }
     {

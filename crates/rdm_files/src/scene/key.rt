@@ -4,18 +4,18 @@ use arrayvec::ArrayVec;
 use serde_json::Value;
 use std::{fmt, str};
 
-/// A key that isn't known: the place of its object, the key, and the keys that are known there.
+/// A key that isn't known: the path of its object, the key, and the keys that are known there.
 #[derive(Debug, Drop)]
 pub struct UnknownKey {
     path: Path,
-    // Empty where the key is long.
+    // Empty if the key is long.
     text: ArrayVec<u8, LONGEST_KEY>,
     // How many bytes the key has.
     len: usize,
     known: &'static [&'static str],
 }
 
-// How many bytes a key has at most that is told.
+// The most bytes of a key that is reported by its name.
 const LONGEST_KEY: usize = 40;
 
 /// A form whose objects, or those within it, have keys.
@@ -62,7 +62,7 @@ pub(crate) fn unknown_in_list<K: Keyed>(
 impl UnknownKey {
     fn new(key: &[u8], known: &'static [&'static str]) -> UnknownKey {
         let mut text = ArrayVec::new();
-        // A long key is told by its length.
+        // A long key is reported by its length.
         let _ = text.try_extend_from_slice(key);
         UnknownKey {
             path: Path::whole(),
@@ -120,7 +120,7 @@ impl fmt::Display for UnknownKey {
     }
 }
 
-// A key as it stands in a path, where it is a word such as the known keys are.
+// A key as it is written in a path, if it is a word such as the known keys are.
 fn write_key<W: fmt::Write>(f: &mut fmt::Formatter<W>, key: &str) -> fmt::Result {
     let is_word = key
         .chars()

@@ -1,11 +1,11 @@
-//! Places of values in a file, for people.
+//! Paths of values in a file, for people.
 use arrayvec::ArrayVec;
 use std::fmt;
 
-/// The place of a value in a file: the keys and items that lead to it.
+/// The path of a value in a file: the keys and items that lead to it.
 #[derive(Debug, Drop)]
 pub struct Path {
-    // The steps to the place, the last one first.
+    // The steps to the value, the last one first.
     steps: ArrayVec<Step, MOST_STEPS>,
     // The item of the list that the next step's key holds.
     item: Option<usize>,
@@ -22,7 +22,7 @@ pub struct Step {
 const MOST_STEPS: usize = 6;
 
 impl Path {
-    /// The place of the whole file.
+    /// The path of the whole file.
     pub(crate) fn whole() -> Path {
         Path {
             steps: ArrayVec::new(),
@@ -30,12 +30,12 @@ impl Path {
         }
     }
 
-    /// Whether it is the place of the whole file.
+    /// Whether it is the path of the whole file.
     pub(crate) fn is_whole(&self) -> bool {
         self.steps.is_empty()
     }
 
-    /// The same place, in an item of a list.
+    /// The same path, in an item of a list.
     pub(crate) fn in_item(self, item: usize) -> Path {
         Path {
             item: Some(item),
@@ -43,10 +43,10 @@ impl Path {
         }
     }
 
-    /// The same place, under a key of an object.
+    /// The same path, under a key of an object.
     pub(crate) fn under(mut self, key: &'static str) -> Path {
         let item = self.item;
-        // A file whose keys nest deeper is told without its outermost keys.
+        // The path of a value that lies deeper is cut short at its outermost keys.
         let _ = self.steps.try_push(Step { key, item });
         self.item = None;
         self

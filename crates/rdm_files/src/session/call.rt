@@ -2,7 +2,8 @@
 ghost use Rattle.std.specs.Prelude.{◌≡◌, false};
 ghost use Rattle.serde_json.specs.View.{view};
 ghost use Rattle.rdm_files.specs.Forms.{Reads, is_memory};
-ghost use Rattle.rdm_files.specs.SessionFiles.{IsCall, IsRequest, IsAsk};
+ghost use Rattle.rdm_files.specs.SessionFiles.{IsCall};
+ghost use Rattle.rdm_files.specs.body.Elements.{IsRequest, IsAsk};
 
 use crate::scene::{
     AnyUid, Bytes, Form, FourDigits, Keyed, SceneFault, UnknownKey, Whole, optional, required,

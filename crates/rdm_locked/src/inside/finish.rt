@@ -3,7 +3,6 @@ ghost use Rattle.std.specs.Prelude.{◌≡◌, ◌≢◌, ◌≤◌, ◌<◌, �
 ghost use Rattle.std.specs.List.{sum_by};
 ghost use Rattle.rdm_log.specs.log.History.{next_client};
 ghost use Rattle.rdm_log.specs.log.Legal.{Legal};
-ghost use Rattle.rdm_log.specs.promises.LogInBound.{InBound};
 ghost use Rattle.rdm_log.specs.promises.Promised.{Promised};
 ghost use Rattle.rdm_locked.specs.Calls.{count_calls};
 ghost use Rattle.rdm_locked.specs.Exchanges.{exchanges_in, recorded};
@@ -12,7 +11,7 @@ use crate::exchange::{Exchange, has_exchanges};
 use crate::fault::FinishFault;
 use crate::inside::Inside;
 use crate::share::CallShare;
-use rdm_queue::{Session, laws};
+use rdm_queue::Session;
 use std::sync::ledger::{Book, Ledger, Share};
 
 /// A session that has left its lock, and how many calls its clients made (profile of this project).
@@ -29,7 +28,7 @@ impl<L: Ledger> Inside<L> {
     /// Then these hold:
     /// - the shares are one of each client;
     /// - their sum is the number of calls in the log;
-    /// - the log keeps all that clients are promised, and is in bound.
+    /// - the log keeps all that clients are promised.
     ///
     /// Err: SharesMissing, or else ExchangesDiffer; all comes back as it was.
     pub fn finish(
@@ -45,8 +44,7 @@ impl<L: Ledger> Inside<L> {
         ensures counted { IfOk result (λ e. e.calls ≡ count_calls e.session.entries) }
         ensures exchanges { IfOk result (λ e. exchanges_in e.session.entries ≡ recorded exchanges.now) }
         ensures legal { IfOk result (λ e. Legal e.session.opening e.session.entries) }
-        ensures promised { IfOk result (λ e. Promised e.session.opening e.session.entries) }
-        ensures in_bound { IfOk result (λ e. InBound e.session) }
+        ensures promised { IfOk result (λ e. Promised e.session) }
         ensures back { IfErr result (λ e. (e.1 ≡ self) × (e.2 ≡ shares)) }
         ensures missing { IfErr result (λ e. e.0 ≡ FinishFault.SharesMissing → length shares.items < self.joined) }
         ensures differ { IfErr result (λ e. e.0 ≡ FinishFault.ExchangesDiffer → (self.joined ≤ length shares.items)
@@ -85,11 +83,9 @@ impl<L: Ledger> Inside<L> {
         ensures calls { result.calls ≡ sum_by (λ s. s.count) shares.items }
         ensures counted { result.calls ≡ count_calls result.session.entries }
         ensures legal { Legal result.session.opening result.session.entries }
-        ensures promised { Promised result.session.opening result.session.entries }
-        ensures in_bound { InBound result.session }
+        ensures promised { Promised result.session }
     {
         let most = self.session().log().entries().len();
-        laws::legal_keeps_promises();
         let Inside {
             session,
             calls: mut book,

@@ -4,8 +4,6 @@ use Rattle.std.specs.Prelude.{◌⊎◌, ◌≢◌, Ok, Err}
 use Rattle.std.proofs.lemmas.List.{append_cancel_left}
 use Rattle.rdm_wire.specs.Lists.{EachAfter}
 use Rattle.rdm_agent.specs.declared.fault.AgentFault.{AgentFault}
-use Rattle.rdm_agent.specs.declared.search.Search.{Search}
-use Rattle.rdm_log.specs.declared.entry.Opening.{Opening}
 use Rattle.rdm_log.specs.declared.entry.Entry.{Entry}
 use Rattle.rdm_log.specs.declared.entry.Entry.TheVariants.{Pause, Resume, Close}
 use Rattle.rdm_log.specs.declared.entry.Entry.TheVariants as discovery
@@ -17,7 +15,7 @@ use Rattle.rdm_log.specs.log.History.{is_closed, can_pause, can_resume}
 use Rattle.rdm_log.specs.log.Runs.{has_begun}
 use Rattle.rdm_log.specs.log.MayAnswer.{MayAnswer}
 use Rattle.rdm_log.specs.log.Legal.{MayFollow}
-use Rattle.rdm_log.specs.log.LogState.{LogState, grown}
+use Rattle.rdm_log.specs.log.LogState.{LogState, grown, with_entries}
 use Rattle.rdm_log.specs.promises.Blocks.{join_refused, submit_refused, ask_refused, SwitchAdds, CloseAddsWhere, GrowsBy}
 use Rattle.rdm_log.specs.promises.InBound.{IsCalmRun, FaultNeedsClose, AnswersInBound}
 use Rattle.rdm_log.specs.promises.Explains.{Adds, Explains}
@@ -30,41 +28,41 @@ use Rattle.rdm_log.proofs.PromiseLemmas.BlockLemmas.{join_ok, submit_ok, discove
 use Rattle.rdm_log.proofs.PromiseLemmas.ExplainsLemmas.{grown_twice}
 
 -- blocks of one entry that is no Answer, or of none
-none_or_one : (search : Search) (o : Opening) (h : List Entry) (e : Entry) (block : List Entry) → FaultNeedsClose search o h e → (block ≡ []) ⊎ (block ≡ e ∷ []) → AnswersInBound search o h block
-none_or_one search o h e block none (inl is) = rw is tt
-none_or_one search o h e block none (inr is) = rw is (none, tt)
+none_or_one : (k : LogState) (e : Entry) (block : List Entry) → FaultNeedsClose k e → (block ≡ []) ⊎ (block ≡ e ∷ []) → AnswersInBound k block
+none_or_one k e block none (inl is) = rw is tt
+none_or_one k e block none (inr is) = rw is (none, tt)
 
-switch_in_bound : (search : Search) (o : Opening) (h : List Entry) (b : Bool) (e : Entry) (block : List Entry) → FaultNeedsClose search o h e → SwitchAdds b e block → AnswersInBound search o h block
-switch_in_bound search o h true e block none is = rw is (none, tt)
-switch_in_bound search o h false e block none is = rw is tt
+switch_in_bound : (k : LogState) (b : Bool) (e : Entry) (block : List Entry) → FaultNeedsClose k e → SwitchAdds b e block → AnswersInBound k block
+switch_in_bound k true e block none is = rw is (none, tt)
+switch_in_bound k false e block none is = rw is tt
 
 -- where the queue is closed nothing is asked of Answers
-closed_entry : (search : Search) (o : Opening) (h : List Entry) (e : Entry) → is_closed o h ≡ true → FaultNeedsClose search o h e
-closed_entry search o h (discovery.Answer n r (Some fault)) closed = λ present calm. closed
-closed_entry search o h (discovery.Answer n r None) closed = tt
-closed_entry search o h _ closed = tt
+closed_entry : (k : LogState) (e : Entry) → is_closed k.opening k.entries ≡ true → FaultNeedsClose k e
+closed_entry k (discovery.Answer n r (Some fault)) closed = λ present calm. closed
+closed_entry k (discovery.Answer n r None) closed = tt
+closed_entry k _ closed = tt
 
-pub closed_in_bound : (search : Search) (o : Opening) (h block : List Entry) → is_closed o h ≡ true → AnswersInBound search o h block
-closed_in_bound search o h [] closed = tt
-closed_in_bound search o h (e ∷ block) closed = (closed_entry search o h e closed, closed_in_bound search o (h ++ e ∷ []) block (closed_more o h e closed))
+pub closed_in_bound : (k : LogState) (block : List Entry) → is_closed k.opening k.entries ≡ true → AnswersInBound k block
+closed_in_bound k [] closed = tt
+closed_in_bound k (e ∷ block) closed = (closed_entry k e closed, closed_in_bound (grown k (e ∷ [])) block (closed_more k.opening k.entries e closed))
 
-close_in_bound : (search : Search) (o : Opening) (h : List Entry) (closed : Bool) (block : List Entry) → CloseAddsWhere closed block → AnswersInBound search o h block
-close_in_bound search o h true block adds = rw adds tt
-close_in_bound search o h false block adds = rw adds.whole (tt, closed_in_bound search o (h ++ Close ∷ []) adds.results (is_closed-push o h Close))
+close_in_bound : (k : LogState) (closed : Bool) (block : List Entry) → CloseAddsWhere closed block → AnswersInBound k block
+close_in_bound k true block adds = rw adds tt
+close_in_bound k false block adds = rw adds.whole (tt, closed_in_bound (grown k (Close ∷ [])) adds.results (is_closed-push k.opening k.entries Close))
 
 -- so it is with each event's block
-pub event_in_bound : (k : LogState) (e : Event) (r : Answer) (block : List Entry) → Adds k e r block → AnswersInBound k.search k.opening k.entries block
+pub event_in_bound : (k : LogState) (e : Event) (r : Answer) (block : List Entry) → Adds k e r block → AnswersInBound k block
 event_in_bound k (events.Join n) (answers.Join (Ok c)) block adds = rw (join_ok k n c block adds).2 (tt, tt)
-event_in_bound k (events.Join n) (answers.Join (Err fault)) block adds = none_or_one k.search k.opening k.entries (join_refused n fault) block tt (join_refusal k n fault block adds)
+event_in_bound k (events.Join n) (answers.Join (Err fault)) block adds = none_or_one k (join_refused n fault) block tt (join_refusal k n fault block adds)
 event_in_bound k (events.Submit c request) (answers.Submit (Ok n)) block adds = rw (submit_ok k c request n block adds).2 (tt, tt)
-event_in_bound k (events.Submit c request) (answers.Submit (Err e)) block adds = none_or_one k.search k.opening k.entries (submit_refused c request e.0) block tt (submit_refusal k c request e block adds)
+event_in_bound k (events.Submit c request) (answers.Submit (Err e)) block adds = none_or_one k (submit_refused c request e.0) block tt (submit_refusal k c request e block adds)
 event_in_bound k (events.Discover c kind) (answers.Discover (Ok n)) block adds = rw (discover_ok k c kind n block adds).2 (tt, tt)
-event_in_bound k (events.Discover c kind) (answers.Discover (Err fault)) block adds = none_or_one k.search k.opening k.entries (ask_refused c kind fault) block tt (discover_refusal k c kind fault block adds)
-event_in_bound k events.Pause (answers.Pause (Ok x)) block adds = switch_in_bound k.search k.opening k.entries (can_pause k.opening k.entries) Pause block tt adds.1
+event_in_bound k (events.Discover c kind) (answers.Discover (Err fault)) block adds = none_or_one k (ask_refused c kind fault) block tt (discover_refusal k c kind fault block adds)
+event_in_bound k events.Pause (answers.Pause (Ok x)) block adds = switch_in_bound k (can_pause k.opening k.entries) Pause block tt adds.1
 event_in_bound k events.Pause (answers.Pause (Err x)) block adds = rw adds.1 tt
-event_in_bound k events.Resume (answers.Resume (Ok x)) block adds = switch_in_bound k.search k.opening k.entries (can_resume k.opening k.entries) Resume block tt adds.1
+event_in_bound k events.Resume (answers.Resume (Ok x)) block adds = switch_in_bound k (can_resume k.opening k.entries) Resume block tt adds.1
 event_in_bound k events.Resume (answers.Resume (Err x)) block adds = rw adds.1 tt
-event_in_bound k events.Close answers.Close block adds = close_in_bound k.search k.opening k.entries (is_closed k.opening k.entries) block adds
+event_in_bound k events.Close answers.Close block adds = close_in_bound k (is_closed k.opening k.entries) block adds
 event_in_bound k events.Take (answers.Take (Ok (Some frame))) block adds = rw adds.1.2 (tt, tt)
 event_in_bound k events.Take (answers.Take (Ok None)) block adds = rw adds.1.1 tt
 event_in_bound k events.Take (answers.Take (Err x)) block adds = rw adds.1 tt
@@ -75,47 +73,47 @@ event_in_bound k (events.Collect c) (answers.Collect None) block adds = rw adds.
 event_in_bound k _ _ block adds = absurd adds
 
 -- and with all that events added
-all_in_bound : (old : LogState) (es : List Event) (rs : List Answer) (new : LogState) → Explains old es rs new → GrowsBy old (AnswersInBound old.search old.opening old.entries) new
+all_in_bound : (old : LogState) (es : List Event) (rs : List Answer) (new : LogState) → Explains old es rs new → GrowsBy old (AnswersInBound old) new
 all_in_bound old [] [] new is = record { block = []; adds = tt; grows = is ∙ ap (λ l. record old { entries = l }) (sym (append-nil old.entries)) }
 all_in_bound old (e ∷ es) (r ∷ rs) new is =
     let here = is.1 in
     let later = all_in_bound is.0 es rs new is.2 in
     record {
       block = here.block ++ later.block;
-      adds = both_in_bound old.search old.opening old.entries here.block later.block (event_in_bound old e r here.block here.adds) (after_growth old is.0 here.block later.block here.grows later.adds);
+      adds = both_in_bound old here.block later.block (event_in_bound old e r here.block here.adds) (after_growth old is.0 here.block later.block here.grows later.adds);
       grows = later.grows ∙ ap (λ k. grown k later.block) here.grows ∙ grown_twice old here.block later.block;
     }
 all_in_bound old [] (r ∷ rs) new is = absurd is
 all_in_bound old (e ∷ es) [] new is = absurd is
 
 -- a run that an Answer names is as calm before the Answer
-calm_before : (search : Search) (o : Opening) (h before back : List Entry) (n r : ℕ) (fault : AgentFault) (present : List ℕ) → EachAfter (MayFollow o) h → h ≡ before ++ discovery.Answer n r (Some fault) ∷ back → has_begun r before ≡ true → IsCalmRun search o h r present → IsCalmRun search o before r present
-calm_before search o h before back n r fault present each is begun calm = record {
-  calm = rw (ended o h each before back n r (Some fault) is) at calm.calm;
+calm_before : (k : LogState) (before back : List Entry) (n r : ℕ) (fault : AgentFault) (present : List ℕ) → EachAfter (MayFollow k.opening) k.entries → k.entries ≡ before ++ discovery.Answer n r (Some fault) ∷ back → has_begun r before ≡ true → IsCalmRun k r present → IsCalmRun (with_entries k before) r present
+calm_before k before back n r fault present each is begun calm = record {
+  calm = rw (ended k.opening k.entries each before back n r (Some fault) is) at calm.calm;
   budgeted = rw (is, served_stays r before (discovery.Answer n r (Some fault) ∷ back) begun, entries_before_run_stays r before (discovery.Answer n r (Some fault) ∷ back) begun) at calm.budgeted;
 }
 
 -- an Answer that names no run stands after a close
-by_number : (search : Search) (o : Opening) (h before back : List Entry) (n r : ℕ) (fault : AgentFault) (present : List ℕ) → EachAfter (MayFollow o) h → h ≡ before ++ discovery.Answer n r (Some fault) ∷ back → MayAnswer o before n r (Some fault) → FaultNeedsClose search o before (discovery.Answer n r (Some fault)) → IsCalmRun search o h r present → is_closed o before ≡ true
-by_number search o h before back n zero fault present each is may bound calm = (may.unserved refl).closing.closed
-by_number search o h before back n (suc r) fault present each is may bound calm = bound present (calm_before search o h before back n (suc r) fault present each is (named_begun o before n (suc r) (Some fault) may some) calm)
+by_number : (k : LogState) (before back : List Entry) (n r : ℕ) (fault : AgentFault) (present : List ℕ) → EachAfter (MayFollow k.opening) k.entries → k.entries ≡ before ++ discovery.Answer n r (Some fault) ∷ back → MayAnswer k.opening before n r (Some fault) → FaultNeedsClose (with_entries k before) (discovery.Answer n r (Some fault)) → IsCalmRun k r present → is_closed k.opening before ≡ true
+by_number k before back n zero fault present each is may bound calm = (may.unserved refl).closing.closed
+by_number k before back n (suc r) fault present each is may bound calm = bound present (calm_before k before back n (suc r) fault present each is (named_begun k.opening before n (suc r) (Some fault) may some) calm)
   where
     some : suc r ≢ 0
     some e = cc
 
 pub in_bound : (old : LogState) (es : List Event) (rs : List Answer) (new : LogState) → Explains old es rs new → EachAfter (MayFollow new.opening) new.entries → (front back : List Entry) (n r : ℕ) (fault : AgentFault) (present : List ℕ) → new.entries ≡ old.entries ++ front ++ discovery.Answer n r (Some fault) ∷ back
-    → IsCalmRun new.search new.opening new.entries r present → is_closed new.opening (old.entries ++ front) ≡ true
+    → IsCalmRun new r present → is_closed new.opening (old.entries ++ front) ≡ true
 in_bound old es rs new explains each front back n r fault present is calm =
-    by_number new.search new.opening new.entries (old.entries ++ front) back n r fault present each is (each (old.entries ++ front) back answer is) bound calm
+    by_number new (old.entries ++ front) back n r fault present each is (each (old.entries ++ front) back answer is) bound calm
   where
     answer : Entry
     answer = discovery.Answer n r (Some fault)
 
-    added : GrowsBy old (AnswersInBound old.search old.opening old.entries) new
+    added : GrowsBy old (AnswersInBound old) new
     added = all_in_bound old es rs new explains
 
     block_is : added.block ≡ front ++ answer ∷ back
     block_is = append_cancel_left old.entries added.block (front ++ answer ∷ back) (sym (ap (λ k. k.entries) added.grows) ∙ is ∙ append_assoc old.entries front (answer ∷ back))
 
-    bound : FaultNeedsClose new.search new.opening (old.entries ++ front) answer
-    bound = rw (ap (λ k. k.opening) added.grows, ap (λ k. k.search) added.grows) (within_block old.search old.opening old.entries front answer back (rw block_is at added.adds))
+    bound : FaultNeedsClose (with_entries new (old.entries ++ front)) answer
+    bound = rw (ap (λ k. k.opening) added.grows, ap (λ k. k.room) added.grows, ap (λ k. k.search) added.grows) (within_block old front answer back (rw block_is at added.adds))

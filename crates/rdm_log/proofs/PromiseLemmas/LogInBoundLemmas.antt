@@ -2,20 +2,25 @@
 use Rattle.std.proofs.Common.{◌≡◌, List, [], ◌∷◌, ◌++◌, Some, None, sym, subst, append-nil, append_assoc, ◌∙◌}
 use Rattle.rdm_wire.specs.Lists.{EachAfter}
 use Rattle.rdm_wire.proofs.EachAfterLemmas.{EachAfter-push}
-use Rattle.rdm_agent.specs.declared.search.Search.{Search}
-use Rattle.rdm_log.specs.declared.entry.Opening.{Opening}
 use Rattle.rdm_log.specs.declared.entry.Entry.{Entry}
 use Rattle.rdm_log.specs.declared.entry.Entry.TheVariants as entries
 use Rattle.rdm_log.specs.declared.event.Event.{Event}
 use Rattle.rdm_log.specs.declared.event.Answer.{Answer}
-use Rattle.rdm_log.specs.log.LogState.{LogState, grown}
+use Rattle.rdm_log.specs.log.LogState.{LogState, grown, with_entries}
 use Rattle.rdm_log.specs.promises.InBound.{FaultNeedsClose, AnswersInBound}
 use Rattle.rdm_log.specs.promises.LogInBound.{InBound}
 use Rattle.rdm_log.specs.promises.Explains.{IsAnswered}
 use Rattle.rdm_log.proofs.PromiseLemmas.EventsInBound.{event_in_bound}
+use Rattle.rdm_log.proofs.PromiseLemmas.Promises.{promised}
+use Rattle.rdm_log.specs.log.Legal.{Legal}
+use Rattle.rdm_log.specs.promises.Promised.{Promised}
+
+-- what is asked of an entry after these
+abbrev BoundAt : LogState → List Entry → Entry → Type 0
+BoundAt k h e = FaultNeedsClose (with_entries k h) e
 
 -- said of each entry
-each_of : (k : LogState) → InBound k → EachAfter (FaultNeedsClose k.search k.opening) k.entries
+each_of : (k : LogState) → InBound k → EachAfter (BoundAt k) k.entries
 each_of k is front back (entries.Answer n r (Some fault)) at = λ present calm. is.closed_first front back n r fault present at calm
 each_of k is front back (entries.Answer n r None) at = tt
 each_of k is front back (entries.Join c n) at = tt
@@ -30,12 +35,12 @@ each_of k is front back entries.Pause at = tt
 each_of k is front back entries.Resume at = tt
 each_of k is front back entries.Close at = tt
 
-of_each : (k : LogState) → EachAfter (FaultNeedsClose k.search k.opening) k.entries → InBound k
+of_each : (k : LogState) → EachAfter (BoundAt k) k.entries → InBound k
 of_each k each = record { closed_first = λ front back n r fault present at calm. each front back (entries.Answer n r (Some fault)) at present calm }
 
-each_block : (search : Search) (o : Opening) (h block : List Entry) → EachAfter (FaultNeedsClose search o) h → AnswersInBound search o h block → EachAfter (FaultNeedsClose search o) (h ++ block)
-each_block search o h [] each all = subst (EachAfter (FaultNeedsClose search o)) (sym (append-nil h)) each
-each_block search o h (e ∷ block) each all = subst (EachAfter (FaultNeedsClose search o)) (append_assoc h (e ∷ []) block) (each_block search o (h ++ e ∷ []) block (EachAfter-push (FaultNeedsClose search o) h e each all.0) all.1)
+each_block : (k : LogState) (block : List Entry) → EachAfter (BoundAt k) k.entries → AnswersInBound k block → EachAfter (BoundAt k) (k.entries ++ block)
+each_block k [] each all = subst (EachAfter (BoundAt k)) (sym (append-nil k.entries)) each
+each_block k (e ∷ block) each all = subst (EachAfter (BoundAt k)) (append_assoc k.entries (e ∷ []) block) (each_block (grown k (e ∷ [])) block (EachAfter-push (BoundAt k) k.entries e each all.0) all.1)
 
 -- an empty log is in bound
 pub empty_in_bound : (k : LogState) → k.entries ≡ [] → InBound k
@@ -46,9 +51,13 @@ empty_in_bound k empty = record { closed_first = λ front back n r fault present
     not_empty (y ∷ front) x back at = cc
 
 -- so is a log that grew by a block whose Answers are
-pub in_bound_grows : (k : LogState) (block : List Entry) → InBound k → AnswersInBound k.search k.opening k.entries block → InBound (grown k block)
-in_bound_grows k block is all = of_each (grown k block) (each_block k.search k.opening k.entries block (each_of k is) all)
+pub in_bound_grows : (k : LogState) (block : List Entry) → InBound k → AnswersInBound k block → InBound (grown k block)
+in_bound_grows k block is all = of_each (grown k block) (each_block k block (each_of k is) all)
 
 -- and a log after any call
 pub call_in_bound : (old : LogState) (e : Event) (r : Answer) (new : LogState) → InBound old → IsAnswered old e r new → InBound new
 call_in_bound old e r new is answered = subst InBound (sym answered.grows) (in_bound_grows old answered.block is (event_in_bound old e r answered.block answered.adds))
+
+-- all that is promised of the log of a session
+pub promised_in_bound : (k : LogState) → Legal k.opening k.entries → InBound k → Promised k
+promised_in_bound k legal bound = record { log = promised k.opening k.entries legal; in_bound = bound }

@@ -3,7 +3,7 @@ use Rattle.std.specs.Prelude.{List}
 use Rattle.rdm_log.specs.declared.entry.Opening.{Opening}
 use Rattle.rdm_log.specs.declared.entry.Entry.{Entry}
 use Rattle.rdm_log.specs.log.Legal.{Legal}
-use Rattle.rdm_log.specs.promises.Promised.{Promised}
+use Rattle.rdm_log.specs.promises.Promised.{LegalPromised}
 use Rattle.rdm_log.proofs.PromiseLemmas.OneResult.{one_result}
 use Rattle.rdm_log.proofs.PromiseLemmas.OwnRequests.{own_requests}
 use Rattle.rdm_log.proofs.PromiseLemmas.OwnAnswers.{own_answers}
@@ -12,7 +12,7 @@ use Rattle.rdm_log.proofs.PromiseLemmas.FullRefuses.{full_refuses}
 use Rattle.rdm_log.proofs.PromiseLemmas.NothingAfterClose.{after_close}
 use Rattle.rdm_log.proofs.PromiseLemmas.OwnDiscoveries.{discoveries_promised}
 
-pub promised : (o : Opening) (h : List Entry) → Legal o h → Promised o h
+pub promised : (o : Opening) (h : List Entry) → Legal o h → LegalPromised o h
 promised o h legal = record {
   one_result = one_result o h legal;
   own_requests = own_requests o h legal;

@@ -3,6 +3,7 @@ use Rattle.std.specs.Prelude.{ℕ, Bool, false, List, [], ◌++◌, nat_lt}
 use Rattle.rdm_agent.specs.declared.search.Search.{Search}
 use Rattle.rdm_agent.specs.declared.search.Search.TheVariants.{Steady}
 use Rattle.rdm_log.specs.declared.config.Config.{Config}
+use Rattle.rdm_log.specs.declared.config.Setup.{Setup}
 use Rattle.rdm_log.specs.declared.entry.Opening.{Opening}
 use Rattle.rdm_log.specs.declared.entry.Entry.{Entry}
 use Rattle.rdm_log.specs.log.History.{free_room, is_paused, is_closed, places, next_request, next_ask, next_tn}
@@ -14,6 +15,10 @@ pub record LogState : Type 0 where
   pub entries : List Entry
   pub room : ℕ
   pub search : Search
+
+-- the log with these entries in place of its own
+abbrev pub with_entries : LogState → List Entry → LogState
+with_entries k h = record k { entries = h }
 
 -- the log with these entries at its end
 abbrev pub grown : LogState → List Entry → LogState
@@ -48,7 +53,8 @@ blank_opening = record {
 abbrev pub blank_log : ℕ → LogState
 blank_log room = record { opening = blank_opening; entries = []; room = room; search = Steady }
 
--- what a session stands after that is set up so; its first run is number 1
+-- what a session with this configuration stands after at its start: no clients, no devices, neither paused nor closed;
+-- the first run will be number 1, and all other numbers begin at 0
 abbrev pub opened : Config → Opening
 opened config = record blank_opening {
   source = config.source;
@@ -56,6 +62,11 @@ opened config = record blank_opening {
   budget = config.budget;
   next_run = 1;
 }
+
+-- the log of a session with this set-up, at its start: it has that opening, and says how runs search; its entries and
+-- its room are those of the log that the session was given
+abbrev pub begun : Setup → LogState → LogState
+begun setup k = record k { opening = opened setup.config; search = setup.search }
 
 -- what stands after these entries: the opening of a log that goes on from there
 abbrev pub opening_after : Opening → List Entry → Opening

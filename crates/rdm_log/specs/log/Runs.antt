@@ -30,7 +30,7 @@ has_begun r h = list_any (sends_run r) h
 unfoldable pub entries_before_run : ℕ → List Entry → List Entry
 entries_before_run r h = before_first (sends_run r) h
 
--- the run that began last, after one more Send
+-- the run of this Send, or the one before if it is a request's
 abbrev pub run_of_owner : Option ℕ → Owner → Option ℕ
 run_of_owner before (owners.Run r) = Some r
 run_of_owner before (owners.Request n) = before

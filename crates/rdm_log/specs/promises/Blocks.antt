@@ -6,7 +6,6 @@ use Rattle.arrayvec.specs.ArrayVec.{ArrayVec}
 use Rattle.rdm_wire.specs.declared.request.Request.{Request}
 use Rattle.rdm_join.specs.declared.event.LineEvent.{LineEvent}
 use Rattle.rdm_agent.specs.declared.kind.Kind.{Kind}
-use Rattle.rdm_agent.specs.declared.search.Search.{Search}
 use Rattle.rdm_log.specs.declared.entry.ClientId.{ClientId}
 use Rattle.rdm_log.specs.declared.entry.Call.TheVariants as calls
 use Rattle.rdm_log.specs.declared.entry.Owner.{Owner}
@@ -76,7 +75,9 @@ pub record IsOldest (o : Opening) (h : List Entry) (c : ℕ) (outcome : Outcome)
 abbrev pub SwitchAdds : Bool → Entry → List Entry → Type 0
 SwitchAdds has_effect e block = block ≡ (if has_effect then e ∷ [] else [])
 
--- The calls of a controller, after a history: what each answers, and its block.
+-- The calls of a controller, after a history: what each answers, and the block that it adds.
+-- a join: the next client, and a Join with its places, if no fault stands; else the first fault that stands, or
+-- NoMemory if none does, and a Refuse with the number of that fault
 abbrev pub JoinAdds : Opening → List Entry → ℕ → Result ClientId JoinFault → List Entry → Type 0
 JoinAdds o h n (Ok c) block = (join_fault o h n ≡ None) × (c.0 ≡ next_client o h) × (block ≡ Join c n ∷ [])
 JoinAdds o h n (Err fault) block = RefusesJoin (join_fault o h n) fault × (block ≡ join_refused n fault ∷ [])
@@ -117,24 +118,25 @@ abbrev pub TakeAdds : Opening → List Entry → Option (ArrayVec ℕ) → List 
 TakeAdds o h (Some frame) block = (owner : Owner) × MaySend o h owner frame × (block ≡ Send owner frame ∷ [])
 TakeAdds o h None block = NoSend o h × (block ≡ [])
 
--- on a calm line, with a budget that suffices for this search, the Answers of the block have a fault only after a close
-abbrev pub DeliverAdds : Search → Opening → List Entry → LineEvent → Result (Unit {0}) (NotAsked × LineEvent)
-    → List Entry → Type 0
-DeliverAdds search o h event (Ok x) block =
-    (awaited h ≡ true) × IsWithResults (Came event) block × AnswersInBound search o h block
-DeliverAdds search o h event (Err e) block = (awaited h ≡ false) × (e.1 ≡ event) × (block ≡ [])
+-- a deliver, where a reply is awaited: a Came with the event, and then the Finishes and Answers that are due; an Answer
+-- by a calm run has a fault only if the queue is closed. Else the event comes back, and nothing is added
+abbrev pub DeliverAdds : LogState → LineEvent → Result (Unit {0}) (NotAsked × LineEvent) → List Entry → Type 0
+DeliverAdds k event (Ok x) block =
+    (awaited k.entries ≡ true) × IsWithResults (Came event) block × AnswersInBound k block
+DeliverAdds k event (Err e) block = (awaited k.entries ≡ false) × (e.1 ≡ event) × (block ≡ [])
 
 -- a collect: the client's oldest outcome that isn't collected, and a Collect; or nothing, since there is none
 abbrev pub CollectAdds : Opening → List Entry → ClientId → Option Outcome → List Entry → Type 0
 CollectAdds o h c (Some outcome) block = IsOldest o h c.0 outcome × (block ≡ Collect c ∷ [])
 CollectAdds o h c None block = (uncollected o c.0 h ≡ []) × (block ≡ [])
 
--- In a session some calls are refused where the log is full, and add nothing then.
+-- some calls of a session: the first statement holds if the log is full, and the second if it isn't
 abbrev pub UnlessFull : Bool → Type 0 → Type 0 → Type 0
 UnlessFull true refuses adds = refuses
 UnlessFull false refuses adds = adds
 
--- The calls of a session: as those of its controller, but for a full log.
+-- The calls of a session: if the log is full, LogFull is answered and nothing is added; else as a controller's.
+-- a join of a session: LogFull and no entry if the log is full, else the answer and the block of a controller's join
 abbrev pub JoinLogs : LogState → ℕ → Result ClientId JoinFault → List Entry → Type 0
 JoinLogs k n answer block =
     UnlessFull (is_full_log k) ((answer ≡ Err join_faults.LogFull) × (block ≡ []))

@@ -42,7 +42,8 @@ numbers_answered some = map (λ b. b.number) some
 abbrev pub answer_count : ℕ → List Entry → ℕ
 answer_count n h = length (filter (λ m. n == m) (numbers_answered (answers h)))
 
--- Exactly one answer.
+-- No discovery has two answers, only discoveries that were asked have one, and each of them has one once the queue is
+-- closed and awaits no reply.
 pub record OneAnswer (o : Opening) (h : List Entry) : Type 0 where
   -- no discovery has two
   pub at_most_one : (n : ℕ) → answer_count n h ≤ 1
@@ -133,19 +134,28 @@ pub record HasMostDiscoveries (o : Opening) (h : List Entry) (c : ℕ) : Type 0 
   pub known : c < next_client o h
   pub full : (4 ≤ outstanding_discoveries o c h) ⊎ (18446744073709551614 ≤ next_ask o h)
 
--- A client with four discoveries outstanding is refused another, and no other client is.
+-- A discover is refused with Full only if its client has four discoveries outstanding or the numbers have run out, and it
+-- isn't accepted then.
 pub record FullRefusesDiscoveries (o : Opening) (h : List Entry) : Type 0 where
+  -- where a Refuse with the number of Full stands, HasMostDiscoveries holds of its client
   pub refused : (front back : List Entry) (c : ClientId) (kind : Kind) (cause : Cause)
       → h ≡ front ++ Refuse (Some c) (calls.Discover kind) cause ∷ back → cause.0 ≡ number_of_ask_fault Full
       → HasMostDiscoveries o front c.0
+  -- where an Ask stands, it doesn't hold of its client
   pub accepted : (front back : List Entry) (c : ClientId) (n : ℕ) (kind : Kind)
       → h ≡ front ++ Ask c n kind ∷ back → HasMostDiscoveries o front c.0 → ⊥
 
--- All of it.
+-- All that clients are promised of discoveries, of each legal log.
 pub record DiscoveriesPromised (o : Opening) (h : List Entry) : Type 0 where
+  -- each discovery that was asked is answered at most once, and exactly once when the queue is closed and awaits no reply
   pub one_answer : OneAnswer o h
+  -- discoveries are answered in the order in which they were asked
   pub in_order : AnsweredInOrder o h
+  -- the devices of an Answer are those that the line showed in its run
   pub tells_the_line : TellsTheLine o h
+  -- a run answers the discoveries that were asked before it began, all alike, and nothing changes its answers later
   pub runs_answer : RunsAnswer o h
+  -- a client is answered only what it asked, and its outcomes don't change later
   pub own_discoveries : OwnDiscoveries o h
+  -- a client with four discoveries outstanding is refused another, and only such a client is refused as full
   pub full_refuses : FullRefusesDiscoveries o h

@@ -39,7 +39,7 @@ use Rattle.rdm_log.specs.promises.Explains.{IsAnswered, Explains}
 use Rattle.rdm_log.specs.promises.InBound.{IsCalmRun}
 use Rattle.rdm_log.specs.promises.Headline.{IsFull, SameQueue, result_count}
 use Rattle.rdm_log.specs.promises.Discoveries.{HasMostDiscoveries, answer_count}
-use Rattle.rdm_log.specs.promises.Promised.{Promised}
+use Rattle.rdm_log.specs.promises.Promised.{LegalPromised}
 
 -- event i was answered so: the log stood at before, and then at after
 pub record AnsweredAt (old : LogState) (es : List Event) (rs : List Answer) (new : LogState) (i : ℕ) (event : Event)
@@ -141,62 +141,69 @@ given_to c es rs = filter_map (λ p. outcome_given c p.0 p.1) (zip es rs)
 abbrev pub collected_outcomes : Opening → ℕ → List Entry → List Entry → List OutcomeValue
 collected_outcomes o c h log = filter_map (outcome_of log) (collected o c h)
 
--- For every list of events.
+-- All that is promised of every list of events that a session answers, and of its log before and after.
 pub record EventsPromised (old : LogState) (es : List Event) (rs : List Answer) (new : LogState) : Type 0 where
   -- each event has one answer
   pub all_answered : length rs ≡ length es
-  -- the log only grows
+  -- the log grew by a block of entries, and nothing else in it has changed
   pub only_grows : (block : List Entry) × (new ≡ grown old block)
-  -- and keeps all that is promised of a log
-  pub log : Promised new.opening new.entries
-  -- a request that was accepted stands there under its number
+  -- the log keeps all that clients are promised of a legal log
+  pub log : LegalPromised new.opening new.entries
+  -- where a submit was answered with a number, the log has an Accept of its client and request under that number
   pub accepted : (i : ℕ) (c : ClientId) (n : ℕ) (request : Request) → slice_get es i ≡ Some (events.Submit c request)
       → slice_get rs i ≡ Some (answers.Submit (Ok n)) → Contains new.entries (Accept c n request)
-  -- and has exactly one result after a Close and then a Deliver, of the reply that the close found awaited, if any
+  -- where a submit was answered with a number, and a Close and later a Deliver are among the events, the request has
+  -- exactly one result
   pub finished : (i j m : ℕ) (c : ClientId) (n : ℕ) (request : Request) (event : LineEvent)
       → slice_get es i ≡ Some (events.Submit c request) → slice_get rs i ≡ Some (answers.Submit (Ok n)) → j < m
       → slice_get es j ≡ Some events.Close → slice_get es m ≡ Some (events.Deliver event)
       → result_count n new.entries ≡ 1
-  -- a discovery that was accepted stands there under its number
+  -- where a discover was answered with a number, the log has an Ask of its client and kind under that number
   pub asked : (i : ℕ) (c : ClientId) (n : ℕ) (kind : Kind) → slice_get es i ≡ Some (events.Discover c kind)
       → slice_get rs i ≡ Some (answers.Discover (Ok n)) → Contains new.entries (Ask c n kind)
-  -- and has exactly one answer after a Close and then a Deliver
+  -- where a discover was answered with a number, and a Close and later a Deliver are among the events, the discovery has
+  -- exactly one answer
   pub answered : (i j m : ℕ) (c : ClientId) (n : ℕ) (kind : Kind) (event : LineEvent)
       → slice_get es i ≡ Some (events.Discover c kind) → slice_get rs i ≡ Some (answers.Discover (Ok n)) → j < m
       → slice_get es j ≡ Some events.Close → slice_get es m ≡ Some (events.Deliver event)
       → answer_count n new.entries ≡ 1
-  -- accepted requests have numbers that rise, so no two share one; and so have discoveries
+  -- of two submits that were answered with a number, the later has the greater one
   pub numbers_rise : (i j n m : ℕ) → i < j → slice_get rs i ≡ Some (answers.Submit (Ok n))
       → slice_get rs j ≡ Some (answers.Submit (Ok m)) → n < m
+  -- of two discovers that were answered with a number, the later has the greater one
   pub asks_rise : (i j n m : ℕ) → i < j → slice_get rs i ≡ Some (answers.Discover (Ok n))
       → slice_get rs j ≡ Some (answers.Discover (Ok m)) → n < m
-  -- a close closes
+  -- where a Close is among the events, the queue is closed at the end
   pub closed : (i : ℕ) → slice_get es i ≡ Some events.Close → is_closed new.opening new.entries ≡ true
-  -- and nothing starts after it, nor where the queue was closed before
+  -- no event after a Close has an answer that starts something
   pub nothing_after : (i j : ℕ) (answer : Answer) → i < j → slice_get es i ≡ Some events.Close
       → slice_get rs j ≡ Some answer → starts answer ≡ false
+  -- where the queue was closed before the events, no event has an answer that starts something
   pub nothing_closed : is_closed old.opening old.entries ≡ true → (j : ℕ) (answer : Answer)
       → slice_get rs j ≡ Some answer → starts answer ≡ false
-  -- a full queue refuses, and changes nothing but the log
+  -- a submit is answered Full exactly when its client's queue is full, if the log isn't; that changes the log alone
   pub full : (i : ℕ) (c : ClientId) (request : Request) (answer : Answer)
       → slice_get es i ≡ Some (events.Submit c request) → slice_get rs i ≡ Some answer
       → FullExactly old es rs new i c request answer
-  -- and so is a client with four discoveries outstanding
+  -- a discover is answered Full exactly when its client has as many discoveries as it may, if the log isn't full; that
+  -- changes the log alone
   pub most : (i : ℕ) (c : ClientId) (kind : Kind) (answer : Answer)
       → slice_get es i ≡ Some (events.Discover c kind) → slice_get rs i ≡ Some answer
       → MostExactly old es rs new i c kind answer
-  -- a client collects the joined answers of its own requests, and what the runs of its own discoveries found
+  -- what a Collect gave is the outcome of a request or a discovery of that client, and says what the log says of it
   pub collected : (i : ℕ) (c : ClientId) (outcome : Outcome) → slice_get es i ≡ Some (events.Collect c)
       → slice_get rs i ≡ Some (answers.Collect (Some outcome)) → IsOwnOutcome new.opening new.entries c.0 outcome
-  -- on an honest line these are exactly the devices present
+  -- the devices that a Collect gave with a discovery are those that the line showed in its run
   pub reported : (i : ℕ) (number : Option ℕ) (done : AskCompletion)
       → slice_get rs i ≡ Some (answers.Collect (Some (outcomes.Discovery number done)))
       → ReportsTheLine new.entries (discovered done)
-  -- and is given each of them once, in order
+  -- the outcomes that a client has collected by the end are those that it had before, and then those that these events
+  -- gave it, each once and in order
   pub collected_once : (c : ℕ)
       → collected_outcomes new.opening c new.entries new.entries
       ≡ collected_outcomes new.opening c old.entries new.entries ++ given_to c es rs
-  -- on a calm line, with a budget that suffices, a discovery that these events answered has a fault only after a close
+  -- an Answer that these events added, by a run on a calm line whose budget suffices, has a fault only if the queue was
+  -- closed before it
   pub in_bound : (front back : List Entry) (n r : ℕ) (fault : AgentFault) (present : List ℕ)
       → new.entries ≡ old.entries ++ front ++ entries.Answer n r (Some fault) ∷ back
-      → IsCalmRun new.search new.opening new.entries r present → is_closed new.opening (old.entries ++ front) ≡ true
+      → IsCalmRun new r present → is_closed new.opening (old.entries ++ front) ≡ true

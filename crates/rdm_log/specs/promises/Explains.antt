@@ -18,8 +18,7 @@ Adds k events.Pause (answers.Pause answer) block = PauseLogs k answer block
 Adds k events.Resume (answers.Resume answer) block = ResumeLogs k answer block
 Adds k events.Close answers.Close block = CloseAdds k.opening k.entries block
 Adds k events.Take (answers.Take answer) block = TakeLogs k answer block
-Adds k (events.Deliver event) (answers.Deliver answer) block =
-    DeliverAdds k.search k.opening k.entries event answer block
+Adds k (events.Deliver event) (answers.Deliver answer) block = DeliverAdds k event answer block
 Adds k (events.Collect c) (answers.Collect answer) block = CollectAdds k.opening k.entries c answer block
 -- no event is answered as another
 Adds k _ _ block = ⊥

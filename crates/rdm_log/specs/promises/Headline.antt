@@ -42,7 +42,8 @@ numbers_finished some = map (λ f. f.number) some
 abbrev pub result_count : ℕ → List Entry → ℕ
 result_count n h = length (filter (λ m. n == m) (numbers_finished (finishes h)))
 
--- Exactly one result.
+-- No request has two results, only accepted requests have one, and each of them has one once the queue is closed and
+-- awaits no reply.
 pub record OneResult (o : Opening) (h : List Entry) : Type 0 where
   -- no request has two
   pub at_most_one : (n : ℕ) → result_count n h ≤ 1

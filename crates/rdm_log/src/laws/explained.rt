@@ -4,7 +4,6 @@ ghost use Rattle.std.specs.Global.{Vec};
 ghost use Rattle.rdm_log.specs.declared.fault.LogFull.{LogFull};
 ghost use Rattle.rdm_join.specs.declared.event.LineEvent.TheVariants.{Reply};
 ghost use Rattle.rdm_agent.specs.declared.kind.Kind.TheVariants.{Full};
-ghost use Rattle.rdm_agent.specs.declared.search.Search.TheVariants.{Steady};
 ghost use Rattle.rdm_agent.specs.declared.fault.AgentFault.TheVariants.{Exhausted};
 ghost use Rattle.rdm_log.specs.declared.entry.Entry.TheVariants as entries;
 ghost use Rattle.rdm_log.specs.declared.fault.SubmitFault.TheVariants as faults;
@@ -75,7 +74,7 @@ pub fn not_explained()
 /// A line without devices is calm, and eight frames suffice for a run. So no log explains that the reply to a run's
 /// eighth frame is followed by its Answer with Exhausted, where the queue isn't closed.
 pub fn wasted_run_is_not_explained()
-    ensures calm { IsCalmRun Steady wasted_opening wasted_run 1 [] }
+    ensures calm { IsCalmRun (wasted_with wasted_run) 1 [] }
     ensures fault { Explains (wasted_with wasted_sent) (events.Deliver (Reply (record { items = [] })) ∷ [])
         (answers.Deliver (Ok tt) ∷ []) (wasted_with (wasted_run ++ entries.Answer 0 1 (Some Exhausted) ∷ [])) → ⊥ }
 {}

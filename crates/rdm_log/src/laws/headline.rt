@@ -9,7 +9,8 @@ ghost use Rattle.rdm_log.specs.log.LogState.{LogState};
 ghost use Rattle.rdm_log.specs.promises.Explains.{Explains};
 ghost use Rattle.rdm_log.specs.promises.Headline.{OneResult, OwnRequests, OwnAnswers, InOrder, FullRefuses};
 ghost use Rattle.rdm_log.specs.promises.Headline.{NothingAfterClose};
-ghost use Rattle.rdm_log.specs.promises.Promised.{Promised};
+ghost use Rattle.rdm_log.specs.promises.LogInBound.{InBound};
+ghost use Rattle.rdm_log.specs.promises.Promised.{LegalPromised, Promised};
 ghost use Rattle.rdm_log.specs.promises.EventsHeadline.{EventsPromised};
 
 /// Each accepted request is finished with exactly one result: never with two, and with one once the queue is closed
@@ -44,9 +45,11 @@ pub fn nothing_after_close()
     ensures { (o : Opening) (h : List Entry) → Legal o h → NothingAfterClose o h }
 {}
 
-/// All that clients are promised holds of each legal log.
+/// All that clients are promised of a legal log holds of each legal log. Where the log is also in bound, all that they
+/// are promised of a session's log holds of it.
 pub fn legal_keeps_promises()
-    ensures { (o : Opening) (h : List Entry) → Legal o h → Promised o h }
+    ensures legal { (o : Opening) (h : List Entry) → Legal o h → LegalPromised o h }
+    ensures in_bound { (k : LogState) → Legal k.opening k.entries → InBound k → Promised k }
 {}
 
 /// The whole, for every list of events. Where a log explains its answers and is legal, these hold:

@@ -1,11 +1,12 @@
-//! The numbers of the limits.
+//! The limits of the code are those of the definitions.
 ghost use Rattle.std.specs.Prelude.{◌≡◌};
 ghost use Rattle.rdm_log.specs.declared.config.TheConstants.{MOST_PLACES};
 ghost use Rattle.rdm_log.specs.declared.entry.TheConstants.{MOST_CLIENTS, MOST_DISCOVERIES};
 ghost use Rattle.rdm_log.specs.declared.entry.TheConstants.{NEVER_GIVEN, NEVER_GIVEN_TO_A_DISCOVERY};
 ghost use Rattle.rdm_log.specs.declared.log.TheConstants.{LEAST_FREE, MOST_FREE_ENTRIES};
 
-/// The limits that definitions cite by name.
+/// Definitions have the limits as numbers, and the code has them as constants. This law ties both: each constant is
+/// the number that the definitions have.
 pub fn limits_are()
     ensures clients { MOST_CLIENTS ≡ 16 }
     ensures places { MOST_PLACES ≡ 4080 }

@@ -9,7 +9,8 @@ use Rattle.rdm_join.specs.declared.verdict.Judged.{Judged}
 use Rattle.rdm_join.specs.declared.verdict.Sent.{Sent}
 use Rattle.rdm_join.specs.Verdict.{verdict}
 use Rattle.rdm_join.specs.Result.{Joined, result_of}
-use Rattle.rdm_join.specs.JoinerStanding.{JoinerStanding, StandsAt}
+use Rattle.rdm_join.specs.JoinerStanding.{JoinerStanding}
+use Rattle.rdm_join.specs.body.Standing.{StandsAt}
 use Rattle.rdm_agent.specs.Calls.{next_op}
 use Rattle.rdm_agent.specs.declared.op.Op.TheVariants.{End}
 use Rattle.rdm_log.specs.declared.entry.Opening.{Opening}

@@ -16,7 +16,7 @@ use Rattle.rdm_wire.specs.CommandFrames.{request_fields, code_of_request_class}
 use Rattle.rdm_wire.proofs.PacketLemmas.{fields_at-packet}
 use Rattle.rdm_join.specs.declared.verdict.Sent.{Sent}
 use Rattle.rdm_join.specs.Verdict.{sent_by}
-use Rattle.rdm_log.specs.declared.config.Config.{Config}
+use Rattle.rdm_log.specs.declared.config.Setup.{Setup}
 use Rattle.rdm_log.specs.declared.entry.ClientId.{ClientId}
 use Rattle.rdm_log.specs.declared.entry.Call.TheVariants as calls
 use Rattle.rdm_log.specs.declared.entry.Owner.{Owner}
@@ -65,10 +65,10 @@ clients_after : (o : Opening) (h : List Entry) (s : QueueState) → StandsAfter 
 clients_after o h s after = client_facts o h after.legal.each
 
 -- a queue without calls
-pub first_after : (config : Config) → StandsAfter (opened config) [] (first_state config)
+pub first_after : (setup : Setup) → StandsAfter (opened setup.config) [] (first_state setup)
 unfolding joins accepts asks sends cames finishes answers collectors traded of_request verdicts awaited is_paused is_closed answers_to last_run
-first_after config = record {
-  legal = empty (opened config);
+first_after setup = record {
+  legal = empty (opened setup.config);
   goes_on = tt;
   stands = record {
     source_is = refl;

@@ -29,7 +29,6 @@ use Rattle.rdm_log.proofs.LogLemmas.ClientFacts.{ClientFacts}
 use Rattle.rdm_log.proofs.LogLemmas.RunLemmas.{last_run_same, last_run_sent}
 use Rattle.rdm_log.proofs.PromiseLemmas.OutcomeLemmas.{outcomes_step, known_step}
 use Rattle.rdm_queue.proofs.BodyLemmas.AgreesSame.{devices_run_same}
-use Rattle.std.specs.Prelude.{◌-◌}
 use Rattle.std.proofs.lemmas.List.Sums.{fold_push}
 use Rattle.rdm_wire.specs.Devices.{uids_of}
 use Rattle.rdm_wire.specs.declared.device.Device.{Device}

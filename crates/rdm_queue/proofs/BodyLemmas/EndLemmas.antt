@@ -8,7 +8,7 @@ use Rattle.std.proofs.lemmas.List.Folds.{list_any-append}
 use Rattle.rdm_join.specs.declared.status.Status.TheVariants.{FailedToSend}
 use Rattle.rdm_join.specs.Result.{Joined, result_of, ended, or_if_open}
 use Rattle.rdm_agent.specs.Calls.{next_op, HasRunBy}
-use Rattle.rdm_agent.specs.declared.search.Search.{Search}
+use Rattle.rdm_log.specs.log.LogState.{LogState}
 use Rattle.rdm_agent.specs.Machine.{AgentState, fault_of}
 use Rattle.rdm_agent.specs.declared.op.Op.{Op}
 use Rattle.rdm_agent.specs.declared.op.Op.TheVariants as ops
@@ -139,18 +139,19 @@ ends_amid o h s new entry (ByResult e) amid = rw (e.finishes.entry_is, e.finishe
 ends_amid o h s new entry (ByClose e) amid = unserved_amid o h s new entry e.no_run e.no_request e.answers amid
 
 -- an Answer with a fault needs a close, on a calm line with the budget that suffices
-in_bound_at : (search : Search) (o : Opening) (h : List Entry) (n r : ℕ) (a : AgentState) (aborted : Bool) → HasRunBy search (run_kind r h) (known_at_run o r h) o.budget aborted (run_exchanges r h) a → (aborted ≡ true → is_closed o h ≡ true) → next_op a ≡ ops.End → (f : Option AgentFault) → fault_of a.phase ≡ f → FaultNeedsClose search o h (Answer n r f)
-in_bound_at search o h n r a aborted s closed end None is = tt
-in_bound_at search o h n r a true s closed end (Some fault) is = λ present calm. closed refl
-in_bound_at search o h n r a false s closed end (Some fault) is = λ present calm. absurd (none-some fault (sym ((ends_in_bound_by search _ _ _ (run_exchanges r h) a s.devices (runs-own _ _ _ _ a s) present calm.calm calm.budgeted).no_fault (next_none a end)) ∙ is))
+in_bound_at : (k : LogState) (n r : ℕ) (a : AgentState) (aborted : Bool) → HasRunBy k.search (run_kind r k.entries) (known_at_run k.opening r k.entries) k.opening.budget aborted (run_exchanges r k.entries) a → (aborted ≡ true → is_closed k.opening k.entries ≡ true) → next_op a ≡ ops.End → (f : Option AgentFault) → fault_of a.phase ≡ f → FaultNeedsClose k (Answer n r f)
+in_bound_at k n r a aborted s closed end None is = tt
+in_bound_at k n r a true s closed end (Some fault) is = λ present calm. closed refl
+in_bound_at k n r a false s closed end (Some fault) is = λ present calm. absurd (none-some fault (sym ((ends_in_bound_by k.search _ _ _ (run_exchanges r k.entries) a s.devices (runs-own _ _ _ _ a s) present calm.calm calm.budgeted).no_fault (next_none a end)) ∙ is))
 
-pub ends_in_bound_amid : (o : Opening) (h : List Entry) (s new : QueueState) (entry : Entry) → IsEnded s entry new → StandsAmid o h s → FaultNeedsClose s.search o h entry
-ends_in_bound_amid o h s new entry (ByRun e) amid =
-    let run = running o h s e.answers.run e.answers.run_is amid.stands in
-    let ends = at_end o h s e.answers.run run amid.stands in
-    rw e.answers.entry_is (in_bound_at s.search o h e.answers.asked.number e.answers.run.number (agent_at_end s) ends.aborted ends.has_run ends.closed e.answers.ended (fault_of (agent_at_end s).phase) refl)
-ends_in_bound_amid o h s new entry (ByResult e) amid = rw e.finishes.entry_is tt
-ends_in_bound_amid o h s new entry (ByClose e) amid = rw e.answers.entry_is (λ present calm. closed_of o h s e.answers.closing amid.stands)
+pub ends_in_bound_amid : (k : LogState) (s new : QueueState) (entry : Entry) → s.search ≡ k.search → IsEnded s entry new → StandsAmid k.opening k.entries s → FaultNeedsClose k entry
+ends_in_bound_amid k s new entry same (ByRun e) amid =
+    let run = running k.opening k.entries s e.answers.run e.answers.run_is amid.stands in
+    let ends = at_end k.opening k.entries s e.answers.run run amid.stands in
+    let searched : HasRunBy k.search (run_kind e.answers.run.number k.entries) (known_at_run k.opening e.answers.run.number k.entries) k.opening.budget ends.aborted (run_exchanges e.answers.run.number k.entries) (agent_at_end s) = subst (λ x. HasRunBy x (run_kind e.answers.run.number k.entries) (known_at_run k.opening e.answers.run.number k.entries) k.opening.budget ends.aborted (run_exchanges e.answers.run.number k.entries) (agent_at_end s)) same ends.has_run in
+    rw e.answers.entry_is (in_bound_at k e.answers.asked.number e.answers.run.number (agent_at_end s) ends.aborted searched ends.closed e.answers.ended (fault_of (agent_at_end s).phase) refl)
+ends_in_bound_amid k s new entry same (ByResult e) amid = rw e.finishes.entry_is tt
+ends_in_bound_amid k s new entry same (ByClose e) amid = rw e.answers.entry_is (λ present calm. closed_of k.opening k.entries s e.answers.closing amid.stands)
 
 -- where nothing is to be ended, nothing is due: the results
 unsent_at : (n : ℕ) (ss : List Sending) → list_any (λ (x : Sending). is_request n x.owner) ss ≡ false → (i : ℕ) (x : Sending) → slice_get ss i ≡ Some x → is_request n x.owner ≡ false

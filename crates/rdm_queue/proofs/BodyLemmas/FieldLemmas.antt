@@ -8,7 +8,7 @@ use Rattle.std.proofs.lemmas.Option.{slice_get-get_or}
 use Rattle.std.proofs.lemmas.List.{append-nil, drop_all, take_all, length-set, length-map}
 use Rattle.std.proofs.lemmas.List.Sums.{sum_by-cons}
 use Rattle.rdm_queue.specs.declared.client.Client.{Client}
-use Rattle.rdm_log.specs.declared.config.Config.{Config}
+use Rattle.rdm_log.specs.declared.config.Setup.{Setup}
 use Rattle.rdm_log.specs.declared.fault.SubmitFault.TheVariants as submit_faults
 use Rattle.rdm_log.specs.declared.fault.AskFault.TheVariants as ask_faults
 use Rattle.rdm_queue.specs.declared.pending.Asked.{Asked}
@@ -32,9 +32,9 @@ pub waiting_are : (s : QueueState) (clients : List Client) → QueueInvariant s 
 waiting_are s clients held = merged_shares (λ a. a.client) (λ a. a.number) (waiting_rings clients) s.waiting (waiting_rises s held.state) held.rings.waiting
 
 -- without clients
-pub first_kept : (config : Config) → IsConfig config → QueueInvariant (first_state config) []
+pub first_kept : (setup : Setup) → IsConfig setup.config → QueueInvariant (first_state setup) []
 unfolding rings_from
-first_kept config is = record {
+first_kept setup is = record {
   state = record {
     source = is.source;
     greatest = is.places;

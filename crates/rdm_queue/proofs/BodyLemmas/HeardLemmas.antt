@@ -6,7 +6,8 @@ use Rattle.rdm_join.specs.declared.status.Status.{Status}
 use Rattle.rdm_join.specs.declared.status.Status.TheVariants.{NoMemory}
 use Rattle.rdm_join.specs.declared.joiner.Step.TheVariants.{More, Done}
 use Rattle.rdm_join.specs.Result.{Joined, result_of, ended}
-use Rattle.rdm_join.specs.JoinerStanding.{JoinerStanding, StandsAt, standing_at, step_of, head_of_standing}
+use Rattle.rdm_join.specs.JoinerStanding.{JoinerStanding, step_of, head_of_standing}
+use Rattle.rdm_join.specs.body.Standing.{StandsAt, standing_at}
 use Rattle.rdm_log.specs.declared.entry.Entry.{Entry}
 use Rattle.rdm_log.specs.log.Entries.{Accepted}
 use Rattle.rdm_queue.specs.body.State.{QueueState, fresh_joiner, GivesResult, ProgressAt, IsProgress, end_of_oldest, owed_next, owed_for, finish_of, finishes_oldest, IsFinished}

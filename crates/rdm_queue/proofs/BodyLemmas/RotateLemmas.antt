@@ -1,4 +1,5 @@
 -- An idle queue stands after what its log leaves, and no entries.
+use Rattle.rdm_log.proofs.PromiseLemmas.LogInBoundLemmas.{empty_in_bound}
 use Rattle.std.proofs.Common.{◌≡◌, ℕ, zero, suc, ◌≤◌, Bool, true, false, List, [], ◌∷◌, length, map, sum, get_or, Option, Some, None, slice_get, refl, sym, ap, ◌∙◌, append-nil, inl, inr, arith, if◌then◌else◌}
 use Rattle.std.specs.Prelude.{◌⊎◌, ◌&&◌, ◌==◌}
 use Rattle.std.proofs.lemmas.Bool.{cases_Bool, eq-eqb, eqb-true, false≢true}
@@ -140,7 +141,7 @@ rotated o h s idle after = record {
 -- and a session keeps its room
 pub session_rotated : (o : Opening) (h : List Entry) (s : QueueState) (room : ℕ) → 1 ≤ room → is_idle h ≡ true → StandsAfter o h s → SessionInvariant s (record { opening = opening_after o h; entries = []; room = room; search = s.search })
 unfolding accepts asks finishes answers collectors awaited is_closed
-session_rotated o h s room some idle after = record { after = rotated o h s idle after; search_is = refl; room = let close = at_most_one (is_closed o h) in omega arith }
+session_rotated o h s room some idle after = record { after = rotated o h s idle after; search_is = refl; in_bound = empty_in_bound (record { opening = opening_after o h; entries = []; room = room; search = s.search }) refl; room = let close = at_most_one (is_closed o h) in omega arith }
   where
     at_most_one : (closed : Bool) → (if closed then 0 else 1) ≤ 1
     at_most_one true = omega arith

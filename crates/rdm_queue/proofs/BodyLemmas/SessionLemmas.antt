@@ -3,8 +3,7 @@ use Rattle.std.proofs.Common.{◌≡◌, ℕ, ◌+◌, ◌≤◌, Bool, true, fa
 use Rattle.std.proofs.lemmas.Bool.{ltb-false}
 use Rattle.std.specs.Prelude.{Ok}
 use Rattle.rdm_join.specs.declared.event.LineEvent.{LineEvent}
-use Rattle.rdm_agent.specs.declared.search.Search.TheVariants.{Steady}
-use Rattle.rdm_log.specs.declared.config.Config.{Config}
+use Rattle.rdm_log.specs.declared.config.Setup.{Setup}
 use Rattle.rdm_log.specs.declared.entry.Entry.{Entry}
 use Rattle.rdm_log.specs.declared.entry.Entry.TheVariants.{Came, Finish, Answer, Close}
 use Rattle.rdm_log.specs.log.Entries.{accepts, asks, finishes, answers, collectors}
@@ -18,6 +17,8 @@ use Rattle.rdm_queue.specs.body.SessionInvariant.{HasRoom, SessionInvariant, Ses
 use Rattle.rdm_wire.specs.Lists.{EachAfter}
 use Rattle.rdm_log.specs.log.Legal.{MayFollow}
 use Rattle.rdm_log.proofs.BoundLemmas.{after_growth}
+use Rattle.rdm_log.proofs.PromiseLemmas.LogInBoundLemmas.{in_bound_grows, empty_in_bound}
+use Rattle.rdm_queue.specs.promises.EachLog.{IsSetUp}
 use Rattle.rdm_log.proofs.LogLemmas.RoomLemmas.{added, added_by, taken_block}
 
 -- a block within the free entries
@@ -27,14 +28,14 @@ room_grown k block room each free = within (taken_block k.opening k.entries bloc
     within : {n : ℕ} → n ≡ length k.entries + reserved k.opening k.entries + added_by block → length k.entries + reserved k.opening k.entries ≤ k.room → n ≤ k.room
     within e r = omega arith
 
-pub session_grown : (s new : QueueState) (k : LogState) (block : List Entry) → SessionInvariant s k → StandsAfter k.opening (k.entries ++ block) new → new.search ≡ s.search → added_by block ≤ free_entries k → SessionInvariant new (grown k block)
-session_grown s new k block kept after same free = record { after = after; search_is = same ∙ kept.search_is; room = room_grown k block kept.room after.legal.each free }
+pub session_grown : (s new : QueueState) (k : LogState) (block : List Entry) → SessionInvariant s k → StandsAfter k.opening (k.entries ++ block) new → new.search ≡ s.search → AnswersInBound k block → added_by block ≤ free_entries k → SessionInvariant new (grown k block)
+session_grown s new k block kept after same bound free = record { after = after; search_is = same ∙ kept.search_is; in_bound = in_bound_grows k block kept.in_bound bound; room = room_grown k block kept.room after.legal.each free }
 
-pub amid_grown : (s new : QueueState) (k : LogState) (e : Entry) → SessionAmid s k → StandsAmid k.opening (k.entries ++ e ∷ []) new → new.search ≡ s.search → added e ≡ 0 → SessionAmid new (grown k (e ∷ []))
-amid_grown s new k e before amid same none = record { amid = amid; search_is = same ∙ before.search_is; room = room_grown k (e ∷ []) before.room amid.each (omega (arith, none)) }
+pub amid_grown : (s new : QueueState) (k : LogState) (e : Entry) → SessionAmid s k → StandsAmid k.opening (k.entries ++ e ∷ []) new → new.search ≡ s.search → FaultNeedsClose k e → added e ≡ 0 → SessionAmid new (grown k (e ∷ []))
+amid_grown s new k e before amid same bound none = record { amid = amid; search_is = same ∙ before.search_is; in_bound = in_bound_grows k (e ∷ []) before.in_bound (bound, tt); room = room_grown k (e ∷ []) before.room amid.each (omega (arith, none)) }
 
-pub amid_begun : (s new : QueueState) (k : LogState) (e : Entry) → SessionInvariant s k → StandsAmid k.opening (k.entries ++ e ∷ []) new → new.search ≡ s.search → added e ≡ 0 → SessionAmid new (grown k (e ∷ []))
-amid_begun s new k e kept amid same none = record { amid = amid; search_is = same ∙ kept.search_is; room = room_grown k (e ∷ []) kept.room amid.each (omega (arith, none)) }
+pub amid_begun : (s new : QueueState) (k : LogState) (e : Entry) → SessionInvariant s k → StandsAmid k.opening (k.entries ++ e ∷ []) new → new.search ≡ s.search → FaultNeedsClose k e → added e ≡ 0 → SessionAmid new (grown k (e ∷ []))
+amid_begun s new k e kept amid same bound none = record { amid = amid; search_is = same ∙ kept.search_is; in_bound = in_bound_grows k (e ∷ []) kept.in_bound (bound, tt); room = room_grown k (e ∷ []) kept.room amid.each (omega (arith, none)) }
 
 -- what stands has its room
 pub room_for : (k : LogState) (e : Entry) → HasRoom (grown k (e ∷ [])) → length k.entries + 1 ≤ k.room
@@ -79,20 +80,20 @@ all_results_more [] e all is = (is, tt)
 all_results_more (x ∷ block) e all is = (all.0, all_results_more block e all.1 is)
 
 -- a session that begins
-pub session_first : (s : QueueState) (config : Config) (room : ℕ) → 1 ≤ room → StandsAfter (opened config) [] s → s.search ≡ Steady → SessionInvariant s (record { opening = opened config; entries = []; room = room; search = Steady })
+pub session_first : (s : QueueState) (setup : Setup) (room : ℕ) → 1 ≤ room → IsSetUp setup s → SessionInvariant s (record { opening = opened setup.config; entries = []; room = room; search = setup.search })
 unfolding accepts asks finishes answers collectors awaited is_closed
-session_first s config room some after same = record { after = after; search_is = same; room = omega (arith, some) }
+session_first s setup room some is = record { after = is.after; search_is = is.search; room = omega (arith, some); in_bound = empty_in_bound (record { opening = opened setup.config; entries = []; room = room; search = setup.search }) refl }
 
 -- an entry that is no Answer, and then what was due
-pub then_due : (old log new : LogState) (e : Entry) (s : QueueState) → FaultNeedsClose old.search old.opening old.entries e → log ≡ grown old (e ∷ []) → FinishesDue log s new → GrowsBy old (λ block. IsWithResults e block × AnswersInBound old.search old.opening old.entries block) new
+pub then_due : (old log new : LogState) (e : Entry) (s : QueueState) → FaultNeedsClose old e → log ≡ grown old (e ∷ []) → FinishesDue log s new → GrowsBy old (λ block. IsWithResults e block × AnswersInBound old block) new
 then_due old log new e s none is due = record {
   block = e ∷ due.results;
   adds = (record { results = due.results; whole = refl; each = due.each }, (none, after_growth old log (e ∷ []) due.results is due.in_bound));
   grows = due.grows ∙ ap (λ k. grown k due.results) is ∙ grown_twice old (e ∷ []) due.results;
 }
 
-pub close_adds : (old new : LogState) → is_closed old.opening old.entries ≡ false → GrowsBy old (λ block. IsWithResults Close block × AnswersInBound old.search old.opening old.entries block) new → GrowsBy old (CloseAdds old.opening old.entries) new
+pub close_adds : (old new : LogState) → is_closed old.opening old.entries ≡ false → GrowsBy old (λ block. IsWithResults Close block × AnswersInBound old block) new → GrowsBy old (CloseAdds old.opening old.entries) new
 close_adds old new open_ is = record { block = is.block; adds = rw open_ is.adds.0; grows = is.grows }
 
-pub deliver_adds : (old new : LogState) (event : LineEvent) → awaited old.entries ≡ true → GrowsBy old (λ block. IsWithResults (Came event) block × AnswersInBound old.search old.opening old.entries block) new → GrowsBy old (DeliverAdds old.search old.opening old.entries event (Ok tt)) new
+pub deliver_adds : (old new : LogState) (event : LineEvent) → awaited old.entries ≡ true → GrowsBy old (λ block. IsWithResults (Came event) block × AnswersInBound old block) new → GrowsBy old (DeliverAdds old event (Ok tt)) new
 deliver_adds old new event waits is = record { block = is.block; adds = (waits, is.adds.0, is.adds.1); grows = is.grows }

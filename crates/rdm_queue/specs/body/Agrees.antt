@@ -6,7 +6,6 @@ use Rattle.rdm_wire.specs.Frames.{asked_in}
 use Rattle.rdm_join.specs.declared.verdict.Sent.{Sent}
 use Rattle.rdm_join.specs.Verdict.{sent_by}
 use Rattle.rdm_agent.specs.Calls.{next_op, HasRunBy}
-use Rattle.rdm_agent.specs.declared.search.Search.{Search}
 use Rattle.rdm_agent.specs.Run.{asked_by}
 use Rattle.rdm_agent.specs.Machine.{AgentState, fault_of}
 use Rattle.rdm_agent.specs.OpFrames.{op_frame}
@@ -25,8 +24,9 @@ use Rattle.rdm_log.specs.log.Clients.{uncollected}
 use Rattle.rdm_wire.specs.Lists.{EachAfter}
 use Rattle.rdm_log.specs.log.Legal.{MayFollow, Legal}
 use Rattle.rdm_log.specs.promises.Outcomes.{outcome_of}
-use Rattle.rdm_log.specs.promises.Blocks.{AllResults}
-use Rattle.rdm_log.specs.promises.InBound.{AnswersInBound}
+use Rattle.rdm_log.specs.log.LogState.{LogState}
+use Rattle.rdm_log.specs.promises.Blocks.{AllResults, is_result}
+use Rattle.rdm_log.specs.promises.InBound.{FaultNeedsClose, AnswersInBound}
 use Rattle.rdm_queue.specs.body.State.{QueueState, RunState, owed_to, IsProgress}
 use Rattle.rdm_queue.specs.body.State.{uncollected as uncollected_by}
 
@@ -137,9 +137,28 @@ pub record StandsAmid (o : Opening) (h : List Entry) (s : QueueState) : Type 0 w
 abbrev pub ForEachBlock : QueueState → (Opening → List Entry → Type 0) → Type 0
 ForEachBlock s P = (o : Opening) (h : List Entry) → StandsAmid o h s → P o h
 
+-- with this entry more a queue stands amid each log after which old stands and of which this holds; its runs search as
+-- before
+pub record AddsAmid (old : QueueState) (May : Opening → List Entry → Type 0) (e : Entry) (new : QueueState) : Type 0 where
+  pub search : new.search ≡ old.search
+  pub each : (o : Opening) (h : List Entry) → StandsAfter o h old → May o h → StandsAmid o (h ++ e ∷ []) new
+
+-- what was due next was ended with this entry, a Finish or an Answer in bound, after each log that old stands amid and
+-- that says how it searches; runs search as before
+pub record Ends (old : QueueState) (e : Entry) (new : QueueState) : Type 0 where
+  pub is : is_result e ≡ true
+  pub search : new.search ≡ old.search
+  pub each : (k : LogState) → old.search ≡ k.search → StandsAmid k.opening k.entries old
+      → FaultNeedsClose k e × StandsAmid k.opening (k.entries ++ e ∷ []) new
+
 -- Finishes and Answers, until nothing is due; the Answers are in bound
-pub record FinishesAll (search : Search) (o : Opening) (h : List Entry) (new : QueueState) : Type 0 where
+pub record FinishesAll (k : LogState) (new : QueueState) : Type 0 where
   pub results : List Entry
   pub each : AllResults results
-  pub in_bound : AnswersInBound search o h results
-  pub after : StandsAfter o (h ++ results) new
+  pub in_bound : AnswersInBound k results
+  pub after : StandsAfter k.opening (k.entries ++ results) new
+
+-- all that was due was ended, after each log that old stands amid and that says how it searches; runs search as before
+pub record FinishesEach (old new : QueueState) : Type 0 where
+  pub search : new.search ≡ old.search
+  pub each : (k : LogState) → old.search ≡ k.search → StandsAmid k.opening k.entries old → FinishesAll k new

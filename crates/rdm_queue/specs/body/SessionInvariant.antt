@@ -5,6 +5,7 @@ use Rattle.rdm_log.specs.log.History.{reserved}
 use Rattle.rdm_log.specs.log.LogState.{LogState, grown}
 use Rattle.rdm_log.specs.promises.Blocks.{AllResults}
 use Rattle.rdm_log.specs.promises.InBound.{AnswersInBound}
+use Rattle.rdm_log.specs.promises.LogInBound.{InBound}
 use Rattle.rdm_queue.specs.body.State.{QueueState}
 use Rattle.rdm_queue.specs.body.Agrees.{StandsAmid, StandsAfter}
 
@@ -12,22 +13,24 @@ use Rattle.rdm_queue.specs.body.Agrees.{StandsAmid, StandsAfter}
 abbrev pub HasRoom : LogState → Type 0
 HasRoom k = length k.entries + reserved k.opening k.entries ≤ k.room
 
--- the controller stands after the log, which is legal and has its room, and searches as the log says
+-- the controller stands after the log, which is legal, in bound and has its room, and searches as the log says
 pub record SessionInvariant (s : QueueState) (k : LogState) : Type 0 where
   pub after : StandsAfter k.opening k.entries s
   pub room : HasRoom k
   pub search_is : s.search ≡ k.search
+  pub in_bound : InBound k
 
 -- the same amid a block of entries, where Finishes may still be due
 pub record SessionAmid (s : QueueState) (k : LogState) : Type 0 where
   pub amid : StandsAmid k.opening k.entries s
   pub room : HasRoom k
   pub search_is : s.search ≡ k.search
+  pub in_bound : InBound k
 
 -- what was due is finished: the log has a Finish or an Answer more for each, and the session is whole again
 pub record FinishesDue (old : LogState) (s : QueueState) (new : LogState) : Type 0 where
   pub results : List Entry
   pub each : AllResults results
-  pub in_bound : AnswersInBound old.search old.opening old.entries results
+  pub in_bound : AnswersInBound old results
   pub grows : new ≡ grown old results
   pub kept : SessionInvariant s new

@@ -7,16 +7,16 @@ use Rattle.rdm_join.specs.declared.verdict.Sent.{Sent}
 use Rattle.rdm_join.specs.declared.verdict.Judged.{Judged}
 use Rattle.rdm_join.specs.Verdict.{verdict}
 use Rattle.rdm_join.specs.Result.{Joined, result_of, ended, or_if_open}
-use Rattle.rdm_join.specs.JoinerStanding.{JoinerStanding, StandsAt, standing_at}
+use Rattle.rdm_join.specs.JoinerStanding.{JoinerStanding}
+use Rattle.rdm_join.specs.body.Standing.{StandsAt, standing_at}
 use Rattle.rdm_join.specs.declared.status.Status.TheVariants.{FailedToSend, NoMemory}
 use Rattle.rdm_wire.specs.declared.request.Request.{Request}
 use Rattle.rdm_wire.specs.declared.device.Device.{Device}
 use Rattle.rdm_agent.specs.Machine.{AgentState, start}
 use Rattle.rdm_agent.specs.declared.search.Search.{Search}
-use Rattle.rdm_agent.specs.declared.search.Search.TheVariants.{Steady}
 use Rattle.rdm_agent.specs.declared.kind.Kind.{Kind}
 use Rattle.rdm_agent.specs.declared.kind.Kind.TheVariants.{Full}
-use Rattle.rdm_log.specs.declared.config.Config.{Config}
+use Rattle.rdm_log.specs.declared.config.Setup.{Setup}
 use Rattle.rdm_queue.specs.declared.pending.Awaited.{Awaited}
 use Rattle.rdm_log.specs.declared.fault.JoinFault.{JoinFault}
 use Rattle.rdm_log.specs.declared.fault.SubmitFault.{SubmitFault}
@@ -76,13 +76,13 @@ pub record QueueState : Type 0 where
   -- for each client the outcomes that it hasn't collected, oldest first
   pub owed : List (List OutcomeValue)
 
--- a queue set up so, before its first call
-abbrev pub first_state : Config → QueueState
-first_state config = record {
-  source = config.source;
-  greatest = config.places;
-  budget = config.budget;
-  search = Steady;
+-- a queue with this set-up, before its first call
+abbrev pub first_state : Setup → QueueState
+first_state setup = record {
+  source = setup.config.source;
+  greatest = setup.config.places;
+  budget = setup.config.budget;
+  search = setup.search;
   places = [];
   paused = false;
   closed = false;
@@ -97,7 +97,7 @@ first_state config = record {
   next_run = 1;
   asked = [];
   run = None;
-  agent = start Full [] config.budget;
+  agent = start Full [] setup.config.budget;
   devices = [];
   devices_run = 0;
   owed = [];

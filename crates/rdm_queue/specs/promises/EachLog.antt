@@ -1,7 +1,9 @@
 -- What a controller's calls say: of each log that it stands after.
-use Rattle.std.specs.Prelude.{List, ◌++◌}
+use Rattle.std.specs.Prelude.{◌≡◌, List, [], ◌++◌}
+use Rattle.rdm_log.specs.declared.config.Setup.{Setup}
 use Rattle.rdm_log.specs.declared.entry.Opening.{Opening}
 use Rattle.rdm_log.specs.declared.entry.Entry.{Entry}
+use Rattle.rdm_log.specs.log.LogState.{LogState, opened}
 use Rattle.rdm_queue.specs.body.State.{QueueState}
 use Rattle.rdm_queue.specs.body.Agrees.{StandsAfter}
 
@@ -9,12 +11,20 @@ use Rattle.rdm_queue.specs.body.Agrees.{StandsAfter}
 abbrev pub ForEachLog : QueueState → (Opening → List Entry → Type 0) → Type 0
 ForEachLog s P = (o : Opening) (h : List Entry) → StandsAfter o h s → P o h
 
+-- a new controller with this set-up: it stands after the empty log that a session with this configuration begins with,
+-- and searches as the set-up says
+pub record IsSetUp (setup : Setup) (s : QueueState) : Type 0 where
+  pub after : StandsAfter (opened setup.config) [] s
+  pub search : s.search ≡ setup.search
+
 -- after the log the controller stands with a block more, of which this holds
-pub record StandsWith (o : Opening) (h : List Entry) (Adds : List Entry → Type 0) (new : QueueState) : Type 0 where
+pub record StandsWith (k : LogState) (Adds : List Entry → Type 0) (new : QueueState) : Type 0 where
   pub block : List Entry
   pub adds : Adds block
-  pub after : StandsAfter o (h ++ block) new
+  pub after : StandsAfter k.opening (k.entries ++ block) new
 
--- whatever the log is that old stands after, new stands after it with a block more, of which this holds
-abbrev pub AddsToEach : QueueState → (Opening → List Entry → List Entry → Type 0) → QueueState → Type 0
-AddsToEach old Adds new = ForEachLog old (λ o h. StandsWith o h (Adds o h) new)
+-- A call of a controller. Its runs search as before. And for each log that old stands after, and that says how old
+-- searches: new stands after it with a block more, of which this holds. No call looks at the room of that log.
+pub record AddsToEach (old : QueueState) (Adds : LogState → List Entry → Type 0) (new : QueueState) : Type 0 where
+  pub search : new.search ≡ old.search
+  pub each : (k : LogState) → old.search ≡ k.search → StandsAfter k.opening k.entries old → StandsWith k (Adds k) new

@@ -1,12 +1,14 @@
 //! Runs that search quickly.
+ghost use Rattle.rdm_log.specs.log.Config.{IsConfig};
+
 use super::checks::{check, check_eq};
 use super::lines::{
     Came, controller_serves, discovers, first_device, is_discovery, serves, session_for_runs,
 };
-use super::packets::{CLIENT, asks_for, config, log};
+use super::packets::{CLIENT, asks_for, config, joins, log};
 use super::rotating::rotated;
 use rdm_agent::{DEFAULT_BUDGET, Kind, Search};
-use rdm_queue::{Controller, Session};
+use rdm_queue::{Controller, Session, Setup};
 use rdm_wire::Uid;
 use std::alloc::Global;
 use std::process::Abort;
@@ -28,12 +30,30 @@ fn quick_run_of_two() -> [Came; 13] {
     run
 }
 
-// A session whose runs search quickly.
+/// A set-up whose runs search quickly.
+fn quick(places: u16) -> Setup
+    ensures { IsConfig result.config }
+{
+    Setup {
+        config: config(places, DEFAULT_BUDGET),
+        search: Search::Quick,
+    }
+}
+
+// A session whose runs search quickly, with one client.
 fn quick_session(rt: &impl Abort, alloc: Global) -> Session {
-    let session = session_for_runs(rt, alloc);
-    check_eq(rt, session.log().search(), Search::Steady);
-    check(rt, session.is_idle());
-    session.with_search(Search::Quick)
+    let made = Session::new_with(alloc, quick(4), log(rt, alloc, 5000));
+    let mut session = made.ok().expect(rt, "the memory of a session");
+    joins(rt, alloc, &mut session, 4, Ok(CLIENT));
+    session
+}
+
+#[test]
+fn a_plain_session_searches_steadily(rt: HostRuntime) {
+    let session = session_for_runs(&rt, rt.alloc());
+    check_eq(&rt, session.log().search(), Search::Steady);
+    let (controller, _) = session.end();
+    check_eq(&rt, controller.search(), Search::Steady);
 }
 
 // The first discovery of such a session finds both devices.
@@ -63,11 +83,8 @@ fn a_new_log_keeps_the_search(rt: HostRuntime) {
 
 // A controller whose runs search quickly, with one client.
 fn quick_controller(rt: &impl Abort, alloc: Global) -> Controller {
-    let made = Controller::new(alloc, config(1, DEFAULT_BUDGET));
-    let controller = made.ok().expect(rt, "the memory of a controller");
-    check_eq(rt, controller.search(), Search::Steady);
-    check(rt, controller.is_idle());
-    let mut controller = controller.with_search(Search::Quick);
+    let made = Controller::new_with(alloc, quick(1));
+    let mut controller = made.ok().expect(rt, "the memory of a controller");
     check_eq(rt, controller.search(), Search::Quick);
     check_eq(rt, controller.join_client(alloc, 1), Ok(CLIENT));
     controller

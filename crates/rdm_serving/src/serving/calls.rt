@@ -1,10 +1,6 @@
 //! What clients of both ports need of their calls and callbacks.
-ghost use Rattle.std.specs.Prelude.{◌≡◌};
-
 use crate::serving::ticket::{AskTicket, RequestTicket};
-use arrayvec::ArrayVec;
 use rdm_client::{Tells, TellsAsk, Unfinished, Unspent};
-use rdm_wire::Request;
 use std::alloc::Global;
 
 /// Cancels the callbacks that are left of a client.
@@ -16,19 +12,4 @@ pub fn cancel_all(alloc: Global, mut unspent: Unspent<RequestTicket, AskTicket>)
         }
     }
     unspent.close_empty();
-}
-
-/// The same request again.
-pub fn copy_of(request: &Request) -> Request
-    ensures { result ≡ request.now }
-{
-    let mut param = ArrayVec::new();
-    let _ = param.try_extend_from_slice(&request.param);
-    Request {
-        target: request.target,
-        sub_device: request.sub_device,
-        class: request.class,
-        pid: request.pid,
-        param,
-    }
 }

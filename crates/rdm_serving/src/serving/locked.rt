@@ -1,9 +1,9 @@
-//! Serves the clients of a session file behind a lock.
+//! Serves the clients of a session file with a mutex.
 ghost use Rattle.std.specs.Prelude.{◌≡◌, []};
 ghost use Rattle.rdm_log.specs.log.Config.{IsConfig};
 
 use crate::outcomes::Outcomes;
-use crate::serving::calls::{cancel_all, copy_of};
+use crate::serving::calls::cancel_all;
 use crate::serving::script::{Next, Script};
 use crate::serving::ticket::{AskTicket, RequestTicket};
 use crate::serving::{ServeFault, Served, SetUp};
@@ -12,7 +12,7 @@ use rdm_client::{Tells, TellsAsk};
 use rdm_files::{ClientCall, ClientFile};
 use rdm_line::Line;
 use rdm_locked::{CallShare, Exchange, Left, LockedClient, Port};
-use rdm_queue::{AskFault, JoinFault, SubmitFault};
+use rdm_queue::{AskFault, JoinFault, Setup, SubmitFault};
 use rdm_wire::Request;
 use std::alloc::Global;
 use std::sync::Wait;
@@ -25,7 +25,7 @@ type Client<'a, L> = LockedClient<'a, L, RequestTicket, AskTicket>;
 
 /// Serves the clients: each has a thread, and the worker another. At the end the log's exchanges are compared with
 /// those that the worker recorded, and its calls with those that the clients counted.
-/// Err: memory was refused, or the log is full before all clients have joined.
+/// Err: memory ran out, or the log is full before all clients have joined.
 pub fn serve_locked<L: Ledger + Send + Sync, X: Line + Send + Drop, R: Threads + Wait + Sync>(
     rt: &R,
     alloc: Global,
@@ -45,7 +45,8 @@ pub fn serve_locked<L: Ledger + Send + Sync, X: Line + Send + Drop, R: Threads +
         log,
         turns,
     } = set_up;
-    let port = match Port::<L>::new_by(alloc, search, blank, config, log) {
+    let setup = Setup { config, search };
+    let port = match Port::<L>::new_with(alloc, blank, setup, log) {
         Ok(port) => port,
         Err(_) => return Err(ServeFault::Memory),
     };
@@ -57,7 +58,7 @@ pub fn serve_locked<L: Ledger + Send + Sync, X: Line + Send + Drop, R: Threads +
     }
 }
 
-// Ends the port, and hands back its session.
+// Ends the port, and returns its session.
 fn finish<L: Ledger>(
     port: Port<L>,
     ended: Ended<L>,
@@ -71,7 +72,7 @@ fn finish<L: Ledger>(
             outcomes,
             session: end.session,
         }),
-        // It doesn't come to this: all shares are there, and the record is the worker's own.
+        // This never happens: all shares are there, and the record is the worker's own.
         Err(_) => Err(ServeFault::Log),
     }
 }
@@ -139,7 +140,7 @@ fn call_all<L: Ledger + Send + Sync, R: Threads + Wait + Sync>(
     );
 }
 
-// The clients in their order; where one may not join, those before it, and why.
+// The clients in their order; if one may not join, those before it, and why.
 fn join_all<'p, 'c, L: Ledger, R: Wait>(
     rt: &R,
     alloc: Global,
@@ -163,7 +164,7 @@ fn join_all<'p, 'c, L: Ledger, R: Wait>(
     (callers, None)
 }
 
-// What is left of the clients. All leave, also where memory is refused.
+// What is left of the clients. All leave, even if memory runs out.
 fn end_all<L: Ledger, R: Wait>(
     rt: &R,
     alloc: Global,
@@ -295,7 +296,7 @@ fn is_accepted<L: Ledger, R: Wait>(
 ) -> Result<bool, ServeFault> {
     match call {
         ClientCall::Submit(request) => {
-            is_submitted(rt, alloc, client, copy_of(request), RequestTicket(place))
+            is_submitted(rt, alloc, client, request.copied(), RequestTicket(place))
         }
         ClientCall::Discover(kind) => is_asked(rt, client, *kind, AskTicket(place)),
     }

@@ -1,4 +1,4 @@
-//! Compares what clients were told with the session's log.
+//! Compares what clients were told by their callbacks with the session's log.
 ghost use Rattle.std.specs.Prelude.{◌≡◌, ◌-◌, List, IfOk, map, slice_get};
 ghost use Rattle.std.specs.Bool.{OnTrue};
 ghost use Rattle.rdm_log.specs.log.Entries.{accepts, asks};
@@ -16,7 +16,7 @@ use rdm_queue::{Entry, Log, Opening};
 use std::alloc::{AllocError, Global};
 
 /// Whether each client was told of all its requests and discoveries that ended, in order, each with the end that the
-/// log says: of a request the status and how many bytes it has, of a discovery the fault. Err: there was no memory.
+/// log says: of a request the status and how many bytes it has, of a discovery the fault. Err: memory ran out.
 pub fn are_logged(alloc: Global, log: &Log, told: &[Outcomes]) -> Result<bool, AllocError>
     ensures { IfOk result (λ same. OnTrue same (AllLogged log.now.opening log.now.entries 0 told.now)) }
 {
@@ -116,7 +116,7 @@ fn are_requests_logged(
     left.is_empty()
 }
 
-// How a request of this client ended, where the entry says that.
+// How a request of this client ended, if the entry says that.
 fn end_logged(
     opening: &Opening,
     askers: &[u8],
@@ -136,7 +136,7 @@ fn end_logged(
     }
 }
 
-// Whether the call with this number is the client's, where the first one has that number.
+// Whether the call with this number is the client's, if the first one has that number.
 fn is_asker(askers: &[u8], first: u64, number: u64, client: usize) -> bool
     ensures { result ≡ is_client_of client (slice_get askers.now (number - first)) }
 {
@@ -181,7 +181,7 @@ fn are_discoveries_logged(
     left.is_empty()
 }
 
-// With which fault a discovery of this client ended, if with one, where the entry says that.
+// With which fault a discovery of this client ended, if any, if the entry says that.
 fn fault_logged(
     opening: &Opening,
     askers: &[u8],

@@ -1,11 +1,11 @@
-//! Serves the clients of a session file over rings.
+//! Serves the clients of a session file with ring buffers.
 ghost use Rattle.std.specs.Prelude.{◌≡◌, ◌≤◌, [], length, IfSome};
 ghost use Rattle.rdm_log.specs.log.Config.{IsConfig};
 ghost use Rattle.rdm_lanes.specs.Clients.{SameClient};
 ghost use Rattle.rdm_lanes.specs.Workers.{book_of};
 
 use crate::outcomes::Outcomes;
-use crate::serving::calls::{cancel_all, copy_of};
+use crate::serving::calls::cancel_all;
 use crate::serving::script::{Next, Script};
 use crate::serving::ticket::{AskTicket, RequestTicket};
 use crate::serving::{ServeFault, Served, SetUp};
@@ -13,9 +13,10 @@ use rdm_client::{Tells, TellsAsk};
 use rdm_files::{ClientCall, ClientFile};
 use rdm_lanes::{
     BlankHistory, Body, ClientEnd, Gate, LanesEnd, OpenFault, RingClient, ViewHistory,
-    WORKER_STOPPED, run_session_by,
+    WORKER_STOPPED, run_session_with,
 };
 use rdm_line::Line;
+use rdm_queue::Setup;
 use std::alloc::Global;
 use std::marker::Brand;
 use std::sync::Wait;
@@ -25,8 +26,8 @@ use std::thread::Threads;
 
 type Client<J> = RingClient<J, RequestTicket, AskTicket>;
 
-/// Serves the clients: each has a thread and two rings with this many slots, and the worker another thread.
-/// Err: memory was refused, or the log is full before all clients have joined.
+/// Serves the clients: each has a thread and two ring buffers with this many slots, and the worker another thread.
+/// Err: memory ran out, or the log is full before all clients have joined.
 pub fn serve_rings<X: Line + Send + Drop, R: Threads + Wait + Sync>(
     rt: &R,
     alloc: Global,
@@ -68,8 +69,9 @@ fn serve_views<J: ViewHistory + Send + Sync, X: Line + Send + Drop, R: Threads +
         return Err(ServeFault::Memory);
     };
     let gate = Stop(AtomicBool::new(false));
-    let ended = run_session_by::<J, _, _, _, _, X, R>(
-        rt, alloc, history, search, config, log, ring, &places, callers, &gate, line, turns,
+    let setup = Setup { config, search };
+    let ended = run_session_with::<J, _, _, _, _, X, R>(
+        rt, alloc, history, setup, log, ring, &places, callers, &gate, line, turns,
     );
     match ended {
         Ok(end) => served(alloc, end),
@@ -78,7 +80,7 @@ fn serve_views<J: ViewHistory + Send + Sync, X: Line + Send + Drop, R: Threads +
     }
 }
 
-// The places of the clients, and what they do. None: memory was refused.
+// The queue depths of the clients, and what they do. None: memory ran out.
 fn seats_of(alloc: Global, clients: &[ClientFile], turns: u64) -> Option<(Vec<u8>, Vec<Caller<'_>>)>
     ensures { IfSome result (λ seats. length seats.1.items ≡ length seats.0.items) }
 {
@@ -219,7 +221,7 @@ impl Body<RequestTicket, AskTicket> for Caller<'_> {
     }
 }
 
-// Whether a call is sent to the worker; if not, there is no place or no slot for it.
+// Whether a call is sent to the worker; if not, the queue or the ring is full.
 fn is_accepted<J: ViewHistory>(
     alloc: Global,
     client: &mut Client<J>,
@@ -229,7 +231,7 @@ fn is_accepted<J: ViewHistory>(
     ensures { SameClient client.old client.new }
 {
     match call {
-        ClientCall::Submit(request) => match client.submit(copy_of(request), RequestTicket(place)) {
+        ClientCall::Submit(request) => match client.submit(request.copied(), RequestTicket(place)) {
             Ok(()) => true,
             Err((_, _, callback)) => {
                 drop(callback.cancel(alloc));

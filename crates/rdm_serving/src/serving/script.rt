@@ -1,7 +1,7 @@
-//! What a client of a session file does in its turns, whatever stands between it and the worker.
+//! What a client of a session file does in its turns, whichever port it has.
 ghost use Rattle.std.specs.Prelude.{◌≡◌, ◌⊎◌, ◌+◌, ◌&&◌, ◌++◌, ◌∷◌, ◌↔◌, [], length, true, false, not, nat_lt};
 ghost use Rattle.std.specs.Prelude.{if◌then◌else◌, OnOk, IfErr, Ok, Err, None};
-ghost use Rattle.rdm_serving.specs.Scripts.{IsNext, Notes, has_all};
+ghost use Rattle.rdm_serving.specs.body.Scripts.{IsNext, Notes, has_all};
 
 use crate::outcomes::{Discovered, Outcomes};
 use crate::serving::ServeFault;
@@ -15,14 +15,14 @@ pub struct Script<'a> {
     calls: &'a [ClientCall],
     // How many of the calls were accepted.
     accepted: usize,
-    // Whether the last call found no room, so that a collect comes before the next try.
+    // Whether the last call found the queue or the ring full, so that a collect comes before the next try.
     is_full: bool,
     outcomes: Outcomes,
 }
 
 /// What a client does in its next turn.
 pub enum Next<'a> {
-    /// It makes this call, which has this place among its calls.
+    /// It makes this call, which has this index among its calls.
     Call(&'a ClientCall, u64),
     /// It collects.
     Collect,
@@ -45,8 +45,8 @@ impl<'a> Script<'a> {
         }
     }
 
-    /// What the client does in its next turn. It makes its calls in order; after a call that found no room it collects
-    /// before it tries again; at the end it collects until each call has its outcome.
+    /// What the client does in its next turn. It makes its calls in order. After a call that found the queue or the
+    /// ring full it collects before it tries again. At the end it collects until each call has its outcome.
     pub fn next(&self) -> Next<'a>
         ensures { IsNext self.now result }
     {
@@ -59,7 +59,7 @@ impl<'a> Script<'a> {
         }
     }
 
-    /// Notes whether a call was accepted; if not, there was no room for it.
+    /// Notes whether a call was accepted; if not, the queue or the ring was full.
     pub fn tried(&mut self, is_accepted: bool)
         ensures room { self.new.is_full ≡ not is_accepted }
         ensures accepted { self.new.accepted ≡
@@ -73,7 +73,7 @@ impl<'a> Script<'a> {
         }
     }
 
-    /// Notes what a collect gave. Where it gave nothing, and the worker had stopped before it, nothing more will come.
+    /// Notes what a collect gave. If it gave nothing, and the worker had stopped before it, nothing more will come.
     pub fn collected(
         &mut self,
         alloc: Global,

@@ -9,7 +9,7 @@ use rdm_queue::{AskCompletion, Completion};
 use rdm_wire::DeviceSet;
 use std::alloc::Global;
 
-/// The callback of a request: the place of its call among the client's calls, from 0. It isn't [`Drop`].
+/// The callback of a request: the index of its call among the client's calls, from 0. It isn't [`Drop`].
 #[derive(Debug)]
 pub struct RequestTicket(pub u64);
 
@@ -32,7 +32,7 @@ impl Tells for RequestTicket {
     }
 }
 
-/// The callback of a discovery: the place of its call among the client's calls, from 0. It isn't [`Drop`].
+/// The callback of a discovery: the index of its call among the client's calls, from 0. It isn't [`Drop`].
 #[derive(Debug)]
 pub struct AskTicket(pub u64);
 

@@ -1,12 +1,12 @@
-//! A line that tells how many exchanges it has made.
+//! A line that reports how many exchanges it has made.
 ghost use Rattle.std.specs.Prelude.{◌≡◌};
 
-use crate::progress::{Progress, tell_often};
+use crate::progress::{Progress, write_often};
 use rdm_join::LineReply;
 use rdm_line::{Line, LineFault};
 use rdm_wire::Frame;
 
-/// A line that tells every thousand exchanges how many it has made, and else is the line that it was made of.
+/// A line that reports every thousandth exchange, and otherwise is the line that it was made of.
 #[derive(Drop)]
 pub struct ToldLine<'a, X, P> {
     line: X,
@@ -35,7 +35,7 @@ impl<X: Line, P: Progress> Line for ToldLine<'_, X, P> {
 
     fn exchange(&mut self, frame: &Frame) -> Result<LineReply, LineFault> {
         self.made = self.made.saturating_add(1);
-        tell_often(self.progress, self.made);
+        write_often(self.progress, self.made);
         self.line.exchange(frame)
     }
 

@@ -122,9 +122,11 @@ fn joins_answers_of_each_length(rt: HostRuntime) -> Result<(), Fail> {
 fn joins_again_after_a_reset(rt: HostRuntime) -> Result<(), Fail> {
     let mut joiner = with_parts(&rt, 1, 231);
     joiner.reset();
+    assert!(rt; joiner.is_open());
     assert!(rt; joiner.head().is_none());
     assert_eq!(rt; joiner.take_data(rt.alloc())?.len(), 0);
     assert_eq!(rt; joiner.add(whole(&rt, 2, 7)), Step::Done(Status::Completed));
+    assert!(rt; !joiner.is_open());
     assert_eq!(rt; joiner.take_data(rt.alloc())?.as_slice(), [7, 7].as_slice());
     joiner.reset();
     assert_eq!(rt; joiner.add(part(&rt, 1, 8)), Step::More);

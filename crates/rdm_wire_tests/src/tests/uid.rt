@@ -47,6 +47,7 @@ fn parses_texts(rt: HostRuntime) {
     ];
     for (text, read) in rows {
         assert_eq!(rt; Uid::parse(text), read, "{text}");
+        assert_eq!(rt; text.parse::<Uid>(), read, "{text}");
     }
 }
 
@@ -54,4 +55,12 @@ fn parses_texts(rt: HostRuntime) {
 fn writes_lower_case(rt: HostRuntime) {
     assert_eq!(rt; Uid::new(0x7a70, 1).to_text(), *b"7a70:00000001");
     assert_eq!(rt; Uid::ALL.to_text(), *b"ffff:ffffffff");
+}
+
+#[test]
+fn prints_lower_case(rt: HostRuntime) -> Result<(), Fail> {
+    let uid = Uid::new(0x7a70, 0xab);
+    let text = format!(in rt.alloc(); "{uid}")?;
+    assert_eq!(rt; text.as_str(), "7a70:000000ab");
+    Ok(())
 }

@@ -3,4 +3,6 @@ use Rattle.rdm_files.proofs.FileLemmas.{content}
 use Rattle.rdm_files.proofs.input.read_file.Goals as goal
 
 pub returns-in-Ok : goal.returns-in-Ok
-returns-in-Ok g c = content (g.R.Read.remaining c.args.reader.now) c.read_to_end.new.buf.items (omega arith) (rw (c.take-limited.ensures.limit, c.take-limited.ensures.inner, c.new-bytes.ensures.items) at c.in-Ok.ensures.bytes)
+returns-in-Ok g c = content (g.R.Read.remaining c.args.reader.now) c.read_to_end.new.buf.items (omega arith)
+    (rw (c.take-limited.ensures.limit, c.take-limited.ensures.inner, c.new-bytes.ensures.items) at
+    c.in-Ok.ensures.bytes)

@@ -10,7 +10,9 @@ bytes-init c = record { laid = sym (laid_over-nil _); few = c.requires.all }
 pub bytes-preserved : goal.bytes-preserved
 bytes-preserved c = elim c.if-i-len.branch [
   | then-i-len w ↦
-      let next = one_joined c.args.all.now.items c.args.reply.now c.bytes.i c.bytes.all c.if-i-len.all w.deref_mut.result.now c.bytes-test.true c.bytes.invariant.laid (omega arith) w.deref_mut.ensures.value w.all-is in
+      let next = one_joined c.args.all.now.items c.args.reply.now c.bytes.i c.bytes.all c.if-i-len.all
+      w.deref_mut.result.now c.bytes-test.true c.bytes.invariant.laid (omega arith) w.deref_mut.ensures.value
+      w.all-is in
       record { laid = next.0; few = omega (arith, next.1) }
   | else-i-len w ↦
       let items = ap (λ (v : ArrayVec ℕ). v.items) w.all-is ∙ w.push.ensures.items in

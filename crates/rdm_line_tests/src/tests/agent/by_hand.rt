@@ -114,19 +114,19 @@ fn a_budget_of_no_frames(rt: HostRuntime) {
 }
 
 // The agent asks this, and hears that reply.
-fn asks(rt: &impl Abort, agent: &mut Agent, op: Op, reply: OpReply) {
-    assert_eq!(rt; agent.next(), op);
+fn asks(rt: &impl Abort, agent: &mut Agent, op: &Op, reply: OpReply) {
+    assert_eq!(rt; &agent.next(), op);
     hear(rt, agent, reply);
 }
 
 // The range shows this device, which acknowledges its mute, and is then silent.
 fn finds(rt: &impl Abort, agent: &mut Agent, range: UidRange, uid: Uid) {
     let branch = Op::Branch(range);
-    asks(rt, agent, branch, OpReply::Branch(BranchReply::One(uid)));
+    asks(rt, agent, &branch, OpReply::Branch(BranchReply::One(uid)));
     let ack = ack_of(plain(uid));
-    asks(rt, agent, Op::Mute(uid), OpReply::Mute(Some(ack)));
+    asks(rt, agent, &Op::Mute(uid), OpReply::Mute(Some(ack)));
     for _ in 0..5 {
-        asks(rt, agent, branch, OpReply::Branch(BranchReply::Silent));
+        asks(rt, agent, &branch, OpReply::Branch(BranchReply::Silent));
     }
 }
 
@@ -165,9 +165,9 @@ fn a_phantom(rt: HostRuntime) {
     let phantom = Uid::new(0x5555, 3);
     let mut agent = begun(&rt);
     let spelt = OpReply::Branch(BranchReply::One(phantom));
-    asks(&rt, &mut agent, Op::Branch(UidRange::whole()), spelt);
+    asks(&rt, &mut agent, &Op::Branch(UidRange::whole()), spelt);
     for _ in 0..5 {
-        asks(&rt, &mut agent, Op::Mute(phantom), OpReply::Mute(None));
+        asks(&rt, &mut agent, &Op::Mute(phantom), OpReply::Mute(None));
     }
     finds(&rt, &mut agent, lower(), near());
     finds(&rt, &mut agent, upper(), far());
@@ -178,7 +178,7 @@ fn a_phantom(rt: HostRuntime) {
 fn a_broadcast_uid_is_not_muted(rt: HostRuntime) {
     let mut agent = begun(&rt);
     let spelt = OpReply::Branch(BranchReply::One(Uid::new(0x7a70, 0xffff_ffff)));
-    asks(&rt, &mut agent, Op::Branch(UidRange::whole()), spelt);
+    asks(&rt, &mut agent, &Op::Branch(UidRange::whole()), spelt);
     finds(&rt, &mut agent, lower(), near());
     finds(&rt, &mut agent, upper(), far());
     has_found_both(&rt, agent, 18);
@@ -191,13 +191,13 @@ fn known_devices(rt: HostRuntime) {
     let known = set_of(&rt, &[plain(near()), plain(absent)]).uids();
     let mut agent = Agent::start(Kind::Incremental, &known, DEFAULT_BUDGET);
     for _ in 0..3 {
-        asks(&rt, &mut agent, Op::UnmuteAll, OpReply::Done);
+        asks(&rt, &mut agent, &Op::UnmuteAll, OpReply::Done);
     }
-    asks(&rt, &mut agent, Op::Mute(near()), OpReply::Mute(None));
+    asks(&rt, &mut agent, &Op::Mute(near()), OpReply::Mute(None));
     let ack = ack_of(plain(near()));
-    asks(&rt, &mut agent, Op::Mute(near()), OpReply::Mute(Some(ack)));
+    asks(&rt, &mut agent, &Op::Mute(near()), OpReply::Mute(Some(ack)));
     for _ in 0..5 {
-        asks(&rt, &mut agent, Op::Mute(absent), OpReply::Mute(None));
+        asks(&rt, &mut agent, &Op::Mute(absent), OpReply::Mute(None));
     }
     finds(&rt, &mut agent, UidRange::whole(), far());
     has_found_both(&rt, agent, 17);

@@ -1,6 +1,8 @@
 //! Operations as packets, and bytes as replies.
 use rdm_agent::{Op, OpReply};
-use rdm_wire::{BranchReply, MuteAck, Uid, UidRange};
+use rdm_wire::{BranchReply, Frame, MuteAck, Uid, UidRange};
+use std::alloc::Global;
+use std::process::Abort;
 
 fn source() -> Uid {
     Uid::new(0x7a70, 0x100)
@@ -11,77 +13,66 @@ fn device() -> Uid {
 }
 
 // An unmute with number 0.
-const UNMUTE: [u8; 26] = [
-    0xcc, 0x01, 0x18, 0xff, 0xff, 0xff, 0xff, 0xff, 0xff, 0x7a, 0x70, 0x00, 0x00, 0x01, 0x00, 0x00,
-    0x01, 0x00, 0x00, 0x00, 0x10, 0x00, 0x03, 0x00, 0x07, 0xde,
-];
+const UNMUTE: &str = "cc0118ffffffffffff7a700000010000010000001000030007de";
 
 // A branch of the whole range with number 3.
-const BRANCH: [u8; 38] = [
-    0xcc, 0x01, 0x24, 0xff, 0xff, 0xff, 0xff, 0xff, 0xff, 0x7a, 0x70, 0x00, 0x00, 0x01, 0x00, 0x03,
-    0x01, 0x00, 0x00, 0x00, 0x10, 0x00, 0x01, 0x0c, 0x00, 0x00, 0x00, 0x00, 0x00, 0x00, 0xff, 0xff,
-    0xff, 0xff, 0xff, 0xff, 0x0d, 0xf1,
-];
+const BRANCH: &str = "cc0124ffffffffffff7a700000010003010000001000010c000000000000ffffffffffff0df1";
 
 // A mute of the device with number 4.
-const MUTE: [u8; 26] = [
-    0xcc, 0x01, 0x18, 0x12, 0x34, 0x00, 0x00, 0x00, 0x01, 0x7a, 0x70, 0x00, 0x00, 0x01, 0x00, 0x04,
-    0x01, 0x00, 0x00, 0x00, 0x10, 0x00, 0x02, 0x00, 0x02, 0x2e,
-];
+const MUTE: &str = "cc01181234000000017a7000000100040100000010000200022e";
 
 // What acknowledges it, with control field 2 and the binding UID 1234:00000005.
-const ACK: [u8; 34] = [
-    0xcc, 0x01, 0x20, 0x7a, 0x70, 0x00, 0x00, 0x01, 0x00, 0x12, 0x34, 0x00, 0x00, 0x00, 0x01, 0x04,
-    0x00, 0x00, 0x00, 0x00, 0x11, 0x00, 0x02, 0x08, 0x00, 0x02, 0x12, 0x34, 0x00, 0x00, 0x00, 0x05,
-    0x02, 0x8b,
-];
+const ACK: &str = "cc01207a70000001001234000000010400000000110002080002123400000005028b";
 
 // What a branch is answered by the device 7a70:00000001.
-const TEXT: [u8; 17] = [
-    0xaa, 0xfa, 0x7f, 0xfa, 0x75, 0xaa, 0x55, 0xaa, 0x55, 0xaa, 0x55, 0xab, 0x55, 0xae, 0x57, 0xef,
-    0xf5,
-];
+const TEXT: &str = "aafa7ffa75aa55aa55aa55ab55ae57eff5";
+
+fn bytes_of(rt: &impl Abort, alloc: Global, text: &str) -> Vec<u8> {
+    match hex::decode(alloc, text) {
+        Ok(bytes) => bytes,
+        Err(_) => panic!(rt; "hex"),
+    }
+}
+
+// The frame is these bytes, in hexadecimal.
+fn is_frame(rt: &impl Abort, alloc: Global, frame: &Frame, text: &str) {
+    assert!(rt; frame.as_slice() == bytes_of(rt, alloc, text).as_slice());
+}
 
 #[test]
 fn frames_of_operations(rt: HostRuntime) {
-    assert_eq!(rt;
-        Op::UnmuteAll.frame(source(), 0).as_slice(),
-        UNMUTE.as_slice()
-    );
-    let whole = Op::Branch(UidRange::whole());
-    assert_eq!(rt; whole.frame(source(), 3).as_slice(), BRANCH.as_slice());
+    let unmute = Op::UnmuteAll.frame(source(), 0);
+    is_frame(&rt, rt.alloc(), &unmute, UNMUTE);
+    let branch = Op::Branch(UidRange::whole()).frame(source(), 3);
+    is_frame(&rt, rt.alloc(), &branch, BRANCH);
     let device = device();
     assert!(rt; !device.is_broadcast());
-    assert_eq!(rt;
-        Op::Mute(device).frame(source(), 4).as_slice(),
-        MUTE.as_slice()
-    );
+    let mute = Op::Mute(device).frame(source(), 4);
+    is_frame(&rt, rt.alloc(), &mute, MUTE);
 }
 
 // Whether a reply may answer an unmute, a mute, a branch, and nothing.
-fn fits_each(reply: OpReply) -> [bool; 4] {
-    [
-        reply.fits(&Op::UnmuteAll),
-        reply.fits(&Op::Mute(device())),
-        reply.fits(&Op::Branch(UidRange::whole())),
-        reply.fits(&Op::End),
-    ]
+fn fits_each(rt: &impl Abort, reply: OpReply, fits: [bool; 4]) {
+    assert!(rt; reply.fits(&Op::UnmuteAll) == fits[0]);
+    assert!(rt; reply.fits(&Op::Mute(device())) == fits[1]);
+    assert!(rt; reply.fits(&Op::Branch(UidRange::whole())) == fits[2]);
+    assert!(rt; reply.fits(&Op::End) == fits[3]);
 }
 
 #[test]
 fn a_reply_fits_its_own_operation(rt: HostRuntime) {
-    let rows = [
-        (OpReply::Done, [true, false, false, false]),
-        (OpReply::Mute(None), [false, true, false, false]),
-        (
-            OpReply::Branch(BranchReply::Silent),
-            [false, false, true, false],
-        ),
-        (OpReply::Failed, [true, true, true, false]),
-    ];
-    for (reply, fits) in rows {
-        assert_eq!(rt; fits_each(reply), fits);
-    }
+    let silent = OpReply::Branch(BranchReply::Silent);
+    fits_each(&rt, OpReply::Done, [true, false, false, false]);
+    fits_each(&rt, OpReply::Mute(None), [false, true, false, false]);
+    fits_each(&rt, silent, [false, false, true, false]);
+    fits_each(&rt, OpReply::Failed, [true, true, true, false]);
+}
+
+// How a mute with this number reads bytes, in hexadecimal.
+fn mute_reads(rt: &impl Abort, alloc: Global, tn: u8, text: &str, wanted: OpReply) {
+    let bytes = bytes_of(rt, alloc, text);
+    let read = Op::Mute(device()).read_reply(source(), tn, Some(&bytes));
+    assert!(rt; read == wanted);
 }
 
 #[test]
@@ -90,26 +81,31 @@ fn replies_to_a_mute(rt: HostRuntime) {
         control: 2,
         binding: Some(Uid::new(0x1234, 5)),
     };
-    let mute = Op::Mute(device());
-    let acked = mute.read_reply(source(), 4, Some(&ACK));
-    assert_eq!(rt; acked, OpReply::Mute(Some(ack)));
-    let of_another = mute.read_reply(source(), 5, Some(&ACK));
-    assert_eq!(rt; of_another, OpReply::Mute(None));
-    let silent = mute.read_reply(source(), 4, Some(&[]));
-    assert_eq!(rt; silent, OpReply::Mute(None));
-    let failed = mute.read_reply(source(), 4, None);
-    assert_eq!(rt; failed, OpReply::Failed);
+    mute_reads(&rt, rt.alloc(), 4, ACK, OpReply::Mute(Some(ack)));
+    mute_reads(&rt, rt.alloc(), 5, ACK, OpReply::Mute(None));
+    mute_reads(&rt, rt.alloc(), 4, "", OpReply::Mute(None));
+    let failed = Op::Mute(device()).read_reply(source(), 4, None);
+    assert!(rt; failed == OpReply::Failed);
+}
+
+// How a branch with number 3 reads bytes, in hexadecimal.
+fn branch_reads(rt: &impl Abort, alloc: Global, text: &str, wanted: BranchReply) {
+    let bytes = bytes_of(rt, alloc, text);
+    let read = Op::Branch(UidRange::whole()).read_reply(source(), 3, Some(&bytes));
+    assert!(rt; read == OpReply::Branch(wanted));
 }
 
 #[test]
-fn replies_to_a_branch_and_an_unmute(rt: HostRuntime) {
-    let whole = Op::Branch(UidRange::whole());
-    let one = whole.read_reply(source(), 3, Some(&TEXT));
-    assert_eq!(rt; one, OpReply::Branch(BranchReply::One(Uid::new(0x7a70, 1))));
-    let noise = whole.read_reply(source(), 3, Some(&[0xff]));
-    assert_eq!(rt; noise, OpReply::Branch(BranchReply::Collision));
+fn replies_to_a_branch(rt: HostRuntime) {
+    let one = BranchReply::One(Uid::new(0x7a70, 1));
+    branch_reads(&rt, rt.alloc(), TEXT, one);
+    branch_reads(&rt, rt.alloc(), "ff", BranchReply::Collision);
+}
+
+#[test]
+fn replies_to_an_unmute(rt: HostRuntime) {
     let done = Op::UnmuteAll.read_reply(source(), 0, Some(&[]));
-    assert_eq!(rt; done, OpReply::Done);
+    assert!(rt; done == OpReply::Done);
     let failed = Op::UnmuteAll.read_reply(source(), 0, None);
-    assert_eq!(rt; failed, OpReply::Failed);
+    assert!(rt; failed == OpReply::Failed);
 }

@@ -1,30 +1,30 @@
 //! What the faults say.
 use rdm_line::{AddFault, LineFault, NoMemory};
-use std::test::Fail;
+use std::alloc::Global;
+use std::fmt::Display;
+use std::process::Abort;
 
-#[test]
-fn tells_why_a_device_is_not_put_into_a_scene(rt: HostRuntime) -> Result<(), Fail> {
-    let rows = [
-        (AddFault::Repeated, "there is a device with this UID"),
-        (AddFault::Full, "there are 1,024 devices"),
-        (AddFault::NoMemory, "out of memory"),
-    ];
-    for (fault, text) in rows {
-        assert_eq!(rt; format!(in rt.alloc(); "{fault}")?.as_str(), text);
-    }
-    Ok(())
+// What a fault says.
+fn says<D: Display>(rt: &impl Abort, alloc: Global, fault: &D, text: &str) {
+    let said = format!(in alloc; "{fault}").expect(rt, "memory");
+    assert!(rt; said.as_str() == text, "{text}");
 }
 
 #[test]
-fn tells_the_other_faults(rt: HostRuntime) -> Result<(), Fail> {
-    let (line, memory) = (LineFault, NoMemory);
-    assert_eq!(rt;
-        format!(in rt.alloc(); "{line}")?.as_str(),
-        "the line failed"
+fn tells_why_a_device_is_not_put_into_a_scene(rt: HostRuntime) {
+    let alloc = rt.alloc();
+    says(
+        &rt,
+        alloc,
+        &AddFault::Repeated,
+        "there is a device with this UID",
     );
-    assert_eq!(rt;
-        format!(in rt.alloc(); "{memory}")?.as_str(),
-        "out of memory"
-    );
-    Ok(())
+    says(&rt, alloc, &AddFault::Full, "there are 1,024 devices");
+    says(&rt, alloc, &AddFault::NoMemory, "out of memory");
+}
+
+#[test]
+fn tells_the_other_faults(rt: HostRuntime) {
+    says(&rt, rt.alloc(), &LineFault, "the line failed");
+    says(&rt, rt.alloc(), &NoMemory, "out of memory");
 }

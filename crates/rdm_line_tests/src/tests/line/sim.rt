@@ -1,296 +1,180 @@
 //! What simulated devices send, as bytes.
-use rdm_join::LineReply;
-use rdm_line::{
-    AddFault, Collision, CollisionBytes, Line, LineFault, Parameter, ParameterPart, Parameters,
-    Scene, SceneDevice, SceneDevices, SimLine,
+use super::rig::{
+    ALWAYS, Placing, add, answers, asks, collisions, controller, device_with, fails, first, get,
+    has_failed, line_of, mute, no_params, noise, one_device, params_of, part, plain, put,
+    quiet_line, second, two_devices, two_parts, whole_branch,
 };
-use rdm_wire::{
-    Device, Frame, ReqClass, Request, Uid, UidRange, encode_branch, encode_mute, encode_request,
-    encode_unmute,
-};
+use rdm_line::{AddFault, Collision, Line, ParameterPart, SceneDevices, SimLine};
+use rdm_wire::{Device, ReqClass, Uid, encode_unmute};
 use std::alloc::Global;
 use std::process::Abort;
-use std::test::Fail;
 
-pub fn controller() -> Uid {
-    Uid::new(0x7a70, 0x100)
-}
-
-pub fn first() -> Uid {
-    Uid::new(0x1234, 1)
-}
-
-pub fn second() -> Uid {
-    Uid::new(0x9abc, 2)
-}
-
-pub fn plain(uid: Uid) -> Device {
-    Device {
-        uid,
-        control: 0,
-        binding: None,
-    }
-}
-
-pub fn device(alloc: Global, device: Device) -> SceneDevice {
-    SceneDevice {
-        device,
-        preamble: 0,
-        params: Parameters::new(Vec::new(alloc)),
-        from: 0,
-        until: None,
-    }
-}
-
-pub fn scene(alloc: Global) -> Scene {
-    Scene {
-        source: controller(),
-        devices: SceneDevices::new(alloc),
-        collisions: Vec::new(alloc),
-        losses: Vec::new(alloc),
-        fails: Vec::new(alloc),
-    }
-}
-
-pub fn line_of(rt: &HostRuntime, scene: Scene) -> Result<SimLine, Fail> {
-    Ok(SimLine::new(rt.alloc(), scene).map_err(|_| "memory")?)
-}
-
-/// Puts in a device that is no broadcast UID's, has few preamble bytes and comes early.
-pub fn add(rt: &impl Abort, scene: &mut Scene, device: SceneDevice) -> Result<(), AddFault> {
-    assert!(rt; !device.device.uid.is_broadcast());
-    assert!(rt; device.preamble <= 7);
-    assert!(rt; device.from <= 1_000_000_000);
-    scene.devices.add(device)
-}
-
-/// What comes after a frame, which is these bytes in hexadecimal.
-pub fn answers(
-    rt: &impl Abort,
-    alloc: Global,
-    line: &mut SimLine,
-    frame: &Frame,
-    text: &str,
-) -> Result<(), Fail> {
-    let bytes = hex::decode(alloc, text).map_err(|_| "hex")?;
-    let reply = line.exchange(frame).map_err(|_| "failed")?;
-    assert_eq!(rt; reply.as_slice(), bytes.as_slice(), "{text}");
-    Ok(())
-}
-
-pub fn whole_branch(tn: u8) -> Frame {
-    encode_branch(UidRange::whole(), controller(), tn)
-}
-
-pub fn mute(rt: &impl Abort, uid: Uid, tn: u8) -> Frame {
-    assert!(rt; !uid.is_broadcast());
-    encode_mute(uid, controller(), tn)
-}
+// The first device's acknowledgement of the mute with number 4.
+const ACK: &str = "cc011a7a700000010012340000000104000000001100020200000232";
 
 #[test]
-fn one_device_replies_until_it_is_muted(rt: HostRuntime) -> Result<(), Fail> {
-    let mut scene = scene(rt.alloc());
+fn one_device_replies_until_it_is_muted(rt: HostRuntime) {
     let bound = Device {
         uid: first(),
         control: 2,
         binding: Some(Uid::new(0x1234, 5)),
     };
-    add(&rt, &mut scene, device(rt.alloc(), bound)).map_err(|_| "add")?;
-    let mut line = line_of(&rt, scene)?;
+    let devices = one_device(&rt, rt.alloc(), bound, ALWAYS);
+    let mut line = quiet_line(&rt, rt.alloc(), devices);
     let text = "aaba57be75aa55aa55aa55ab55ae57eb55";
-    answers(&rt, rt.alloc(), &mut line, &whole_branch(0), text)?;
+    answers(&rt, rt.alloc(), &mut line, &whole_branch(0), text);
     let ack = "cc01207a70000001001234000000010400000000110002080002123400000005028b";
-    answers(&rt, rt.alloc(), &mut line, &mute(&rt, first(), 4), ack)?;
-    answers(&rt, rt.alloc(), &mut line, &whole_branch(5), "")?;
-    answers(
-        &rt,
-        rt.alloc(),
-        &mut line,
-        &encode_unmute(controller(), 6),
-        "",
-    )?;
-    answers(&rt, rt.alloc(), &mut line, &whole_branch(7), text)?;
-    assert_eq!(rt; line.failures(), 0);
-    Ok(())
+    answers(&rt, rt.alloc(), &mut line, &mute(&rt, first(), 4), ack);
+    answers(&rt, rt.alloc(), &mut line, &whole_branch(5), "");
+    let unmute = encode_unmute(controller(), 6);
+    answers(&rt, rt.alloc(), &mut line, &unmute, "");
+    answers(&rt, rt.alloc(), &mut line, &whole_branch(7), text);
+    has_failed(&rt, &line, 0);
 }
 
 #[test]
-fn replies_of_a_device_are_its_text(rt: HostRuntime) -> Result<(), Fail> {
-    let mut scene = scene(rt.alloc());
-    add(
-        &rt,
-        &mut scene,
-        device(rt.alloc(), plain(Uid::new(0x7a70, 1))),
-    )
-    .map_err(|_| "add")?;
-    let mut line = line_of(&rt, scene)?;
-    answers(
-        &rt,
-        rt.alloc(),
-        &mut line,
-        &whole_branch(0),
-        "aafa7ffa75aa55aa55aa55ab55ae57eff5",
-    )
+fn replies_of_a_device_are_its_text(rt: HostRuntime) {
+    let devices = one_device(&rt, rt.alloc(), plain(Uid::new(0x7a70, 1)), ALWAYS);
+    let mut line = quiet_line(&rt, rt.alloc(), devices);
+    let text = "aafa7ffa75aa55aa55aa55ab55ae57eff5";
+    answers(&rt, rt.alloc(), &mut line, &whole_branch(0), text);
 }
 
 #[test]
-fn collisions_come_in_order_and_the_last_stays(rt: HostRuntime) -> Result<(), Fail> {
-    let mut scene = scene(rt.alloc());
-    add(&rt, &mut scene, device(rt.alloc(), plain(second()))).map_err(|_| "add")?;
-    add(&rt, &mut scene, device(rt.alloc(), plain(first()))).map_err(|_| "add")?;
-    let mut bytes = LineReply::new();
-    assert!(rt; bytes.try_extend_from_slice(&[0xff]).is_ok());
-    let Some(bytes) = CollisionBytes::new(bytes) else {
-        panic!(rt; "one byte")
-    };
-    scene.collisions.push(Collision::Bytes(bytes))?;
-    scene.collisions.push(Collision::Uid(Uid::new(0x7a70, 1)))?;
-    let mut line = line_of(&rt, scene)?;
-    answers(&rt, rt.alloc(), &mut line, &whole_branch(0), "ff")?;
+fn collisions_come_in_order_and_the_last_stays(rt: HostRuntime) {
+    let devices = two_devices(&rt, rt.alloc(), 0, second(), first());
+    let spelt = Collision::Uid(Uid::new(0x7a70, 1));
+    let collisions = collisions(&rt, rt.alloc(), noise(&rt), spelt);
+    let mut line = line_of(&rt, rt.alloc(), devices, collisions, &[], &[]);
+    answers(&rt, rt.alloc(), &mut line, &whole_branch(0), "ff");
     let text = "fefefefefefefeaafa7ffa75aa55aa55aa55ab55ae57eff5";
-    answers(&rt, rt.alloc(), &mut line, &whole_branch(1), text)?;
-    answers(&rt, rt.alloc(), &mut line, &whole_branch(2), text)
+    answers(&rt, rt.alloc(), &mut line, &whole_branch(1), text);
+    answers(&rt, rt.alloc(), &mut line, &whole_branch(2), text);
 }
 
 #[test]
-fn losses_and_failures_have_their_numbers(rt: HostRuntime) -> Result<(), Fail> {
-    let mut scene = scene(rt.alloc());
-    add(&rt, &mut scene, device(rt.alloc(), plain(first()))).map_err(|_| "add")?;
-    scene.losses.push(2)?;
-    scene.losses.push(1)?;
-    scene.fails.push(3)?;
-    let mut line = line_of(&rt, scene)?;
-    let ack = "cc011a7a700000010012340000000104000000001100020200000232";
-    answers(&rt, rt.alloc(), &mut line, &mute(&rt, first(), 4), ack)?;
-    answers(&rt, rt.alloc(), &mut line, &mute(&rt, first(), 4), "")?;
-    answers(&rt, rt.alloc(), &mut line, &mute(&rt, first(), 4), "")?;
-    assert_eq!(rt; line.exchange(&mute(&rt, first(), 4)), Err(LineFault));
-    assert_eq!(rt; line.failures(), 1);
-    answers(&rt, rt.alloc(), &mut line, &mute(&rt, first(), 4), ack)
+fn losses_and_failures_have_their_numbers(rt: HostRuntime) {
+    let devices = one_device(&rt, rt.alloc(), plain(first()), ALWAYS);
+    let collisions = Vec::new(rt.alloc());
+    let mut line = line_of(&rt, rt.alloc(), devices, collisions, &[2, 1], &[3]);
+    let mute = mute(&rt, first(), 4);
+    answers(&rt, rt.alloc(), &mut line, &mute, ACK);
+    answers(&rt, rt.alloc(), &mut line, &mute, "");
+    answers(&rt, rt.alloc(), &mut line, &mute, "");
+    fails(&rt, &mut line, &mute);
+    has_failed(&rt, &line, 1);
+    answers(&rt, rt.alloc(), &mut line, &mute, ACK);
 }
 
 #[test]
-fn devices_come_and_leave(rt: HostRuntime) -> Result<(), Fail> {
-    let mut scene = scene(rt.alloc());
-    let mut there = device(rt.alloc(), plain(first()));
-    there.from = 1;
-    there.until = Some(2);
-    add(&rt, &mut scene, there).map_err(|_| "add")?;
-    let mut line = line_of(&rt, scene)?;
-    let ack = "cc011a7a700000010012340000000104000000001100020200000232";
-    answers(&rt, rt.alloc(), &mut line, &mute(&rt, first(), 4), "")?;
-    answers(&rt, rt.alloc(), &mut line, &mute(&rt, first(), 4), ack)?;
-    answers(&rt, rt.alloc(), &mut line, &mute(&rt, first(), 4), "")
-}
-
-fn request(class: ReqClass, pid: u16) -> Request {
-    Request {
-        target: first(),
-        sub_device: 0,
-        class,
-        pid,
-        param: ParameterPart::new(),
-    }
-}
-
-pub fn part(rt: &impl Abort, bytes: &[u8]) -> ParameterPart {
-    let mut part = ParameterPart::new();
-    assert!(rt; part.try_extend_from_slice(bytes).is_ok());
-    part
+fn devices_come_and_leave(rt: HostRuntime) {
+    let placing = Placing {
+        preamble: 0,
+        from: 1,
+        until: Some(2),
+    };
+    let devices = one_device(&rt, rt.alloc(), plain(first()), placing);
+    let mut line = quiet_line(&rt, rt.alloc(), devices);
+    let mute = mute(&rt, first(), 4);
+    answers(&rt, rt.alloc(), &mut line, &mute, "");
+    answers(&rt, rt.alloc(), &mut line, &mute, ACK);
+    answers(&rt, rt.alloc(), &mut line, &mute, "");
 }
 
 #[test]
-fn parameters_are_sent_in_parts(rt: HostRuntime) -> Result<(), Fail> {
-    let mut parts = Vec::new(rt.alloc());
-    parts.push(part(&rt, &[1, 2]))?;
-    parts.push(part(&rt, &[3]))?;
-    assert_eq!(rt; parts.len(), 2);
-    let mut params = Vec::new(rt.alloc());
-    params.push(Parameter::new(0x0060, parts))?;
-    let mut scene = scene(rt.alloc());
-    let mut there = device(rt.alloc(), plain(first()));
-    there.params = Parameters::new(params);
-    add(&rt, &mut scene, there).map_err(|_| "add")?;
-    let mut line = line_of(&rt, scene)?;
-    let get = encode_request(&request(ReqClass::Get, 0x0060), controller(), 0);
+fn parameters_are_sent_in_parts(rt: HostRuntime) {
+    let mut line = quiet_line(&rt, rt.alloc(), two_parts(&rt, rt.alloc()));
     let overflow = "cc011a7a7000000100123400000001000300000021006002010202a2";
-    answers(&rt, rt.alloc(), &mut line, &get, overflow)?;
-    answers(
-        &rt,
-        rt.alloc(),
-        &mut line,
-        &get,
-        "cc01197a700000010012340000000100000000002100600103029d",
-    )?;
-    answers(&rt, rt.alloc(), &mut line, &get, overflow)?;
-    let set = encode_request(&request(ReqClass::Set, 0x0060), controller(), 0);
-    answers(
-        &rt,
-        rt.alloc(),
-        &mut line,
-        &set,
-        "cc01187a700000010012340000000100000000003100600002a8",
-    )?;
-    let other = encode_request(&request(ReqClass::Get, 0x0070), controller(), 0);
-    answers(
-        &rt,
-        rt.alloc(),
-        &mut line,
-        &other,
-        "cc011a7a7000000100123400000001000200000021007002000002ae",
-    )
+    answers(&rt, rt.alloc(), &mut line, &get(), overflow);
+    let last = "cc01197a700000010012340000000100000000002100600103029d";
+    answers(&rt, rt.alloc(), &mut line, &get(), last);
+    answers(&rt, rt.alloc(), &mut line, &get(), overflow);
+    let set = asks(first(), ReqClass::Set, 0x0060, 0);
+    let set_ack = "cc01187a700000010012340000000100000000003100600002a8";
+    answers(&rt, rt.alloc(), &mut line, &set, set_ack);
+    let other = asks(first(), ReqClass::Get, 0x0070, 0);
+    let unknown = "cc011a7a7000000100123400000001000200000021007002000002ae";
+    answers(&rt, rt.alloc(), &mut line, &other, unknown);
 }
 
 #[test]
-fn refuses_repeated_devices(rt: HostRuntime) -> Result<(), Fail> {
-    let mut scene = scene(rt.alloc());
-    add(&rt, &mut scene, device(rt.alloc(), plain(first()))).map_err(|_| "add")?;
-    let again = add(&rt, &mut scene, device(rt.alloc(), plain(first())));
-    assert_eq!(rt; again, Err(AddFault::Repeated));
-    Ok(())
+fn refuses_repeated_devices(rt: HostRuntime) {
+    let mut devices = one_device(&rt, rt.alloc(), plain(first()), ALWAYS);
+    let params = no_params(rt.alloc());
+    let again = add(&rt, &mut devices, plain(first()), params, ALWAYS);
+    assert!(rt; again == Err(AddFault::Repeated));
 }
 
-#[test]
-fn makes_a_line_of_a_large_scene(rt: HostRuntime) -> Result<(), Fail> {
-    let mut scene = scene(rt.alloc());
+// As many devices as a scene may have. They come late.
+fn most_devices(rt: &impl Abort, alloc: Global) -> SceneDevices {
+    let late = Placing {
+        preamble: 0,
+        from: 1_000_000_000,
+        until: None,
+    };
+    let mut devices = SceneDevices::new(alloc);
     for number in 0..1024 {
-        let mut late = device(rt.alloc(), plain(Uid::new(0x1234, number)));
-        late.from = 1_000_000_000;
-        add(&rt, &mut scene, late).map_err(|_| "add")?;
+        put(
+            rt,
+            alloc,
+            &mut devices,
+            plain(Uid::new(0x1234, number)),
+            late,
+        );
     }
-    let one_more = add(&rt, &mut scene, device(rt.alloc(), plain(second())));
-    assert_eq!(rt; one_more, Err(AddFault::Full));
+    devices
+}
+
+// 2,000 numbers, descending from this one.
+fn many_numbers(rt: &impl Abort, alloc: Global, greatest: u64) -> Vec<u64> {
+    let mut numbers = Vec::new(alloc);
     for number in 0..2000 {
-        scene.losses.push(number)?;
-        scene.fails.push(4000 - number)?;
+        assert!(rt; numbers.push(greatest.wrapping_sub(number)).is_ok());
     }
-    let mut line = line_of(&rt, scene)?;
-    answers(&rt, rt.alloc(), &mut line, &whole_branch(0), "")?;
-    assert_eq!(rt; line.failures(), 0);
-    Ok(())
+    numbers
 }
 
 #[test]
-fn a_parameter_has_512_parts(rt: HostRuntime) -> Result<(), Fail> {
-    let mut parts = Vec::new(rt.alloc());
+fn makes_a_line_of_a_large_scene(rt: HostRuntime) {
+    let mut devices = most_devices(&rt, rt.alloc());
+    let params = no_params(rt.alloc());
+    let one_more = add(&rt, &mut devices, plain(second()), params, ALWAYS);
+    assert!(rt; one_more == Err(AddFault::Full));
+    let losses = many_numbers(&rt, rt.alloc(), 1999);
+    let fails = many_numbers(&rt, rt.alloc(), 4000);
+    let collisions = Vec::new(rt.alloc());
+    let mut line = line_of(&rt, rt.alloc(), devices, collisions, &losses, &fails);
+    answers(&rt, rt.alloc(), &mut line, &whole_branch(0), "");
+    has_failed(&rt, &line, 0);
+}
+
+// As many parts as a parameter may have, each of one byte.
+fn most_parts(rt: &impl Abort, alloc: Global) -> Vec<ParameterPart> {
+    let mut parts = Vec::new(alloc);
     for number in 0..512_u16 {
-        parts.push(part(&rt, &[(number % 256) as u8]))?;
+        assert!(rt; parts.push(part(rt, &[(number % 256) as u8])).is_ok());
     }
-    assert_eq!(rt; parts.len(), 512);
-    let mut params = Vec::new(rt.alloc());
-    params.push(Parameter::new(0x0060, parts))?;
-    let mut scene = scene(rt.alloc());
-    let mut there = device(rt.alloc(), plain(first()));
-    there.params = Parameters::new(params);
-    add(&rt, &mut scene, there).map_err(|_| "add")?;
-    let mut line = line_of(&rt, scene)?;
-    let get = encode_request(&request(ReqClass::Get, 0x0060), controller(), 0);
+    parts
+}
+
+// The line answers the GET by a response of this type, with this byte of data.
+fn sends(rt: &impl Abort, line: &mut SimLine, response_type: u8, byte: u16) {
+    match line.exchange(&get()) {
+        Ok(reply) => {
+            assert!(rt; reply.get(16) == Some(&response_type));
+            assert!(rt; reply.get(24) == Some(&((byte % 256) as u8)));
+        }
+        Err(_) => panic!(rt; "it failed"),
+    }
+}
+
+#[test]
+fn a_parameter_has_512_parts(rt: HostRuntime) {
+    let params = params_of(&rt, rt.alloc(), most_parts(&rt, rt.alloc()));
+    let devices = device_with(&rt, rt.alloc(), params);
+    let mut line = quiet_line(&rt, rt.alloc(), devices);
     for number in 0..511_u16 {
-        let reply = line.exchange(&get).map_err(|_| "failed")?;
-        assert_eq!(rt; reply.get(16), Some(&3));
-        assert_eq!(rt; reply.get(24), Some(&((number % 256) as u8)));
+        sends(&rt, &mut line, 3, number);
     }
-    let last = line.exchange(&get).map_err(|_| "failed")?;
-    assert_eq!(rt; (last.get(16), last.get(24)), (Some(&0), Some(&255)));
-    Ok(())
+    sends(&rt, &mut line, 0, 511);
 }

@@ -1,11 +1,10 @@
 //! A line over streams of text: which line says what, and what an exchange takes when it fails.
 use rdm_line::{Line, LineFault, StreamLine};
 use rdm_wire::Frame;
-use std::alloc::{AllocError, Global};
+use std::alloc::Global;
 use std::io;
 use std::io::{ErrorKind, Read};
 use std::process::Abort;
-use std::test::Fail;
 
 // A frame of two bytes, whose line is `cc01`.
 fn frame() -> Frame {
@@ -15,65 +14,75 @@ fn frame() -> Frame {
     frame
 }
 
-// A line of this many digits, and how it ends.
-fn digits(alloc: Global, count: usize, end: &str) -> Result<Vec<u8>, AllocError> {
-    let mut line = Vec::new(alloc);
+// Adds a line of this many digits, and how it ends.
+fn add_digits(rt: &impl Abort, text: &mut Vec<u8>, count: usize, end: &str) {
     for _ in 0..count {
-        line.push(b'a')?;
+        assert!(rt; text.push(b'a').is_ok());
     }
-    line.extend_from_slice(end.as_bytes())?;
-    Ok(line)
+    assert!(rt; text.extend_from_slice(end.as_bytes()).is_ok());
 }
 
 // What comes is these bytes, or None for a failure.
 fn meets<L: Line>(rt: &impl Abort, line: &mut L, wanted: Option<&[u8]>) {
-    match (line.exchange(&frame()), wanted) {
-        (Ok(reply), Some(bytes)) => assert_eq!(rt; reply.as_slice(), bytes),
-        (Err(LineFault), None) => {}
-        _ => assert!(rt; false, "wanted {wanted:?}"),
+    match line.exchange(&frame()) {
+        Ok(reply) => assert!(rt; wanted == Some(reply.as_slice()), "wanted {wanted:?}"),
+        Err(LineFault) => assert!(rt; wanted.is_none(), "wanted {wanted:?}"),
     }
 }
 
-#[test]
-fn each_line_answers_one_exchange(rt: HostRuntime) -> Result<(), Fail> {
-    let alloc = rt.alloc();
-    let (full, full_with_return) = (digits(alloc, 514, "\n")?, digits(alloc, 514, "\r\n")?);
-    let (over, long) = (digits(alloc, 516, "\n")?, digits(alloc, 2000, "\r\n")?);
-    let most = [0xaa; 257];
-    let rows: [(&[u8], Option<&[u8]>); 17] = [
-        (b"\n", Some(&[])),
-        (b"\r\n", Some(&[])),
-        (b"FE01\r\n", Some(&[0xfe, 0x01])),
-        (b"fe01\n", Some(&[0xfe, 0x01])),
-        (b"f\n", None),
-        (b"f\r\n", None),
-        (b"failed\n", None),
-        (b"failed\r\n", None),
-        (b"0g\n", None),
-        (b" 01\n", None),
-        (b"01\r\r\n", None),
-        (&full, Some(&most)),
-        (&full_with_return, Some(&most)),
-        (&over, None),
-        (&long, None),
-        (b"01\n", Some(&[0x01])),
-        (b"02", None),
-    ];
-    let mut text = Vec::new(alloc);
-    for (line, _) in rows {
-        text.extend_from_slice(line)?;
+// The exchanges over these lines are answered by these bytes, or fail, and then the line fails as often as is said.
+fn meets_each(
+    rt: &impl Abort,
+    alloc: Global,
+    text: &[u8],
+    wanted: &[Option<&[u8]>],
+    failures: u64,
+) {
+    let mut line = StreamLine::new(text, Vec::new(alloc));
+    for wanted in wanted {
+        meets(rt, &mut line, *wanted);
     }
-    let mut line = StreamLine::new(text.as_slice(), Vec::new(alloc));
-    for (_, wanted) in rows {
-        meets(&rt, &mut line, wanted);
-    }
-    meets(&rt, &mut line, None);
-    assert_eq!(rt; line.failures(), 11);
+    meets(rt, &mut line, None);
+    assert!(rt; line.failures() == failures);
     let (left, written) = line.into_parts();
-    assert_eq!(rt; left.len(), 0);
-    assert_eq!(rt; written.len(), 90);
-    assert_eq!(rt; &written[..10], b"cc01\ncc01\n".as_slice());
-    Ok(())
+    assert!(rt; left.is_empty());
+    assert!(rt; written.len() == wanted.len().saturating_add(1).saturating_mul(5));
+    assert!(rt; written.starts_with(b"cc01\ncc01\n"));
+}
+
+#[test]
+fn each_line_answers_one_exchange(rt: HostRuntime) {
+    let text = b"\n\r\nFE01\r\nfe01\nf\nf\r\nfailed\nfailed\r\n0g\n 01\n01\r\r\n01\n02";
+    let wanted: [Option<&[u8]>; 13] = [
+        Some(&[]),
+        Some(&[]),
+        Some(&[0xfe, 0x01]),
+        Some(&[0xfe, 0x01]),
+        None,
+        None,
+        None,
+        None,
+        None,
+        None,
+        None,
+        Some(&[0x01]),
+        None,
+    ];
+    meets_each(&rt, rt.alloc(), text, &wanted, 9);
+}
+
+// The longest reply, in a line with either end, and two that are too long.
+#[test]
+fn a_line_has_a_reply_of_257_bytes_at_most(rt: HostRuntime) {
+    let mut text = Vec::new(rt.alloc());
+    add_digits(&rt, &mut text, 514, "\n");
+    add_digits(&rt, &mut text, 514, "\r\n");
+    add_digits(&rt, &mut text, 516, "\n");
+    add_digits(&rt, &mut text, 2000, "\r\n");
+    add_digits(&rt, &mut text, 2, "\n");
+    let most = [0xaa; 257];
+    let wanted: [Option<&[u8]>; 5] = [Some(&most), Some(&most), None, None, Some(&[0xaa])];
+    meets_each(&rt, rt.alloc(), &text, &wanted, 3);
 }
 
 // Gives a byte at each read; `!` stands for an error and `?` for an interrupted call.
@@ -101,7 +110,7 @@ impl Read for Faulty<'_> {
 }
 
 #[test]
-fn an_error_of_the_reader_fails_one_exchange(rt: HostRuntime) -> Result<(), Fail> {
+fn an_error_of_the_reader_fails_one_exchange(rt: HostRuntime) {
     let text = Faulty {
         text: b"01\n!02\n0?3\n0!4\n05\n",
     };
@@ -119,8 +128,7 @@ fn an_error_of_the_reader_fails_one_exchange(rt: HostRuntime) -> Result<(), Fail
     for wanted in wanted {
         meets(&rt, &mut line, wanted);
     }
-    assert_eq!(rt; line.failures(), 4);
-    Ok(())
+    assert!(rt; line.failures() == 4);
 }
 
 #[test]

@@ -1,9 +1,8 @@
 //! A tape gives its events in order, and then fails.
 use rdm_join::{LineEvent, LineReply};
 use rdm_line::{Line, LineFault, TapeLine};
-use rdm_wire::{Uid, encode_unmute};
+use rdm_wire::{Frame, Uid, encode_unmute};
 use std::process::Abort;
-use std::test::Fail;
 
 fn reply(rt: &impl Abort, bytes: &[u8]) -> LineReply {
     let mut reply = LineReply::new();
@@ -11,22 +10,33 @@ fn reply(rt: &impl Abort, bytes: &[u8]) -> LineReply {
     reply
 }
 
-#[test]
-fn gives_its_events_and_then_fails(rt: HostRuntime) -> Result<(), Fail> {
-    let frame = encode_unmute(Uid::new(0x7a70, 0x100), 0);
-    let mut events = Vec::new(rt.alloc());
-    events.push(LineEvent::Reply(reply(&rt, &[1, 2])))?;
-    events.push(LineEvent::Failed)?;
-    events.push(LineEvent::Reply(LineReply::new()))?;
-    let mut line = TapeLine::new(events);
-    assert_eq!(rt; line.exchange(&frame), Ok(reply(&rt, &[1, 2])));
-    assert_eq!(rt; line.failures(), 0);
-    assert_eq!(rt; line.exchange(&frame), Err(LineFault));
-    assert_eq!(rt; line.failures(), 1);
-    assert_eq!(rt; line.exchange(&frame), Ok(LineReply::new()));
-    for failed in 2..5 {
-        assert_eq!(rt; line.exchange(&frame), Err(LineFault));
-        assert_eq!(rt; line.failures(), failed);
+// The line fails, for the time with this number.
+fn fails(rt: &impl Abort, line: &mut TapeLine, frame: &Frame, failures: u64) {
+    assert!(rt; line.exchange(frame) == Err(LineFault));
+    assert!(rt; line.failures() == failures);
+}
+
+// The line gives these bytes.
+fn gives(rt: &impl Abort, line: &mut TapeLine, frame: &Frame, bytes: &[u8]) {
+    match line.exchange(frame) {
+        Ok(reply) => assert!(rt; reply.as_slice() == bytes),
+        Err(_) => panic!(rt; "it failed"),
     }
-    Ok(())
+}
+
+#[test]
+fn gives_its_events_and_then_fails(rt: HostRuntime) {
+    let mut events = Vec::new(rt.alloc());
+    assert!(rt; events.push(LineEvent::Reply(reply(&rt, &[1, 2]))).is_ok());
+    assert!(rt; events.push(LineEvent::Failed).is_ok());
+    assert!(rt; events.push(LineEvent::Reply(LineReply::new())).is_ok());
+    let mut line = TapeLine::new(events);
+    let frame = encode_unmute(Uid::new(0x7a70, 0x100), 0);
+    gives(&rt, &mut line, &frame, &[1, 2]);
+    assert!(rt; line.failures() == 0);
+    fails(&rt, &mut line, &frame, 1);
+    gives(&rt, &mut line, &frame, &[]);
+    for failures in 2..5 {
+        fails(&rt, &mut line, &frame, failures);
+    }
 }

@@ -1,6 +1,6 @@
 use Rattle.std.proofs.Common.{arith}
 use Rattle.std.proofs.lemmas.List.Elements.{Contains-get_or}
-use Rattle.rdm_port.specs.Complaints.{command_name}
+use Rattle.rdm_port.specs.body.Texts.{command_name}
 use Rattle.rdm_port.proofs.ComplaintLemmas.{among}
 use Rattle.rdm_port.proofs.complaint.complaint_after.Goals as goal
 

@@ -120,4 +120,6 @@ returns-in_err-get_str-in-run-clause-none c =
     (value_of-other (subcommand_rows_of c.args.matches.now) (codes "run") (codes "decode") (codes "hex") _ parts refl)
     (value_of-other (subcommand_rows_of c.args.matches.now) (codes "run") (codes "encode") (codes "uid") _ parts refl)
     (value_of-other (subcommand_rows_of c.args.matches.now) (codes "run") (codes "discover") (codes "file") _ parts refl)
-    (no_run (subcommand_rows_of c.args.matches.now) (value_of-found (subcommand_rows_of c.args.matches.now) (codes "run") (codes "file") (found_of c.in_ok-name.given.now) _ parts refl c.in_err-get_str-in-run.ensures)))
+    (no_run (subcommand_rows_of c.args.matches.now)
+    (value_of-found (subcommand_rows_of c.args.matches.now) (codes "run") (codes "file")
+    (found_of c.in_ok-name.given.now) _ parts refl c.in_err-get_str-in-run.ensures)))

@@ -8,7 +8,9 @@ use Rattle.std.proofs.lemmas.List.{take-append-drop, take_rest}
 use Rattle.rdm_port.specs.Outcome.{IsCutShort}
 use Rattle.rdm_port.proofs.performing.write_all.Goals as goal
 use Rattle.rdm_port.proofs.performing.write_all.Goals.{in-Ok, in-Err}
-use Rattle.rdm_port.proofs.performing.write_all.Goals.{else-writing-test, then-writing-test+then-written-bytes, then-writing-test+else-written-bytes+in-Ok-eq0, then-writing-test+else-written-bytes+in-Err-2}
+use Rattle.rdm_port.proofs.performing.write_all.Goals.{else-writing-test, then-writing-test+then-written-bytes}
+use Rattle.rdm_port.proofs.performing.write_all.Goals.{then-writing-test+else-written-bytes+in-Ok-eq0}
+use Rattle.rdm_port.proofs.performing.write_all.Goals.{then-writing-test+else-written-bytes+in-Err-2}
 
 -- what is kept after an append is what was appended
 kept : (a b c : Option (List ℕ)) (bytes : List ℕ) → Appends a b bytes → Keeps b c → Appends a c bytes

@@ -1,7 +1,7 @@
 use Rattle.std.proofs.Common.{◌≡◌, ℕ, List, Option, ap, ◌∙◌, inl, inr}
 use Rattle.std.specs.Prelude.{◌⊎◌}
 use Rattle.rdm_port.specs.Fault.{ReadsSession, IsServeFault}
-use Rattle.rdm_port.specs.Outcome.{answer_bytes}
+use Rattle.rdm_port.specs.body.Texts.{answer_bytes}
 use Rattle.rdm_serving.specs.SessionReport.{session_text}
 use Rattle.rdm_port.specs.declared.fault.Fault.{Fault}
 use Rattle.rdm_port.specs.declared.fault.Fault.TheVariants.{Memory, Log, Turns}

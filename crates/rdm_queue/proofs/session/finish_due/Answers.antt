@@ -11,8 +11,10 @@ loop-entry-preserved c =
     let so_far = c.loop-entry.invariant.grows in
     let old = c.args.log.now in
     let e = c.in-Some.entry in
-    let bound : FaultNeedsClose old.search old.opening (old.entries ++ so_far.0) e = rw (amid.search_is, so_far.3) at (c.in-Some.ensures.in_bound c.loop-entry.log.opening c.loop-entry.log.entries amid.amid) in
+    let ends = c.in-Some.ensures.ended in
+    let here = ends.each c.loop-entry.log amid.search_is amid.amid in
+    let bound : FaultNeedsClose (grown old so_far.0) e = rw so_far.3 at here.0 in
     record {
-      amid = rw c.append.ensures (amid_grown c.loop-entry.controller c.finish_next.new.self c.loop-entry.log e amid (c.in-Some.ensures.finished.1 c.loop-entry.log.opening c.loop-entry.log.entries amid.amid) c.in-Some.ensures.search (result_added e c.in-Some.ensures.finished.0));
-      grows = (so_far.0 ++ e ∷ [], all_results_more so_far.0 e so_far.1 c.in-Some.ensures.finished.0, block_more old.search old.opening old.entries so_far.0 e so_far.2 bound, c.append.ensures ∙ ap (λ k. grown k (e ∷ [])) so_far.3 ∙ grown_twice old so_far.0 (e ∷ []));
+      amid = rw c.append.ensures (amid_grown c.loop-entry.controller c.finish_next.new.self c.loop-entry.log e amid here.1 ends.search here.0 (result_added e ends.is));
+      grows = (so_far.0 ++ e ∷ [], all_results_more so_far.0 e so_far.1 ends.is, block_more old so_far.0 e so_far.2 bound, c.append.ensures ∙ ap (λ k. grown k (e ∷ [])) so_far.3 ∙ grown_twice old so_far.0 (e ∷ []));
     }

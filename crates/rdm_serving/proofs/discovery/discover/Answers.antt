@@ -8,7 +8,9 @@ use Rattle.rdm_serving.proofs.discovery.discover.Goals.{else-exchanges-test, the
 
 pub exchanges-preserved : goal.exchanges-preserved
 exchanges-preserved g c =
-    one_driven _ g.L.Line.step c.args.source c.args.search c.args.kind c.args.known.now c.args.budget c.exchanges.made c.args.line.now c.exchanges.line c.ask.new.line c.exchanges.agent c.ask.new.agent c.exchanges.invariant c.ask.ensures
+    one_driven _ g.L.Line.step c.args.source c.args.search c.args.kind c.args.known.now c.args.budget c.exchanges.made
+    c.args.line.now c.exchanges.line c.ask.new.line c.exchanges.agent c.ask.new.agent c.exchanges.invariant
+    c.ask.ensures
 
 pub end-requires : goal.end-requires
 end-requires g c = elim c.exchanges-test.branch [
@@ -26,5 +28,6 @@ returns-clause-run g c =
           subst (λ n. HasDriven _ g.L.Line.step c.args.source c.args.search c.args.kind c.args.known.now c.args.budget c.args.line.now n c.exchanges.agent c.exchanges.line) full c.exchanges.invariant)
       | then-exchanges-test+then-eq w ↦ search rules
     ] in
-    reported _ g.L.Line.step c.args.source c.args.search c.args.kind c.args.known.now c.args.budget c.exchanges.made c.frames.result c.args.line.now c.exchanges.line c.exchanges.agent c.end.result c.exchanges.invariant
+    reported _ g.L.Line.step c.args.source c.args.search c.args.kind c.args.known.now c.args.budget c.exchanges.made
+    c.frames.result c.args.line.now c.exchanges.line c.exchanges.agent c.end.result c.exchanges.invariant
     ended c.end.ensures.value c.frames.ensures.counted

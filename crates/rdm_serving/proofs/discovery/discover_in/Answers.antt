@@ -18,4 +18,6 @@ returns-in-Ok-clause-run g c = on_scene c.args.scene c.args.search c.args.kind c
 pub returns-in-Ok-clause-honest : goal.returns-in-Ok-clause-honest
 returns-in-Ok-clause-honest g c few =
     let run : IsSceneDiscovery c.args.scene c.args.search c.args.kind c.args.known.now c.args.budget c.discover.result.found c.discover.result.frames = returns-in-Ok-clause-run g c in
-    honest_report c.args.scene c.args.search c.args.kind c.args.known.now c.args.budget c.discover.result.found c.discover.result.frames run (loses_few c.args.scene c.args.search c.args.kind c.args.known.now c.args.budget c.discover.result.frames c.discover.result.found run few)
+    honest_report c.args.scene c.args.search c.args.kind c.args.known.now c.args.budget c.discover.result.found
+    c.discover.result.frames run (loses_few c.args.scene c.args.search c.args.kind c.args.known.now c.args.budget
+    c.discover.result.frames c.discover.result.found run few)

@@ -17,19 +17,27 @@ module _ (view a : AgentState) (is : view ≡ a) where
 
 pub returns-in-None-clause-certified : goal.returns-in-None-clause-certified
 returns-in-None-clause-certified c = λ run s.
-    rw c.copied.ensures (end-certified (the_view c.self.inside) (ends _ _ c.self.view_is c.requires) (sym (c.in-None.ensures _ _)) run.kind run.known run.budget run.aborted run.exchanges (stands _ _ c.self.view_is run s))
+    rw c.copied.ensures (end-certified (the_view c.self.inside) (ends _ _ c.self.view_is c.requires)
+    (sym (c.in-None.ensures _ _)) run.kind run.known run.budget run.aborted run.exchanges
+    (stands _ _ c.self.view_is run s))
 
 pub returns-in-None-clause-finds_all : goal.returns-in-None-clause-finds_all
 returns-in-None-clause-finds_all c = λ run s.
-    rw c.copied.ensures (end-finds_all (the_view c.self.inside) (ends _ _ c.self.view_is c.requires) (sym (c.in-None.ensures _ _)) run.kind run.known run.budget run.aborted run.exchanges (stands _ _ c.self.view_is run s))
+    rw c.copied.ensures (end-finds_all (the_view c.self.inside) (ends _ _ c.self.view_is c.requires)
+    (sym (c.in-None.ensures _ _)) run.kind run.known run.budget run.aborted run.exchanges
+    (stands _ _ c.self.view_is run s))
 
 pub returns-in-None-clause-finds_each : goal.returns-in-None-clause-finds_each
 returns-in-None-clause-finds_each c = λ run s.
-    rw c.copied.ensures (end-finds_each (the_view c.self.inside) (ends _ _ c.self.view_is c.requires) (sym (c.in-None.ensures _ _)) run.kind run.known run.budget run.aborted run.exchanges (stands _ _ c.self.view_is run s))
+    rw c.copied.ensures (end-finds_each (the_view c.self.inside) (ends _ _ c.self.view_is c.requires)
+    (sym (c.in-None.ensures _ _)) run.kind run.known run.budget run.aborted run.exchanges
+    (stands _ _ c.self.view_is run s))
 
 pub returns-in-Some-clause-caused : goal.returns-in-Some-clause-caused
 returns-in-Some-clause-caused c = λ run s.
-    rw c.copied-in-Some.ensures (end-caused (the_view c.self.inside) (ends _ _ c.self.view_is c.requires) c.in-Some.fault (sym (c.in-Some.ensures _ _)) run.kind run.known run.budget run.aborted run.exchanges (stands _ _ c.self.view_is run s))
+    rw c.copied-in-Some.ensures (end-caused (the_view c.self.inside) (ends _ _ c.self.view_is c.requires)
+    c.in-Some.fault (sym (c.in-Some.ensures _ _)) run.kind run.known run.budget run.aborted run.exchanges
+    (stands _ _ c.self.view_is run s))
 
 pub returns-in-Some-clause-no_phantom : goal.returns-in-Some-clause-no_phantom
 returns-in-Some-clause-no_phantom c = λ run s.
@@ -37,7 +45,9 @@ returns-in-Some-clause-no_phantom c = λ run s.
 
 pub returns-in-None-clause-finds_staying : goal.returns-in-None-clause-finds_staying
 returns-in-None-clause-finds_staying c = λ run s.
-    rw c.copied.ensures (end-finds_staying (the_view c.self.inside) (ends _ _ c.self.view_is c.requires) (sym (c.in-None.ensures _ _)) run.kind run.known run.budget run.aborted run.exchanges (stands _ _ c.self.view_is run s))
+    rw c.copied.ensures (end-finds_staying (the_view c.self.inside) (ends _ _ c.self.view_is c.requires)
+    (sym (c.in-None.ensures _ _)) run.kind run.known run.budget run.aborted run.exchanges
+    (stands _ _ c.self.view_is run s))
 
 pub returns-in-None-clause-no_stranger : goal.returns-in-None-clause-no_stranger
 returns-in-None-clause-no_stranger c = λ run s.

@@ -7,7 +7,7 @@ use Rattle.rdm_wire.specs.declared.device.Device.{Device}
 use Rattle.rdm_wire.specs.declared.uid_set.TheConstants.{MOST_DEVICES}
 use Rattle.rdm_wire.proofs.DeviceLemmas.{with_device-present}
 use Rattle.rdm_agent.specs.Machine.{AgentState, Phase, to_found, found_uids}
-use Rattle.rdm_agent.specs.View.{state_of, seen_phase}
+use Rattle.rdm_agent.specs.body.View.{state_of, seen_phase}
 use Rattle.rdm_agent.proofs.progress.Progress.find.Goals as goal
 
 -- a device that is found, where there is room for it
@@ -18,7 +18,9 @@ found a d phase false e devices room = rw (e, lt-ltb (length (found_uids a)) MOS
 
 pub returns-in-Ok-clause-state : goal.returns-in-Ok-clause-state
 returns-in-Ok-clause-state c = λ budget frames.
-    rw c.in-Ok.ensures.inserted (found (state_of budget frames c.args.onward c.args.self.now) c.args.device (seen_phase c.args.onward c.args.self.now) (has (uids_of c.args.self.now.found) c.args.device.uid) refl c.in-Ok.ensures.devices.0 room)
+    rw c.in-Ok.ensures.inserted (found (state_of budget frames c.args.onward c.args.self.now) c.args.device
+    (seen_phase c.args.onward c.args.self.now) (has (uids_of c.args.self.now.found) c.args.device.uid) refl
+    c.in-Ok.ensures.devices.0 room)
   where
     room : has (uids_of c.args.self.now.found) c.args.device.uid ≡ false → length (uids_of c.args.self.now.found) < MOST_DEVICES
     room absent =

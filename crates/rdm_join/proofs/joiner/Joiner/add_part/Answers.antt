@@ -1,6 +1,7 @@
 use Rattle.std.proofs.Common.{◌≡◌, ◌+◌, length, Some, None, inl, inr, sym, subst, ◌∙◌}
 use Rattle.rdm_join.specs.Result.{head_of}
-use Rattle.rdm_join.specs.JoinerStanding.{JoinerStanding, IsOpen, stage_with_part}
+use Rattle.rdm_join.specs.JoinerStanding.{JoinerStanding, IsOpen}
+use Rattle.rdm_join.specs.body.Standing.{stage_with_part}
 use Rattle.rdm_join.proofs.StandingLemmas.{HasRoom, HasNoRoom, part_refused, part_taken, no_room, room, joined_items}
 use Rattle.rdm_join.proofs.joiner.Joiner.add_part.Goals as goal
 

@@ -1,6 +1,7 @@
 use Rattle.std.proofs.Common.{◌≡◌, ◌+◌, true, false, length, inl, inr, sym, ap, subst, ◌∙◌, arith}
 use Rattle.rdm_join.specs.Result.{head_of}
-use Rattle.rdm_join.specs.JoinerStanding.{JoinerStanding, IsOpen, takes_whole}
+use Rattle.rdm_join.specs.JoinerStanding.{JoinerStanding, IsOpen}
+use Rattle.rdm_join.specs.body.Standing.{takes_whole}
 use Rattle.rdm_join.proofs.StandingLemmas.{HasRoom, HasNoRoom, whole_refused, whole_taken, no_room, room, joined_items}
 use Rattle.rdm_join.proofs.joiner.Joiner.add_whole.Goals as goal
 use Rattle.rdm_join.proofs.joiner.Joiner.add_whole.Goals.{then-not-takes_whole-via-then-not-takes_whole, then-not-takes_whole-via-else-not-takes_whole+then-is_err}

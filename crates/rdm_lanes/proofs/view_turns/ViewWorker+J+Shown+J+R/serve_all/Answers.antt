@@ -56,7 +56,7 @@ returns-clause-nothing g c is =
 pub returns-clause-full : goal.returns-clause-full
 returns-clause-full g c is =
     let collects = subst (λ (w : Worker). OnlyCollects w.session c.move_all.new.self.server.session) c.publish-2.ensures.server c.move_all.ensures.collects in
-    full_stays c.exchange-attempt.new.self.server.session c.move_all.new.self.server.session collects c.shows_legal.ensures ∙ c.exchange-attempt.ensures.full (same_Some _ _ is)
+    full_stays c.exchange-attempt.new.self.server.session c.move_all.new.self.server.session collects c.shows_legal.ensures.legal ∙ c.exchange-attempt.ensures.full (same_Some _ _ is)
 
 pub returns-clause-operator : goal.returns-clause-operator
 returns-clause-operator g c left =

@@ -1,6 +1,5 @@
 use Rattle.std.proofs.Common.{◌<◌, ◌≤◌, refl, length, arith}
 use Rattle.std.proofs.lemmas.Option.{slice_get_read}
-use Rattle.rdm_log.proofs.PromiseLemmas.Promises.{promised}
 use Rattle.rdm_lanes.proofs.EndLemmas.{comparing_none, comparing_more, all_compared, all_read}
 use Rattle.rdm_lanes.proofs.worker.Worker.compared.Goals as goal
 
@@ -36,6 +35,3 @@ pub returns-clause-read : goal.returns-clause-read
 returns-clause-read g c left =
     let past : length c.args.self.lanes.items ≤ c.loop-at.at = omega (arith, c.loop-at-test.false, c.len-at-end.ensures, c.args.self.lanes.ok.0) in
     all_read c.args.self.session c.args.self.lanes.items c.args.ends.items c.loop-at.lanes.items c.loop-at.ends.items c.loop-at.at past c.loop-at.invariant left
-
-pub returns-clause-promised : goal.returns-clause-promised
-returns-clause-promised g c = promised c.args.self.session.opening c.args.self.session.entries c.shows_legal.ensures

@@ -12,13 +12,18 @@ use Rattle.rdm_line.proofs.SoundLemmas.{IsDeviceAt, device_at_is, sound-muted, n
 use Rattle.rdm_line.proofs.sim.SimLine.mute.Goals as goal
 
 pub insert-requires : goal.insert-requires
-insert-requires c = (device_at_is c.args.exchange c.args.uid c.self.inside.scene.devices c.in-Some.device.now c.self.invariant.scene (sym c.present.ensures.value ∙ ap (option_map (λ (d : Bor SceneDevice). d.now)) c.in-Some.is)).own.own
+insert-requires c = (device_at_is c.args.exchange c.args.uid c.self.inside.scene.devices c.in-Some.device.now
+    c.self.invariant.scene (sym c.present.ensures.value
+    ∙ ap (option_map (λ (d : Bor SceneDevice). d.now)) c.in-Some.is)).own.own
 
 at : (c : goal.After-encode_response) → IsDeviceAt c.args.exchange c.args.uid c.self.inside.scene.devices c.in-Some.device.now
-at c = device_at_is c.args.exchange c.args.uid c.self.inside.scene.devices c.in-Some.device.now c.self.invariant.scene (sym c.present.ensures.value ∙ ap (option_map (λ (d : Bor SceneDevice). d.now)) c.in-Some.is)
+at c = device_at_is c.args.exchange c.args.uid c.self.inside.scene.devices c.in-Some.device.now c.self.invariant.scene
+    (sym c.present.ensures.value ∙ ap (option_map (λ (d : Bor SceneDevice). d.now)) c.in-Some.is)
 
 muted : (c : goal.After-encode_response) → c.insert.new.self ≡ with_uid c.args.uid c.self.inside.muted
-muted c = put_in c.args.uid c.self.inside.muted c.insert.new.self c.insert.result c.insert.ensures.inserted c.insert.ensures.full.0 (not_full c.args.uid c.args.exchange c.in-Some.device.now _ _ _ _ _ _ c.self.invariant (at c))
+muted c = put_in c.args.uid c.self.inside.muted c.insert.new.self c.insert.result c.insert.ensures.inserted
+    c.insert.ensures.full.0 (not_full c.args.uid c.args.exchange c.in-Some.device.now _ _ _ _ _ _ c.self.invariant
+    (at c))
 
 pub invariant_of-self : goal.invariant_of-self
 invariant_of-self c = rw (muted c) (sound-muted c.args.uid c.args.exchange c.in-Some.device.now _ _ _ _ _ _ c.self.invariant (at c) (ap (λ (s : SimState). s.exchanges) c.self.view_is ∙ c.requires))

@@ -1,7 +1,4 @@
 use Rattle.std.proofs.Common.{arith}
-use Rattle.rdm_log.proofs.PromiseLemmas.LogInBoundLemmas.{call_in_bound}
-use Rattle.rdm_log.specs.declared.event.Event.TheVariants as events
-use Rattle.rdm_log.specs.declared.event.Answer.TheVariants as answers
 use Rattle.rdm_locked.proofs.CallLemmas.{grown_counts, close_brings}
 use Rattle.rdm_locked.proofs.inside.Inside.close.Goals as goal
 
@@ -17,5 +14,4 @@ invariant_of-self g c =
       few = me.few;
       unused = me.unused;
       left_once = me.left_once;
-      in_bound = call_in_bound k events.Close answers.Close c.close.new.self me.in_bound c.close.ensures.adds;
     }

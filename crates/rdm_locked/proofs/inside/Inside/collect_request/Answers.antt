@@ -1,8 +1,4 @@
-use Rattle.std.proofs.Common.{arith, Some}
-use Rattle.rdm_log.specs.promises.Outcomes.{request_outcome}
-use Rattle.rdm_log.proofs.PromiseLemmas.LogInBoundLemmas.{call_in_bound}
-use Rattle.rdm_log.specs.declared.event.Event.TheVariants as events
-use Rattle.rdm_log.specs.declared.event.Answer.TheVariants as answers
+use Rattle.std.proofs.Common.{arith}
 use Rattle.rdm_locked.proofs.CallLemmas.{grown_counts, collect_brings, calls_few}
 use Rattle.rdm_locked.proofs.inside.Inside.collect_request.Goals as goal
 
@@ -26,5 +22,4 @@ invariant_of-self-2 g c =
       few = me.few;
       unused = me.unused;
       left_once = me.left_once;
-      in_bound = call_in_bound k (events.Collect c.args.client) (answers.Collect (Some (request_outcome c.in_ok-outcome.outcome))) c.next_completion.new.self me.in_bound c.in_ok-outcome.ensures.adds;
     }

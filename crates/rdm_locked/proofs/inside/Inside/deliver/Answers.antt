@@ -1,7 +1,4 @@
 use Rattle.std.proofs.Common.{arith}
-use Rattle.rdm_log.proofs.PromiseLemmas.LogInBoundLemmas.{call_in_bound}
-use Rattle.rdm_log.specs.declared.event.Event.TheVariants as events
-use Rattle.rdm_log.specs.declared.event.Answer.TheVariants as answers
 use Rattle.rdm_locked.proofs.CallLemmas.{grown_counts, deliver_brings}
 use Rattle.rdm_locked.proofs.inside.Inside.deliver.Goals as goal
 
@@ -9,7 +6,7 @@ pub invariant_of-self : goal.invariant_of-self
 invariant_of-self g c =
     let me = c.args.self.now in
     let k = me.session in
-    let counts = grown_counts k _ c.deliver.new.self 0 0 c.deliver.ensures.adds (λ block. deliver_brings k.search k.opening k.entries c.args.event c.deliver.result block) in
+    let counts = grown_counts k _ c.deliver.new.self 0 0 c.deliver.ensures.adds (λ block. deliver_brings k c.args.event c.deliver.result block) in
     record {
       counted = omega (arith, counts.calls_are, me.counted);
       clients = omega (arith, counts.clients_are, me.clients);
@@ -17,5 +14,4 @@ invariant_of-self g c =
       few = me.few;
       unused = me.unused;
       left_once = me.left_once;
-      in_bound = call_in_bound k (events.Deliver c.args.event) (answers.Deliver c.deliver.result) c.deliver.new.self me.in_bound c.deliver.ensures.adds;
     }

@@ -1,8 +1,4 @@
 use Rattle.std.proofs.Common.{arith}
-use Rattle.std.specs.Prelude.{Ok, Err}
-use Rattle.rdm_log.proofs.PromiseLemmas.LogInBoundLemmas.{call_in_bound}
-use Rattle.rdm_log.specs.declared.event.Event.TheVariants as events
-use Rattle.rdm_log.specs.declared.event.Answer.TheVariants as answers
 use Rattle.rdm_log.proofs.LogLemmas.RefusalLemmas.{join_passes}
 use Rattle.rdm_log.proofs.PromiseLemmas.BlockLemmas.{join_ok}
 use Rattle.rdm_locked.proofs.CallLemmas.{grown_counts, join_brings, join_refused_brings}
@@ -20,7 +16,6 @@ invariant_of-self g c =
       few = me.few;
       unused = me.unused;
       left_once = me.left_once;
-      in_bound = call_in_bound k (events.Join c.args.places) (answers.Join (Err _)) c.join_client.new.self me.in_bound c.in_err-client.ensures.adds;
     }
 
 pub invariant_of-self-2 : goal.invariant_of-self-2
@@ -37,5 +32,4 @@ invariant_of-self-2 g c =
       few = omega (arith, passes.few_clients, me.clients);
       unused = omega (arith, c.split_off.ensures.amount_left, me.unused);
       left_once = omega (arith, me.left_once);
-      in_bound = call_in_bound k (events.Join c.args.places) (answers.Join (Ok c.in_ok-client.client)) c.join_client.new.self me.in_bound adds;
     }

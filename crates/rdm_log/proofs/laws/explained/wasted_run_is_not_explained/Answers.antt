@@ -6,7 +6,6 @@ use Rattle.rdm_wire.specs.Honest.Asked.{Unmute, Mute}
 use Rattle.rdm_wire.specs.Honest.Heard.{Silent}
 use Rattle.rdm_agent.specs.Bound.{IsCalm}
 use Rattle.rdm_agent.specs.SampleRun.{sample_uid, exchange, all_branch}
-use Rattle.rdm_agent.specs.declared.search.Search.TheVariants.{Steady}
 use Rattle.rdm_agent.specs.declared.fault.AgentFault.TheVariants.{Exhausted}
 use Rattle.rdm_agent.proofs.SampleHonest.{Goes, none_muted, line, counts, unmutes, silent}
 use Rattle.rdm_log.specs.declared.entry.Entry.TheVariants.{Answer}
@@ -15,7 +14,7 @@ use Rattle.rdm_log.specs.log.History.{awaited, is_paused, is_closed}
 use Rattle.rdm_log.specs.log.Runs.{has_begun, entries_before_run, last_run, run_exchanges}
 use Rattle.rdm_log.specs.log.LogState.{LogState}
 use Rattle.rdm_log.specs.promises.InBound.{IsCalmRun}
-use Rattle.rdm_log.specs.samples.SampleRuns.{came_with, wasted_opening, wasted_sent, wasted_run}
+use Rattle.rdm_log.specs.samples.SampleRuns.{came_with, wasted_with, wasted_sent, wasted_run}
 use Rattle.rdm_log.proofs.laws.explained.wasted_run_is_not_explained.Goals as goal
 
 -- the run's exchanges: four branches, after three unmutes and a mute that nobody answers
@@ -37,7 +36,7 @@ honest = (record { devices = tt; ascending = tt }, none_muted, unmutes [] 0 3 (e
 calm_line : IsCalm [] wasted
 calm_line = record { honest = honest; few = omega arith; no_failure = ((λ e. cc), ((λ e. cc), ((λ e. cc), ((λ e. cc), ((λ e. cc), ((λ e. cc), ((λ e. cc), ((λ e. cc), tt)))))))) }
 
-calm : IsCalmRun Steady wasted_opening wasted_run 1 []
+calm : IsCalmRun (wasted_with wasted_run) 1 []
 unfolding joins accepts asks sends cames finishes answers traded awaited is_paused is_closed has_begun entries_before_run last_run run_exchanges
 calm = record { calm = calm_line; budgeted = omega arith }
 

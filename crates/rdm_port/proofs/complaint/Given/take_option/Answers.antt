@@ -1,5 +1,5 @@
 use Rattle.std.proofs.Common.{[], ◌∷◌}
-use Rattle.rdm_port.specs.Complaints.{command_name}
+use Rattle.rdm_port.specs.body.Texts.{command_name}
 use Rattle.rdm_port.proofs.complaint.Given.take_option.Goals as goal
 
 pub returns-in-Port-Some-clause-told : goal.returns-in-Port-Some-clause-told

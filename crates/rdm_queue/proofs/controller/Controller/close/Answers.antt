@@ -1,11 +1,15 @@
-use Rattle.std.proofs.Common.{◌≡◌, false, [], ◌∷◌, ◌++◌, sym, ap, ◌∙◌}
+use Rattle.std.proofs.Common.{◌≡◌, false, [], ◌∷◌, sym, ap, ◌∙◌}
 use Rattle.rdm_log.specs.declared.entry.Entry.TheVariants.{Close}
 use Rattle.rdm_log.specs.log.History.{is_closed}
+use Rattle.rdm_log.specs.log.LogState.{grown}
 use Rattle.rdm_queue.specs.body.State.{QueueState}
 use Rattle.rdm_queue.proofs.BodyLemmas.CallLemmas.{close_adds}
 use Rattle.rdm_queue.proofs.controller.Controller.close.Goals as goal
 
 pub returns-then-not-is_closed-clause-adds : goal.returns-then-not-is_closed-clause-adds
-returns-then-not-is_closed-clause-adds c = λ o h after.
-    let open_ : is_closed o h ≡ false = sym after.stands.closed_is ∙ ap (λ (s : QueueState). s.closed) (sym (c.deref.ensures ∙ c.self.view_is)) ∙ sym c.is_closed.ensures ∙ c.if-not-is_closed.true in
-    close_adds _ o h _ open_ (c.finish_due.ensures.finishes o (h ++ Close ∷ []) (c.shut.ensures.closes o h after open_))
+returns-then-not-is_closed-clause-adds c = record {
+  search = c.finish_due.ensures.search ∙ c.shut.ensures.search;
+  each = λ k same after.
+      let open_ : is_closed k.opening k.entries ≡ false = sym after.stands.closed_is ∙ ap (λ (s : QueueState). s.closed) (sym (c.deref.ensures ∙ c.self.view_is)) ∙ sym c.is_closed.ensures ∙ c.if-not-is_closed.true in
+      close_adds k _ open_ (c.finish_due.ensures.each (grown k (Close ∷ [])) (c.shut.ensures.search ∙ same) (c.shut.ensures.each k.opening k.entries after open_));
+}

@@ -1,16 +1,15 @@
-use Rattle.std.proofs.Common.{◌≡◌, List, ◌++◌}
-use Rattle.rdm_log.specs.declared.entry.Entry.{Entry}
-use Rattle.rdm_log.specs.promises.Blocks.{AllResults}
-use Rattle.rdm_log.specs.promises.InBound.{AnswersInBound}
+use Rattle.std.proofs.Common.{◌≡◌}
+use Rattle.rdm_log.specs.log.LogState.{LogState}
 use Rattle.rdm_queue.specs.body.State.{unended}
-use Rattle.rdm_queue.specs.body.Agrees.{StandsAmid, ForEachBlock}
+use Rattle.rdm_queue.specs.body.Agrees.{StandsAmid}
+use Rattle.rdm_queue.proofs.BodyLemmas.CallLemmas.{EndedSoFar}
 use Rattle.rdm_queue.proofs.controller.Controller.finish_due.Given as goal
 
 -- the entries so far are Finishes, and Answers in bound
 abbrev pub invariant-loop : goal.invariant-loop
 invariant-loop l = record {
   search : l.self.search ≡ l.fn.self.search;
-  ended : ForEachBlock l.fn.self (λ o h. (results : List Entry) × AllResults results × AnswersInBound l.fn.self.search o h results × StandsAmid o (h ++ results) l.self);
+  ended : (k : LogState) → l.fn.self.search ≡ k.search → StandsAmid k.opening k.entries l.fn.self → EndedSoFar k l.self;
 }
 
 abbrev pub decreases-loop : goal.decreases-loop

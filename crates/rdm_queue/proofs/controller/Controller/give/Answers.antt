@@ -1,5 +1,4 @@
 use Rattle.std.proofs.Common.{◌∙◌}
-use Rattle.rdm_queue.proofs.BodyLemmas.SearchLemmas.{given_searches}
 use Rattle.rdm_queue.proofs.BodyLemmas.CallLemmas.{given_each, none_each}
 use Rattle.rdm_queue.proofs.controller.Controller.give.Goals as goal
 
@@ -8,6 +7,3 @@ returns-clause-frame c = rw (← (c.deref_mut.ensures.value ∙ c.self.view_is))
 
 pub returns-clause-none : goal.returns-clause-none
 returns-clause-none c = rw (← (c.deref_mut.ensures.value ∙ c.self.view_is)) (none_each c.take.result c.deref_mut.result.now c.take.new.self c.take.ensures.none)
-
-pub returns-clause-search : goal.returns-clause-search
-returns-clause-search c = rw (← (c.deref_mut.ensures.value ∙ c.self.view_is)) (given_searches c.take.result c.deref_mut.result.now c.take.new.self _ c.take.ensures.frame c.take.ensures.none)

@@ -8,7 +8,7 @@ pub finish_due-requires : goal.finish_due-requires
 finish_due-requires c =
     let k = c.self.inside.log in
     let after = c.self.invariant.after in
-    rw c.append.ensures (amid_begun c.self.inside.controller c.shut.new.self k Close c.self.invariant (c.shut.ensures.closes k.opening k.entries after (sym (c.is_closed.ensures k.opening k.entries after) ∙ c.if-is_closed.false)) c.shut.ensures.search refl)
+    rw c.append.ensures (amid_begun c.self.inside.controller c.shut.new.self k Close c.self.invariant (c.shut.ensures.each k.opening k.entries after (sym (c.is_closed.ensures k.opening k.entries after) ∙ c.if-is_closed.false)) c.shut.ensures.search tt refl)
 
 pub returns-clause-adds : goal.returns-clause-adds
 returns-clause-adds c =

@@ -19,8 +19,8 @@ returns-clause-found c = (searched c).found
 pub returns-clause-absent : goal.returns-clause-absent
 returns-clause-absent c = (searched c).absent
 
-pub returns-clause-place : goal.returns-clause-place
-returns-clause-place c = (searched c).place
+pub returns-clause-index : goal.returns-clause-index
+returns-clause-index c = (searched c).index
 
 pub returns-clause-none : goal.returns-clause-none
 returns-clause-none c = (searched c).none

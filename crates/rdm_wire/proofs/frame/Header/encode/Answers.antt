@@ -1,7 +1,7 @@
 use Rattle.std.proofs.Common.{◌≡◌, ℕ, List, ◌++◌, refl, ap, ◌∙◌}
 use Rattle.rdm_wire.specs.Bytes.{checksum, two_bytes}
 use Rattle.rdm_wire.specs.Packet.{Fields, packet, body_of, header_of}
-use Rattle.rdm_wire.specs.Header.{header_fields}
+use Rattle.rdm_wire.specs.body.Header.{header_fields}
 use Rattle.rdm_wire.proofs.frame.Header.encode.Goals as goal
 
 -- the header, the data and the sum, one after another

@@ -10,7 +10,9 @@ pub devices-init : goal.devices-init
 devices-init c = none_placed c.in-Some.values.now.items c.new-devices.result c.new-devices.ensures
 
 pub returns-in-Err : goal.returns-in-Err
-returns-in-Err c other = none_listed (view c.args.value.now) c.in-Some.values.now.items c.devices.i c.index.result.now c.devices.devices c.in-Some.ensures (omega arith) (omega arith) c.index.ensures c.devices.invariant (c.in-Err.ensures.refused (sym c.in_item.ensures ∙ other))
+returns-in-Err c other = none_listed (view c.args.value.now) c.in-Some.values.now.items c.devices.i c.index.result.now
+    c.devices.devices c.in-Some.ensures (omega arith) (omega arith) c.index.ensures c.devices.invariant
+    (c.in-Err.ensures.refused (sym c.in_item.ensures ∙ other))
 
 pub devices-preserved : goal.devices-preserved
 devices-preserved c = one_placed c.in-Some.values.now.items c.devices.i c.index.result.now c.devices.devices c.add.new.devices (omega arith) c.index.ensures c.devices.invariant c.in-Ok.ensures.added

@@ -20,13 +20,16 @@ pub items-init : goal.items-init
 items-init g c = each_none (g.F.Form.says c.args.self.now.form) c.new-items.result.items c.new-items.ensures.items
 
 pub returns-in-Err : goal.returns-in-Err
-returns-in-Err g c other = no_list (g.F.Form.says c.args.self.now.form) c.args.self.now.least c.args.self.now.most (view c.args.value.now) c.in-Some.values.now.items c.items.i c.index.result.now c.in-Some.ensures (omega arith) c.index.ensures (c.in-Err.ensures (sym c.in_item.ensures ∙ other))
+returns-in-Err g c other = no_list (g.F.Form.says c.args.self.now.form) c.args.self.now.least c.args.self.now.most
+    (view c.args.value.now) c.in-Some.values.now.items c.items.i c.index.result.now c.in-Some.ensures (omega arith)
+    c.index.ensures (c.in-Err.ensures (sym c.in_item.ensures ∙ other))
 
 pub items-preserved : goal.items-preserved
 items-preserved g c =
     let pushed : c.push.new.self.items ≡ c.items.items.items ++ c.in-Ok.item ∷ [] = search rules in
     subst (Each (g.F.Form.says c.args.self.now.form) (items_view (take (c.items.i + 1) c.in-Some.values.now.items))) (sym pushed)
-    (each_next (g.F.Form.says c.args.self.now.form) c.in-Some.values.now.items c.items.items.items c.items.i c.index.result.now c.in-Ok.item (omega arith) c.index.ensures c.items.invariant c.in-Ok.ensures)
+    (each_next (g.F.Form.says c.args.self.now.form) c.in-Some.values.now.items c.items.items.items c.items.i
+    c.index.result.now c.in-Ok.item (omega arith) c.index.ensures c.items.invariant c.in-Ok.ensures)
 
 pub returns : goal.returns
 returns g c =

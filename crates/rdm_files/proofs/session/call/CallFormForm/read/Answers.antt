@@ -1,7 +1,8 @@
 use Rattle.std.proofs.Common.{codes, rules}
 use Rattle.serde_json.specs.View.{view}
 use Rattle.rdm_wire.specs.declared.request.ReqClass.TheVariants as classes
-use Rattle.rdm_files.specs.SessionFiles.{IsCall, IsRequest, IsAsk, HasNeither}
+use Rattle.rdm_files.specs.SessionFiles.{IsCall, HasNeither}
+use Rattle.rdm_files.specs.body.Elements.{IsRequest, IsAsk}
 use Rattle.rdm_files.proofs.SessionForms.{is_get, is_set, is_ask, only_get, only_set, only_ask, reads_same}
 use Rattle.rdm_files.proofs.session.call.CallFormForm.read.Goals as goal
 

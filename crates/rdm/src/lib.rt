@@ -1,0 +1,21 @@
+//! What a program needs to embed the queue in one thread: the names of the crates below, so that it lists this one. Each
+//! name is documented where it is defined. Sessions in threads are in `rdm_locked` and `rdm_lanes`.
+#![tactic(auto)]
+
+pub use rdm_agent::{Agent, AgentFault, DEFAULT_BUDGET, Kind, Op, OpReply, Search};
+pub use rdm_join::{LineEvent, LineReply, ReplyHead, Status};
+pub use rdm_line::{
+    AddFault, Collision, CollisionBytes, Line, LineFault, Parameter, ParameterPart, Parameters,
+    Scene, SceneDevice, SceneDevices, SimLine, StreamLine, TapeLine,
+};
+pub use rdm_queue::{
+    Answer, AskCompletion, AskFault, Call, Cause, ClientId, Completion, Config, Controller,
+    DiscoveryEnd, Entry, Event, JoinFault, LEAST_FREE, Log, LogFull, MOST_CLIENTS,
+    MOST_DISCOVERIES, MOST_FREE_ENTRIES, MOST_PLACES, NoMemory, NotAsked, NotIdle, Opening,
+    Outcome, OutcomeKind, Owner, Session, Setup, SubmitFault,
+};
+pub use rdm_wire::{
+    AckType, BranchReply, Device, DeviceSet, Frame, MOST_DEVICES, MOST_PARAMETER_BYTES, MuteAck,
+    QUEUED_MESSAGE, ReqClass, Request, RespClass, Response, SetFull, Uid, UidFault, UidRange,
+    UidSet,
+};

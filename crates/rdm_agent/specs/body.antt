@@ -1,0 +1,3 @@
+-- What only the proofs need.
+pub mod Sound
+pub mod View

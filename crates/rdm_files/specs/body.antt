@@ -1,0 +1,3 @@
+-- What only the proofs need.
+pub mod Losses
+pub mod Elements

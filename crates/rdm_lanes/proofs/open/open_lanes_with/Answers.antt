@@ -1,0 +1,37 @@
+use Rattle.std.proofs.Common.{◌≡◌, ◌∙◌, sym, subst, arith}
+use Rattle.rdm_log.specs.log.LogState.{LogState}
+use Rattle.rdm_log.specs.log.Legal.{Legal}
+use Rattle.rdm_lanes.specs.Lines.{IsBetweenTurns}
+use Rattle.rdm_lanes.specs.Lanes.{AllFit}
+use Rattle.rdm_lanes.specs.Publishing.{Publishes}
+use Rattle.rdm_lanes.specs.Opened.{opened_with}
+use Rattle.rdm_lanes.proofs.OpenLemmas.{few_places, served_opened, fits_opened, new_hold_nothing, new_clients, new_pairs, publishes_opened}
+use Rattle.rdm_lanes.proofs.FirstLemmas.{new_shown_first}
+use Rattle.rdm_lanes.proofs.open.open_lanes_with.Goals as goal
+
+pub invariant_of-result-in-Ok-joined : goal.invariant_of-result-in-Ok-joined
+invariant_of-result-in-Ok-joined g c = record {
+  publishes = subst (λ (k : LogState). Publishes k c.in-Ok-new.views) (sym c.in-Ok-joined.ensures.session) (publishes_opened c.args.setup c.args.log.room c.args.places.now c.in-Ok-new.views c.in-Ok-new.ensures.0 c.in-Ok-new.ensures.1);
+  shown_first = new_shown_first c.in-Ok-new.views.shown c.args.ring c.args.places.now c.in-Some-open_clients.clients.items c.in-Some-open_clients.lanes.items c.in-Some-open_clients.ensures;
+}
+
+pub invariant_of-result : goal.invariant_of-result
+invariant_of-result g c =
+    let places = c.args.places.now in
+    let all = c.in-Some-open_clients.ensures in
+    let is : c.in-Ok-joined.session ≡ opened_with c.args.setup c.args.log.room places = c.in-Ok-joined.ensures.session in
+    let legal = subst (λ (k : LogState). Legal k.opening k.entries) is c.in-Ok-joined.ensures.legal in
+    record {
+      few = omega (arith, all.lanes_long, c.in-Some-open_clients.lanes.ok.0, few_places c.args.setup.config.places places (sym c.fault_of_places.ensures ∙ c.in_default.is));
+      served = subst IsBetweenTurns (sym is) (served_opened c.args.setup c.args.log.room places);
+      fits = subst (λ (k : LogState). AllFit k c.in-Some-open_clients.lanes.items) (sym is) (fits_opened c.args.setup c.args.log.room c.args.ring places c.in-Some-open_clients.clients.items c.in-Some-open_clients.lanes.items legal all);
+    }
+
+pub discard-requires : goal.discard-requires
+discard-requires g c = new_hold_nothing c.args.ring c.args.places.now c.in-Some-open_clients.clients.items c.in-Some-open_clients.lanes.items c.in-Some-open_clients.ensures
+
+pub returns-in-Ok-joined-clause-clients : goal.returns-in-Ok-joined-clause-clients
+returns-in-Ok-joined-clause-clients g c = new_clients c.args.ring c.args.places.now c.in-Some-open_clients.clients.items c.in-Some-open_clients.lanes.items c.in-Some-open_clients.ensures
+
+pub returns-in-Ok-joined-clause-pairs : goal.returns-in-Ok-joined-clause-pairs
+returns-in-Ok-joined-clause-pairs g c = new_pairs c.args.ring c.args.places.now c.in-Some-open_clients.clients.items c.in-Some-open_clients.lanes.items c.in-Some-open_clients.ensures

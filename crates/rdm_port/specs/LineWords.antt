@@ -1,0 +1,75 @@
+-- What arguments ask for on a line of the caller's own, as `clap` reads them.
+use Rattle.std.specs.Prelude.{◌≡◌, ◌≤◌, ℕ, List, [], Option, Some, None, codes, length, option_map, unwrap_or, true}
+use Rattle.std.specs.Str.Parse.{IsNumeral, digits_value, without_leading_plus}
+use Rattle.clap.specs.Words.{App, Row, Text, new_app, new_rule, with_rule, with_subcommand, subcommand_of, first_of}
+use Rattle.clap.specs.Words.{all_of, fault_of}
+use Rattle.clap.specs.declared.builder.action.ArgAction.TheVariants.{Append, SetTrue}
+use Rattle.rdm_port.specs.Words.{bare, is_set, texts_of}
+use Rattle.rdm_port.specs.declared.line_job.LineDiscovery.{LineDiscovery}
+
+-- a command with the streams of a line, of which the one for replies may be left out
+abbrev pub line_streams : Text → App
+line_streams name =
+    with_rule
+    (with_rule
+    (record (new_app name) { top = record (new_app name).top { disable_help_flag = true } })
+    (record (new_rule (codes "line")) { long = Some (codes "line"); required = true }))
+    (record (new_rule (codes "replies")) { long = Some (codes "replies") })
+
+-- the command that discovers the devices of a line
+abbrev pub line_discover : App
+line_discover =
+    with_rule
+    (with_rule
+    (with_rule
+    (with_rule
+    (with_rule
+    (line_streams (codes "discover"))
+    (record (new_rule (codes "source")) { long = Some (codes "source"); required = true }))
+    (record (new_rule (codes "known")) { long = Some (codes "known"); action = Some Append }))
+    (record (new_rule (codes "budget")) { long = Some (codes "budget") }))
+    (record (new_rule (codes "incremental")) { long = Some (codes "incremental"); action = Some SetTrue }))
+    (record (new_rule (codes "quick")) { long = Some (codes "quick"); action = Some SetTrue })
+
+-- the commands on a line
+abbrev pub line_commands : App
+line_commands = with_subcommand bare line_discover.top
+
+-- the values of an option that may be given often, in order
+abbrev pub texts_given : Text → List Row → List Text
+texts_given name given = unwrap_or (all_of name given) []
+
+-- the text is this whole number, in decimal digits, which a plus may precede
+abbrev pub IsNumber : Text → ℕ → Type 0
+IsNumber text n =
+    IsNumeral 10 (without_leading_plus text) × (n ≡ digits_value 10 (without_leading_plus text))
+
+-- the budget that is given, from 1 to 1,000,000,000; if none is, the default
+abbrev pub IsBudget : Option Text → ℕ → Type 0
+IsBudget None budget = budget ≡ 384008
+IsBudget (Some text) budget = IsNumber text budget × (1 ≤ budget) × (budget ≤ 1000000000)
+
+-- the arguments say this discovery
+pub record IsDiscoveryOf (given : List Row) (job : LineDiscovery) : Type 0 where
+  pub out : first_of (codes "line") given ≡ Some job.out.now
+  pub replies : first_of (codes "replies") given ≡ option_map (λ r. r.now) job.replies
+  pub source : first_of (codes "source") given ≡ Some job.source.now
+  pub known : texts_given (codes "known") given ≡ texts_of job.known.items
+  pub few : length job.known.items ≤ 1024
+  pub incremental : job.incremental ≡ is_set (codes "incremental") given
+  pub quick : job.quick ≡ is_set (codes "quick") given
+  pub budget : IsBudget (first_of (codes "budget") given) job.budget
+
+-- the command with its arguments is this discovery
+abbrev pub IsGivenOnLine : Option (Text × List Row) → LineDiscovery → Type 0
+IsGivenOnLine None job = ⊥
+IsGivenOnLine (Some command) job = (command.0 ≡ codes "discover") × IsDiscoveryOf command.1 job
+
+-- the words ask for the discovery
+abbrev pub AsksOnLine : List Text → LineDiscovery → Type 0
+AsksOnLine words job =
+    (fault_of line_commands words ≡ []) × IsGivenOnLine (subcommand_of line_commands words) job
+
+-- the words ask for none
+abbrev pub AsksNothingOnLine : List Text → Type 0
+AsksNothingOnLine words = (job : LineDiscovery) → AsksOnLine words job → ⊥

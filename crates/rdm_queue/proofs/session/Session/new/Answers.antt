@@ -1,5 +1,0 @@
-use Rattle.rdm_queue.proofs.BodyLemmas.SessionLemmas.{session_first}
-use Rattle.rdm_queue.proofs.session.Session.new.Goals as goal
-
-pub invariant_of-result : goal.invariant_of-result
-invariant_of-result c = rw (c.after.ensures.log, c.requires.empty, c.opening_of-opening.ensures) (session_first c.in-Ok.controller c.args.config c.args.log.room c.after.ensures.some c.in-Ok.ensures.stands c.in-Ok.ensures.search)
