@@ -5,11 +5,11 @@ ghost use Rattle.rdm_agent.specs.Calls.{next_op};
 
 use crate::bench::{Bench, Sample, holds};
 use crate::devices::{Spread, devices};
-use crate::lines::{TestLine, Wrong};
+use crate::lines::{Taped, TestLine, Wrong};
 use crate::packets::TRANSACTION_NUMBER;
 use rdm_agent::{Agent, AgentFault, DEFAULT_BUDGET, Kind, Op, OpReply, Search};
 use rdm_rig::controller;
-use rdm_wire::{DeviceSet, Frame, UidSet, read_branch_reply};
+use rdm_wire::{DeviceSet, Frame, UidSet};
 use std::alloc::Global;
 use std::time::CpuClock;
 
@@ -33,18 +33,29 @@ const WORKS: [Work; 4] = [
 /// Times runs over this many devices.
 pub fn time<R: CpuClock + Print + Eprint>(bench: &Bench<'_, R>, count: usize) -> Option<()> {
     for work in WORKS {
-        let line = heard(bench.alloc, count)?;
-        bench.time("agent", work, &mut Runs { work, count, line })?;
+        let tape = tape(bench.alloc, count)?;
+        let heard = tape
+            .iter()
+            .map(|taped| taped.heard())
+            .collect::<Vec<OpReply>>(bench.alloc)
+            .ok()?;
+        let mut runs = Runs {
+            work,
+            count,
+            heard,
+            tape,
+        };
+        bench.time("agent", work, &mut runs)?;
     }
     Some(())
 }
 
-/// A line with this many devices that loses nothing, and what a run heard on it.
-pub fn heard(alloc: Global, count: usize) -> Option<TestLine> {
+/// What comes in a steady run on a line with this many devices that loses nothing.
+pub fn tape(alloc: Global, count: usize) -> Option<Vec<Taped>> {
     let devices = devices(count, Spread::Random, (count as u64).wrapping_add(42))?;
     let mut line = TestLine::new(alloc, Wrong::Nothing, &devices, 1)?;
     holds(line.searched(Search::Steady)?.found().len() == count)?;
-    Some(line)
+    Some(line.tape)
 }
 
 // Runs over this many devices, and what they hear.
@@ -52,7 +63,8 @@ pub fn heard(alloc: Global, count: usize) -> Option<TestLine> {
 struct Runs {
     work: Work,
     count: usize,
-    line: TestLine,
+    heard: Vec<OpReply>,
+    tape: Vec<Taped>,
 }
 
 impl Sample for Runs {
@@ -62,7 +74,7 @@ impl Sample for Runs {
             return Some(1);
         }
         let mut agent = Agent::start(Kind::Full, &UidSet::new(), DEFAULT_BUDGET);
-        for (place, heard) in self.line.heard.as_slice().iter().enumerate() {
+        for (place, heard) in self.heard.as_slice().iter().enumerate() {
             let op = agent.next();
             self.write(op, place)?;
             hear(&mut agent, op, self.read(place, *heard))?;
@@ -71,7 +83,7 @@ impl Sample for Runs {
             return None;
         }
         holds(agent.end().ok()?.len() == self.count)?;
-        Some(self.line.heard.len() as u64)
+        Some(self.heard.len() as u64)
     }
 }
 
@@ -89,10 +101,8 @@ impl Runs {
 
     // What the agent hears. A branch reply is read from its bytes, if that is to be done.
     fn read(&self, place: usize, heard: OpReply) -> OpReply {
-        match (heard, self.line.replies.get(place)) {
-            (OpReply::Branch(_), Some(reply)) if self.work != Work::Step => {
-                OpReply::Branch(read_branch_reply(reply))
-            }
+        match self.tape.get(place) {
+            Some(taped) if self.work != Work::Step => taped.heard(),
             _ => heard,
         }
     }

@@ -1,6 +1,6 @@
 //! Simulated lines, what may be wrong with them, how discovery runs end on them, and how many frames they take.
-ghost use Rattle.std.specs.Prelude.{◌≡◌, ◌≢◌};
-ghost use Rattle.rdm_agent.specs.Calls.{next_op};
+ghost use Rattle.std.specs.Prelude.{◌≡◌, ◌≢◌, true};
+ghost use Rattle.rdm_agent.specs.Calls.{next_op, fits};
 ghost use Rattle.rdm_agent.specs.declared.op.Op.TheVariants.{End};
 
 use crate::bench::{Bench, holds};
@@ -8,10 +8,14 @@ use crate::devices::{Random, Spread, devices, uid_of};
 use rdm_agent::{Agent, AgentFault, DEFAULT_BUDGET, Kind, Op, OpReply, Search};
 use rdm_join::LineReply;
 use rdm_line::{
-    Collision, CollisionBytes, Line, Parameters, Scene, SceneDevice, SceneDevices, SimLine,
+    Collision, CollisionBytes, Line, LineFault, Parameters, Scene, SceneDevice, SceneDevices,
+    SimLine,
 };
 use rdm_rig::controller;
-use rdm_wire::{Device, Uid, UidSet, encode_response, mute_response, write_branch_reply};
+use rdm_wire::{
+    Device, MuteAck, Uid, UidRange, UidSet, encode_response, mute_response, read_branch_reply,
+    write_branch_reply,
+};
 use std::alloc::Global;
 
 /// What is wrong with a line.
@@ -27,8 +31,8 @@ pub enum Wrong {
     Burst(u64),
     /// One silent branch in this many brings noise.
     Noise(u64),
-    /// A device breaks the rules. It replies to each branch that it is in.
-    Odd(Odd, Place),
+    /// The device with this number as its UID breaks the rules. It replies to each branch that it is in.
+    Odd(Odd, u64),
 }
 
 /// How a device breaks the rules.
@@ -42,24 +46,6 @@ pub enum Odd {
     GoesOn,
 }
 
-/// Where its UID is.
-#[derive(Clone, Copy, Debug, PartialEq, Eq)]
-pub enum Place {
-    Lowest,
-    Middle,
-    Highest,
-}
-
-impl Place {
-    fn uid(self) -> Uid {
-        match self {
-            Place::Lowest => Uid::new(0, 0),
-            Place::Middle => Uid::new(0x7fff, 0xffff_fffe),
-            Place::Highest => Uid::new(0xffff, 0xffff_fffe),
-        }
-    }
-}
-
 // No more exchanges than these are lost, and no more collisions spell a phantom.
 const MOST_EXCHANGES: u64 = 40_000;
 
@@ -67,7 +53,7 @@ impl Wrong {
     /// The device that breaks the rules, if there is one.
     pub fn odd(self) -> Option<Uid> {
         match self {
-            Wrong::Odd(_, place) => Some(place.uid()),
+            Wrong::Odd(_, number) => Some(uid_of(number)),
             _ => None,
         }
     }
@@ -123,6 +109,7 @@ fn noise() -> Option<Collision> {
 }
 
 /// These bytes as what came.
+#[inline(never)]
 pub fn bytes_of(bytes: &[u8]) -> Option<LineReply> {
     let mut reply = LineReply::new();
     reply.try_extend_from_slice(bytes).ok()?;
@@ -130,7 +117,9 @@ pub fn bytes_of(bytes: &[u8]) -> Option<LineReply> {
 }
 
 /// A device, as its acknowledgement says it.
-pub fn device_of(uid: Uid) -> Device {
+pub fn device_of(uid: Uid) -> Device
+    ensures { result.uid ≡ uid }
+{
     Device {
         uid,
         control: 0,
@@ -153,15 +142,47 @@ pub fn add(devices: &mut SceneDevices, uid: Uid, params: Parameters) -> Option<(
     devices.add(device).ok()
 }
 
+/// What an operation asks.
+#[derive(Clone, Copy, Debug)]
+pub enum Asked {
+    Unmute,
+    Mute,
+    Branch,
+}
+
+/// What came after an operation of a run.
+#[derive(Drop)]
+pub struct Taped {
+    asked: Asked,
+    pub reply: LineReply,
+}
+
+impl Taped {
+    /// What an agent hears of it.
+    pub fn heard(&self) -> OpReply {
+        match self.asked {
+            Asked::Unmute => OpReply::Done,
+            Asked::Mute if self.reply.is_empty() => OpReply::Mute(None),
+            Asked::Mute => OpReply::Mute(Some(ACK)),
+            Asked::Branch => OpReply::Branch(read_branch_reply(&self.reply)),
+        }
+    }
+}
+
+// The acknowledgement that each device gives.
+const ACK: MuteAck = MuteAck {
+    control: 0,
+    binding: None,
+};
+
 /// A line for discovery runs.
 #[derive(Drop)]
 pub struct TestLine {
     line: SimLine,
     wrong: Wrong,
     random: Random,
-    /// What runs heard, and its bytes.
-    pub heard: Vec<OpReply>,
-    pub replies: Vec<LineReply>,
+    /// What came in runs.
+    pub tape: Vec<Taped>,
 }
 
 impl TestLine {
@@ -183,8 +204,7 @@ impl TestLine {
             line: SimLine::new(alloc, scene).ok()?,
             wrong,
             random,
-            heard: Vec::new(alloc),
-            replies: Vec::new(alloc),
+            tape: Vec::new(alloc),
         })
     }
 
@@ -206,43 +226,84 @@ impl TestLine {
     {
         let op = agent.next();
         let frame = op.frame(controller(), tn);
-        let honest = self.line.exchange(&frame).ok()?;
-        let reply = self.changed(op, tn, honest)?;
-        let heard = op.read_reply(controller(), tn, Some(reply.as_slice()));
-        agent.hear(heard);
-        self.heard.push(heard).ok()?;
-        self.replies.push(reply).ok()
+        let answer = match self.line.exchange(&frame) {
+            Ok(reply) => Ok(self.changed(op, tn, reply)?),
+            Err(failure) => Err(failure),
+        };
+        agent.hear(read(op, tn, &answer));
+        self.keep(asked_by(op), answer.ok()?)
+    }
+
+    fn keep(&mut self, asked: Asked, reply: LineReply) -> Option<()> {
+        self.tape.push(Taped { asked, reply }).ok()
     }
 
     // What comes in place of the reply of those that keep to the rules.
     fn changed(&mut self, op: Op, tn: u8, reply: LineReply) -> Option<LineReply> {
-        match (op, self.wrong) {
-            (Op::Branch(_), Wrong::Noise(many)) if reply.is_empty() => {
-                bytes_of(if self.random.below(many) == 0 {
-                    &[0xff]
-                } else {
-                    &[]
-                })
-            }
-            (Op::Branch(range), Wrong::Odd(odd, place)) if range.contains(place.uid()) => {
-                replied(odd, place, reply)
-            }
-            (Op::Mute(uid), Wrong::Odd(Odd::GoesOn, place)) if uid == place.uid() => {
+        match op {
+            Op::Branch(range) => self.branched(range, reply),
+            Op::Mute(uid) => self.muted(uid, tn, reply),
+            _ => Some(reply),
+        }
+    }
+
+    fn branched(&mut self, range: UidRange, reply: LineReply) -> Option<LineReply> {
+        match self.wrong {
+            Wrong::Noise(_) if !reply.is_empty() => Some(reply),
+            Wrong::Noise(many) => self.silence(many),
+            Wrong::Odd(odd, number) => replied(odd, uid_of(number), range, reply),
+            _ => Some(reply),
+        }
+    }
+
+    fn muted(&self, uid: Uid, tn: u8, reply: LineReply) -> Option<LineReply> {
+        match self.wrong {
+            Wrong::Odd(Odd::GoesOn, number) if uid == uid_of(number) => {
                 bytes_of(&encode_response(&mute_response(&device_of(uid), controller(), tn)))
             }
             _ => Some(reply),
         }
     }
+
+    // Silence, and at times a byte of noise.
+    fn silence(&mut self, many: u64) -> Option<LineReply> {
+        if self.random.below(many) == 0 {
+            bytes_of(&[0xff])
+        } else {
+            Some(LineReply::new())
+        }
+    }
 }
 
-// What comes of this device's reply to a branch beside that of the others: its reply alone, or noise.
-fn replied(odd: Odd, place: Place, others: LineReply) -> Option<LineReply> {
-    let count = if odd == Odd::TenBytes { 10 } else { 24 };
-    let text = write_branch_reply(place.uid(), 7);
-    match text.get(..count) {
-        Some(text) if others.is_empty() => bytes_of(text),
-        _ => bytes_of(&[0xff]),
+fn asked_by(op: Op) -> Asked {
+    match op {
+        Op::UnmuteAll | Op::End => Asked::Unmute,
+        Op::Mute(_) => Asked::Mute,
+        Op::Branch(_) => Asked::Branch,
     }
+}
+
+// What came after the frame of this operation.
+fn read(op: Op, tn: u8, answer: &Result<LineReply, LineFault>) -> OpReply
+    requires { op ≢ End }
+    ensures { fits result op ≡ true }
+{
+    match answer {
+        Ok(bytes) => op.read_reply(controller(), tn, Some(bytes.as_slice())),
+        Err(LineFault) => op.read_reply(controller(), tn, None),
+    }
+}
+
+// What comes of this device's reply to a branch beside that of the others: nothing, its reply alone, or noise.
+fn replied(odd: Odd, uid: Uid, range: UidRange, others: LineReply) -> Option<LineReply> {
+    if !range.contains(uid) {
+        return Some(others);
+    }
+    if !others.is_empty() {
+        return bytes_of(&[0xff]);
+    }
+    let text = write_branch_reply(uid, 7);
+    bytes_of(text.get(..if odd == Odd::TenBytes { 10 } else { 24 })?)
 }
 
 // Lines on which each run finds all devices.
@@ -312,10 +373,10 @@ pub fn dishonest<R: Print>(bench: &Bench<'_, R>, size: usize) -> Option<()> {
     for wrong in DISHONEST {
         print(bench, wrong, Spread::Random, size)?;
     }
-    for place in [Place::Lowest, Place::Middle, Place::Highest] {
+    for number in [0, 0x7fff_ffff_fffe, 0xffff_ffff_fffe] {
         for odd in [Odd::NeverMutes, Odd::TenBytes, Odd::GoesOn] {
-            print(bench, Wrong::Odd(odd, place), Spread::Random, size)?;
-            print(bench, Wrong::Odd(odd, place), Spread::Close, size)?;
+            print(bench, Wrong::Odd(odd, number), Spread::Random, size)?;
+            print(bench, Wrong::Odd(odd, number), Spread::Close, size)?;
         }
     }
     Some(())

@@ -68,12 +68,13 @@ impl Line for Replay {
 
     fn exchange(&mut self, frame: &Frame) -> Result<LineReply, LineFault> {
         let tn = frame.get(TRANSACTION_NUMBER).copied().unwrap_or(0);
-        let reply = match self.replies.get(self.next) {
+        let place = self.next % self.replies.len().max(1);
+        self.next = place.wrapping_add(1);
+        let reply = match self.replies.get(place) {
             Some(reply) => numbered(reply, tn),
-            None => LineReply::new(),
+            None => None,
         };
-        self.next = after(self.next, self.replies.len());
-        Ok(reply)
+        Ok(reply.unwrap_or(LineReply::new()))
     }
 
     fn failures(&self) -> u64 {
@@ -81,16 +82,10 @@ impl Line for Replay {
     }
 }
 
-/// Of this many, the one after this one, in a circle.
-pub fn after(place: usize, count: usize) -> usize {
-    let next = place.wrapping_add(1);
-    if next < count { next } else { 0 }
-}
-
 /// The same packet with this transaction number, and its checksum (E1.20, packet format). Other bytes are the same.
 #[inline(never)]
-pub fn numbered(reply: &LineReply, tn: u8) -> LineReply {
-    let mut reply = copied(reply);
+pub fn numbered(reply: &LineReply, tn: u8) -> Option<LineReply> {
+    let mut reply = bytes_of(reply)?;
     let bytes = reply.as_mut_slice();
     let length = bytes.len();
     if length > TRANSACTION_NUMBER + 2 && bytes[0] == 0xcc {
@@ -102,15 +97,7 @@ pub fn numbered(reply: &LineReply, tn: u8) -> LineReply {
         bytes[length - 2] = high;
         bytes[length - 1] = low;
     }
-    reply
-}
-
-/// The same bytes again.
-#[inline(never)]
-pub fn copied(reply: &LineReply) -> LineReply {
-    let mut bytes = LineReply::new();
-    bytes.try_extend_from_slice(reply.as_slice()).unwrap();
-    bytes
+    Some(reply)
 }
 
 // What is called.
@@ -144,10 +131,8 @@ pub fn time<R: CpuClock + Print + Eprint>(bench: &Bench<'_, R>, count: usize) ->
     };
     calls.request.param = data(count)?;
     for tn in 0..=u8::MAX {
-        calls
-            .events
-            .push(LineEvent::Reply(numbered(&reply, tn)))
-            .ok()?;
+        let event = LineEvent::Reply(numbered(&reply, tn)?);
+        calls.events.push(event).ok()?;
     }
     for work in WORKS {
         calls.work = work;
@@ -191,7 +176,7 @@ impl Calls {
             Work::Judge => matches!(judge(&self.sent(tn), event), Judged::Whole(_)),
             Work::ReadBranchReply => matches!(read_branch_reply(&self.branch), BranchReply::One(_)),
             Work::Clone => reply.clone().unwrap().len() == reply.len(),
-            Work::TryExtendFromSlice => copied(reply).len() == reply.len(),
+            Work::TryExtendFromSlice => bytes_of(reply).is_some(),
         }
     }
 

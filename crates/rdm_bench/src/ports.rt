@@ -4,7 +4,7 @@ ghost use Rattle.rdm_lanes.specs.Workers.{book_of};
 
 use crate::bench::{Bench, holds};
 use crate::packets::Replay;
-use crate::served::{CLIENTS, Job, PLACES, Served, Timing, config, long_log, told};
+use crate::served::{CLIENTS, FREE, Job, PLACES, Served, Timing, config, told};
 use crate::soak::tagged;
 use left_right::Absorb;
 use rdm_client::{DeviceView, Told};
@@ -12,7 +12,7 @@ use rdm_lanes::{BlankHistory, Lanes, RingFault, Shown, ViewHistory, WorkerEnd, o
 use rdm_line::Line;
 use rdm_locked::{CallShare, Exchange, Left, LockedClient, Port, SessionEnd, WorkerEnd as PortEnd};
 use rdm_queue::SubmitFault;
-use rdm_rig::{AskNote, Note, cancels};
+use rdm_rig::{AskNote, Note, cancels, log};
 use std::alloc::Global;
 use std::marker::Brand;
 use std::sync::Wait;
@@ -26,7 +26,7 @@ pub fn time<R: CpuClock + Print + Eprint + Wait>(
 ) -> Option<()> {
     for clients in [1, CLIENTS] {
         let mut timing = Timing {
-            bench,
+            bench: &*bench,
             subject: "port, clients",
             work: clients,
             clients,
@@ -70,8 +70,8 @@ impl<L: Ledger, R: Wait, X: Line> Served for Locked<'_, L, R, X> {
         holds(end == PortEnd::Turns)
     }
 
-    fn collect(&mut self, client: usize) -> Option<Option<Told>> {
-        told(self.clients.get_mut(client)?.collect(self.bench.rt))
+    fn collect(&mut self, client: usize) -> Option<Told> {
+        told(self.clients.get_mut(client)?.collect(self.bench.rt)?)
     }
 
     fn pause(&mut self, pauses: bool) -> Option<()> {
@@ -104,7 +104,7 @@ fn on_port_of<L: Ledger, X: Line + Drop, J: Job, R: Wait>(
     requires parts { (blank.parts ≡ L.parts) × (L.parts ≡ 17) }
 {
     let alloc = bench.alloc;
-    let port = Port::<L>::new(alloc, blank, config(), long_log(alloc)?).ok()?;
+    let port = Port::<L>::new(alloc, blank, config(), log(alloc, FREE).ok()?).ok()?;
     let mut locked = Locked {
         bench,
         port: &port,
@@ -190,8 +190,8 @@ impl<J: ViewHistory, W: Wait + Drop, X: Line> Served for Rings<J, Shown<J>, W, X
         holds(self.lanes.worker.work(self.alloc, &mut self.line, turns) == WorkerEnd::Turns)
     }
 
-    fn collect(&mut self, client: usize) -> Option<Option<Told>> {
-        told(self.lanes.clients.get_mut(client)?.collect())
+    fn collect(&mut self, client: usize) -> Option<Told> {
+        told(self.lanes.clients.get_mut(client)?.collect()?)
     }
 
     fn pause(&mut self, pauses: bool) -> Option<()> {
@@ -224,7 +224,7 @@ fn on_rings_of<J: ViewHistory, X: Line + Drop, D: Job, W: Wait + Drop>(
     requires { book_of history ≡ J.book }
 {
     let places = &[PLACES; 16][..usize::from(count.min(16))];
-    let log = long_log(alloc)?;
+    let log = log(alloc, FREE).ok()?;
     let lanes: Lanes<J, Shown<J>, W, Note, AskNote> = open_lanes(
         rt,
         alloc,

@@ -1,14 +1,15 @@
 //! The queue of requests in one thread, with a log and without, and its discoveries.
-use crate::agent::heard;
+use crate::agent::tape;
 use crate::bench::{Bench, Sample, holds};
+use crate::lines::bytes_of;
 use crate::packets::{Replay, TAG};
-use crate::served::{CLIENTS, Job, Served, Timing, config, long_log};
+use crate::served::{CLIENTS, FREE, Job, Served, Timing, config};
 use rdm_agent::Kind;
 use rdm_client::Told;
 use rdm_join::LineEvent;
 use rdm_line::Line;
 use rdm_queue::{ClientId, Completion, Controller, Outcome, Session};
-use rdm_rig::request;
+use rdm_rig::{log, request};
 use rdm_wire::DeviceSet;
 use std::alloc::Global;
 use std::time::CpuClock;
@@ -36,7 +37,7 @@ impl Queue {
     }
 
     fn logged(alloc: Global) -> Option<Queue> {
-        Session::new(alloc, config(), long_log(alloc)?)
+        Session::new(alloc, config(), log(alloc, FREE).ok()?)
             .ok()
             .map(Queue::Logged)
     }
@@ -87,14 +88,14 @@ impl Served for Clients {
         Some(())
     }
 
-    fn collect(&mut self, client: usize) -> Option<Option<Told>> {
+    fn collect(&mut self, client: usize) -> Option<Told> {
         let client = id_of(client);
-        Some(match (&mut self.queue, self.by) {
-            (Queue::Plain(queue), By::NextCompletion) => told(queue.next_completion(client)),
-            (Queue::Logged(queue), By::NextCompletion) => told(queue.next_completion(client)),
-            (Queue::Plain(queue), By::NextOutcome) => of_request(queue.next_outcome(client)),
-            (Queue::Logged(queue), By::NextOutcome) => of_request(queue.next_outcome(client)),
-        })
+        match (&mut self.queue, self.by) {
+            (Queue::Plain(queue), By::NextCompletion) => told(queue.next_completion(client)?),
+            (Queue::Logged(queue), By::NextCompletion) => told(queue.next_completion(client)?),
+            (Queue::Plain(queue), By::NextOutcome) => of_request(queue.next_outcome(client)?),
+            (Queue::Logged(queue), By::NextOutcome) => of_request(queue.next_outcome(client)?),
+        }
     }
 }
 
@@ -102,14 +103,13 @@ fn id_of(client: usize) -> ClientId {
     ClientId((client % 256) as u8)
 }
 
-fn told(completion: Option<(u64, Completion)>) -> Option<Told> {
-    let (tag, done) = completion?;
+fn told((tag, done): (u64, Completion)) -> Option<Told> {
     Some(Told { tag, done })
 }
 
-fn of_request(outcome: Option<Outcome>) -> Option<Told> {
-    match outcome? {
-        Outcome::Request { number, done } => told(Some((number?, done))),
+fn of_request(outcome: Outcome) -> Option<Told> {
+    match outcome {
+        Outcome::Request { number, done } => told((number?, done)),
         Outcome::Discovery { .. } => None,
     }
 }
@@ -119,7 +119,7 @@ pub fn time<R: CpuClock + Print + Eprint>(bench: &Bench<'_, R>, waiting: usize) 
     let alloc = bench.alloc;
     for by in [By::NextCompletion, By::NextOutcome] {
         let mut timing = Timing {
-            bench,
+            bench: &*bench,
             subject: "queue without log",
             work: by,
             clients: CLIENTS,
@@ -153,7 +153,10 @@ fn time_discoveries<R: CpuClock + Print + Eprint>(
     waiting: usize,
 ) -> Option<()> {
     let alloc = bench.alloc;
-    let replies = heard(alloc, DEVICES)?.replies;
+    let mut replies = Vec::new(alloc);
+    for taped in tape(alloc, DEVICES)?.as_slice() {
+        replies.push(bytes_of(&taped.reply)?).ok()?;
+    }
     let frames = replies.len() as u64;
     let line = Replay { replies, next: 0 };
     let mut clients = joined(alloc, Queue::plain(alloc)?, line, By::NextCompletion)?;

@@ -1,20 +1,20 @@
 //! Clients that take turns with the worker of their session, all in one thread, so none of them ever waits.
-ghost use Rattle.std.specs.Prelude.{◌≡◌, [], IfSome};
 ghost use Rattle.rdm_log.specs.log.Config.{IsConfig};
 
 use crate::bench::{Bench, Sample, holds};
-use crate::packets::{TAG, after};
+use crate::packets::TAG;
 use rdm_agent::DEFAULT_BUDGET;
 use rdm_client::{Collected, Told};
-use rdm_queue::{Config, Log, MOST_PLACES};
-use rdm_rig::log;
+use rdm_queue::{Config, MOST_PLACES};
 use rdm_wire::Uid;
-use std::alloc::Global;
 use std::fmt;
 use std::time::CpuClock;
 
 /// How many clients there are, unless there is one.
 pub const CLIENTS: u8 = 16;
+
+/// How many entries a log has free. Memory that isn't used isn't taken from the system.
+pub const FREE: usize = 1_000_000;
 
 /// The queue depth of each client of a port, and the slots of its rings.
 pub const PLACES: u8 = 8;
@@ -27,8 +27,8 @@ pub trait Served {
     /// The worker makes this many turns.
     fn work(&mut self, turns: u64) -> Option<()>;
 
-    /// What a client is told of a request, if there is anything.
-    fn collect(&mut self, client: usize) -> Option<Option<Told>>;
+    /// What a client is told of a request. None: it is told nothing, or not of a request.
+    fn collect(&mut self, client: usize) -> Option<Told>;
 
     /// The operator pauses, or resumes, if there is one.
     fn pause(&mut self, _pauses: bool) -> Option<()> {
@@ -40,13 +40,6 @@ pub trait Served {
 pub trait Job {
     /// Does it.
     fn run<S: Served>(&mut self, served: &mut S) -> Option<()>;
-}
-
-/// A log with as many free entries as there may be. Memory that isn't used isn't taken from the system.
-pub fn long_log(alloc: Global) -> Option<Log>
-    ensures { IfSome result (λ log. log.entries ≡ []) }
-{
-    log(alloc, 1_000_000).ok()
 }
 
 /// A controller `7a70:00000100` with all the places that there may be.
@@ -61,11 +54,10 @@ pub fn config() -> Config
 }
 
 /// What a request's callback told; nobody asks for a discovery.
-pub fn told(collected: Option<Collected>) -> Option<Option<Told>> {
+pub fn told(collected: Collected) -> Option<Told> {
     match collected {
-        None => Some(None),
-        Some(Collected::Request(told)) => Some(Some(told)),
-        Some(Collected::Ask(_)) => None,
+        Collected::Request(told) => Some(told),
+        Collected::Ask(_) => None,
     }
 }
 
@@ -81,43 +73,35 @@ pub struct Timing<'a, R, W> {
 
 impl<R: CpuClock + Print + Eprint, W: fmt::Debug + Copy> Job for Timing<'_, R, W> {
     fn run<S: Served>(&mut self, served: &mut S) -> Option<()> {
+        for place in 0..self.waiting {
+            holds(served.submit(place % usize::from(self.clients.max(1)), TAG)?)?;
+        }
         let mut turns = Turns {
             served,
-            clients: usize::from(self.clients),
-            submitter: 0,
-            collector: 0,
+            clients: usize::from(self.clients.max(1)),
+            waiting: self.waiting,
+            turn: 0,
         };
-        for _ in 0..self.waiting {
-            turns.submit()?;
-        }
         self.bench.time(self.subject, self.work, &mut turns)
     }
 }
 
-// Clients that take turns.
+// Clients that take turns, while this many requests wait.
 #[derive(Drop)]
 struct Turns<'a, S> {
     served: &'a mut S,
     clients: usize,
-    // Who submits next, and who collects next.
-    submitter: usize,
-    collector: usize,
-}
-
-impl<S: Served> Turns<'_, S> {
-    fn submit(&mut self) -> Option<()> {
-        holds(self.served.submit(self.submitter, TAG)?)?;
-        self.submitter = after(self.submitter, self.clients);
-        Some(())
-    }
+    waiting: usize,
+    turn: usize,
 }
 
 impl<S: Served> Sample for Turns<'_, S> {
     fn run(&mut self) -> Option<u64> {
+        let submitter = self.turn.wrapping_add(self.waiting) % self.clients.max(1);
         self.served.work(1)?;
-        holds(self.served.collect(self.collector)??.done.bytes.len() == 2)?;
-        self.collector = after(self.collector, self.clients);
-        self.submit()?;
+        let told = self.served.collect(self.turn % self.clients.max(1))?;
+        holds(told.done.bytes.len() == 2 && self.served.submit(submitter, TAG)?)?;
+        self.turn = self.turn.wrapping_add(1);
         Some(1)
     }
 }

@@ -198,7 +198,7 @@ impl Tally {
 
     // A client collects an outcome, if there is one. It has to be that of a request of its own that wasn't told yet.
     fn collect<S: Served>(&mut self, served: &mut S, client: usize) -> Option<()> {
-        let Some(told) = served.collect(client)? else {
+        let Some(told) = served.collect(client) else {
             return Some(());
         };
         let owner = self.owners.get_mut(told.tag as usize)?.take();

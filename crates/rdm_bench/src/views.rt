@@ -59,7 +59,8 @@ fn time_all<J: ViewHistory, W: Wait + Drop, R: CpuClock + Print + Eprint>(
 
 fn device_set(count: usize) -> Option<DeviceSet> {
     let mut set = DeviceSet::new();
-    for uid in devices(count, Spread::Random, 42)?.as_slice() {
+    let uids = devices(count, Spread::Random, 42)?;
+    for uid in uids.as_slice() {
         set.insert(device_of(*uid)).ok()?;
     }
     Some(set)
