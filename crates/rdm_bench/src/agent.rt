@@ -1,183 +1,117 @@
-//! Discovery runs, told from a tape what the line answered.
+//! Discovery runs that are told what the line replied.
 ghost use Rattle.std.specs.Prelude.{◌≡◌, ◌≢◌, ℕ};
 ghost use Rattle.rdm_wire.specs.Uid.{IsDevice};
+ghost use Rattle.rdm_agent.specs.Calls.{next_op};
 
-use crate::bench::{Bench, Name, Sample};
+use crate::bench::{Bench, Sample, holds};
 use crate::devices::{Spread, devices};
-use crate::fault::Fault;
-use crate::packets::controller;
-use crate::tape::{Taped, found, hear, tape};
-use rdm_agent::{Agent, AgentFault, DEFAULT_BUDGET, Kind, Op, OpReply};
+use crate::lines::{Taped, TestLine, Wrong};
+use crate::packets::TRANSACTION_NUMBER;
+use rdm_agent::{Agent, AgentFault, DEFAULT_BUDGET, Kind, Op, OpReply, Search};
+use rdm_rig::controller;
 use rdm_wire::{DeviceSet, Frame, UidSet};
+use std::alloc::Global;
 use std::time::CpuClock;
 
-// Where a packet's transaction number stands (E1.20, packet format).
-const TRANSACTION_NUMBER: usize = 15;
-
-#[derive(Clone, Copy)]
-struct Scene {
-    name: &'static str,
-    kind: Kind,
-    spread: Spread,
+// What is timed: a start and an end alone; or all frames of a run, with branch replies read from their bytes or not, and
+// with each frame written too or not.
+#[derive(Clone, Copy, Debug, PartialEq, Eq)]
+enum Work {
+    StartAndEnd,
+    Step,
+    ReadAndStep,
+    WriteAndReadAndStep,
 }
 
-const SCENES: [Scene; 3] = [
-    Scene {
-        name: "full random",
-        kind: Kind::Full,
-        spread: Spread::Random,
-    },
-    Scene {
-        name: "full consecutive",
-        kind: Kind::Full,
-        spread: Spread::Consecutive,
-    },
-    Scene {
-        name: "incremental random",
-        kind: Kind::Incremental,
-        spread: Spread::Random,
-    },
+const WORKS: [Work; 4] = [
+    Work::StartAndEnd,
+    Work::Step,
+    Work::ReadAndStep,
+    Work::WriteAndReadAndStep,
 ];
 
 /// Times runs over this many devices.
-pub(crate) fn time<R: CpuClock + Print + Eprint>(
-    bench: &Bench<'_, R>,
-    count: usize,
-) -> Result<(), Fault> {
-    for scene in &SCENES {
-        time_scene(bench, scene, &devices(count, scene.spread)?)?;
+pub fn time<R: CpuClock + Print + Eprint>(bench: &Bench<'_, R>, count: usize) -> Option<()> {
+    for work in WORKS {
+        let tape = tape(bench.alloc, count)?;
+        let heard = tape
+            .iter()
+            .map(|taped| taped.heard())
+            .collect::<Vec<OpReply>>(bench.alloc)
+            .ok()?;
+        let mut runs = Runs {
+            work,
+            count,
+            heard,
+            tape,
+        };
+        bench.time("agent", work, &mut runs)?;
     }
-    Ok(())
+    Some(())
 }
 
-fn time_scene<R: CpuClock + Print + Eprint>(
-    bench: &Bench<'_, R>,
-    scene: &Scene,
-    devices: &UidSet,
-) -> Result<(), Fault> {
-    let tape = tape(bench.alloc, scene.kind, devices, devices)?;
-    let tape = tape.as_slice();
-    let replies = tape
-        .iter()
-        .map(|taped| taped.reply())
-        .collect::<Vec<OpReply>>(bench.alloc)?;
-    let replies = replies.as_slice();
-    let kind = scene.kind;
-    let name = |work, steps| Name {
-        subject: "agent",
-        scene: scene.name,
-        work,
-        steps,
-    };
-    bench.time(&name("start and end", "runs"), &mut Start { kind, devices })?;
-    bench.time(
-        &name("step alone", "frames"),
-        &mut Steps {
-            kind,
-            devices,
-            replies,
-        },
-    )?;
-    bench.time(
-        &name("read and step", "frames"),
-        &mut Reads {
-            kind,
-            devices,
-            tape,
-        },
-    )?;
-    bench.time(
-        &name("write and read and step", "frames"),
-        &mut Writes {
-            kind,
-            devices,
-            tape,
-        },
-    )
+/// What comes in a steady run on a line with this many devices that loses nothing.
+pub fn tape(alloc: Global, count: usize) -> Option<Vec<Taped>> {
+    let devices = devices(count, Spread::Random, (count as u64).wrapping_add(42))?;
+    let mut line = TestLine::new(alloc, Wrong::Nothing, &devices, 1)?;
+    holds(line.searched(Search::Steady)?.found().len() == count)?;
+    Some(line.tape)
 }
 
-// A start and an end alone.
-#[derive(Clone, Copy)]
-struct Start<'a> {
-    kind: Kind,
-    devices: &'a UidSet,
+// Runs over this many devices, and what they hear.
+#[derive(Drop)]
+struct Runs {
+    work: Work,
+    count: usize,
+    heard: Vec<OpReply>,
+    tape: Vec<Taped>,
 }
 
-impl Sample for Start<'_> {
-    fn run(&mut self) -> Result<u64, Fault> {
-        match ended_at_once(self.kind, self.devices) {
-            Ok(_) => Err(Fault::Unexpected("Agent::end")),
-            Err(_) => Ok(1),
+impl Sample for Runs {
+    fn run(&mut self) -> Option<u64> {
+        if self.work == Work::StartAndEnd {
+            holds(ended_at_once().is_err())?;
+            return Some(1);
+        }
+        let mut agent = Agent::start(Kind::Full, &UidSet::new(), DEFAULT_BUDGET);
+        for (place, heard) in self.heard.as_slice().iter().enumerate() {
+            let op = agent.next();
+            self.write(op, place)?;
+            hear(&mut agent, op, self.read(place, *heard))?;
+        }
+        if agent.next() != Op::End {
+            return None;
+        }
+        holds(agent.end().ok()?.len() == self.count)?;
+        Some(self.heard.len() as u64)
+    }
+}
+
+impl Runs {
+    // Writes the frame of this operation, if that is to be done.
+    fn write(&self, op: Op, place: usize) -> Option<()>
+        requires device { (u : ℕ) → op ≡ Op.Mute u → IsDevice u }
+    {
+        if self.work != Work::WriteAndReadAndStep {
+            return Some(());
+        }
+        let tn = (place % 256) as u8;
+        holds(op != Op::End && frame_of(op, tn).get(TRANSACTION_NUMBER) == Some(&tn))
+    }
+
+    // What the agent hears. A branch reply is read from its bytes, if that is to be done.
+    fn read(&self, place: usize, heard: OpReply) -> OpReply {
+        match self.tape.get(place) {
+            Some(taped) if self.work != Work::Step => taped.heard(),
+            _ => heard,
         }
     }
 }
 
 // A run that may make no exchange.
 #[inline(never)]
-fn ended_at_once(kind: Kind, known: &UidSet) -> Result<DeviceSet, (AgentFault, DeviceSet)> {
-    Agent::start(kind, known, 0).end()
-}
-
-// The agent's own work.
-#[derive(Clone, Copy)]
-struct Steps<'a> {
-    kind: Kind,
-    devices: &'a UidSet,
-    replies: &'a [OpReply],
-}
-
-impl Sample for Steps<'_> {
-    fn run(&mut self) -> Result<u64, Fault> {
-        let mut agent = Agent::start(self.kind, self.devices, DEFAULT_BUDGET);
-        for reply in self.replies {
-            let op = agent.next();
-            hear(&mut agent, op, *reply)?;
-        }
-        ended(agent, self.devices, self.replies.len())
-    }
-}
-
-// With the reading of the bytes after branches.
-#[derive(Clone, Copy)]
-struct Reads<'a> {
-    kind: Kind,
-    devices: &'a UidSet,
-    tape: &'a [Taped],
-}
-
-impl Sample for Reads<'_> {
-    fn run(&mut self) -> Result<u64, Fault> {
-        let mut agent = Agent::start(self.kind, self.devices, DEFAULT_BUDGET);
-        for taped in self.tape {
-            let op = agent.next();
-            hear(&mut agent, op, taped.reply())?;
-        }
-        ended(agent, self.devices, self.tape.len())
-    }
-}
-
-// With the writing of each frame too.
-#[derive(Clone, Copy)]
-struct Writes<'a> {
-    kind: Kind,
-    devices: &'a UidSet,
-    tape: &'a [Taped],
-}
-
-impl Sample for Writes<'_> {
-    fn run(&mut self) -> Result<u64, Fault> {
-        let mut agent = Agent::start(self.kind, self.devices, DEFAULT_BUDGET);
-        let mut tn: u8 = 0;
-        for taped in self.tape {
-            let op = agent.next();
-            if op == Op::End || frame_of(op, tn).get(TRANSACTION_NUMBER) != Some(&tn) {
-                return Err(Fault::Unexpected("Op::frame"));
-            }
-            tn = tn.wrapping_add(1);
-            hear(&mut agent, op, taped.reply())?;
-        }
-        ended(agent, self.devices, self.tape.len())
-    }
+fn ended_at_once() -> Result<DeviceSet, (AgentFault, DeviceSet)> {
+    Agent::start(Kind::Full, &UidSet::new(), 0).end()
 }
 
 // An operation's frame, with this transaction number.
@@ -189,11 +123,13 @@ fn frame_of(op: Op, tn: u8) -> Frame
     op.frame(controller(), tn)
 }
 
-// The steps of a run that has to have found all devices.
-fn ended(agent: Agent, devices: &UidSet, steps: usize) -> Result<u64, Fault> {
-    if found(agent)? == devices.len() {
-        Ok(steps as u64)
-    } else {
-        Err(Fault::Unexpected("Agent::end"))
+// The agent hears the reply to this operation, which has to be what it asks next.
+fn hear(agent: &mut Agent, op: Op, reply: OpReply) -> Option<()>
+    requires { op ≡ next_op agent.old }
+{
+    if !reply.fits(&op) {
+        return None;
     }
+    agent.hear(reply);
+    Some(())
 }

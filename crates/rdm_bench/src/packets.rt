@@ -1,159 +1,193 @@
-//! A request, and the packets of the device that answers it.
-ghost use Rattle.std.specs.Prelude.{◌≡◌, IfOk, length};
+//! Packets: a line that replays stored replies, and single calls that write, read, judge and copy packets.
+ghost use Rattle.std.specs.Prelude.{⊤};
 
-use crate::fault::Fault;
+use crate::bench::{Bench, Sample, holds};
+use crate::lines::bytes_of;
 use arrayvec::ArrayVec;
-use rdm_join::LineReply;
-use rdm_wire::{MOST_PARAMETER_BYTES, ReqClass, Request, Uid};
+use rdm_join::{Judged, LineEvent, LineReply, Sent, judge};
+use rdm_line::{Line, LineFault};
+use rdm_rig::{Who, controller, device_of, request};
+use rdm_wire::{
+    AckType, BranchReply, Frame, LONGEST_PREAMBLE, MOST_PARAMETER_BYTES, Request, RespClass,
+    Response, decode_response, encode_request, encode_response, read_branch_reply,
+    write_branch_reply,
+};
 use std::alloc::Global;
+use std::time::CpuClock;
 
-/// The controller's UID.
-pub(crate) fn controller() -> Uid
-    ensures { result ≡ 0x7a70_0000_0100 }
-{
-    Uid::new(0x7a70, 0x100)
+/// Where a packet's transaction number is (E1.20, packet format).
+pub const TRANSACTION_NUMBER: usize = 15;
+
+/// The tag of the request that is timed.
+pub const TAG: u64 = 1;
+
+/// This many bytes of data, 231 at most.
+pub fn data(count: usize) -> Option<ArrayVec<u8, MOST_PARAMETER_BYTES>> {
+    let all = [0x5a; MOST_PARAMETER_BYTES];
+    let mut data = ArrayVec::new();
+    data.try_extend_from_slice(all.get(..count)?).ok()?;
+    Some(data)
 }
 
-/// The device's UID.
-pub(crate) fn device() -> Uid
-    ensures { result ≡ 0x1234_0000_0001 }
-{
-    Uid::new(0x1234, 1)
+/// The device's reply to the request that is timed, with this many bytes of data and the transaction number 0.
+pub fn reply(count: usize) -> Option<LineReply> {
+    let request = request(TAG);
+    bytes_of(&encode_response(&Response {
+        source: request.target,
+        dest: controller(),
+        tn: 0,
+        ack: AckType::Ack,
+        count: 0,
+        sub_device: request.sub_device,
+        class: RespClass::Get,
+        pid: request.pid,
+        param: data(count)?,
+    }))
 }
 
-/// What a reply says of its data.
-#[derive(Clone, Copy, Debug, PartialEq, Eq)]
-pub(crate) enum Part {
-    /// They are all, or the last ones.
-    Last,
-    /// More follow.
-    More,
+/// A line that gives these replies in order, again and again. Packets get the transaction numbers of their frames.
+#[derive(Drop)]
+pub struct Replay {
+    pub replies: Vec<LineReply>,
+    pub next: usize,
 }
 
-/// The replies with each transaction number, each with this many bytes of data.
-#[derive(Debug, Drop)]
-pub(crate) struct Replies {
-    replies: Vec<LineReply>,
-}
-
-const DATA: [u8; MOST_PARAMETER_BYTES] = [0x5a; MOST_PARAMETER_BYTES];
-
-// How many bytes a packet has before its data (E1.20, packet format).
-const HEADER_LENGTH: u8 = 24;
-
-/// A GET of DEVICE_INFO with this many bytes of data, 231 at most.
-pub(crate) fn request(size: u8) -> Result<Request, Fault>
-    ensures { IfOk result (λ request. length request.param.items ≡ size) }
-{
-    let mut param = ArrayVec::new();
-    match param.try_extend_from_slice(data(size)?) {
-        Ok(()) => Ok(Request {
-            target: device(),
-            sub_device: 0,
-            class: ReqClass::Get,
-            pid: 0x0060,
-            param,
-        }),
-        Err(_) => Err(Fault::Unexpected("the length of parameter data")),
-    }
-}
-
-impl Replies {
-    /// Writes them.
-    pub(crate) fn new(alloc: Global, part: Part, size: u8) -> Result<Replies, Fault> {
+impl Replay {
+    /// A line that answers the request that is timed by two bytes.
+    pub fn of_two_bytes(alloc: Global) -> Option<Replay> {
         let mut replies = Vec::new(alloc);
-        for tn in 0..=u8::MAX {
-            replies.push(reply(tn, part, size)?)?;
-        }
-        Ok(Replies { replies })
-    }
-
-    /// All of them, by their transaction numbers.
-    pub(crate) fn as_slice(&self) -> &[LineReply] {
-        self.replies.as_slice()
-    }
-
-    /// A copy of the one with this transaction number.
-    pub(crate) fn copied(&self, tn: u8) -> Result<LineReply, Fault> {
-        match self.replies.get(usize::from(tn)) {
-            Some(reply) => Ok(copied(reply)),
-            None => Err(Fault::Unexpected("Replies::new")),
-        }
+        replies.push(reply(2)?).ok()?;
+        Some(Replay { replies, next: 0 })
     }
 }
 
-/// The same bytes again.
+impl Line for Replay {
+    ghost step = { λ old exchange new. ⊤ };
+
+    ghost failures_of = { λ line. 0 };
+
+    fn exchange(&mut self, frame: &Frame) -> Result<LineReply, LineFault> {
+        let tn = frame.get(TRANSACTION_NUMBER).copied().unwrap_or(0);
+        let place = self.next % self.replies.len().max(1);
+        self.next = place.wrapping_add(1);
+        let reply = match self.replies.get(place) {
+            Some(reply) => numbered(reply, tn),
+            None => None,
+        };
+        Ok(reply.unwrap_or(LineReply::new()))
+    }
+
+    fn failures(&self) -> u64 {
+        0
+    }
+}
+
+/// The same packet with this transaction number, and its checksum (E1.20, packet format). Other bytes are the same.
 #[inline(never)]
-pub(crate) fn copied(reply: &LineReply) -> LineReply
-    ensures { result.items ≡ reply.now.items }
-{
-    let mut bytes = LineReply::new();
-    bytes.try_extend_from_slice(reply.as_slice()).unwrap();
-    bytes
+pub fn numbered(reply: &LineReply, tn: u8) -> Option<LineReply> {
+    let mut reply = bytes_of(reply)?;
+    let bytes = reply.as_mut_slice();
+    let length = bytes.len();
+    if length > TRANSACTION_NUMBER + 2 && bytes[0] == 0xcc {
+        let sum = u16::from_be_bytes([bytes[length - 2], bytes[length - 1]])
+            .wrapping_sub(u16::from(bytes[TRANSACTION_NUMBER]))
+            .wrapping_add(u16::from(tn));
+        let [high, low] = sum.to_be_bytes();
+        bytes[TRANSACTION_NUMBER] = tn;
+        bytes[length - 2] = high;
+        bytes[length - 1] = low;
+    }
+    Some(reply)
 }
 
-// The device's reply to a request (E1.20, packet format).
-fn reply(tn: u8, part: Part, size: u8) -> Result<LineReply, Fault> {
-    let response_type = match part {
-        Part::Last => 0x00,
-        Part::More => 0x03,
+// What is called.
+#[derive(Clone, Copy, Debug)]
+enum Work {
+    EncodeRequest,
+    DecodeResponse,
+    Judge,
+    ReadBranchReply,
+    Clone,
+    TryExtendFromSlice,
+}
+
+const WORKS: [Work; 6] = [
+    Work::EncodeRequest,
+    Work::DecodeResponse,
+    Work::Judge,
+    Work::ReadBranchReply,
+    Work::Clone,
+    Work::TryExtendFromSlice,
+];
+
+/// Times calls on packets with this many bytes of data.
+pub fn time<R: CpuClock + Print + Eprint>(bench: &Bench<'_, R>, count: usize) -> Option<()> {
+    let reply = reply(count)?;
+    let mut calls = Calls {
+        work: Work::Judge,
+        request: request(TAG),
+        branch: bytes_of(&write_branch_reply(device_of(Who::First).uid, LONGEST_PREAMBLE))?,
+        events: Vec::new(bench.alloc),
     };
-    let [c0, c1, c2, c3, c4, c5] = uid_bytes(controller());
-    let [d0, d1, d2, d3, d4, d5] = uid_bytes(device());
-    let header = [
-        0xcc,
-        0x01,
-        size.wrapping_add(HEADER_LENGTH),
-        c0,
-        c1,
-        c2,
-        c3,
-        c4,
-        c5,
-        d0,
-        d1,
-        d2,
-        d3,
-        d4,
-        d5,
-        tn,
-        response_type,
-        0,
-        0,
-        0,
-        0x21,
-        0x00,
-        0x60,
-        size,
-    ];
-    let mut bytes = LineReply::new();
-    extend(&mut bytes, &header)?;
-    extend(&mut bytes, data(size)?)?;
-    let mut sum: u16 = 0;
-    for byte in bytes.as_slice() {
-        sum = sum.wrapping_add(u16::from(*byte));
+    calls.request.param = data(count)?;
+    for tn in 0..=u8::MAX {
+        let event = LineEvent::Reply(numbered(&reply, tn)?);
+        calls.events.push(event).ok()?;
     }
-    extend(&mut bytes, &sum.to_be_bytes())?;
-    Ok(bytes)
+    for work in WORKS {
+        calls.work = work;
+        bench.time("calls", work, &mut calls)?;
+    }
+    Some(())
 }
 
-fn data(size: u8) -> Result<&'static [u8], Fault>
-    ensures { IfOk result (λ bytes. length bytes.now ≡ size) }
-{
-    match DATA.get(..usize::from(size)) {
-        Some(data) => Ok(data),
-        None => Err(Fault::Unexpected("the length of parameter data")),
+// A call, what is written, a branch reply, and the replies to the request by transaction numbers.
+#[derive(Drop)]
+struct Calls {
+    work: Work,
+    request: Request,
+    branch: LineReply,
+    events: Vec<LineEvent>,
+}
+
+impl Sample for Calls {
+    fn run(&mut self) -> Option<u64> {
+        let mut tn: u8 = 0;
+        for event in self.events.as_slice() {
+            let LineEvent::Reply(reply) = event else {
+                return None;
+            };
+            holds(self.is_right(tn, event, reply))?;
+            tn = tn.wrapping_add(1);
+        }
+        Some(256)
     }
 }
 
-fn extend(bytes: &mut LineReply, more: &[u8]) -> Result<(), Fault> {
-    match bytes.try_extend_from_slice(more) {
-        Ok(()) => Ok(()),
-        Err(_) => Err(Fault::Unexpected("the length of a packet")),
+impl Calls {
+    // Makes the call, and returns whether it came to what it should.
+    fn is_right(&self, tn: u8, event: &LineEvent, reply: &LineReply) -> bool {
+        match self.work {
+            Work::EncodeRequest => !encode_request(&self.request, controller(), tn).is_empty(),
+            Work::DecodeResponse => match decode_response(reply) {
+                Ok(response) => response.param.len() == self.request.param.len(),
+                Err(_) => false,
+            },
+            Work::Judge => matches!(judge(&self.sent(tn), event), Judged::Whole(_)),
+            Work::ReadBranchReply => matches!(read_branch_reply(&self.branch), BranchReply::One(_)),
+            Work::Clone => reply.clone().unwrap().len() == reply.len(),
+            Work::TryExtendFromSlice => bytes_of(reply).is_some(),
+        }
     }
-}
 
-fn uid_bytes(uid: Uid) -> [u8; 6] {
-    let [_, _, b0, b1, b2, b3, b4, b5] = uid.number().to_be_bytes();
-    [b0, b1, b2, b3, b4, b5]
+    fn sent(&self, tn: u8) -> Sent {
+        Sent {
+            target: self.request.target,
+            source: controller(),
+            tn,
+            sub_device: self.request.sub_device,
+            class: self.request.class,
+            pid: self.request.pid,
+        }
+    }
 }

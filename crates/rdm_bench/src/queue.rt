@@ -1,214 +1,196 @@
-//! The queue while this many requests wait: one is answered and collected, and another submitted. And its discoveries.
-use crate::bench::{Bench, Name, Sample};
-use crate::discoveries;
-use crate::fault::Fault;
-use crate::median::SAMPLES;
-use crate::packets::{Part, Replies, request};
-use crate::serving::{Serving, new_controller, new_session};
-use rdm_queue::ClientId;
+//! The queue of requests in one thread, with a log and without, and its discoveries.
+use crate::agent::tape;
+use crate::bench::{Bench, Sample, holds};
+use crate::lines::bytes_of;
+use crate::packets::{Replay, TAG};
+use crate::served::{CLIENTS, FREE, Job, Served, Timing, config};
+use rdm_agent::Kind;
+use rdm_client::Told;
+use rdm_join::LineEvent;
+use rdm_line::Line;
+use rdm_queue::{ClientId, Completion, Controller, Outcome, Session};
+use rdm_rig::{log, request};
+use rdm_wire::DeviceSet;
 use std::alloc::Global;
 use std::time::CpuClock;
 
-/// How each request is answered.
+// How many devices are on the line of discoveries.
+const DEVICES: usize = 16;
+
+// How outcomes are collected: by the call for requests, or by the one for either kind, which moves a set.
 #[derive(Clone, Copy, Debug)]
-struct Answer {
-    name: &'static str,
-    // In how many replies, from 1.
-    parts: usize,
-    // How many bytes each of them has.
-    length: u8,
-    collecting: Collecting,
+enum By {
+    NextCompletion,
+    NextOutcome,
 }
 
-/// How its outcome is collected.
-#[derive(Clone, Copy, Debug)]
-enum Collecting {
-    /// By the call for requests, which moves no set of devices.
-    OfRequest,
-    /// By the call for outcomes of either kind.
-    OfEither,
+// A queue without a log, or with one.
+#[derive(Drop)]
+enum Queue {
+    Plain(Controller),
+    Logged(Session),
 }
 
-const ANSWERS: [Answer; 4] = [
-    Answer {
-        name: "answered by 2 bytes",
-        parts: 1,
-        length: 2,
-        collecting: Collecting::OfRequest,
-    },
-    Answer {
-        name: "answered by 2 bytes, collected as either",
-        parts: 1,
-        length: 2,
-        collecting: Collecting::OfEither,
-    },
-    Answer {
-        name: "answered by 231 bytes",
-        parts: 1,
-        length: 231,
-        collecting: Collecting::OfRequest,
-    },
-    Answer {
-        name: "answered by 17 parts of 231 bytes",
-        parts: 17,
-        length: 231,
-        collecting: Collecting::OfRequest,
-    },
-];
+impl Queue {
+    fn plain(alloc: Global) -> Option<Queue> {
+        Controller::new(alloc, config()).ok().map(Queue::Plain)
+    }
 
-// How many clients share the queue, however many requests wait.
-const CLIENTS: u8 = 16;
+    fn logged(alloc: Global) -> Option<Queue> {
+        Session::new(alloc, config(), log(alloc, FREE).ok()?)
+            .ok()
+            .map(Queue::Logged)
+    }
 
-const ENTRIES_BESIDE: usize = 32;
+    fn join(&mut self, alloc: Global) -> bool {
+        match self {
+            Queue::Plain(queue) => queue.join_client(alloc, u8::MAX).is_ok(),
+            Queue::Logged(queue) => queue.join_client(alloc, u8::MAX).is_ok(),
+        }
+    }
 
-/// Times requests while this many wait.
-pub(crate) fn time<R: CpuClock + Print + Eprint>(
-    bench: &Bench<'_, R>,
-    waiting: usize,
-) -> Result<(), Fault> {
-    for answer in &ANSWERS {
-        let mut controller = new_controller(bench.alloc)?;
-        time_one(bench, "without log", &mut controller, waiting, answer)?;
-        let free = entries(bench.rounds, waiting, answer.parts);
-        let mut session = new_session(bench.alloc, free)?;
-        time_one(bench, "with log", &mut session, waiting, answer)?;
+    // Makes an exchange over this line.
+    fn exchange(&mut self, alloc: Global, line: &mut Replay) -> Option<()> {
+        let frame = match self {
+            Queue::Plain(queue) => queue.take()?,
+            Queue::Logged(queue) => queue.take().ok()??,
+        };
+        let event = LineEvent::Reply(line.exchange(&frame).ok()?);
+        holds(match self {
+            Queue::Plain(queue) => queue.deliver(alloc, event).is_ok(),
+            Queue::Logged(queue) => queue.deliver(alloc, event).is_ok(),
+        })
+    }
+}
+
+// A queue with its clients and its line.
+#[derive(Drop)]
+struct Clients {
+    alloc: Global,
+    queue: Queue,
+    line: Replay,
+    by: By,
+}
+
+impl Served for Clients {
+    fn submit(&mut self, client: usize, tag: u64) -> Option<bool> {
+        let client = id_of(client);
+        Some(match &mut self.queue {
+            Queue::Plain(queue) => queue.submit(client, request(tag)).is_ok(),
+            Queue::Logged(queue) => queue.submit(client, request(tag)).is_ok(),
+        })
+    }
+
+    fn work(&mut self, turns: u64) -> Option<()> {
+        for _ in 0..turns {
+            self.queue.exchange(self.alloc, &mut self.line)?;
+        }
+        Some(())
+    }
+
+    fn collect(&mut self, client: usize) -> Option<Told> {
+        let client = id_of(client);
+        match (&mut self.queue, self.by) {
+            (Queue::Plain(queue), By::NextCompletion) => told(queue.next_completion(client)?),
+            (Queue::Logged(queue), By::NextCompletion) => told(queue.next_completion(client)?),
+            (Queue::Plain(queue), By::NextOutcome) => of_request(queue.next_outcome(client)?),
+            (Queue::Logged(queue), By::NextOutcome) => of_request(queue.next_outcome(client)?),
+        }
+    }
+}
+
+fn id_of(client: usize) -> ClientId {
+    ClientId((client % 256) as u8)
+}
+
+fn told((tag, done): (u64, Completion)) -> Option<Told> {
+    Some(Told { tag, done })
+}
+
+fn of_request(outcome: Outcome) -> Option<Told> {
+    match outcome {
+        Outcome::Request { number, done } => told((number?, done)),
+        Outcome::Discovery { .. } => None,
+    }
+}
+
+/// Times requests and discoveries while this many requests wait.
+pub fn time<R: CpuClock + Print + Eprint>(bench: &Bench<'_, R>, waiting: usize) -> Option<()> {
+    let alloc = bench.alloc;
+    for by in [By::NextCompletion, By::NextOutcome] {
+        let mut timing = Timing {
+            bench: &*bench,
+            subject: "queue without log",
+            work: by,
+            clients: CLIENTS,
+            waiting,
+        };
+        let line = Replay::of_two_bytes(alloc)?;
+        timing.run(&mut joined(alloc, Queue::plain(alloc)?, line, by)?)?;
+        timing.subject = "queue with log";
+        let line = Replay::of_two_bytes(alloc)?;
+        timing.run(&mut joined(alloc, Queue::logged(alloc)?, line, by)?)?;
     }
     time_discoveries(bench, waiting)
 }
 
-// The requests wait until no discovery is asked.
+// Lets all clients join.
+fn joined(alloc: Global, mut queue: Queue, line: Replay, by: By) -> Option<Clients> {
+    for _ in 0..CLIENTS {
+        holds(queue.join(alloc))?;
+    }
+    Some(Clients {
+        alloc,
+        queue,
+        line,
+        by,
+    })
+}
+
+// The requests wait until no discovery is outstanding.
 fn time_discoveries<R: CpuClock + Print + Eprint>(
     bench: &Bench<'_, R>,
     waiting: usize,
-) -> Result<(), Fault> {
-    let mut controller = new_controller(bench.alloc)?;
-    Turns::new(bench.alloc, &mut controller, waiting, &ANSWERS[0])?;
-    discoveries::time(bench, &mut controller)
-}
-
-fn time_one<R: CpuClock + Print + Eprint, S: Serving>(
-    bench: &Bench<'_, R>,
-    scene: &'static str,
-    serving: &mut S,
-    waiting: usize,
-    answer: &Answer,
-) -> Result<(), Fault> {
-    let name = Name {
-        subject: "queue",
-        scene,
-        work: answer.name,
-        steps: "requests",
+) -> Option<()> {
+    let alloc = bench.alloc;
+    let mut replies = Vec::new(alloc);
+    for taped in tape(alloc, DEVICES)?.as_slice() {
+        replies.push(bytes_of(&taped.reply)?).ok()?;
+    }
+    let frames = replies.len() as u64;
+    let line = Replay { replies, next: 0 };
+    let mut clients = joined(alloc, Queue::plain(alloc)?, line, By::NextCompletion)?;
+    for place in 0..waiting {
+        holds(clients.submit(place % usize::from(CLIENTS), TAG)?)?;
+    }
+    let mut discoveries = Discoveries {
+        clients,
+        frames,
+        found: DeviceSet::new(),
     };
-    let mut turns = Turns::new(bench.alloc, serving, waiting, answer)?;
-    bench.time(&name, &mut turns)
+    bench.time("queue without log", Kind::Full, &mut discoveries)
 }
 
-// How many entries a log needs: for each turn an acceptance, a result, a collection, and a frame and a reply for each
-// part; for each request that waits its acceptance and the two that are reserved for it; and those of the joins, and
-// what has to be free for the last turn.
-fn entries(rounds: usize, waiting: usize, parts: usize) -> usize {
-    let turns = rounds.wrapping_mul(SAMPLES);
-    let of_turn = parts.wrapping_mul(2).wrapping_add(3);
-    let of_waiting = waiting.wrapping_mul(3);
-    turns
-        .wrapping_mul(of_turn)
-        .wrapping_add(of_waiting)
-        .wrapping_add(ENTRIES_BESIDE)
-}
-
-// Turns while the same number of requests wait.
+// A discovery after another, each with this many frames.
 #[derive(Drop)]
-struct Turns<'a, S> {
-    alloc: Global,
-    serving: &'a mut S,
-    parts: usize,
-    part: Replies,
-    last: Replies,
-    // How many bytes an outcome has.
-    length: usize,
-    collecting: Collecting,
-    // The next frame's transaction number.
-    tn: u8,
-    // Whose outcome is next.
-    collector: u8,
-    // Who submits next.
-    submitter: u8,
+struct Discoveries {
+    clients: Clients,
+    frames: u64,
+    found: DeviceSet,
 }
 
-impl<'a, S: Serving> Turns<'a, S> {
-    fn new(
-        alloc: Global,
-        serving: &'a mut S,
-        waiting: usize,
-        answer: &Answer,
-    ) -> Result<Turns<'a, S>, Fault> {
-        for _ in 0..CLIENTS {
-            serving.join(alloc, u8::MAX)?;
-        }
-        let mut turns = Turns {
-            alloc,
-            serving,
-            parts: answer.parts,
-            part: Replies::new(alloc, Part::More, answer.length)?,
-            last: Replies::new(alloc, Part::Last, answer.length)?,
-            length: usize::from(answer.length).wrapping_mul(answer.parts),
-            collecting: answer.collecting,
-            tn: 0,
-            collector: 0,
-            submitter: 0,
+impl Sample for Discoveries {
+    fn run(&mut self) -> Option<u64> {
+        let Queue::Plain(queue) = &mut self.clients.queue else {
+            return None;
         };
-        for _ in 0..waiting {
-            turns.submit()?;
-        }
-        Ok(turns)
-    }
-
-    fn submit(&mut self) -> Result<(), Fault> {
-        self.serving.submit(ClientId(self.submitter), request(0)?)?;
-        self.submitter = after(self.submitter);
-        Ok(())
-    }
-
-    fn collect(&mut self) -> Result<(), Fault> {
-        let client = ClientId(self.collector);
-        let length = match self.collecting {
-            Collecting::OfRequest => self.serving.collect(client)?,
-            Collecting::OfEither => self.serving.collect_either(client)?,
+        queue.discover(ClientId(0), Kind::Full).ok()?;
+        self.clients.work(self.frames)?;
+        let Queue::Plain(queue) = &mut self.clients.queue else {
+            return None;
         };
-        if length != self.length {
-            return Err(Fault::Unexpected("the length of an answer"));
-        }
-        self.collector = after(self.collector);
-        Ok(())
-    }
-
-    fn exchange(&mut self, part: Part) -> Result<(), Fault> {
-        let frame = self.serving.take()?;
-        if frame.is_empty() {
-            return Err(Fault::Unexpected("take"));
-        }
-        let reply = match part {
-            Part::More => self.part.copied(self.tn)?,
-            Part::Last => self.last.copied(self.tn)?,
-        };
-        self.tn = self.tn.wrapping_add(1);
-        self.serving.deliver(self.alloc, reply)
-    }
-}
-
-// The client whose turn is next.
-fn after(client: u8) -> u8 {
-    client.wrapping_add(1) % CLIENTS
-}
-
-impl<S: Serving> Sample for Turns<'_, S> {
-    fn run(&mut self) -> Result<u64, Fault> {
-        for _ in 1..self.parts {
-            self.exchange(Part::More)?;
-        }
-        self.exchange(Part::Last)?;
-        self.collect()?;
-        self.submit()?;
-        Ok(1)
+        let end = queue.next_discovery(ClientId(0), &mut self.found)?;
+        holds(end.fault.is_none() && self.found.len() == DEVICES)?;
+        Some(self.frames)
     }
 }

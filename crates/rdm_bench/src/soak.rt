@@ -1,255 +1,214 @@
-//! Ports one after another, each with sixteen clients, on a line that loses and fails, with pauses. Each request that
-//! is accepted has to be told once. All of it is done in one thread.
-ghost use Rattle.std.specs.Prelude.{◌≡◌};
-ghost use Rattle.rdm_lanes.specs.Workers.{book_of};
-
-use crate::drive::drive;
-use crate::fault::Fault;
-use crate::job::PortKind;
-use crate::notes::{AskNote, Note, cancel};
-use crate::port::{Client, join, new_port};
-use crate::resident::resident;
-use crate::serving::{config, new_log};
-use crate::soak_line::{entries_for, line_for};
-use crate::soaked::{BehindLock, CLIENTS, OverRings, PLACES};
-use crate::tally::Counts;
-use rdm_lanes::{BlankHistory, Lanes, RingClient, Shown, ViewHistory, open_lanes};
-use rdm_locked::{CallShare, Exchange, Left, Port};
+//! Ports one after another, each with sixteen clients, on a line that loses and fails, with pauses. Each request has to
+//! be accepted and told once. Clients take turns drawn at random, the same in each run.
+use crate::bench::{Bench, holds};
+use crate::devices::Random;
+use crate::lines::add;
+use crate::packets::data;
+use crate::ports::{on_port, on_rings};
+use crate::served::{CLIENTS, Job, Served};
+use rdm_client::Told;
+use rdm_join::Status;
+use rdm_line::{Parameter, Parameters, Scene, SceneDevices, SimLine};
+use rdm_rig::{controller, request};
+use rdm_wire::Request;
 use std::alloc::Global;
-use std::fmt;
-use std::marker::Brand;
+use std::fs;
 use std::rt::Files;
 use std::sync::Wait;
-use std::sync::ledger::{Blank, Ledger};
 
-// A row of the table.
-#[derive(Clone, Copy, Debug)]
-struct Row {
-    port: usize,
-    counts: Counts,
-    // How many kilobytes the process holds after the port has ended, where the system tells.
-    kilobytes: Option<u64>,
+// The parameter of two bytes (E1.20, DEVICE_INFO).
+const SHORT: u16 = 0x0060;
+
+// The manufacturer's parameter in three parts of 231 bytes.
+const LONG: u16 = 0x8001;
+
+/// How clients reach their session.
+#[derive(Clone, Copy, Debug, PartialEq, Eq)]
+pub enum PortKind {
+    /// With a mutex.
+    Locked,
+    /// With ring buffers.
+    Rings,
 }
 
-impl fmt::Display for Row {
-    fn fmt<W: fmt::Write>(&self, f: &mut fmt::Formatter<W>) -> fmt::Result {
-        let Row {
-            port,
-            counts,
-            kilobytes,
-        } = self;
-        let Counts {
-            requests,
-            outcomes,
+/// The request with this tag, for the parameter in parts if the tag is a multiple of 8. Its sub-device tells it from all
+/// others that wait with it.
+pub fn tagged(tag: u64) -> Request {
+    let mut request = request(tag);
+    request.pid = if tag % 8 == 0 { LONG } else { SHORT };
+    request
+}
+
+// Whether what was told may be the outcome of the request with its tag. A reply has to answer that request.
+fn fits(told: &Told) -> bool {
+    let request = tagged(told.tag);
+    match told.done.reply {
+        Some(head) => head.sub_device == request.sub_device && head.pid == request.pid,
+        None => told.done.status != Status::Completed,
+    }
+}
+
+/// Prints what the clients of as many ports as there are rounds are told, each of this many requests. How much memory
+/// the process holds after each port goes to standard error.
+pub fn print<R: Files + AllocGlobal + Print + Eprint + Wait>(
+    bench: &Bench<'_, R>,
+    kind: PortKind,
+    requests: u64,
+) -> Option<()> {
+    let rt = bench.rt;
+    for port in 1..=bench.rounds as u64 {
+        let Tally {
             completed,
             timeouts,
             failed,
-            missing,
-            twice,
-        } = counts;
-        write!(f, "{port:>4} {requests:>8} {outcomes:>8} ")?;
-        write!(f, "{completed:>9} {timeouts:>8} {failed:>6} ")?;
-        write!(f, "{missing:>7} {twice:>5} ")?;
-        match kilobytes {
-            Some(kilobytes) => write!(f, "{kilobytes:>11}"),
-            None => write!(f, "        none"),
-        }
+            ..
+        } = soaked(bench, kind, requests, port)?;
+        println!(rt; "{kind:?}: {completed} completed, {timeouts} timeouts, {failed} failed").ok()?;
+        let kilobytes = resident(rt).unwrap_or(0);
+        eprintln!(rt; "{kind:?}: {kilobytes} kB").ok()?;
     }
+    Some(())
 }
 
-/// Tells what the clients of this many ports are told, each of this many requests, and how much memory the process
-/// holds after each port.
-pub(crate) fn tell<R: Files + AllocGlobal + Print + Wait>(
-    rt: &R,
-    alloc: Global,
+// How many kilobytes of memory the process holds now, if the system says it, as Linux does.
+fn resident<R: Files + AllocGlobal>(rt: &R) -> Option<u64> {
+    let text = fs::read_to_string(rt, "/proc/self/status").ok()?;
+    let line = text
+        .as_str()
+        .lines()
+        .find_map(|line| line.strip_prefix("VmRSS:"))?;
+    line.split_ascii_whitespace().next()?.parse::<u64>().ok()
+}
+
+// Soaks one port. With a mutex, its log has to have a call for each request and for each outcome, and to be idle.
+fn soaked<R: Wait>(
+    bench: &Bench<'_, R>,
     kind: PortKind,
-    ports: usize,
-    requests: usize,
-) -> Result<(), Fault> {
-    println!(rt; "port requests outcomes completed timeouts failed missing twice resident kB")?;
-    for port in 1..=ports {
-        let counts = soak(rt, alloc, kind, requests, port as u64)?;
-        let kilobytes = resident(rt);
-        let row = Row {
-            port,
-            counts,
-            kilobytes,
-        };
-        println!(rt; "{row}")?;
-        if !counts.are_right(requests) {
-            return Err(Fault::Unexpected("what the clients were told"));
-        }
-    }
-    Ok(())
-}
-
-/// Tells how many requests of a small soak were told once, of each kind of port.
-pub(crate) fn tell_small<R: Print + Wait>(rt: &R, alloc: Global, size: usize) -> Result<(), Fault> {
-    let requests = size.wrapping_mul(100);
-    for (kind, name) in [(PortKind::Locked, "locked"), (PortKind::Rings, "rings")] {
-        let counts = soak(rt, alloc, kind, requests, 1)?;
-        if !counts.are_right(requests) {
-            return Err(Fault::Unexpected("what the clients were told"));
-        }
-        let told = counts.outcomes;
-        println!(rt; "soak, {name}, {CLIENTS} clients, told once, requests: {told}")?;
-    }
-    Ok(())
-}
-
-fn soak<R: Wait>(
-    rt: &R,
-    alloc: Global,
-    kind: PortKind,
-    requests: usize,
+    requests: u64,
     seed: u64,
-) -> Result<Counts, Fault> {
-    match kind {
-        PortKind::Locked => soak_locked::<Brand, R>(rt, alloc, Blank::new(17), requests, seed),
-        PortKind::Rings => soak_rings::<Brand, &R>(rt, alloc, BlankHistory::new(), requests, seed),
-    }
-}
-
-// Behind a lock. At the end the log's calls and exchanges are compared with those of the clients and the worker.
-fn soak_locked<L: Ledger, R: Wait>(
-    rt: &R,
-    alloc: Global,
-    blank: Blank,
-    requests: usize,
-    seed: u64,
-) -> Result<Counts, Fault>
-    requires name { blank.name ≡ L.name }
-    requires parts { (blank.parts ≡ L.parts) × (L.parts ≡ 17) }
-{
-    let line = line_for(alloc, requests, seed)?;
-    let port = new_port::<L>(alloc, blank, entries_for(requests))?;
-    let mut behind = BehindLock {
-        rt,
-        alloc,
-        port: &port,
-        clients: Vec::new(alloc),
-        line,
-        record: Vec::new(alloc),
+) -> Option<Tally> {
+    let mut tally = Tally {
+        requests,
+        random: Random::new(seed),
+        owners: Vec::new(bench.alloc),
+        completed: 0,
+        timeouts: 0,
+        failed: 0,
     };
-    let joined = join(rt, alloc, &port, CLIENTS, PLACES, &mut behind.clients);
-    let counts = drive(alloc, &mut behind, requests, seed);
-    let BehindLock {
-        rt: _,
-        alloc: _,
-        port: _,
-        clients,
-        line: _line,
-        record,
-    } = behind;
-    let shares = leave(rt, alloc, clients);
-    joined?;
-    let counts = counts?;
-    if counts.are_right(requests) {
-        finish(port, shares?, record.as_slice(), &counts)?;
+    let line = line_for(bench.alloc, requests, seed)?;
+    match kind {
+        PortKind::Locked => {
+            let end = on_port(bench, CLIENTS, line, &mut tally)?;
+            holds(end.calls == requests.wrapping_mul(2) && end.session.is_idle())?;
+        }
+        PortKind::Rings => on_rings(bench, CLIENTS, line, &mut tally)?,
     }
-    Ok(counts)
+    Some(tally)
 }
 
-// Lets the clients leave. The callbacks of requests that were never told are cancelled.
-fn leave<L: Ledger, R: Wait>(
-    rt: &R,
-    alloc: Global,
-    mut clients: Vec<Client<'_, L>>,
-) -> Result<Vec<CallShare<L>>, Fault> {
-    let mut shares = Vec::new(alloc);
-    let mut has_all = true;
-    while let Some(client) = clients.pop() {
-        let Left { unspent, calls } = client.leave(rt);
-        cancel(alloc, unspent);
-        has_all = shares.push(calls).is_ok() && has_all;
+// A line for this many requests, by this seed. One device answers. One exchange in 100 fails, and of the others the reply
+// of one in 50 is lost.
+fn line_for(alloc: Global, requests: u64, seed: u64) -> Option<SimLine> {
+    let short = vec![in alloc; data(2)?].ok()?;
+    let long = vec![in alloc; data(231)?, data(231)?, data(231)?].ok()?;
+    let params = vec![in alloc; Parameter::new(SHORT, short), Parameter::new(LONG, long)].ok()?;
+    let mut scene = Scene {
+        source: controller(),
+        devices: SceneDevices::new(alloc),
+        collisions: Vec::new(alloc),
+        losses: Vec::new(alloc),
+        fails: Vec::new(alloc),
+    };
+    let uid = request(0).target;
+    add(&mut scene.devices, uid, Parameters::new(params))?;
+    let mut random = Random::new(seed);
+    for exchange in 0..requests.wrapping_mul(2) {
+        if random.below(100) == 0 {
+            scene.fails.push(exchange).ok()?;
+        } else if random.below(50) == 0 {
+            scene.losses.push(exchange).ok()?;
+        }
     }
-    clients.destroy_empty();
-    if has_all {
-        Ok(shares)
-    } else {
-        Err(Fault::NoMemory)
-    }
+    SimLine::new(alloc, scene).ok()
 }
 
-// Ends the port, whose log has a call for each request and for each outcome, and is idle.
-fn finish<L: Ledger>(
-    port: Port<L>,
-    shares: Vec<CallShare<L>>,
-    record: &[Exchange],
-    counts: &Counts,
-) -> Result<(), Fault>
-    requires { L.parts ≡ 17 }
-{
-    let calls = counts.requests.wrapping_add(counts.outcomes);
-    match port.finish(shares, record) {
-        Ok(end) => {
-            if end.calls == calls && end.session.is_idle() {
-                Ok(())
-            } else {
-                Err(Fault::Unexpected("the end of a port"))
+// What clients were told. Requests have their numbers as tags, in the order of their submits.
+#[derive(Drop)]
+struct Tally {
+    requests: u64,
+    random: Random,
+    // Whose request each is; None once it was told.
+    owners: Vec<Option<usize>>,
+    completed: u64,
+    timeouts: u64,
+    failed: u64,
+}
+
+impl Job for Tally {
+    // There are many more rounds than it takes. At last each client looks for one outcome more.
+    fn run<S: Served>(&mut self, served: &mut S) -> Option<()> {
+        for _ in 0..self.requests.wrapping_mul(2).wrapping_add(1_000) {
+            self.round(served)?;
+            if self.told() == self.requests {
+                break;
             }
         }
-        Err(_) => Err(Fault::Unexpected("Port::finish")),
+        for client in 0..usize::from(CLIENTS) {
+            self.collect(served, client)?;
+        }
+        holds(self.told() == self.requests)
     }
 }
 
-// Over rings.
-fn soak_rings<J: ViewHistory, W: Wait + Drop>(
-    rt: W,
-    alloc: Global,
-    history: BlankHistory,
-    requests: usize,
-    seed: u64,
-) -> Result<Counts, Fault>
-    requires { book_of history ≡ J.book }
-{
-    let line = line_for(alloc, requests, seed)?;
-    let lanes = opened::<J, W>(rt, alloc, history, requests)?;
-    let Lanes {
-        clients,
-        operator,
-        worker,
-    } = lanes;
-    let mut over = OverRings {
-        alloc,
-        clients,
-        operator,
-        worker,
-        line,
-    };
-    let counts = drive(alloc, &mut over, requests, seed);
-    let OverRings {
-        alloc: _,
-        clients,
-        operator: _operator,
-        worker: _worker,
-        line: _line,
-    } = over;
-    end(alloc, clients);
-    counts
-}
-
-// The clients, with room for this many requests in the log.
-fn opened<J: ViewHistory, W: Wait + Drop>(
-    rt: W,
-    alloc: Global,
-    history: BlankHistory,
-    requests: usize,
-) -> Result<Lanes<J, Shown<J>, W, Note, AskNote>, Fault>
-    requires { book_of history ≡ J.book }
-{
-    let log = new_log(alloc, entries_for(requests))?;
-    let places = [PLACES; 16];
-    match open_lanes(rt, alloc, history, config(), log, PLACES, &places) {
-        Ok(lanes) => Ok(lanes),
-        Err(_) => Err(Fault::NoMemory),
+impl Tally {
+    fn told(&self) -> u64 {
+        self.completed
+            .wrapping_add(self.timeouts)
+            .wrapping_add(self.failed)
     }
-}
 
-// Ends the clients. The callbacks of requests that were never told are cancelled.
-fn end<J: ViewHistory>(alloc: Global, mut clients: Vec<RingClient<J, Note, AskNote>>) {
-    while let Some(client) = clients.pop() {
-        cancel(alloc, client.end().into_unspent());
+    // A client submits up to four requests, the worker makes up to four turns, and a client collects up to seven
+    // outcomes. One round in 200 has a pause.
+    fn round<S: Served>(&mut self, served: &mut S) -> Option<()> {
+        self.submit(served)?;
+        if self.random.below(200) == 0 {
+            served.pause(true)?;
+            served.work(self.random.below(4))?;
+            served.pause(false)?;
+        }
+        served.work(self.random.below(4).wrapping_add(1))?;
+        let client = self.random.below(u64::from(CLIENTS)) as usize;
+        for _ in 0..self.random.below(8) {
+            self.collect(served, client)?;
+        }
+        Some(())
     }
-    clients.destroy_empty();
+
+    // A client submits, as far as there are places.
+    fn submit<S: Served>(&mut self, served: &mut S) -> Option<()> {
+        let client = self.random.below(u64::from(CLIENTS)) as usize;
+        for _ in 0..self.random.below(5) {
+            let tag = self.owners.len() as u64;
+            if tag < self.requests && served.submit(client, tag)? {
+                self.owners.push(Some(client)).ok()?;
+            }
+        }
+        Some(())
+    }
+
+    // A client collects an outcome, if there is one. It has to be that of a request of its own that wasn't told yet.
+    fn collect<S: Served>(&mut self, served: &mut S, client: usize) -> Option<()> {
+        let Some(told) = served.collect(client) else {
+            return Some(());
+        };
+        let owner = self.owners.get_mut(told.tag as usize)?.take();
+        holds(owner == Some(client) && fits(&told))?;
+        match told.done.status {
+            Status::Completed => self.completed = self.completed.wrapping_add(1),
+            Status::Timeout => self.timeouts = self.timeouts.wrapping_add(1),
+            Status::FailedToSend => self.failed = self.failed.wrapping_add(1),
+            _ => return None,
+        }
+        Some(())
+    }
 }
