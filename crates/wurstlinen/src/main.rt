@@ -3,7 +3,7 @@
 //! process, its files and its streams.
 #![tactic(auto)]
 
-ghost use Rattle.std.specs.Prelude.{◌≡◌, IfOk, map, string_bytes};
+ghost use Rattle.std.specs.Prelude.{◌≡◌, ◌≤◌, IfOk, length, map, string_bytes};
 ghost use Rattle.rdm_port.specs.Words.{texts_of};
 
 mod opening;
@@ -61,7 +61,9 @@ fn print_on_line<T: Runtime + Files<File = File>>(
     rt: &T,
     alloc: Global,
     job: &LineDiscovery<'_>,
-) -> u8 {
+) -> u8
+    requires few { length job.now.known.items ≤ 1024 }
+{
     let mut progress = Progressing::new(rt);
     let mut opener = FileOpener::new(rt, alloc);
     let (status, reason) = carry_out_on_line::<TextLine, _, _, _>(
