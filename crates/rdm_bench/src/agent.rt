@@ -33,7 +33,8 @@ const WORKS: [Work; 4] = [
 /// Times runs over this many devices.
 pub fn time<R: CpuClock + Print + Eprint>(bench: &Bench<'_, R>, count: usize) -> Option<()> {
     for work in WORKS {
-        let tape = tape(bench.alloc, count)?;
+        let known = devices(count, Spread::Random, (count as u64).wrapping_add(42))?;
+        let tape = tape(bench.alloc, &known)?;
         let heard = tape
             .iter()
             .map(|taped| taped.heard())
@@ -41,7 +42,7 @@ pub fn time<R: CpuClock + Print + Eprint>(bench: &Bench<'_, R>, count: usize) ->
             .ok()?;
         let mut runs = Runs {
             work,
-            count,
+            known,
             heard,
             tape,
         };
@@ -50,30 +51,36 @@ pub fn time<R: CpuClock + Print + Eprint>(bench: &Bench<'_, R>, count: usize) ->
     Some(())
 }
 
-/// What comes in a steady run on a line with this many devices that loses nothing.
-pub fn tape(alloc: Global, count: usize) -> Option<Vec<Taped>> {
-    let devices = devices(count, Spread::Random, (count as u64).wrapping_add(42))?;
-    let mut line = TestLine::new(alloc, Wrong::Nothing, &devices, 1)?;
-    holds(line.searched(Search::Steady)?.found().len() == count)?;
+/// What comes in a steady run on a line with these devices that loses nothing.
+pub fn tape(alloc: Global, devices: &UidSet) -> Option<Vec<Taped>> {
+    let mut line = TestLine::new(alloc, Wrong::Nothing, devices, 1)?;
+    holds(line.searched(Search::Steady)?.found().len() == devices.len())?;
     Some(line.tape)
 }
 
-// Runs over this many devices, and what they hear.
+// Runs over these devices, and what they hear.
 #[derive(Drop)]
 struct Runs {
     work: Work,
-    count: usize,
+    known: UidSet,
     heard: Vec<OpReply>,
     tape: Vec<Taped>,
 }
 
 impl Sample for Runs {
     fn run(&mut self) -> Option<u64> {
-        if self.work == Work::StartAndEnd {
-            holds(ended_at_once().is_err())?;
-            return Some(1);
+        if self.work != Work::StartAndEnd {
+            return self.steps();
         }
-        let mut agent = Agent::start(Kind::Full, &UidSet::new(), DEFAULT_BUDGET);
+        holds(ended_at_once(&self.known).is_err())?;
+        Some(1)
+    }
+}
+
+impl Runs {
+    #[inline(never)]
+    fn steps(&self) -> Option<u64> {
+        let mut agent = Agent::start(Kind::Full, &self.known, DEFAULT_BUDGET);
         for (place, heard) in self.heard.as_slice().iter().enumerate() {
             let op = agent.next();
             self.write(op, place)?;
@@ -82,12 +89,10 @@ impl Sample for Runs {
         if agent.next() != Op::End {
             return None;
         }
-        holds(agent.end().ok()?.len() == self.count)?;
+        holds(agent.end().ok()?.len() == self.known.len())?;
         Some(self.heard.len() as u64)
     }
-}
 
-impl Runs {
     // Writes the frame of this operation, if that is to be done.
     fn write(&self, op: Op, place: usize) -> Option<()>
         requires device { (u : ℕ) → op ≡ Op.Mute u → IsDevice u }
@@ -110,8 +115,8 @@ impl Runs {
 
 // A run that may make no exchange.
 #[inline(never)]
-fn ended_at_once() -> Result<DeviceSet, (AgentFault, DeviceSet)> {
-    Agent::start(Kind::Full, &UidSet::new(), 0).end()
+fn ended_at_once(known: &UidSet) -> Result<DeviceSet, (AgentFault, DeviceSet)> {
+    Agent::start(Kind::Full, known, 0).end()
 }
 
 // An operation's frame, with this transaction number.

@@ -109,7 +109,6 @@ fn noise() -> Option<Collision> {
 }
 
 /// These bytes as what came.
-#[inline(never)]
 pub fn bytes_of(bytes: &[u8]) -> Option<LineReply> {
     let mut reply = LineReply::new();
     reply.try_extend_from_slice(bytes).ok()?;

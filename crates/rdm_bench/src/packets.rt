@@ -70,11 +70,10 @@ impl Line for Replay {
         let tn = frame.get(TRANSACTION_NUMBER).copied().unwrap_or(0);
         let place = self.next % self.replies.len().max(1);
         self.next = place.wrapping_add(1);
-        let reply = match self.replies.get(place) {
-            Some(reply) => numbered(reply, tn),
-            None => None,
-        };
-        Ok(reply.unwrap_or(LineReply::new()))
+        match self.replies.get(place) {
+            Some(reply) => Ok(numbered(reply, tn)),
+            None => Ok(LineReply::new()),
+        }
     }
 
     fn failures(&self) -> u64 {
@@ -84,8 +83,8 @@ impl Line for Replay {
 
 /// The same packet with this transaction number, and its checksum (E1.20, packet format). Other bytes are the same.
 #[inline(never)]
-pub fn numbered(reply: &LineReply, tn: u8) -> Option<LineReply> {
-    let mut reply = bytes_of(reply)?;
+pub fn numbered(reply: &LineReply, tn: u8) -> LineReply {
+    let mut reply = copied(reply);
     let bytes = reply.as_mut_slice();
     let length = bytes.len();
     if length > TRANSACTION_NUMBER + 2 && bytes[0] == 0xcc {
@@ -97,7 +96,19 @@ pub fn numbered(reply: &LineReply, tn: u8) -> Option<LineReply> {
         bytes[length - 2] = high;
         bytes[length - 1] = low;
     }
-    Some(reply)
+    reply
+}
+
+#[inline(never)]
+fn copied(reply: &LineReply) -> LineReply {
+    let mut bytes = LineReply::new();
+    bytes.try_extend_from_slice(reply.as_slice()).unwrap();
+    bytes
+}
+
+#[inline(never)]
+fn cloned(reply: &LineReply) -> LineReply {
+    reply.clone().unwrap()
 }
 
 // What is called.
@@ -131,7 +142,7 @@ pub fn time<R: CpuClock + Print + Eprint>(bench: &Bench<'_, R>, count: usize) ->
     };
     calls.request.param = data(count)?;
     for tn in 0..=u8::MAX {
-        let event = LineEvent::Reply(numbered(&reply, tn)?);
+        let event = LineEvent::Reply(numbered(&reply, tn));
         calls.events.push(event).ok()?;
     }
     for work in WORKS {
@@ -175,8 +186,8 @@ impl Calls {
             },
             Work::Judge => matches!(judge(&self.sent(tn), event), Judged::Whole(_)),
             Work::ReadBranchReply => matches!(read_branch_reply(&self.branch), BranchReply::One(_)),
-            Work::Clone => reply.clone().unwrap().len() == reply.len(),
-            Work::TryExtendFromSlice => bytes_of(reply).is_some(),
+            Work::Clone => cloned(reply).len() == reply.len(),
+            Work::TryExtendFromSlice => copied(reply).len() == reply.len(),
         }
     }
 

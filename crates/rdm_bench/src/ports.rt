@@ -4,10 +4,10 @@ ghost use Rattle.rdm_lanes.specs.Workers.{book_of};
 
 use crate::bench::{Bench, holds};
 use crate::packets::Replay;
-use crate::served::{CLIENTS, FREE, Job, PLACES, Served, Timing, config, told};
+use crate::served::{CLIENTS, FREE, Job, PLACES, Served, Timing, config};
 use crate::soak::tagged;
 use left_right::Absorb;
-use rdm_client::{DeviceView, Told};
+use rdm_client::{Collected, DeviceView, Told};
 use rdm_lanes::{BlankHistory, Lanes, RingFault, Shown, ViewHistory, WorkerEnd, open_lanes};
 use rdm_line::Line;
 use rdm_locked::{CallShare, Exchange, Left, LockedClient, Port, SessionEnd, WorkerEnd as PortEnd};
@@ -71,7 +71,10 @@ impl<L: Ledger, R: Wait, X: Line> Served for Locked<'_, L, R, X> {
     }
 
     fn collect(&mut self, client: usize) -> Option<Told> {
-        told(self.clients.get_mut(client)?.collect(self.bench.rt)?)
+        match self.clients.get_mut(client)?.collect(self.bench.rt) {
+            Some(Collected::Request(told)) => Some(told),
+            _ => None,
+        }
     }
 
     fn pause(&mut self, pauses: bool) -> Option<()> {
@@ -191,7 +194,10 @@ impl<J: ViewHistory, W: Wait + Drop, X: Line> Served for Rings<J, Shown<J>, W, X
     }
 
     fn collect(&mut self, client: usize) -> Option<Told> {
-        told(self.lanes.clients.get_mut(client)?.collect()?)
+        match self.lanes.clients.get_mut(client)?.collect() {
+            Some(Collected::Request(told)) => Some(told),
+            _ => None,
+        }
     }
 
     fn pause(&mut self, pauses: bool) -> Option<()> {

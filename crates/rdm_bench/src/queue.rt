@@ -1,6 +1,7 @@
 //! The queue of requests in one thread, with a log and without, and its discoveries.
 use crate::agent::tape;
 use crate::bench::{Bench, Sample, holds};
+use crate::devices::{Spread, devices};
 use crate::lines::bytes_of;
 use crate::packets::{Replay, TAG};
 use crate::served::{CLIENTS, FREE, Job, Served, Timing, config};
@@ -8,7 +9,7 @@ use rdm_agent::Kind;
 use rdm_client::Told;
 use rdm_join::LineEvent;
 use rdm_line::Line;
-use rdm_queue::{ClientId, Completion, Controller, Outcome, Session};
+use rdm_queue::{ClientId, Controller, Outcome, Session};
 use rdm_rig::{log, request};
 use rdm_wire::DeviceSet;
 use std::alloc::Global;
@@ -18,7 +19,7 @@ use std::time::CpuClock;
 const DEVICES: usize = 16;
 
 // How outcomes are collected: by the call for requests, or by the one for either kind, which moves a set.
-#[derive(Clone, Copy, Debug)]
+#[derive(Clone, Copy, Debug, PartialEq, Eq)]
 enum By {
     NextCompletion,
     NextOutcome,
@@ -90,12 +91,14 @@ impl Served for Clients {
 
     fn collect(&mut self, client: usize) -> Option<Told> {
         let client = id_of(client);
-        match (&mut self.queue, self.by) {
-            (Queue::Plain(queue), By::NextCompletion) => told(queue.next_completion(client)?),
-            (Queue::Logged(queue), By::NextCompletion) => told(queue.next_completion(client)?),
-            (Queue::Plain(queue), By::NextOutcome) => of_request(queue.next_outcome(client)?),
-            (Queue::Logged(queue), By::NextOutcome) => of_request(queue.next_outcome(client)?),
+        if self.by == By::NextOutcome {
+            return collected_as_either(&mut self.queue, client);
         }
+        let (tag, done) = match &mut self.queue {
+            Queue::Plain(queue) => queue.next_completion(client)?,
+            Queue::Logged(queue) => queue.next_completion(client)?,
+        };
+        Some(Told { tag, done })
     }
 }
 
@@ -103,14 +106,16 @@ fn id_of(client: usize) -> ClientId {
     ClientId((client % 256) as u8)
 }
 
-fn told((tag, done): (u64, Completion)) -> Option<Told> {
-    Some(Told { tag, done })
-}
-
-fn of_request(outcome: Outcome) -> Option<Told> {
+// It is a function of its own, since a function that has an outcome among its locals takes longer.
+#[inline(never)]
+fn collected_as_either(queue: &mut Queue, client: ClientId) -> Option<Told> {
+    let outcome = match queue {
+        Queue::Plain(queue) => queue.next_outcome(client),
+        Queue::Logged(queue) => queue.next_outcome(client),
+    };
     match outcome {
-        Outcome::Request { number, done } => told((number?, done)),
-        Outcome::Discovery { .. } => None,
+        Some(Outcome::Request { number, done }) => Some(Told { tag: number?, done }),
+        _ => None,
     }
 }
 
@@ -154,7 +159,7 @@ fn time_discoveries<R: CpuClock + Print + Eprint>(
 ) -> Option<()> {
     let alloc = bench.alloc;
     let mut replies = Vec::new(alloc);
-    for taped in tape(alloc, DEVICES)?.as_slice() {
+    for taped in tape(alloc, &devices(DEVICES, Spread::Random, 58)?)?.as_slice() {
         replies.push(bytes_of(&taped.reply)?).ok()?;
     }
     let frames = replies.len() as u64;

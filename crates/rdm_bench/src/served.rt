@@ -4,7 +4,7 @@ ghost use Rattle.rdm_log.specs.log.Config.{IsConfig};
 use crate::bench::{Bench, Sample, holds};
 use crate::packets::TAG;
 use rdm_agent::DEFAULT_BUDGET;
-use rdm_client::{Collected, Told};
+use rdm_client::Told;
 use rdm_queue::{Config, MOST_PLACES};
 use rdm_wire::Uid;
 use std::fmt;
@@ -50,14 +50,6 @@ pub fn config() -> Config
         source: Uid::new(0x7a70, 0x100),
         places: MOST_PLACES,
         budget: DEFAULT_BUDGET,
-    }
-}
-
-/// What a request's callback told; nobody asks for a discovery.
-pub fn told(collected: Collected) -> Option<Told> {
-    match collected {
-        Collected::Request(told) => Some(told),
-        Collected::Ask(_) => None,
     }
 }
 
