@@ -6,7 +6,7 @@
 #   ARGUMENT   the program's command and its arguments, without --line and --replies
 #
 #   adapter.sh enttec:/dev/ttyUSB0 discover --source 7ff0:00000001
-#   adapter.sh rig:five_fixtures.json run session.json
+#   adapter.sh rig:five_fixtures.json discover --source 7ff0:00000001 --quick
 #
 # The bridge talks to the adapter, and two FIFOs carry its text: frames one way, replies the other. Both ends stop when
 # one does. WURSTLINEN is the program, if it isn't `wurstlinen` on the PATH. The status is the program's, or the bridge's
