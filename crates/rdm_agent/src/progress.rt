@@ -332,7 +332,7 @@ impl Progress {
         ensures sound { IsSound (seen_phase result self.new) }
         ensures fresh { IsFresh (seen_phase result self.new) self.new.below }
     {
-        if sweep.made < SWEEP_FRAMES * (found + 1) {
+        if sweep.made < SWEEP_FRAMES * (found + 2) {
             return Phase::Sweeping { top, sweep };
         }
         self.below.clear();
@@ -420,7 +420,7 @@ impl Progress {
         ensures sound { IsSound (seen_phase result self.new) }
         ensures fresh { IsFresh (seen_phase result self.new) self.new.below }
     {
-        if top.lo.number() > 1 && sweep.made < SWEEP_FRAMES * (found + 1) {
+        if top.lo.number() > 1 && sweep.made < SWEEP_FRAMES * (found + 2) {
             Phase::Doubting { top, sweep }
         } else {
             self.sweep_past(sweep, found, top)

@@ -393,7 +393,7 @@ impl Session {
     ///
     /// An entry takes 296 bytes. A request takes 5 entries where one frame is enough for it, and 2 for each frame
     /// more. A discovery takes 3, and its run 2 for each frame. On an honest line a run with `n` devices and `k` known
-    /// ones has at most `8 + 370 n + 5 k` frames, and 105 more where it searches quickly.
+    /// ones has at most `8 + 370 n + 5 k` frames, and 205 more where it searches quickly.
     ///
     /// The numbers of requests, discoveries, runs and frames go on. So do the clients with their places, the devices
     /// and their run, and whether it is paused or closed: all stand in the new log's opening. Its runs search as
