@@ -6,7 +6,6 @@ ghost use Rattle.rdm_queue.specs.body.SessionInvariant.{SessionAmid, FinishesDue
 mod lengths;
 
 use crate::controller::Controller;
-use crate::copies::{copy_of_frame, copy_of_request};
 use arrayvec::ArrayVec;
 use rdm_agent::Kind;
 use rdm_join::LineEvent;
@@ -15,7 +14,7 @@ use rdm_log::{
     LEAST_FREE, Log, LogFull, NoMemory, NotAsked, NotIdle, Opening, Outcome, OutcomeKind, Setup,
     SubmitFault,
 };
-use rdm_wire::{DeviceSet, Frame, Request};
+use rdm_wire::{DeviceSet, Frame, Request, copy_of_frame};
 use std::alloc::Global;
 use std::marker::Model;
 use std::mem;
@@ -126,7 +125,7 @@ impl Session {
         if self.is_full() {
             return Err((SubmitFault::LogFull, request));
         }
-        let copy = copy_of_request(&request);
+        let copy = request.copied();
         match self.controller.submit(client, request) {
             Ok(number) => {
                 self.log.append(Entry::Accept {
