@@ -1,6 +1,6 @@
 -- Runs on an honest line end within their bound, and without fault.
 use Rattle.std.proofs.Common.{◌≡◌, ℕ, ◌+◌, ◌*◌, ◌≤◌, Bool, true, List, [], ◌∷◌, length, Option, None, Some, refl, sym, ap, subst, inl, inr, true≢false, arith}
-use Rattle.std.specs.Prelude.{◌≢◌, ◌⊎◌, nat_lt, MatchOption, filter}
+use Rattle.std.specs.Prelude.{◌≢◌, ◌⊎◌, ◌↔◌, nat_lt, MatchOption, filter}
 use Rattle.std.specs.List.{AllByRecursion}
 use Rattle.std.proofs.lemmas.Bool.{lt-ltb, cond_both}
 use Rattle.rdm_wire.specs.Uid.{IsDeviceSet}
@@ -102,7 +102,7 @@ ends_within present s b most enough affords = by_phase (ended_or_pays b.search p
 -- what the unmutes, the known UIDs and the search cost
 abbrev search_cost : Search → List ℕ → ℕ
 search_cost Steady present = 10 + length present * 740
-search_cost Quick present = 220 + length present * 740
+search_cost Quick present = 420 + length present * 740
 
 start-affords : (search : Search) (present : List ℕ) (muted : ℕ → Bool) (kind : Kind) (known : List ℕ) (budget : ℕ)
     → Affords present (2 * enough_by search present kind known) (before_run muted) (start_by search kind known budget)
@@ -144,14 +144,19 @@ pub default_suffices : (present known : List ℕ) (kind : Kind) → length prese
 default_suffices present known Full few few_known = omega arith
 default_suffices present known Incremental few few_known = omega arith
 
--- for a quick search too, but where there are most devices and as many known UIDs
-pub quick_suffices : (present known : List ℕ) (kind : Kind) → length present ≤ 1024 → length known ≤ 1024
-    → (length present ≤ 1023) ⊎ (length (known_of kind known) ≤ 1003)
+-- for a quick search too, exactly if the devices and known UIDs cost no more than this
+pub quick_suffices : (present known : List ℕ) (kind : Kind) → (enough_by Quick present kind known ≤ DEFAULT_BUDGET)
+    ↔ (370 * length present + 5 * length (known_of kind known) ≤ 383795)
+quick_suffices present known kind = ((λ enough. omega (arith, enough)), (λ few. omega (arith, few)))
+
+-- so it does, but where there are most devices and as many known UIDs
+pub quick_sizes_suffice : (present known : List ℕ) (kind : Kind) → length present ≤ 1024 → length known ≤ 1024
+    → (length present ≤ 1023) ⊎ (length (known_of kind known) ≤ 983)
     → enough_by Quick present kind known ≤ DEFAULT_BUDGET
-quick_suffices present known Full few few_known (inl fewer) = omega arith
-quick_suffices present known Full few few_known (inr fewer) = omega arith
-quick_suffices present known Incremental few few_known (inl fewer) = omega arith
-quick_suffices present known Incremental few few_known (inr fewer) = omega arith
+quick_sizes_suffice present known Full few few_known (inl fewer) = omega arith
+quick_sizes_suffice present known Full few few_known (inr fewer) = omega arith
+quick_sizes_suffice present known Incremental few few_known (inl fewer) = omega arith
+quick_sizes_suffice present known Incremental few few_known (inr fewer) = omega arith
 
 pub ends_by_default : EndsByDefault
 ends_by_default kind known budget x b set run present calm few_known is = ends_in_bound kind known budget x b set run present calm (rw is (default_suffices present known kind calm.few few_known))

@@ -233,7 +233,7 @@ module _ (sweep : Sweep) (n : ℕ) (top : Span) (x : List Seen) where
     steadily silences few = record { cleared_last = λ lo hi far five. absurd (not_five lo hi far five); few = few }
 
     goes_to : (memory : Sweep) (r : Span) (rs : List Span) → top.hi + 1 ≤ r.hi → top.hi < greatest → IsUncleared (sweep_to memory n r rs) (x ++ swept_again ∷ [])
-    goes_to memory r rs up under = cond_both (nat_lt memory.made (100 * (n + 1))) _ _ (λ p. IsUncleared p (x ++ swept_again ∷ []))
+    goes_to memory r rs up under = cond_both (nat_lt memory.made (100 * (n + 2))) _ _ (λ p. IsUncleared p (x ++ swept_again ∷ []))
         (λ goes. record { cleared_last = λ lo hi far five. absurd (not_five lo hi far five); few = λ lo hi m far ends. above lo hi m (omega (arith, far, up)) ends })
         (λ out. steadily 0 (λ m ends. above whole.lo whole.hi m (omega (arith, under)) ends))
 
@@ -304,7 +304,7 @@ module _ (sweep : Sweep) (n : ℕ) (top : Span) (below : List Span) (x : List Se
     where
       by_rest : (rest : List Span) → IsStack top rest → IsUncleared (sweep_past (counted sweep) n top rest) (x ++ pair_again ∷ [])
       by_rest [] s = steady_next
-      by_rest (r ∷ rs) s = cond_both (nat_lt (sweep.made + 1) (100 * (n + 1))) _ _ (λ p. IsUncleared p (x ++ pair_again ∷ []))
+      by_rest (r ∷ rs) s = cond_both (nat_lt (sweep.made + 1) (100 * (n + 2))) _ _ (λ p. IsUncleared p (x ++ pair_again ∷ []))
           (λ goes. record {
             cleared_last = λ lo hi far five. absurd (no_five lo hi far five);
             few = λ lo hi m far ends. let at = s.rest.3 in let up = (IsStack-ends r rs (IsStack-pop top r rs s)).0 in still lo hi m (omega (arith, far, at, up)) ends;

@@ -31,10 +31,10 @@ Covers present found (r ∷ rs) n =
     (level : ℕ) × (rest : ℕ) × (r.hi + 1 ≡ r.lo + 2 ^ level)
     × (worth level (left_in present found r) + rest ≤ n) × Covers present found rs rest
 
--- what a sweep costs at most, and the search after it: two hundred for each device that is found and two hundred more, and
+-- what a sweep costs at most, and the search after it: two hundred for each device that is found, four hundred more, and
 -- ten for its last mutes; what covers all UIDs where the others are left
 abbrev pub sweep_cost : List ℕ → List ℕ → ℕ
-sweep_cost present found = 220 + 200 * length found + 740 * length (unfound present found)
+sweep_cost present found = 420 + 200 * length found + 740 * length (unfound present found)
 
 -- n half exchanges are enough for the search, before it begins
 abbrev pub Ahead : Search → List ℕ → List ℕ → ℕ → Type 0
@@ -77,14 +77,14 @@ pub record CostsRead (present : List ℕ) (line : LineState) (found : List ℕ)
 
 -- what a sweep costs, without the exchanges that it made; it is below its limit
 pub record CostsSweeping (present found : List ℕ) (sweep : Sweep) (cost : ℕ) : Type 0 where
-  pub below : sweep.made < 100 * (length found + 1)
+  pub below : sweep.made < 100 * (length found + 2)
   pub enough : sweep_cost present found ≤ cost + 2 * sweep.made
 
 -- the same in the midst of a series of mutes, which may go on past the limit
 pub record CostsSwept (present : List ℕ) (line : LineState) (found : List ℕ)
     (u tries : ℕ) (sweep : Sweep) (top : Span) (cost : ℕ) : Type 0 where
   pub few : tries ≤ 4
-  pub below : sweep.made ≤ 100 * (length found + 1) + tries
+  pub below : sweep.made ≤ 100 * (length found + 2) + tries
   pub enough : sweep_cost present found ≤ cost + 2 * sweep.made
   pub new : is_new found top u ≡ true
   pub lost : has present u ≡ true → tries ≤ line.lost_mutes

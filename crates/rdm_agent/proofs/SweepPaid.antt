@@ -23,7 +23,7 @@ use Rattle.rdm_agent.proofs.PaidLemmas.{Cheaper, CountsOneMore, SpellsNew, mute-
 
 -- what is still needed after an exchange
 record Pays (present found : List ℕ) (sweep : Sweep) (cost : ℕ) : Type 0 where
-  below : sweep.made ≤ 100 * (length found + 1) + 5
+  below : sweep.made ≤ 100 * (length found + 2) + 5
   enough : sweep_cost present found + 2 ≤ cost + 2 * sweep.made
 
 module _ (search : Search) (present : List ℕ) (line : LineState) (found : List ℕ) (cost : ℕ) where
@@ -46,8 +46,8 @@ module _ (search : Search) (present : List ℕ) (line : LineState) (found : List
       all_left = no_more (λ u. not (has found u)) (is_left found whole) present (λ u left. (and_parts _ (not (has found u)) left).1)
 
   to-costs : (sweep : Sweep) (n : ℕ) (top : Span) (below : List Span) → n ≡ length found → Pays present found sweep cost → Cheaper search present line found cost (sweep_to sweep n top below)
-  to-costs sweep n top below many pays = cond_both (nat_lt sweep.made (100 * (n + 1))) _ _ (Cheaper search present line found cost)
-      (λ goes. let under : sweep.made < 100 * (n + 1) = ltb-true sweep.made (100 * (n + 1)) goes in
+  to-costs sweep n top below many pays = cond_both (nat_lt sweep.made (100 * (n + 2))) _ _ (Cheaper search present line found cost)
+      (λ goes. let under : sweep.made < 100 * (n + 2) = ltb-true sweep.made (100 * (n + 2)) goes in
       let enough = pays.enough in record {
         left = cost - 2;
         saves = omega arith;
@@ -67,8 +67,8 @@ module _ (search : Search) (present : List ℕ) (line : LineState) (found : List
   past-costs sweep n top below many pays = below-costs (suspecting top.lo sweep) n below many (record { below = pays.below; enough = pays.enough })
 
   doubt-costs : (sweep : Sweep) (n : ℕ) (top : Span) (below : List Span) → n ≡ length found → Pays present found sweep cost → Cheaper search present line found cost (sweep_doubt sweep n top below)
-  doubt-costs sweep n top below many pays = cond_both (nat_lt 1 top.lo && nat_lt sweep.made (100 * (n + 1))) _ _ (Cheaper search present line found cost)
-      (λ both. let under : sweep.made < 100 * (n + 1) = ltb-true sweep.made (100 * (n + 1))
+  doubt-costs sweep n top below many pays = cond_both (nat_lt 1 top.lo && nat_lt sweep.made (100 * (n + 2))) _ _ (Cheaper search present line found cost)
+      (λ both. let under : sweep.made < 100 * (n + 2) = ltb-true sweep.made (100 * (n + 2))
       (and_parts (nat_lt 1 top.lo) _ both).1 in
       let enough = pays.enough in record {
         left = cost - 2;

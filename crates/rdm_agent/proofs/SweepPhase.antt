@@ -71,7 +71,7 @@ module _ (kind : Kind) (known : List ℕ) (budget : ℕ) where
 
     -- the sweep goes on, or the steady search begins
     pub to-phase : (sweep : Sweep) (n : ℕ) (top : Span) (below : List Span) → IsStack top below → InPhase kind known budget (sweep_to sweep n top below) x found
-    to-phase sweep n top below stack = cond_both (nat_lt sweep.made (100 * (n + 1))) _ _ (λ p. InPhase kind known budget p x found)
+    to-phase sweep n top below stack = cond_both (nat_lt sweep.made (100 * (n + 2))) _ _ (λ p. InPhase kind known budget p x found)
         (λ goes. record { searches = s; stack = stack; not_corrupt = not_corrupt }) (λ out. begins-steady)
 
     pub below-phase : (sweep : Sweep) (n : ℕ) (top : Span) (below : List Span) → IsStack top below → InPhase kind known budget (sweep_below sweep n below) x found
@@ -84,10 +84,10 @@ module _ (kind : Kind) (known : List ℕ) (budget : ℕ) where
         (λ other. to-phase sweep n (lower_half r) (upper_half r ∷ below) (IsStack-split r below several stack))
 
     pub doubt-phase : (sweep : Sweep) (n : ℕ) (top : Span) (below : List Span) → IsStack top below → InPhase kind known budget (sweep_doubt sweep n top below) x found
-    doubt-phase sweep n top below stack = cond_both (nat_lt 1 top.lo && nat_lt sweep.made (100 * (n + 1))) _ _ (λ p. InPhase kind known budget p x found)
+    doubt-phase sweep n top below stack = cond_both (nat_lt 1 top.lo && nat_lt sweep.made (100 * (n + 2))) _ _ (λ p. InPhase kind known budget p x found)
         (λ both. record {
           sweeps = record { searches = s; stack = stack; not_corrupt = not_corrupt };
-          some = ltb-true 1 top.lo (and_parts (nat_lt 1 top.lo) (nat_lt sweep.made (100 * (n + 1))) both).0;
+          some = ltb-true 1 top.lo (and_parts (nat_lt 1 top.lo) (nat_lt sweep.made (100 * (n + 2))) both).0;
         })
         (λ other. below-phase (suspecting top.lo sweep) n top below stack)
 

@@ -21,10 +21,10 @@ most_frames devices known = 8 + 370 * devices + 5 * known
 abbrev pub enough_for : List ℕ → Kind → List ℕ → ℕ
 enough_for present kind known = most_frames (length present) (length (known_of kind known))
 
--- what suffices for a run that makes this search; a quick one's sweep adds 105
+-- what suffices for a run that makes this search; a quick one's sweep adds 205
 abbrev pub enough_by : Search → List ℕ → Kind → List ℕ → ℕ
 enough_by Steady present kind known = enough_for present kind known
-enough_by Quick present kind known = 113 + 370 * length present + 5 * length (known_of kind known)
+enough_by Quick present kind known = 213 + 370 * length present + 5 * length (known_of kind known)
 
 -- an honest line with these devices, of which a run can report all, and no failure
 pub record IsCalm (present : List ℕ) (x : List Seen) : Type 0 where

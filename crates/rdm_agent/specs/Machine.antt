@@ -133,11 +133,11 @@ counted sweep = record { made = sweep.made + 1; suspect = sweep.suspect }
 abbrev pub suspecting : ℕ → Sweep → Sweep
 suspecting u sweep = record { made = sweep.made; suspect = Some u }
 
--- a sweep with this many devices found goes on while it made fewer exchanges than 100 for each of them and 100 more;
+-- a sweep with this many devices found goes on while it made fewer exchanges than 100 for each of them and 200 more;
 -- then the steady search begins
 abbrev pub sweep_to : Sweep → ℕ → Span → List Span → Phase
 sweep_to sweep found top below =
-    if nat_lt sweep.made (100 * (found + 1)) then Sweeping sweep top below else Searching 0 whole []
+    if nat_lt sweep.made (100 * (found + 2)) then Sweeping sweep top below else Searching 0 whole []
 
 -- a sweep after its top range is done: the next range, or the steady search if none is left
 abbrev pub sweep_below : Sweep → ℕ → List Span → Phase
@@ -168,7 +168,7 @@ sweep_past sweep found top below = sweep_below (suspecting top.lo sweep) found b
 -- one UID collided with the one below it
 abbrev pub sweep_doubt : Sweep → ℕ → Span → List Span → Phase
 sweep_doubt sweep found top below =
-    if nat_lt 1 top.lo && nat_lt sweep.made (100 * (found + 1)) then Doubting sweep top below
+    if nat_lt 1 top.lo && nat_lt sweep.made (100 * (found + 2)) then Doubting sweep top below
     else sweep_past sweep found top below
 
 -- the top range collided, as asked. One UID that was asked alone is corrupt

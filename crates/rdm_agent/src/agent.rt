@@ -83,6 +83,18 @@ impl Agent {
         }
     }
 
+    /// Begins another run in place of this one, as [`Agent::start_by`] does. It writes no more than what the run before
+    /// used of the agent, and the known UIDs, while a new agent is filled whole.
+    pub fn restart(&mut self, search: Search, kind: Kind, known: &UidSet, budget: u64)
+        ensures state { self.new ≡ start_by search kind known.now budget }
+        ensures has_run { HasRunBy search kind known.now budget false [] self.new }
+    {
+        self.budget = budget;
+        self.frames = 0;
+        self.phase = Phase::Unmuting { more: UNMUTES };
+        self.progress.reset(search, kind, known);
+    }
+
     /// What it asks of the line next: three unmutes, then branches and mutes of devices. [`Op::End`]: the run has
     /// ended. It has also ended if its budget is used up, the line failed, or it was aborted.
     pub fn next(&self) -> Op

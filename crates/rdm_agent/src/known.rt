@@ -40,6 +40,20 @@ impl KnownLeft {
         KnownLeft { uids, taken: 0 }
     }
 
+    /// Becomes what [`KnownLeft::new`] gives. It costs no more than the UIDs that there were, and the known ones.
+    pub(crate) fn reset(&mut self, kind: Kind, known: &UidSet)
+        ensures value { self.new ≡ known_of kind known.now }
+        ensures devices { IsDeviceSet known.now }
+    {
+        // For the proof alone: a set's UIDs are devices'.
+        let _devices = known.len();
+        self.taken = 0;
+        match kind {
+            Kind::Full => self.uids.clear(),
+            Kind::Incremental => self.uids.copy_from(known),
+        }
+    }
+
     /// Takes the least one; `None` if none is left.
     pub(crate) fn next(&mut self) -> Option<Uid>
         ensures { MatchOption result ((self.old ≡ []) × (self.new ≡ [])) (λ u. self.old ≡ u ∷ self.new) }

@@ -1,7 +1,7 @@
 //! Laws of whole runs, each the contract of a function that does nothing: what a run asks, how it ends, and what it
 //! finds on an honest line. [`OpReply`](crate::OpReply) says what is heard; the definitions are in `specs`.
 ghost use Rattle.std.specs.Prelude.{◌≡◌, ◌≢◌, ◌≤◌, ◌⊎◌, ◌++◌, ℕ, List, [], ◌∷◌, map, length, true, false, replicate};
-ghost use Rattle.std.specs.Prelude.{Option, Some, None};
+ghost use Rattle.std.specs.Prelude.{◌↔◌, ◌+◌, ◌*◌, Option, Some, None};
 ghost use Rattle.rdm_wire.specs.Uid.{has, IsDevice};
 ghost use Rattle.rdm_wire.specs.Devices.{uids_of};
 ghost use Rattle.rdm_wire.specs.declared.device.Device.{Device};
@@ -89,20 +89,23 @@ pub fn no_phantom()
 /// - no exchange failed;
 /// - the run's budget is no less than the bound.
 ///
-/// Of a quick search the same holds with `113 + 370 n + 5 k` exchanges.
+/// Of a quick search the same holds with `213 + 370 n + 5 k` exchanges.
 pub fn honest_run_ends()
     ensures steady { EndsInBound }
     ensures quick { EndsInBoundBy Quick }
 {}
 
 /// The budget by default suffices for each such run of the steady search, with up to 1,024 devices and as many known
-/// UIDs. For a quick one it suffices too, but where 1,024 devices and more than 1,003 known UIDs come together.
+/// UIDs. For a quick one it suffices exactly if `370 n + 5 k` is at most 383,795. So it does for up to 1,023 devices
+/// and 1,024 known UIDs, and for 1,024 devices and 983 known UIDs.
 pub fn default_budget_suffices()
     ensures most { (present known : List ℕ) (kind : Kind) →
         length present ≤ 1024 → length known ≤ 1024 → enough_for present kind known ≤ DEFAULT_BUDGET }
     ensures ends { EndsByDefault }
-    ensures quick { (present known : List ℕ) (kind : Kind) → length present ≤ 1024 → length known ≤ 1024
-        → (length present ≤ 1023) ⊎ (length (known_of kind known) ≤ 1003)
+    ensures quick { (present known : List ℕ) (kind : Kind) → (enough_by Quick present kind known ≤ DEFAULT_BUDGET)
+        ↔ (370 * length present + 5 * length (known_of kind known) ≤ 383795) }
+    ensures quick_sizes { (present known : List ℕ) (kind : Kind) → length present ≤ 1024 → length known ≤ 1024
+        → (length present ≤ 1023) ⊎ (length (known_of kind known) ≤ 983)
         → enough_by Quick present kind known ≤ DEFAULT_BUDGET }
 {}
 

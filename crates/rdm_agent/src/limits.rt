@@ -12,7 +12,7 @@ pub const TRIES: u8 = 5;
 /// ranges of E1.20's discovery unique branch.
 pub const MOST_RANGES: usize = 49;
 
-/// A sweep makes a branch only while it made fewer exchanges than this for each device found, and this many more.
+/// A sweep makes a branch only while it made fewer exchanges than this for each device found, and twice as many more.
 pub(crate) const SWEEP_FRAMES: usize = 100;
 
 // What a device adds: 24 splits of ten exchanges, 24 last ranges of five, and ten of its own.
@@ -20,7 +20,7 @@ const FRAMES_PER_DEVICE: u64 = 370;
 
 /// The exchanges that suffice for [`MOST_DEVICES`] devices and as many known UIDs: 384,008.
 /// The line may lose up to four replies in a row. A steady run on an honest line makes no more, and ends without
-/// fault; a quick one may need up to 105 more.
+/// fault; a quick one may need up to 205 more.
 ///
 /// For `n` devices and `k` known UIDs these are `8 + 370 n + 5 k`:
 ///

@@ -3,7 +3,7 @@ ghost use Rattle.std.specs.Prelude.{◌≡◌, ◌<◌, ◌≤◌, ◌^◌, ◌+
 ghost use Rattle.std.specs.Prelude.{if◌then◌else◌, nat_lt};
 ghost use Rattle.std.specs.List.{AllByRecursion};
 ghost use Rattle.rdm_wire.specs.Span.{Span, whole};
-ghost use Rattle.rdm_wire.specs.Uid.{is_broadcast, IsDevice};
+ghost use Rattle.rdm_wire.specs.Uid.{is_broadcast, IsDevice, IsDeviceSet};
 ghost use Rattle.rdm_wire.specs.Devices.{uids_of};
 ghost use Rattle.rdm_agent.specs.Machine.{fed, wanted, to_found, split, search_from, search_below, is_new};
 ghost use Rattle.rdm_agent.specs.Machine.{known_heard, branch_heard, mute_heard, first_phase, sweep_heard, swept_heard};
@@ -11,6 +11,7 @@ ghost use Rattle.rdm_agent.specs.Machine.{sweep_to, sweep_below, sweep_silent, s
 ghost use Rattle.rdm_agent.specs.Machine.{sweep_past, sweep_doubt, doubt_heard};
 ghost use Rattle.rdm_agent.specs.Machine.{is_one, is_sibling, is_wanted};
 ghost use Rattle.rdm_agent.specs.Machine.Phase.{Unmuting as unmuting, Searching as searching};
+ghost use Rattle.rdm_agent.specs.Certificate.{known_of};
 ghost use Rattle.rdm_agent.specs.Run.{heard_by, heard_of_mute, heard_of_branch, device_from};
 ghost use Rattle.rdm_agent.specs.Calls.{fits, op_of};
 ghost use Rattle.rdm_agent.specs.body.Sound.{IsSound, IsFresh, IsStack};
@@ -18,6 +19,7 @@ ghost use Rattle.rdm_agent.specs.declared.fault.AgentFault.TheVariants.{TooMany}
 ghost use Rattle.rdm_agent.specs.body.View.{seen_phase, phase_of, sweep_of, Steps};
 
 use crate::fault::AgentFault;
+use crate::kind::Kind;
 use crate::known::KnownLeft;
 use crate::limits::{SWEEP_FRAMES, TRIES};
 use crate::op::OpReply;
@@ -25,7 +27,7 @@ use crate::phase::Phase;
 use crate::ranges::RangesBelow;
 use crate::search::Search;
 use crate::sweep::{Sweep, lower_pair};
-use rdm_wire::{BranchReply, Device, DeviceSet, MuteAck, SetFull, Uid, UidRange};
+use rdm_wire::{BranchReply, Device, DeviceSet, MuteAck, SetFull, Uid, UidRange, UidSet};
 
 /// What a run has found, and what it hasn't looked at yet.
 #[derive(Debug, Drop)]
@@ -41,6 +43,20 @@ pub(crate) struct Progress {
 }
 
 impl Progress {
+    /// Finds nothing yet, and comes to the known UIDs of a run of this kind, as at its start.
+    pub(crate) fn reset(&mut self, search: Search, kind: Kind, known: &UidSet)
+        ensures search { self.new.search ≡ search }
+        ensures known { self.new.known ≡ known_of kind known.now }
+        ensures found { self.new.found ≡ [] }
+        ensures below { self.new.below ≡ [] }
+        ensures devices { IsDeviceSet known.now }
+    {
+        self.search = search;
+        self.known.reset(kind, known);
+        self.found.clear();
+        self.below.clear();
+    }
+
     /// The phase after a reply that fits what the phase before it asks.
     pub(crate) fn heard(&mut self, phase: Phase, reply: OpReply) -> Phase
         requires fits { fits reply (op_of (wanted (seen_phase phase self.old))) ≡ true }
@@ -332,7 +348,7 @@ impl Progress {
         ensures sound { IsSound (seen_phase result self.new) }
         ensures fresh { IsFresh (seen_phase result self.new) self.new.below }
     {
-        if sweep.made < SWEEP_FRAMES * (found + 1) {
+        if sweep.made < SWEEP_FRAMES * (found + 2) {
             return Phase::Sweeping { top, sweep };
         }
         self.below.clear();
@@ -420,7 +436,7 @@ impl Progress {
         ensures sound { IsSound (seen_phase result self.new) }
         ensures fresh { IsFresh (seen_phase result self.new) self.new.below }
     {
-        if top.lo.number() > 1 && sweep.made < SWEEP_FRAMES * (found + 1) {
+        if top.lo.number() > 1 && sweep.made < SWEEP_FRAMES * (found + 2) {
             Phase::Doubting { top, sweep }
         } else {
             self.sweep_past(sweep, found, top)

@@ -9,7 +9,7 @@ pub enum Search {
     /// frames.
     Steady,
     /// A sweep comes first, which takes one silence for an answer and finds nearly all devices. Then the steady search
-    /// of the whole range finds those that the sweep missed. It makes no more than `113 + 370 n + 5 k` frames. On a
+    /// of the whole range finds those that the sweep missed. It makes no more than `213 + 370 n + 5 k` frames. On a
     /// line that loses few replies it makes far fewer than a steady one.
     Quick,
 }

@@ -195,11 +195,11 @@ pub record Exchanges (s : SimState) (x : Exchange) (new : SimState) : Type 0 whe
   pub acts : Acts s.exchanges (counted s) (command_read x.0.items) reply new
   pub heard : IsHeard (is_among s.exchanges s.losses) reply x.1
 
--- what always holds of a line's state
+-- the state may be that of a `SimLine` value
 abbrev pub IsSoundState : SimState → Type 0
 IsSoundState s = IsSound s.devices s.muted s.losses s.fails s.exchanges s.failures
 
--- a step of the simulated line
+-- a step of the simulated line. That the state before is sound is a part of it, so laws on runs needn't ask for that
 pub record SimStep (s : SimState) (x : Exchange) (new : SimState) : Type 0 where
   pub sound : IsSoundState s
   pub rule : MatchBool (is_among s.exchanges s.fails) (FailsOnly s x.1 new) (Exchanges s x new)

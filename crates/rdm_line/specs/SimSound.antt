@@ -1,4 +1,4 @@
--- What always holds of a simulated line.
+-- The invariant of `SimLine`: what holds of the state of each such value.
 use Rattle.std.specs.Prelude.{◌≡◌, ℕ, ◌<◌, ◌≤◌, true, List, Option, Some, option_map}
 use Rattle.std.specs.List.Sorted.{IsNonDecreasing}
 use Rattle.rdm_wire.specs.Uid.{has, IsDeviceSet}
@@ -9,7 +9,7 @@ use Rattle.rdm_line.specs.declared.scene.SceneDevice.{SceneDevice}
 abbrev pub from_of : List SceneDevice → ℕ → Option ℕ
 from_of devices u = option_map (λ (d : SceneDevice). d.from) (find_device devices u)
 
--- what always holds of a simulated line's devices, lists and counts
+-- the devices, lists and counts of a `SimLine` value. A `SimState` is any record, so of one alone this isn't known
 pub record IsSound (devices : List SceneDevice) (muted losses fails : List ℕ) (exchanges failures : ℕ) : Type 0 where
   pub scene : IsScene devices
   pub muted_set : IsDeviceSet muted

@@ -10,6 +10,7 @@ ghost use Rattle.rdm_line.specs.body.Parts.{parameter_at, SendsPart};
 ghost use Rattle.rdm_line.specs.Sim.{SimStep, Acts, ActsOn, Unmutes, AnswersBranch, AnswersGet, AnswersSet, Refuses};
 ghost use Rattle.rdm_line.specs.Sim.{is_among, next_exchange, answers_branch, answering, branch_reply_of, collided};
 ghost use Rattle.rdm_line.specs.Sim.{later_collisions};
+ghost use Rattle.rdm_line.specs.Scenes.{IsScene};
 ghost use Rattle.rdm_line.specs.Sim.{response_to};
 
 use crate::collision::Collision;
@@ -72,6 +73,8 @@ impl SimLine {
     /// scene is returned.
     pub fn new(alloc: Global, scene: Scene) -> Result<SimLine, (NoMemory, Scene)>
         ensures devices { IfOk result (λ s. s.devices ≡ scene.devices) }
+        // What laws on simulated lines ask of the state in which a run begins.
+        ensures scene { IfOk result (λ s. IsScene s.devices) }
         ensures unmuted { IfOk result (λ s. s.muted ≡ []) }
         ensures collisions { IfOk result (λ s. s.collisions ≡ scene.collisions.items) }
         ensures losses { IfOk result (λ s. IsPermutation scene.losses.items s.losses) }

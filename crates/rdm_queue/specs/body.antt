@@ -4,6 +4,7 @@ pub mod State
 pub mod Merged
 pub mod Sending
 pub mod Ending
+pub mod Sets
 pub mod Rings
 pub mod Lengths
 pub mod Fields

@@ -1,9 +1,11 @@
 //! A client's places, and the rings of what it has outstanding.
-ghost use Rattle.std.specs.Prelude.{◌≡◌, ◌≢◌, ◌+◌, ◌-◌, ◌<◌, ◌≤◌, IfOk, IfSome, IfNone, Some, option_map, slice_get};
+ghost use Rattle.std.specs.Prelude.{◌≡◌, ◌≢◌, ◌+◌, ◌-◌, ◌<◌, ◌≤◌, IfOk, IfSome, IfNone, Some, length, option_map};
+ghost use Rattle.std.specs.Prelude.{slice_get};
 ghost use Rattle.std.specs.VecDeque.{deque_len, deque_capacity};
 
 mod lengths;
 
+use crate::set_ring::SetRing;
 use rdm_agent::AgentFault;
 use rdm_log::{Completion, DiscoveryEnd, Entry, MOST_DISCOVERIES, OutcomeKind};
 use rdm_wire::{DeviceSet, Request};
@@ -41,7 +43,7 @@ pub(crate) struct Client {
     /// Its outcomes that it hasn't collected, oldest first.
     outcomes: VecDeque<Owed>,
     /// The sets of the discoveries among them, in the same order.
-    sets: VecDeque<DeviceSet>,
+    sets: SetRing,
 }
 
 impl Client {
@@ -58,7 +60,7 @@ impl Client {
             places,
             waiting: VecDeque::with_capacity(alloc, usize::from(places))?,
             outcomes: VecDeque::with_capacity(alloc, usize::from(places) + MOST_DISCOVERIES)?,
-            sets: VecDeque::with_capacity(alloc, MOST_DISCOVERIES)?,
+            sets: SetRing::with_room(alloc)?,
         })
     }
 
@@ -78,15 +80,16 @@ impl Client {
 
     /// How many of its requests aren't finished, or not collected.
     pub(crate) fn outstanding(&self) -> usize
-        requires { deque_len self.now.sets ≤ deque_len self.now.outcomes }
-        ensures { result ≡ deque_len self.now.waiting + (deque_len self.now.outcomes - deque_len self.now.sets) }
+        requires { length self.now.sets.items ≤ deque_len self.now.outcomes }
+        ensures { result ≡ deque_len self.now.waiting + (deque_len self.now.outcomes - length self.now.sets.items) }
     {
         self.waiting.len() + (self.outcomes.len() - self.sets.len())
     }
 
     /// How many of its discoveries are answered and not collected.
     pub(crate) fn answered(&self) -> usize
-        ensures { result ≡ deque_len self.now.sets }
+        ensures value { result ≡ length self.now.sets.items }
+        ensures fits { result ≤ MOST_DISCOVERIES }
     {
         self.sets.len()
     }
@@ -137,12 +140,12 @@ impl Client {
     )
         requires sets { HasSets self.old }
         requires room { deque_len self.old.outcomes < deque_capacity self.old.outcomes }
-        requires set_room { deque_len self.old.sets < deque_capacity self.old.sets }
+        requires set_room { length self.old.sets.items < self.old.sets.room }
         ensures { ClientAnswers self.old number run fault found.now self.new }
     {
         self.outcomes
             .push_back_reserved(Owed::Discovery { number, run, fault });
-        self.sets.push_back_reserved(found.copied());
+        self.sets.push_back(found);
     }
 
     /// Of which kind its oldest outcome is.
@@ -189,7 +192,7 @@ impl Client {
             unreachable!();
         };
         set.copy_from(found);
-        self.sets.pop_front();
+        self.sets.drop_front();
         Some(DiscoveryEnd { number, run, fault })
     }
 }
@@ -201,7 +204,7 @@ impl MadeWith<Global> for Client {
             places: 0,
             waiting: VecDeque::new(alloc),
             outcomes: VecDeque::new(alloc),
-            sets: VecDeque::new(alloc),
+            sets: SetRing::blank(alloc),
         }
     }
 }

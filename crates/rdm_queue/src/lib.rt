@@ -24,12 +24,12 @@
 
 mod client;
 mod controller;
-mod copies;
 mod pending;
 mod promised;
 mod queue;
 mod run;
 mod session;
+mod set_ring;
 
 pub use controller::Controller;
 pub use promised::controllers_keep_promises;

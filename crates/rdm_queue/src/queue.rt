@@ -321,12 +321,10 @@ impl Queue {
             left: self.asked.len(),
         });
         self.next_run += 1;
-        self.agent = Agent::start_by(
-            self.search,
-            self.asked_kind(),
-            &self.devices.uids(),
-            self.config.budget,
-        );
+        let kind = self.asked_kind();
+        let known = self.devices.uids();
+        let budget = self.config.budget;
+        self.agent.restart(self.search, kind, &known, budget);
     }
 
     // Full where one of the discoveries that are asked is.

@@ -1,5 +1,4 @@
 //! A list of events, answered one by one.
-use crate::copies::{copy_of_event, copy_of_request};
 use crate::session::Session;
 use rdm_log::{Answer, Event, NoMemory};
 use std::alloc::Global;
@@ -18,7 +17,7 @@ impl Session {
         match event {
             Event::Join(places) => Answer::Join(self.join_client(alloc, *places)),
             Event::Submit(client, request) => {
-                Answer::Submit(self.submit(*client, copy_of_request(request)))
+                Answer::Submit(self.submit(*client, request.copied()))
             }
             Event::Discover(client, kind) => Answer::Discover(self.discover(*client, *kind)),
             Event::Pause => Answer::Pause(self.pause()),
@@ -28,7 +27,7 @@ impl Session {
                 Answer::Close
             }
             Event::Take => Answer::Take(self.take()),
-            Event::Deliver(event) => Answer::Deliver(self.deliver(alloc, copy_of_event(event))),
+            Event::Deliver(event) => Answer::Deliver(self.deliver(alloc, event.copied())),
             Event::Collect(client) => Answer::Collect(self.next_outcome(*client)),
         }
     }

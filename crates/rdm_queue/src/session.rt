@@ -6,7 +6,6 @@ ghost use Rattle.rdm_queue.specs.body.SessionInvariant.{SessionAmid, FinishesDue
 mod lengths;
 
 use crate::controller::Controller;
-use crate::copies::{copy_of_frame, copy_of_request};
 use arrayvec::ArrayVec;
 use rdm_agent::Kind;
 use rdm_join::LineEvent;
@@ -15,7 +14,7 @@ use rdm_log::{
     LEAST_FREE, Log, LogFull, NoMemory, NotAsked, NotIdle, Opening, Outcome, OutcomeKind, Setup,
     SubmitFault,
 };
-use rdm_wire::{DeviceSet, Frame, Request};
+use rdm_wire::{DeviceSet, Frame, Request, copy_of_frame};
 use std::alloc::Global;
 use std::marker::Model;
 use std::mem;
@@ -126,7 +125,7 @@ impl Session {
         if self.is_full() {
             return Err((SubmitFault::LogFull, request));
         }
-        let copy = copy_of_request(&request);
+        let copy = request.copied();
         match self.controller.submit(client, request) {
             Ok(number) => {
                 self.log.append(Entry::Accept {
@@ -393,7 +392,7 @@ impl Session {
     ///
     /// An entry takes 296 bytes. A request takes 5 entries where one frame is enough for it, and 2 for each frame
     /// more. A discovery takes 3, and its run 2 for each frame. On an honest line a run with `n` devices and `k` known
-    /// ones has at most `8 + 370 n + 5 k` frames, and 105 more where it searches quickly.
+    /// ones has at most `8 + 370 n + 5 k` frames, and 205 more where it searches quickly.
     ///
     /// The numbers of requests, discoveries, runs and frames go on. So do the clients with their places, the devices
     /// and their run, and whether it is paused or closed: all stand in the new log's opening. Its runs search as

@@ -38,7 +38,7 @@ pub record CanAnswer (s : QueueState) (clients : List Client) (a : AskedDiscover
   pub at : slice_get clients a.client ≡ Some k
   pub sets : HasSets k
   pub room : deque_len k.outcomes < deque_capacity k.outcomes
-  pub set_room : deque_len k.sets < deque_capacity k.sets
+  pub set_room : length k.sets.items < k.sets.room
 
 pub asked_within : (s : QueueState) (clients : List Client) (a : AskedDiscovery) → QueueInvariant s clients → s.places ≡ places_of clients → slice_get s.asked 0 ≡ Some a → a.client < length clients
 asked_within s clients a held same oldest = let joined = asked_joined s a held.state oldest in let long = ap (λ ns. length ns) same ∙ length-map clients (λ k. k.places) in omega arith

@@ -71,7 +71,7 @@ found_at xs ys i x same within is = ap (λ l. slice_get l i) (sym same) ∙ (sli
 
 -- of a client that has joined, a submit's first fault but for a close
 pub fault_of : (s : QueueState) (clients : List Client) (c : ℕ) (k : Client) → QueueInvariant s clients → s.places ≡ places_of clients → s.owed ≡ owed_rings clients → slice_get clients c ≡ Some k → s.closed ≡ false
-    → first_submit_fault s c ≡ (if nat_le k.places (deque_len k.waiting + (deque_len k.outcomes - deque_len k.sets)) || nat_le 18446744073709551615 s.next_request then Some submit_faults.Full else None)
+    → first_submit_fault s c ≡ (if nat_le k.places (deque_len k.waiting + (deque_len k.outcomes - length k.sets.items)) || nat_le 18446744073709551615 s.next_request then Some submit_faults.Full else None)
 fault_of s clients c k held same owed at open_ =
     rw (open_, known, outstanding_count s clients c k owed held.rings at, ← places_at clients c k at, ← same) refl
   where
@@ -127,7 +127,7 @@ any_asked (a ∷ xs) = ap (λ b. is_full_kind a.kind || b) (any_asked xs)
 
 -- of a client that has joined, a discover's first fault but for a close
 pub ask_fault_of : (s : QueueState) (clients : List Client) (c : ℕ) (k : Client) → QueueInvariant s clients → s.places ≡ places_of clients → s.owed ≡ owed_rings clients → slice_get clients c ≡ Some k → s.closed ≡ false
-    → first_ask_fault s c ≡ (if nat_le 4 (length (asked_of c s) + deque_len k.sets) || nat_le 18446744073709551614 s.next_ask then Some ask_faults.Full else None)
+    → first_ask_fault s c ≡ (if nat_le 4 (length (asked_of c s) + length k.sets.items) || nat_le 18446744073709551614 s.next_ask then Some ask_faults.Full else None)
 ask_fault_of s clients c k held same owed at open_ = rw (open_, known, sets_count s clients c k owed held.rings at) refl
   where
     known : nat_le (length s.places) c ≡ false

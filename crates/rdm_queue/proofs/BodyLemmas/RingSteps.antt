@@ -139,14 +139,14 @@ waiting_count s clients c k rings at = k.waiting.ok.0 ∙ (sym (length-map k.wai
 pub owed_count : (s : QueueState) (clients : List Client) (c : ℕ) (k : Client) → s.owed ≡ owed_rings clients → slice_get clients c ≡ Some k → deque_len k.outcomes ≡ length (owed_to c s)
 owed_count s clients c k owed at = k.outcomes.ok.0 ∙ (sym (length-values k.outcomes.items k.sets.items) ∙ ap (λ l. length l) (sym (values_at clients c k at) ∙ ap (λ lists. get_or lists c []) (sym owed)))
 
-pub sets_count : (s : QueueState) (clients : List Client) (c : ℕ) (k : Client) → s.owed ≡ owed_rings clients → RingsInvariant s clients → slice_get clients c ≡ Some k → deque_len k.sets ≡ length (filter is_discovery (owed_to c s))
-sets_count s clients c k owed rings at = k.sets.ok.0 ∙ (all_at HasSets clients rings.sets c k at ∙ (sym (discoveries-values k.outcomes.items k.sets.items) ∙ ap (λ l. length (filter is_discovery l)) (sym (values_at clients c k at) ∙ ap (λ lists. get_or lists c []) (sym owed))))
+pub sets_count : (s : QueueState) (clients : List Client) (c : ℕ) (k : Client) → s.owed ≡ owed_rings clients → RingsInvariant s clients → slice_get clients c ≡ Some k → length k.sets.items ≡ length (filter is_discovery (owed_to c s))
+sets_count s clients c k owed rings at = all_at HasSets clients rings.sets c k at ∙ (sym (discoveries-values k.outcomes.items k.sets.items) ∙ ap (λ l. length (filter is_discovery l)) (sym (values_at clients c k at) ∙ ap (λ lists. get_or lists c []) (sym owed)))
 
 -- no more discoveries than outcomes
-pub fewer_sets : (clients : List Client) (c : ℕ) (k : Client) → AllByRecursion HasSets clients → slice_get clients c ≡ Some k → deque_len k.sets ≤ deque_len k.outcomes
-fewer_sets clients c k sets at = let own = k.sets.ok.0 in let has : HasSets k = all_at HasSets clients sets c k at in let few = few_discoveries k.outcomes.items in let all = k.outcomes.ok.0 in omega arith
+pub fewer_sets : (clients : List Client) (c : ℕ) (k : Client) → AllByRecursion HasSets clients → slice_get clients c ≡ Some k → length k.sets.items ≤ deque_len k.outcomes
+fewer_sets clients c k sets at = let has : HasSets k = all_at HasSets clients sets c k at in let few = few_discoveries k.outcomes.items in let all = k.outcomes.ok.0 in omega arith
 
-pub outstanding_count : (s : QueueState) (clients : List Client) (c : ℕ) (k : Client) → s.owed ≡ owed_rings clients → RingsInvariant s clients → slice_get clients c ≡ Some k → deque_len k.waiting + (deque_len k.outcomes - deque_len k.sets) ≡ outstanding c s
+pub outstanding_count : (s : QueueState) (clients : List Client) (c : ℕ) (k : Client) → s.owed ≡ owed_rings clients → RingsInvariant s clients → slice_get clients c ≡ Some k → deque_len k.waiting + (deque_len k.outcomes - length k.sets.items) ≡ outstanding c s
 outstanding_count s clients c k owed rings at = let both = both_kinds (owed_to c s) in let waits = waiting_count s clients c k rings at in let all = owed_count s clients c k owed at in let sets = sets_count s clients c k owed rings at in omega arith
 
 -- a client's places
@@ -176,7 +176,7 @@ room_for_outcome s clients c k held same owed at some =
     let sizes : HasRings k = all_at HasRings clients held.rings.sizes c k at in
     omega (arith, sizes.outcomes)
 
-pub room_for_set : (s : QueueState) (clients : List Client) (c : ℕ) (k : Client) → QueueInvariant s clients → s.owed ≡ owed_rings clients → slice_get clients c ≡ Some k → 1 ≤ length (filter (λ (a : AskedDiscovery). c == a.client) s.asked) → deque_len k.sets < deque_capacity k.sets
+pub room_for_set : (s : QueueState) (clients : List Client) (c : ℕ) (k : Client) → QueueInvariant s clients → s.owed ≡ owed_rings clients → slice_get clients c ≡ Some k → 1 ≤ length (filter (λ (a : AskedDiscovery). c == a.client) s.asked) → length k.sets.items < k.sets.room
 room_for_set s clients c k held owed at some =
     let few_asks : outstanding_asks c s ≤ get_or (map (λ (n : ℕ). 4) s.places) c 0 = held.state.few_asks c in
     let most = fours s.places c in

@@ -74,10 +74,10 @@ collects-request k l n done items waits sets places room has = record {
   waiting = ap (λ w. w.items) waits;
   outcomes = rw (items, sets) refl;
   has_sets = rw sets (has ∙ rw items refl);
-  rings = record { places = places; waiting = ap (λ w. deque_capacity w) waits; outcomes = room; sets = ap (λ w. deque_capacity w) sets };
+  rings = record { places = places; waiting = ap (λ w. deque_capacity w) waits; outcomes = room; sets = ap (λ w. w.room) sets };
 }
 
-pub collects-discovery : (k l : Client) (n r : ℕ) (f : Option AgentFault) (found : List Device) → k.outcomes.items ≡ owed.Discovery n r f ∷ l.outcomes.items → k.sets.items ≡ found ∷ l.sets.items → l.waiting ≡ k.waiting → l.places ≡ k.places → deque_capacity l.outcomes ≡ deque_capacity k.outcomes → deque_capacity l.sets ≡ deque_capacity k.sets → HasSets k → ClientCollects k (DiscoveryValue (Some n) (record { run = r; fault = f; devices = found })) l
+pub collects-discovery : (k l : Client) (n r : ℕ) (f : Option AgentFault) (found : List Device) → k.outcomes.items ≡ owed.Discovery n r f ∷ l.outcomes.items → k.sets.items ≡ found ∷ l.sets.items → l.waiting ≡ k.waiting → l.places ≡ k.places → deque_capacity l.outcomes ≡ deque_capacity k.outcomes → l.sets.room ≡ k.sets.room → HasSets k → ClientCollects k (DiscoveryValue (Some n) (record { run = r; fault = f; devices = found })) l
 unfolding values
 collects-discovery k l n r f found items set waits places room set_room has = record {
   waiting = ap (λ w. w.items) waits;

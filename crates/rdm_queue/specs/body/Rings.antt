@@ -42,7 +42,7 @@ owed_values k = values k.outcomes.items k.sets.items
 pub record HasRings (k : Client) : Type 0 where
   pub waiting : deque_capacity k.waiting ≡ k.places
   pub outcomes : deque_capacity k.outcomes ≡ k.places + 4
-  pub sets : deque_capacity k.sets ≡ 4
+  pub sets : k.sets.room ≡ 4
 
 -- a client that has only joined
 pub record IsNewClient (places : ℕ) (k : Client) : Type 0 where
@@ -57,7 +57,7 @@ pub record SameRings (old new : Client) : Type 0 where
   pub places : new.places ≡ old.places
   pub waiting : deque_capacity new.waiting ≡ deque_capacity old.waiting
   pub outcomes : deque_capacity new.outcomes ≡ deque_capacity old.outcomes
-  pub sets : deque_capacity new.sets ≡ deque_capacity old.sets
+  pub sets : new.sets.room ≡ old.sets.room
 
 -- it has a request more
 pub record ClientAccepts (old : Client) (number : ℕ) (request : Request) (new : Client) : Type 0 where

@@ -18,10 +18,10 @@ returns-then-self-ge-NEVER_GIVEN_TO_A_DISCOVERY c =
     elim c.if-outstanding-ge-MOST_DISCOVERIES.branch [
       | then-outstanding-ge-MOST_DISCOVERIES w ↦
           let full : 4 ≤ c.asked_by.result + c.answered.result = w.if-outstanding-ge-MOST_DISCOVERIES.true in
-          rw (← c.self.view_is, fault, ← count, ← c.answered.ensures, le-leb 4 (c.asked_by.result + c.answered.result) full) refl
+          rw (← c.self.view_is, fault, ← count, ← c.answered.ensures.value, le-leb 4 (c.asked_by.result + c.answered.result) full) refl
       | else-outstanding-ge-MOST_DISCOVERIES w ↦
           let free : c.asked_by.result + c.answered.result < 4 = w.if-outstanding-ge-MOST_DISCOVERIES.false in
-          rw (← c.self.view_is, fault, ← count, ← c.answered.ensures, lt-leb 4 (c.asked_by.result + c.answered.result) free, ← w.value-is, c.if-self-ge-NEVER_GIVEN_TO_A_DISCOVERY.true) refl
+          rw (← c.self.view_is, fault, ← count, ← c.answered.ensures.value, lt-leb 4 (c.asked_by.result + c.answered.result) free, ← w.value-is, c.if-self-ge-NEVER_GIVEN_TO_A_DISCOVERY.true) refl
     ]
 
 pub returns-else-self-ge-NEVER_GIVEN_TO_A_DISCOVERY : goal.returns-else-self-ge-NEVER_GIVEN_TO_A_DISCOVERY
@@ -36,5 +36,5 @@ returns-else-self-ge-NEVER_GIVEN_TO_A_DISCOVERY c =
           absurd (false≢true (sym c.if-self-ge-NEVER_GIVEN_TO_A_DISCOVERY.false ∙ (w.value-is ∙ le-leb 4 (c.asked_by.result + c.answered.result) w.if-outstanding-ge-MOST_DISCOVERIES.true)))
       | else-outstanding-ge-MOST_DISCOVERIES w ↦
           let free : c.asked_by.result + c.answered.result < 4 = w.if-outstanding-ge-MOST_DISCOVERIES.false in
-          rw (← c.self.view_is, fault, ← count, ← c.answered.ensures, lt-leb 4 (c.asked_by.result + c.answered.result) free, ← w.value-is, c.if-self-ge-NEVER_GIVEN_TO_A_DISCOVERY.false) refl
+          rw (← c.self.view_is, fault, ← count, ← c.answered.ensures.value, lt-leb 4 (c.asked_by.result + c.answered.result) free, ← w.value-is, c.if-self-ge-NEVER_GIVEN_TO_A_DISCOVERY.false) refl
     ]

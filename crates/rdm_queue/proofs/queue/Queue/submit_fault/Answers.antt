@@ -1,5 +1,5 @@
 use Rattle.std.proofs.Common.{◌≡◌, ◌<◌, ◌≤◌, List, Some, slice_get, sym, subst, ◌∙◌, refl, arith}
-use Rattle.std.specs.Prelude.{◌+◌, ◌-◌}
+use Rattle.std.specs.Prelude.{◌+◌, ◌-◌, length}
 use Rattle.std.proofs.lemmas.Bool.{le-leb, false≢true}
 use Rattle.std.specs.VecDeque.{deque_len}
 use Rattle.rdm_queue.specs.declared.client.Client.{Client}
@@ -24,12 +24,12 @@ returns-then-self-2 c =
     let fault = fault_of (state_of c.self.inside) clients c.args.client.0 k c.self.invariant refl refl at c.if-self.false in
     elim c.if-outstanding-from.branch [
       | then-outstanding-from w ↦
-          let full : k.places ≤ deque_len k.waiting + (deque_len k.outcomes - deque_len k.sets) = rw (c.outstanding.ensures, c.from-2.ensures) at w.if-outstanding-from.true in
-          rw (← c.self.view_is, fault, full_by_places k.places (deque_len k.waiting + (deque_len k.outcomes - deque_len k.sets)) c.self.inside.next_request full) refl
+          let full : k.places ≤ deque_len k.waiting + (deque_len k.outcomes - length k.sets.items) = rw (c.outstanding.ensures, c.from-2.ensures) at w.if-outstanding-from.true in
+          rw (← c.self.view_is, fault, full_by_places k.places (deque_len k.waiting + (deque_len k.outcomes - length k.sets.items)) c.self.inside.next_request full) refl
       | else-outstanding-from w ↦
-          let free : deque_len k.waiting + (deque_len k.outcomes - deque_len k.sets) < k.places = rw (c.outstanding.ensures, c.from-2.ensures) at w.if-outstanding-from.false in
+          let free : deque_len k.waiting + (deque_len k.outcomes - length k.sets.items) < k.places = rw (c.outstanding.ensures, c.from-2.ensures) at w.if-outstanding-from.false in
           let fits : c.self.inside.next_request < 18446744073709551616 = omega arith in
-          rw (← c.self.view_is, fault, full_by_number k.places (deque_len k.waiting + (deque_len k.outcomes - deque_len k.sets)) c.self.inside.next_request free fits, ← w.value-is, c.if-self-2.true) refl
+          rw (← c.self.view_is, fault, full_by_number k.places (deque_len k.waiting + (deque_len k.outcomes - length k.sets.items)) c.self.inside.next_request free fits, ← w.value-is, c.if-self-2.true) refl
     ]
 
 pub returns-else-self-2 : goal.returns-else-self-2
@@ -42,7 +42,7 @@ returns-else-self-2 c =
       | then-outstanding-from w ↦
           absurd (false≢true (sym c.if-self-2.false ∙ (w.value-is ∙ le-leb c.from-2.result c.outstanding.result w.if-outstanding-from.true)))
       | else-outstanding-from w ↦
-          let free : deque_len k.waiting + (deque_len k.outcomes - deque_len k.sets) < k.places = rw (c.outstanding.ensures, c.from-2.ensures) at w.if-outstanding-from.false in
+          let free : deque_len k.waiting + (deque_len k.outcomes - length k.sets.items) < k.places = rw (c.outstanding.ensures, c.from-2.ensures) at w.if-outstanding-from.false in
           let fits : c.self.inside.next_request < 18446744073709551616 = omega arith in
-          rw (← c.self.view_is, fault, full_by_number k.places (deque_len k.waiting + (deque_len k.outcomes - deque_len k.sets)) c.self.inside.next_request free fits, ← w.value-is, c.if-self-2.false) refl
+          rw (← c.self.view_is, fault, full_by_number k.places (deque_len k.waiting + (deque_len k.outcomes - length k.sets.items)) c.self.inside.next_request free fits, ← w.value-is, c.if-self-2.false) refl
     ]
