@@ -1,13 +1,14 @@
 //! A discovery's callback.
 ghost use Rattle.std.specs.Prelude.{◌≡◌, ℕ};
+ghost use Rattle.std.specs.List.{All};
 ghost use Rattle.rdm_log.specs.declared.outcome.AskCompletion.{AskCompletion};
 ghost use Rattle.rdm_client.specs.declared.told.AskTold.{AskTold};
-ghost use Rattle.rdm_client.specs.Callbacks.{ask_told, ask_cancelled, AskFits};
+ghost use Rattle.rdm_client.specs.Callbacks.{ask_told, ask_cancelled, AskFits, DeviceFits};
 
 use crate::told::AskTold;
 use rdm_agent::AgentFault;
 use rdm_queue::AskCompletion;
-use rdm_wire::DeviceSet;
+use rdm_wire::{Device, DeviceSet};
 
 /// What is called once with a discovery's completion, and then tells its tag and that completion (profile of this
 /// project). See [`Tells`](crate::Tells), which is the same for requests; [`AskCallback`] is the one over a boxed
@@ -60,6 +61,7 @@ impl TellsAsk for AskCallback {
 
     fn spend(self, done: AskCompletion) -> AskTold {
         let AskCallback { tag: _, run } = self;
+        devices_fit(done.set.as_slice());
         run(done)
     }
 
@@ -69,5 +71,28 @@ impl TellsAsk for AskCallback {
             fault: Some(AgentFault::Aborted),
             set: DeviceSet::new(),
         })
+    }
+}
+
+// For the proof alone: each device's numbers are in the ranges of their types.
+fn devices_fit(devices: &[Device])
+    ensures { All DeviceFits devices.now }
+{
+    'devices: for device in devices {
+        device_fits(device);
+    }
+}
+
+// For the proof alone: this device's numbers are.
+fn device_fits(device: &Device)
+    ensures { DeviceFits device.now }
+{
+    let Device {
+        control: _control,
+        binding,
+        ..
+    } = *device;
+    if let Some(uid) = binding {
+        let _number = uid.number();
     }
 }

@@ -2,7 +2,7 @@
 ghost use Rattle.std.specs.Prelude.{◌≡◌, ℕ};
 ghost use Rattle.rdm_log.specs.declared.outcome.Completion.{Completion};
 ghost use Rattle.rdm_client.specs.declared.told.Told.{Told};
-ghost use Rattle.rdm_client.specs.Callbacks.{told, Fits, IsCancelled};
+ghost use Rattle.rdm_client.specs.Callbacks.{told, BytesFit, Fits, IsCancelled};
 
 use crate::told::Told;
 use rdm_join::Status;
@@ -79,6 +79,7 @@ impl Tells for Callback {
 
     fn spend(self, done: Completion) -> Told {
         let Callback { tag: _, run } = self;
+        bytes_fit(&done.bytes);
         run(done)
     }
 
@@ -89,4 +90,10 @@ impl Tells for Callback {
             bytes: Vec::new(alloc),
         })
     }
+}
+
+// For the proof alone: each byte is in the range of its type.
+fn bytes_fit(bytes: &[u8])
+    ensures { BytesFit bytes.now }
+{
 }
