@@ -1,4 +1,4 @@
--- What callbacks are called with, and what they tell.
+-- What callbacks are called with, and what they return.
 use Rattle.std.specs.Prelude.{◌≡◌, ◌<◌, ◌≤◌, ◌^◌, ℕ, List, [], length, Option, Some, None}
 use Rattle.std.specs.List.{All}
 use Rattle.rdm_wire.specs.Uid.{IsDeviceSet}
@@ -13,11 +13,11 @@ use Rattle.rdm_log.specs.declared.outcome.AskCompletion.{AskCompletion}
 use Rattle.rdm_client.specs.declared.told.Told.{Told}
 use Rattle.rdm_client.specs.declared.told.AskTold.{AskTold}
 
--- what the callback of a request tells: its tag, and the completion that it was called with
+-- what the callback of a request returns: its tag, and the completion that it was called with
 abbrev pub told : ℕ → Completion → Told
 told tag done = record { tag = tag; done = done }
 
--- what the callback of a discovery tells: its tag, and the completion that it was called with
+-- what the callback of a discovery returns: its tag, and the completion that it was called with
 abbrev pub ask_told : ℕ → AskCompletion → AskTold
 ask_told tag done = record { tag = tag; done = done }
 
