@@ -1,4 +1,4 @@
--- What a desk holds, which callback an outcome spends, and what is left at the end.
+-- What a desk holds, which callback is called for an outcome, and what is left at the end.
 use Rattle.std.specs.Prelude.{ℕ, ◌+◌, List, [], ◌∷◌, length, drop, slice_get, Option, Some, None, option_map}
 use Rattle.rdm_log.specs.declared.outcome.Completion.{Completion}
 use Rattle.rdm_log.specs.declared.outcome.AskCompletion.{AskCompletion}
@@ -12,39 +12,39 @@ use Rattle.rdm_client.specs.declared.unspent.Unfinished.{Unfinished}
 use Rattle.rdm_client.specs.declared.unspent.Unfinished.TheVariants as unfinished
 use Rattle.rdm_client.specs.Callbacks.{told, ask_told}
 
--- the callbacks of requests and of discoveries, oldest first, and how many requests' callbacks there is room for
+-- the callbacks of requests and of discoveries, oldest first, and the queue depth: how many requests' callbacks fit
 pub record Held (C A : Type 0) : Type 0 where
   pub requests : List C
   pub asks : List A
   pub places : ℕ
 
--- the callbacks that were not spent, oldest first
+-- the callbacks that weren't called, oldest first
 pub record Left (C A : Type 0) : Type 0 where
   pub requests : List C
   pub asks : List A
 
--- what a request's completion tells: the oldest callback is spent with it. None where there is no callback
+-- what the oldest callback returns if it is called with a request's completion. None if there is no callback
 abbrev pub spent : {C : Type 0} → (C → ℕ) → List C → Completion → Option Told
 spent tag_of callbacks done = option_map (λ callback. told (tag_of callback) done) (slice_get callbacks 0)
 
--- the same of a discovery's completion
+-- the same for a discovery's completion
 abbrev pub ask_spent : {A : Type 0} → (A → ℕ) → List A → AskCompletion → Option AskTold
 ask_spent tag_of callbacks done = option_map (λ callback. ask_told (tag_of callback) done) (slice_get callbacks 0)
 
--- the oldest of these callbacks was called with this completion, and told this
+-- the oldest of these callbacks was called with this completion, and returned this
 abbrev pub OldestCalled : {C D T : Type 0} → (C → D → T → Type 0) → List C → D → T → Type 0
 OldestCalled calls [] done told = ⊥
 OldestCalled calls (callback ∷ callbacks) done told = calls callback done told
 
 module _ {C A : Type 0} where
-  -- what an outcome tells: the oldest callback of its kind is spent with its completion. None where none of it is held
+  -- what the oldest callback of an outcome's kind returns if it is called with its completion. None if none is held
   abbrev pub settled : (C → ℕ) → (A → ℕ) → Held C A → Outcome → Option Collected
   settled tag_of ask_tag_of held (outcomes.Request number done) =
       option_map collected.Request (spent tag_of held.requests done)
   settled tag_of ask_tag_of held (outcomes.Discovery number done) =
       option_map collected.Ask (ask_spent ask_tag_of held.asks done)
 
-  -- the oldest callback of the outcome's kind was called with its completion, and told this
+  -- the oldest callback of the outcome's kind was called with its completion, and returned this
   abbrev pub Called : (C → Completion → Told → Type 0) → (A → AskCompletion → AskTold → Type 0)
       → Held C A → Outcome → Collected → Type 0
   Called calls ask_calls held (outcomes.Request number done) (collected.Request told) =

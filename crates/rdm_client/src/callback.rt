@@ -2,23 +2,23 @@
 ghost use Rattle.std.specs.Prelude.{◌≡◌, ℕ};
 ghost use Rattle.rdm_log.specs.declared.outcome.Completion.{Completion};
 ghost use Rattle.rdm_client.specs.declared.told.Told.{Told};
-ghost use Rattle.rdm_client.specs.Callbacks.{told, Fits, IsCancelled};
+ghost use Rattle.rdm_client.specs.Callbacks.{told, BytesFit, Fits, IsCancelled};
 
 use crate::told::Told;
 use rdm_join::Status;
 use rdm_queue::Completion;
 use std::alloc::Global;
 
-/// What is called once with a request's completion, and then tells its tag and that completion (profile of this
-/// project). [`Callback`] is the one over a boxed closure; a program with one kind of callback may bring its own type,
-/// without a box.
+/// A request's callback: it is called once with how the request ended, and returns its tag and that completion
+/// (profile of this project). [`Callback`] is a boxed closure. A program with one kind of callback may bring a type of
+/// its own, without a box.
 ///
-/// A type that isn't [`Drop`] can't be forgotten, and `spend` and `cancel` take it by value, so it is called once.
+/// A type that isn't [`Drop`] can't be forgotten. `spend` and `cancel` take it by value, so it is called once.
 pub trait Tells {
-    /// The tag that it tells.
+    /// The tag that it returns.
     ghost tag_of: { Self → ℕ };
 
-    /// That it was called with this completion, and told this.
+    /// That it was called with this completion, and returned this.
     ghost calls: { Self → Completion → Told → Type 0 };
 
     /// Calls it with how the request ended.
@@ -26,8 +26,8 @@ pub trait Tells {
         ensures called { calls self done result }
         ensures told { result ≡ told (tag_of self) done };
 
-    /// Calls it with status FailedToSend, without a reply and without bytes: for a request that will have no outcome.
-    /// It takes no memory; an empty vector has an allocator all the same.
+    /// Calls it with status FailedToSend, without a reply and without bytes, if its request will have no outcome. It
+    /// allocates nothing, but an empty vector has an allocator too.
     fn cancel(self, alloc: Global) -> Told
         ensures called { calls self result.done result }
         ensures tag { result.tag ≡ tag_of self }
@@ -36,7 +36,7 @@ pub trait Tells {
 
 /// A boxed closure that is called once with a request's completion (profile of this project).
 ///
-/// It is neither [`Clone`] nor [`Drop`]: it is spent, cancelled or handed on. The compiler refuses each of these:
+/// It is neither [`Clone`] nor [`Drop`]: it is called, cancelled or handed on. The compiler refuses each of these:
 ///
 /// ```text
 /// fn forget(callback: Callback) {}
@@ -60,8 +60,8 @@ pub struct Callback {
 }
 
 impl Callback {
-    /// A callback with this tag. The closure may be called with any completion whose numbers are in the ranges of
-    /// their types. It then gives `Told { tag, done }` with that very tag and completion.
+    /// A callback with this tag. The closure has to accept any completion whose numbers are in the ranges of their
+    /// types. It has to return `Told { tag, done }` with this tag and that completion.
     pub fn new(tag: u64, run: Box<dyn FnOnce(Completion) -> Told + Send>) -> Callback
         requires callable { (c : Completion) → Fits c → pre run c }
         requires tells { (c : Completion) (t : Told) → Fits c → post run c t → t ≡ told tag c }
@@ -79,6 +79,7 @@ impl Tells for Callback {
 
     fn spend(self, done: Completion) -> Told {
         let Callback { tag: _, run } = self;
+        bytes_fit(&done.bytes);
         run(done)
     }
 
@@ -89,4 +90,10 @@ impl Tells for Callback {
             bytes: Vec::new(alloc),
         })
     }
+}
+
+// For the proof alone: each byte is in the range of its type.
+fn bytes_fit(bytes: &[u8])
+    ensures { BytesFit bytes.now }
+{
 }

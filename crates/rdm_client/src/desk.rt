@@ -13,15 +13,15 @@ use std::alloc::Global;
 use std::collections::VecDeque;
 use std::marker::Model;
 
-/// How many discoveries' callbacks a desk has places for: 4, as many as one client may have outstanding (profile of
-/// this project).
+/// How many discoveries' callbacks a desk holds at most: 4, as many as a client may have outstanding (profile of this
+/// project).
 pub const MOST_ASKS_HELD: usize = 4;
 
-/// The callbacks of one client's outstanding requests and discoveries, oldest first (profile of this project). It has
-/// a place for each request that the client may have outstanding, and [`MOST_ASKS_HELD`] for discoveries. Contracts see
-/// the two lists and the number of places.
+/// The callbacks of one client's outstanding requests and discoveries, oldest first (profile of this project). It holds
+/// at most as many requests' callbacks as the client's queue depth, and [`MOST_ASKS_HELD`] of discoveries. Contracts
+/// see the two lists and the queue depth.
 ///
-/// A desk isn't [`Drop`]: [`Desk::end`] hands back what it holds. All its memory is taken when it is made.
+/// A desk isn't [`Drop`]: [`Desk::end`] returns what it holds. All its memory is allocated when it is made.
 pub struct Desk<C = Callback, A = AskCallback> {
     requests: VecDeque<C>,
     asks: VecDeque<A>,
@@ -42,8 +42,8 @@ impl<C, A> Model for Desk<C, A> {
 }
 
 impl<C: Tells, A: TellsAsk> Desk<C, A> {
-    /// A desk without callbacks, with places for this many requests' callbacks, 0 to 255.
-    /// Err: there was no memory.
+    /// A desk without callbacks, for this queue depth, 0 to 255.
+    /// Err: out of memory.
     pub fn new(alloc: Global, places: u8) -> Result<Desk<C, A>, NoMemory>
         ensures { IfOk result (λ desk. desk ≡ record { requests = []; asks = []; places = places }) }
     {
@@ -61,14 +61,14 @@ impl<C: Tells, A: TellsAsk> Desk<C, A> {
         })
     }
 
-    /// Whether there is no place for another request's callback.
+    /// Whether it can't hold another request's callback.
     pub fn is_full(&self) -> bool
         ensures { result ≡ nat_le self.now.places (length self.now.requests) }
     {
         self.requests_held() >= self.places
     }
 
-    /// Whether there is no place for another discovery's callback.
+    /// Whether it can't hold another discovery's callback.
     pub fn is_full_of_asks(&self) -> bool
         ensures { result ≡ nat_le 4 (length self.now.asks) }
     {
@@ -91,8 +91,8 @@ impl<C: Tells, A: TellsAsk> Desk<C, A> {
         self.asks.len()
     }
 
-    /// Holds the callback of a request, after those that are held already. [`Full`]: as many are held as there are
-    /// places; the callback comes back, and the desk is unchanged.
+    /// Holds the callback of a request, after those that are held already. [`Full`]: as many are held as the queue
+    /// depth says; the callback is returned, and the desk is unchanged.
     pub fn hold(&mut self, callback: C) -> Result<(), (Full, C)>
         ensures held { OnOk result (self.new ≡ record self.old { requests = self.old.requests ++ callback ∷ [] }) }
         ensures had_a_place { OnOk result (length self.old.requests < self.old.places) }
@@ -107,7 +107,7 @@ impl<C: Tells, A: TellsAsk> Desk<C, A> {
     }
 
     /// Holds the callback of a discovery, after those that are held already. [`Full`]: [`MOST_ASKS_HELD`] are held; the
-    /// callback comes back, and the desk is unchanged.
+    /// callback is returned, and the desk is unchanged.
     pub fn hold_ask(&mut self, callback: A) -> Result<(), (Full, A)>
         ensures held { OnOk result (self.new ≡ record self.old { asks = self.old.asks ++ callback ∷ [] }) }
         ensures had_a_place { OnOk result (length self.old.asks < 4) }
@@ -121,8 +121,8 @@ impl<C: Tells, A: TellsAsk> Desk<C, A> {
         Ok(())
     }
 
-    /// Spends the oldest request's callback with how its request ended. [`Misdelivered`]: no request's callback is
-    /// held; the completion comes back, and the desk is unchanged.
+    /// Calls the oldest request's callback with how its request ended. [`Misdelivered`]: no request's callback is held;
+    /// the completion is returned, and the desk is unchanged.
     pub fn settle_request(&mut self, done: Completion) -> Result<Told, (Misdelivered, Completion)>
         ensures called { IfOk result (λ told. OldestCalled C.calls self.old.requests done told) }
         ensures told { IfOk result (λ told. spent C.tag_of self.old.requests done ≡ Some told) }
@@ -136,8 +136,8 @@ impl<C: Tells, A: TellsAsk> Desk<C, A> {
         }
     }
 
-    /// Spends the oldest discovery's callback with how its discovery ended. [`Misdelivered`]: no discovery's callback
-    /// is held; the completion comes back, and the desk is unchanged.
+    /// Calls the oldest discovery's callback with how its discovery ended. [`Misdelivered`]: no discovery's callback is
+    /// held; the completion is returned, and the desk is unchanged.
     pub fn settle_ask(
         &mut self,
         done: AskCompletion,
@@ -154,8 +154,8 @@ impl<C: Tells, A: TellsAsk> Desk<C, A> {
         Ok(self.spend_oldest_ask(done))
     }
 
-    // Spends the oldest discovery's callback. It isn't inlined: LLVM would split a set that two arms move into
-    // thousands of pieces, and take minutes.
+    // Calls the oldest discovery's callback. It isn't inlined: LLVM would split a set that two arms move into thousands
+    // of pieces, and take minutes.
     #[inline(never)]
     fn spend_oldest_ask(&mut self, done: AskCompletion) -> AskTold
         requires { 0 < length self.old.asks }
@@ -166,9 +166,9 @@ impl<C: Tells, A: TellsAsk> Desk<C, A> {
         self.asks.pop_front().unwrap().spend(done)
     }
 
-    /// Spends the oldest callback of the outcome's kind with the outcome's completion, as [`Desk::settle_request`] or
-    /// [`Desk::settle_ask`] does. [`Misdelivered`]: no callback of that kind is held; the outcome comes back, and the
-    /// desk is unchanged. It moves the whole outcome, 32 KB large: where the kind is known, those two move less.
+    /// Calls the oldest callback of the outcome's kind with the outcome's completion, as [`Desk::settle_request`] or
+    /// [`Desk::settle_ask`] does. [`Misdelivered`]: no callback of that kind is held; the outcome is returned, and the
+    /// desk is unchanged. It moves the whole outcome, 32 KB. If the kind is known, those two move less.
     pub fn settle(&mut self, outcome: Outcome) -> Result<Collected, (Misdelivered, Outcome)>
         ensures called { IfOk result (λ told. Called C.calls A.calls self.old outcome told) }
         ensures told { IfOk result (λ told. settled C.tag_of A.tag_of self.old outcome ≡ Some told) }
@@ -190,7 +190,7 @@ impl<C: Tells, A: TellsAsk> Desk<C, A> {
         }
     }
 
-    /// Ends the desk, and hands back all callbacks that it holds.
+    /// Ends the desk, and returns all callbacks that it holds.
     pub fn end(self) -> Unspent<C, A>
         ensures { result ≡ record { requests = self.requests; asks = self.asks } }
     {

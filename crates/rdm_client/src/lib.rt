@@ -1,11 +1,11 @@
 //! Callbacks that are called once, and the desk that holds those of one client.
 //!
-//! A client hands in a callback with each request and each discovery. Its desk holds them, and spends the oldest one
-//! of a kind with each outcome of that kind. A callback is neither [`Clone`] nor [`Drop`]: so it is called once, and
-//! the compiler refuses a program that forgets one.
+//! A client passes a callback with each request and each discovery. Its desk holds them, and calls the oldest one of a
+//! kind with each outcome of that kind. A callback is neither [`Clone`] nor [`Drop`]. So it is called once, and the
+//! compiler refuses a program that forgets one.
 //!
-//! What holds callbacks is generic in them, under [`Tells`] and [`TellsAsk`]. [`Callback`] and [`AskCallback`] are
-//! the defaults, over boxed closures.
+//! Desks and clients are generic in their callbacks, under [`Tells`] and [`TellsAsk`]. The defaults are boxed closures:
+//! [`Callback`] and [`AskCallback`].
 #![tactic(auto)]
 
 mod ask_callback;

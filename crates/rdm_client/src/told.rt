@@ -1,7 +1,7 @@
-//! What callbacks tell.
+//! What callbacks return.
 use rdm_queue::{AskCompletion, Completion};
 
-/// What a request's callback tells: with which tag it was made, and with which completion it was called.
+/// What a request's callback returns: the tag that it was made with, and the completion that it was called with.
 #[derive(Debug, Drop)]
 pub struct Told {
     /// The callback's tag.
@@ -10,7 +10,7 @@ pub struct Told {
     pub done: Completion,
 }
 
-/// What a discovery's callback tells: with which tag it was made, and with which completion it was called.
+/// What a discovery's callback returns: the tag that it was made with, and the completion that it was called with.
 #[derive(Debug, Drop)]
 pub struct AskTold {
     /// The callback's tag.
@@ -19,7 +19,7 @@ pub struct AskTold {
     pub done: AskCompletion,
 }
 
-/// What a spent callback told (profile of this project).
+/// What a callback of either kind returned (profile of this project).
 #[derive(Debug, Drop)]
 pub enum Collected {
     /// A request has ended.

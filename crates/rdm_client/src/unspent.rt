@@ -10,7 +10,7 @@ use std::marker::Model;
 /// The callbacks that a desk held at its end, oldest first (profile of this project). Contracts see the requests'
 /// callbacks and the discoveries'.
 ///
-/// It isn't [`Drop`]: it is closed once its callbacks were taken out, which are then spent, cancelled or handed on.
+/// It isn't [`Drop`]: its callbacks are taken out and called, cancelled or handed on. Then it is closed.
 pub struct Unspent<C = Callback, A = AskCallback> {
     requests: VecDeque<C>,
     asks: VecDeque<A>,
@@ -24,7 +24,7 @@ impl<C, A> Model for Unspent<C, A> {
     ghost view = { λ u. record { requests = u.requests.items; asks = u.asks.items } };
 }
 
-/// A callback that was not spent (profile of this project).
+/// A callback that wasn't called (profile of this project).
 pub enum Unfinished<C = Callback, A = AskCallback> {
     /// A request's.
     Request(C),
@@ -33,7 +33,7 @@ pub enum Unfinished<C = Callback, A = AskCallback> {
 }
 
 impl<C: Tells, A: TellsAsk> Unspent<C, A> {
-    // What a desk hands back.
+    // What a desk returns at its end.
     pub(crate) fn new(requests: VecDeque<C>, asks: VecDeque<A>) -> Unspent<C, A>
         ensures { result ≡ record { requests = requests.items; asks = asks.items } }
     {
@@ -62,7 +62,7 @@ impl<C: Tells, A: TellsAsk> Unspent<C, A> {
         self.requests.is_empty() && self.asks.is_empty()
     }
 
-    /// Ends it, when nothing is left.
+    /// Ends it. Nothing may be left, which [`Unspent::is_empty`] tests.
     pub fn close_empty(self)
         requires { self ≡ nothing_left }
     {
@@ -71,7 +71,7 @@ impl<C: Tells, A: TellsAsk> Unspent<C, A> {
         asks.destroy_empty();
     }
 
-    /// Ends it. Err: something is left; it comes back unchanged.
+    /// Ends it. Err: something is left; it is returned unchanged.
     pub fn close(self) -> Result<(), Unspent<C, A>>
         ensures closed { OnOk result (self ≡ nothing_left) }
         ensures refused { OnErr result (0 < count_left self) }

@@ -1,5 +1,6 @@
 -- How many clients and calls each block of a session's calls brings.
-use Rattle.std.proofs.Common.{◌≡◌, ℕ, ◌+◌, ◌≤◌, inl, inr, if◌then◌else◌, cond, Bool, true, false, not, List, [], ◌∷◌, ◌++◌, length, refl, ap, ◌∙◌, length-append, arith, None, Some}
+use Rattle.std.proofs.Common.{◌≡◌, ℕ, ◌+◌, ◌≤◌, inl, inr, if◌then◌else◌, cond, Bool, true, false, not, List, [], ◌∷◌}
+use Rattle.std.proofs.Common.{◌++◌, length, refl, ap, ◌∙◌, length-append, arith, None, Some}
 use Rattle.std.specs.Prelude.{Result, Ok, Err, Option}
 use Rattle.std.specs.List.{filter}
 use Rattle.std.proofs.lemmas.List.Elements.{filter-append}
@@ -14,7 +15,8 @@ use Rattle.rdm_log.specs.declared.entry.Entry.{Entry}
 use Rattle.rdm_log.specs.log.Entries.{join_of, joins}
 use Rattle.rdm_log.specs.log.History.{next_client}
 use Rattle.rdm_log.specs.log.LogState.{LogState}
-use Rattle.rdm_log.specs.declared.entry.Entry.TheVariants.{Join, Refuse, Accept, Ask, Send, Came, Finish, Answer, Collect, Pause, Resume, Close}
+use Rattle.rdm_log.specs.declared.entry.Entry.TheVariants.{Join, Refuse, Accept, Ask, Send, Came, Finish, Answer}
+use Rattle.rdm_log.specs.declared.entry.Entry.TheVariants.{Collect, Pause, Resume, Close}
 use Rattle.rdm_log.specs.declared.fault.JoinFault.{JoinFault}
 use Rattle.rdm_log.specs.declared.fault.SubmitFault.{SubmitFault}
 use Rattle.rdm_log.specs.declared.fault.SubmitFault.TheVariants as submit_faults
@@ -24,11 +26,14 @@ use Rattle.rdm_log.specs.declared.fault.LogFull.{LogFull}
 use Rattle.rdm_log.specs.declared.fault.NotAsked.{NotAsked}
 use Rattle.rdm_log.specs.declared.outcome.Outcome.{Outcome}
 use Rattle.rdm_log.specs.log.LogState.{is_full_log}
-use Rattle.rdm_log.specs.promises.Blocks.{GrowsBy, is_result, AllResults, IsWithResults, UnlessFull, SwitchAdds, submit_refused, ask_refused}
-use Rattle.rdm_log.specs.promises.Blocks.{JoinLogs, SubmitLogs, DiscoverLogs, PauseLogs, ResumeLogs, TakeLogs, CloseAdds, CloseAddsWhere, DeliverAdds, CollectAdds, SubmitAdds, DiscoverAdds}
+use Rattle.rdm_log.specs.promises.Blocks.{GrowsBy, is_result, AllResults, IsWithResults, UnlessFull, SwitchAdds}
+use Rattle.rdm_log.specs.promises.Blocks.{submit_refused, ask_refused}
+use Rattle.rdm_log.specs.promises.Blocks.{JoinLogs, SubmitLogs, DiscoverLogs, PauseLogs, ResumeLogs, TakeLogs}
+use Rattle.rdm_log.specs.promises.Blocks.{CloseAdds, CloseAddsWhere, DeliverAdds, CollectAdds, SubmitAdds, DiscoverAdds}
 use Rattle.rdm_log.proofs.PromiseLemmas.BlockLemmas.{join_ok, join_refusal, submit_ok, discover_ok}
 use Rattle.rdm_log.proofs.LogLemmas.PushLemmas.{joins-append}
-use Rattle.rdm_locked.specs.Calls.{is_call, count_calls, refused_submits, refused_discovers, submits_logged, discovers_logged}
+use Rattle.rdm_locked.specs.Calls.{is_call, count_calls, refused_submits, refused_discovers, submits_logged}
+use Rattle.rdm_locked.specs.Calls.{discovers_logged}
 
 -- there are no more calls than entries
 pub calls_few : (h : List Entry) → count_calls h ≤ length h
@@ -37,7 +42,8 @@ calls_few h = omega (arith, length-filter_both is_call (λ (e : Entry). not (is_
 
 pub calls_append : (h k : List Entry) → count_calls (h ++ k) ≡ count_calls h + count_calls k
 unfolding count_calls
-calls_append h k = omega (arith, ap length (filter-append is_call h k), length-append (filter is_call h) (filter is_call k))
+calls_append h k = omega (arith, ap length (filter-append is_call h k),
+    length-append (filter is_call h) (filter is_call k))
 
 -- a block with this many calls, and this many joins
 pub record Brings (calls clients : ℕ) (block : List Entry) : Type 0 where
@@ -49,7 +55,8 @@ pub record Counts (old : LogState) (calls clients : ℕ) (new : LogState) : Type
   pub calls_are : count_calls new.entries ≡ count_calls old.entries + calls
   pub clients_are : next_client new.opening new.entries ≡ next_client old.opening old.entries + clients
 
-pub grown_counts : (old : LogState) (Adds : List Entry → Type 0) (new : LogState) (n m : ℕ) → GrowsBy old Adds new → ((block : List Entry) → Adds block → Brings n m block) → Counts old n m new
+pub grown_counts : (old : LogState) (Adds : List Entry → Type 0) (new : LogState) (n m : ℕ) → GrowsBy old Adds new
+    → ((block : List Entry) → Adds block → Brings n m block) → Counts old n m new
 grown_counts old Adds new n m grows brings =
     let b = brings grows.block grows.adds in
     let h = old.entries in
@@ -58,7 +65,9 @@ grown_counts old Adds new n m grows brings =
     let opening : new.opening ≡ old.opening = ap (λ k. k.opening) grows.grows in
     record {
       calls_are = rw entries (omega (arith, calls_append h grows.block, b.calls_are));
-      clients_are = rw (entries, opening, joins-append h grows.block) (omega (arith, length-append places (joins h ++ joins grows.block), length-append (joins h) (joins grows.block), length-append places (joins h), b.clients_are));
+      clients_are = rw (entries, opening, joins-append h grows.block)
+          (omega (arith, length-append places (joins h ++ joins grows.block),
+          length-append (joins h) (joins grows.block), length-append places (joins h), b.clients_are));
     }
 
 -- no entry, one entry, and one before others
@@ -74,7 +83,8 @@ one e = record { calls_are = by_flag (is_call e); clients_are = refl }
     by_flag true = refl
     by_flag false = refl
 
-before : (e : Entry) (block : List Entry) → is_call e ≡ false → join_of e ≡ None → Brings 0 0 block → Brings 0 0 (e ∷ block)
+before : (e : Entry) (block : List Entry) → is_call e ≡ false → join_of e ≡ None → Brings 0 0 block
+    → Brings 0 0 (e ∷ block)
 unfolding count_calls joins
 before e block no_call no_join b = record { calls_are = rw no_call b.calls_are; clients_are = rw no_join b.clients_are }
 
@@ -99,29 +109,37 @@ results (e ∷ block) all =
     let kind = result_is_no_call e all.0 in
     before e block kind.0 kind.1 (results block all.1)
 
-with_results : (e : Entry) (block : List Entry) → is_call e ≡ false → join_of e ≡ None → IsWithResults e block → Brings 0 0 block
+with_results : (e : Entry) (block : List Entry) → is_call e ≡ false → join_of e ≡ None → IsWithResults e block
+    → Brings 0 0 block
 with_results e block no_call no_join is = rw is.whole (before e is.results no_call no_join (results is.results is.each))
 
 nothing : (block : List Entry) → block ≡ [] → Brings 0 0 block
 nothing block is = rw is none
 
 -- a join
-pub join_brings : (k : LogState) (n : ℕ) (c : ClientId) (block : List Entry) → JoinLogs k n (Ok c) block → Brings 0 1 block
+pub join_brings : (k : LogState) (n : ℕ) (c : ClientId) (block : List Entry) → JoinLogs k n (Ok c) block
+    → Brings 0 1 block
 unfolding joins
 join_brings k n c block is = rw (join_ok k n c block is).2 (one (Join c n))
 
-pub join_refused_brings : (k : LogState) (n : ℕ) (fault : JoinFault) (block : List Entry) → JoinLogs k n (Err fault) block → Brings 0 0 block
+pub join_refused_brings : (k : LogState) (n : ℕ) (fault : JoinFault) (block : List Entry)
+    → JoinLogs k n (Err fault) block → Brings 0 0 block
 unfolding joins
-join_refused_brings k n fault block is = elim (join_refusal k n fault block is) [ inl empty ↦ nothing block empty | inr refused ↦ rw refused (one _) ]
+join_refused_brings k n fault block is = elim (join_refusal k n fault block is)
+    [ inl empty ↦ nothing block empty | inr refused ↦ rw refused (one _) ]
 
 -- a submit, and a discover: no other fault than LogFull is that one
-no_full_submit : (a b c : Bool) → ◌≡◌ {A = Option SubmitFault} (if a then Some submit_faults.Closed else (if b then Some submit_faults.UnknownClient else (if c then Some submit_faults.Full else None))) (Some submit_faults.LogFull) → ⊥
+no_full_submit : (a b c : Bool) → ◌≡◌ {A = Option SubmitFault}
+    (if a then Some submit_faults.Closed else (if b then Some submit_faults.UnknownClient else
+    (if c then Some submit_faults.Full else None))) (Some submit_faults.LogFull) → ⊥
 no_full_submit true b c is = let same : submit_faults.Closed ≡ submit_faults.LogFull = cc in cc
 no_full_submit false true c is = let same : submit_faults.UnknownClient ≡ submit_faults.LogFull = cc in cc
 no_full_submit false false true is = let same : submit_faults.Full ≡ submit_faults.LogFull = cc in cc
 no_full_submit false false false is = cc
 
-no_full_discover : (a b c : Bool) → ◌≡◌ {A = Option AskFault} (if a then Some ask_faults.Closed else (if b then Some ask_faults.UnknownClient else (if c then Some ask_faults.Full else None))) (Some ask_faults.LogFull) → ⊥
+no_full_discover : (a b c : Bool) → ◌≡◌ {A = Option AskFault}
+    (if a then Some ask_faults.Closed else (if b then Some ask_faults.UnknownClient else
+    (if c then Some ask_faults.Full else None))) (Some ask_faults.LogFull) → ⊥
 no_full_discover true b c is = let same : ask_faults.Closed ≡ ask_faults.LogFull = cc in cc
 no_full_discover false true c is = let same : ask_faults.UnknownClient ≡ ask_faults.LogFull = cc in cc
 no_full_discover false false true is = let same : ask_faults.Full ≡ ask_faults.LogFull = cc in cc
@@ -139,19 +157,25 @@ counted_discover ask_faults.UnknownClient other = refl
 counted_discover ask_faults.Full other = refl
 counted_discover ask_faults.LogFull other = absurd (other refl)
 
-pub submit_brings : (k : LogState) (c : ClientId) (request : Request) (answer : Result ℕ (SubmitFault × Request)) (block : List Entry) → SubmitLogs k c request answer block → Brings (submits_logged answer) 0 block
+pub submit_brings : (k : LogState) (c : ClientId) (request : Request) (answer : Result ℕ (SubmitFault × Request))
+    (block : List Entry) → SubmitLogs k c request answer block → Brings (submits_logged answer) 0 block
 unfolding joins
 submit_brings k c request (Ok n) block is = rw (submit_ok k c request n block is).2 (one (Accept c n request))
 submit_brings k c request (Err e) block is = by_flag (is_full_log k) is
   where
-    full : ◌≡◌ {A = Result ℕ (SubmitFault × Request)} (Err e) (Err (submit_faults.LogFull, request)) → e.0 ≡ submit_faults.LogFull
+    full : ◌≡◌ {A = Result ℕ (SubmitFault × Request)} (Err e) (Err (submit_faults.LogFull, request))
+        → e.0 ≡ submit_faults.LogFull
     full same = let pair : e ≡ (submit_faults.LogFull, request) = cc in ap (λ p. p.0) pair
 
-    by_flag : (b : Bool) → UnlessFull b (◌≡◌ {A = Result ℕ (SubmitFault × Request)} (Err e) (Err (submit_faults.LogFull, request)) × (block ≡ [])) (SubmitAdds k.opening k.entries c request (Err e) block) → Brings (refused_submits e.0) 0 block
+    by_flag : (b : Bool) → UnlessFull b (◌≡◌ {A = Result ℕ (SubmitFault × Request)} (Err e)
+        (Err (submit_faults.LogFull, request)) × (block ≡ [])) (SubmitAdds k.opening k.entries c request (Err e) block)
+        → Brings (refused_submits e.0) 0 block
     by_flag true refused = rw (full refused.0) (nothing block refused.1)
-    by_flag false refused = rw (counted_submit e.0 (λ is_full. no_full_submit _ _ _ (refused.0 ∙ ap Some is_full)), refused.2) (one (submit_refused c request e.0))
+    by_flag false refused = rw (counted_submit e.0 (λ is_full. no_full_submit _ _ _ (refused.0 ∙ ap Some is_full)),
+        refused.2) (one (submit_refused c request e.0))
 
-pub discover_brings : (k : LogState) (c : ClientId) (kind : Kind) (answer : Result ℕ AskFault) (block : List Entry) → DiscoverLogs k c kind answer block → Brings (discovers_logged answer) 0 block
+pub discover_brings : (k : LogState) (c : ClientId) (kind : Kind) (answer : Result ℕ AskFault) (block : List Entry)
+    → DiscoverLogs k c kind answer block → Brings (discovers_logged answer) 0 block
 unfolding joins
 discover_brings k c kind (Ok n) block is = rw (discover_ok k c kind n block is).2 (one (Ask c n kind))
 discover_brings k c kind (Err fault) block is = by_flag (is_full_log k) is
@@ -159,25 +183,32 @@ discover_brings k c kind (Err fault) block is = by_flag (is_full_log k) is
     full : ◌≡◌ {A = Result ℕ AskFault} (Err fault) (Err ask_faults.LogFull) → fault ≡ ask_faults.LogFull
     full same = cc
 
-    by_flag : (b : Bool) → UnlessFull b (◌≡◌ {A = Result ℕ AskFault} (Err fault) (Err ask_faults.LogFull) × (block ≡ [])) (DiscoverAdds k.opening k.entries c kind (Err fault) block) → Brings (refused_discovers fault) 0 block
+    by_flag : (b : Bool) → UnlessFull b (◌≡◌ {A = Result ℕ AskFault} (Err fault) (Err ask_faults.LogFull)
+        × (block ≡ [])) (DiscoverAdds k.opening k.entries c kind (Err fault) block)
+        → Brings (refused_discovers fault) 0 block
     by_flag true refused = rw (full refused.0) (nothing block refused.1)
-    by_flag false refused = rw (counted_discover fault (λ is_full. no_full_discover _ _ _ (refused.0 ∙ ap Some is_full)), refused.1) (one (ask_refused c kind fault))
+    by_flag false refused = rw (counted_discover fault (λ is_full. no_full_discover _ _ _
+        (refused.0 ∙ ap Some is_full)), refused.1) (one (ask_refused c kind fault))
 
 -- a collect
-pub collect_brings : (o : Opening) (h : List Entry) (c : ClientId) (outcome : Outcome) (block : List Entry) → CollectAdds o h c (Some outcome) block → Brings 1 0 block
+pub collect_brings : (o : Opening) (h : List Entry) (c : ClientId) (outcome : Outcome) (block : List Entry)
+    → CollectAdds o h c (Some outcome) block → Brings 1 0 block
 unfolding joins
 collect_brings o h c outcome block is = rw is.1 (one (Collect c))
 
 -- the calls that are no client's
-switch_brings : (effect : Bool) (e : Entry) (block : List Entry) → is_call e ≡ false → join_of e ≡ None → SwitchAdds effect e block → Brings 0 0 block
+switch_brings : (effect : Bool) (e : Entry) (block : List Entry) → is_call e ≡ false → join_of e ≡ None
+    → SwitchAdds effect e block → Brings 0 0 block
 switch_brings true e block no_call no_join is = rw is (before e [] no_call no_join none)
 switch_brings false e block no_call no_join is = nothing block is
 
-pub pause_brings : (k : LogState) (answer : Result (Unit {0}) LogFull) (block : List Entry) → PauseLogs k answer block → Brings 0 0 block
+pub pause_brings : (k : LogState) (answer : Result (Unit {0}) LogFull) (block : List Entry) → PauseLogs k answer block
+    → Brings 0 0 block
 pause_brings k (Ok x) block is = switch_brings _ Pause block refl refl is.1
 pause_brings k (Err x) block is = nothing block is.1
 
-pub resume_brings : (k : LogState) (answer : Result (Unit {0}) LogFull) (block : List Entry) → ResumeLogs k answer block → Brings 0 0 block
+pub resume_brings : (k : LogState) (answer : Result (Unit {0}) LogFull) (block : List Entry) → ResumeLogs k answer block
+    → Brings 0 0 block
 resume_brings k (Ok x) block is = switch_brings _ Resume block refl refl is.1
 resume_brings k (Err x) block is = nothing block is.1
 
@@ -188,11 +219,13 @@ close_where_brings false block is = with_results Close block refl refl is
 pub close_brings : (o : Opening) (h : List Entry) (block : List Entry) → CloseAdds o h block → Brings 0 0 block
 close_brings o h block is = close_where_brings _ block is
 
-pub take_brings : (k : LogState) (answer : Result (Option (ArrayVec ℕ)) LogFull) (block : List Entry) → TakeLogs k answer block → Brings 0 0 block
+pub take_brings : (k : LogState) (answer : Result (Option (ArrayVec ℕ)) LogFull) (block : List Entry)
+    → TakeLogs k answer block → Brings 0 0 block
 take_brings k (Ok (Some frame)) block is = rw is.1.2 (before (Send is.1.0 frame) [] refl refl none)
 take_brings k (Ok None) block is = nothing block is.1.1
 take_brings k (Err x) block is = nothing block is.1
 
-pub deliver_brings : (k : LogState) (event : LineEvent) (answer : Result (Unit {0}) (NotAsked × LineEvent)) (block : List Entry) → DeliverAdds k event answer block → Brings 0 0 block
+pub deliver_brings : (k : LogState) (event : LineEvent) (answer : Result (Unit {0}) (NotAsked × LineEvent))
+    (block : List Entry) → DeliverAdds k event answer block → Brings 0 0 block
 deliver_brings k event (Ok x) block is = with_results (Came event) block refl refl is.1
 deliver_brings k event (Err e) block is = nothing block is.2

@@ -1,5 +1,6 @@
 pub mod Calls
 pub mod Collects
 pub mod Exchanges
+pub mod Openings
 pub mod Turns
 pub mod body

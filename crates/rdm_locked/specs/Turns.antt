@@ -1,4 +1,4 @@
--- What a worker's turn finds under the lock.
+-- What a worker has to do in its turn.
 use Rattle.std.specs.Prelude.{◌≡◌, ◌≢◌, ℕ, true, List, [], Some, None, Ok}
 use Rattle.rdm_log.specs.declared.entry.Entry.{Entry}
 use Rattle.rdm_log.specs.log.LogState.{LogState, is_full_log}

@@ -1,4 +1,4 @@
-//! A client of a session behind a lock.
+//! A client of a session with a mutex.
 ghost use Rattle.std.specs.Prelude.{◌≡◌, ◌⊎◌, ◌≤◌, ◌+◌, ◌++◌, ◌∷◌, [], length, nat_le, true, false, OnOk, IfErr};
 ghost use Rattle.std.specs.Prelude.{IsErrAnd, IfSome, IfNone, OnSome, IsNone, if◌then◌else◌};
 ghost use Rattle.rdm_locked.specs.Calls.{refused_submits, refused_discovers};
@@ -10,29 +10,29 @@ use rdm_agent::Kind;
 use rdm_client::{
     AskCallback, AskTold, Callback, Collected, Desk, DeviceView, Tells, TellsAsk, Told, Unspent,
 };
-use rdm_queue::{AskCompletion, AskFault, ClientId, DiscoveryEnd, OutcomeKind, SubmitFault};
+use rdm_queue::{AskCompletion, AskFault, ClientId, OutcomeKind, SubmitFault};
 use rdm_wire::{DeviceSet, Request};
 use std::sync::Wait;
 use std::sync::ledger::Ledger;
 
-/// A client of a session behind a lock, with the callbacks of what it has outstanding (profile of this project). It
-/// may be used in any thread. Its calls wait for the lock; a callback runs after the lock is given back.
+/// A client of a session with a mutex, with the callbacks of what it has outstanding (profile of this project). It may
+/// be used in any thread. Its calls wait for the mutex; a callback runs after the mutex is released.
 ///
-/// It isn't [`Drop`]: [`LockedClient::leave`] hands back what it holds.
+/// It isn't [`Drop`]: [`LockedClient::leave`] returns what it holds.
 pub struct LockedClient<'a, L: Ledger, C = Callback, A = AskCallback> {
     port: &'a Port<L>,
     number: ClientId,
     desk: Desk<C, A>,
     calls: CallShare<L>,
-    // Whether its oldest outcome found no callback: then it collects nothing any more.
+    // Whether no callback was held for its oldest outcome: then it collects nothing any more.
     stranded: bool,
 }
 
 /// What is left of a client (profile of this project).
 pub struct Left<L: Ledger, C = Callback, A = AskCallback> {
-    /// The callbacks that were not spent.
+    /// The callbacks that weren't called.
     pub unspent: Unspent<C, A>,
-    /// How many of the log's entries are the client's calls.
+    /// How many of the log's calls are the client's.
     pub calls: CallShare<L>,
 }
 
@@ -56,10 +56,11 @@ impl<'a, L: Ledger, C: Tells, A: TellsAsk> LockedClient<'a, L, C, A> {
         }
     }
 
-    /// Submits a request, and gives its number. The callback is held, and called with the request's completion.
-    /// Err: Full where the desk has no place for the callback, before all other faults: such a call has no entry, and
-    /// isn't counted. Else as [`Inside::submit`](crate::Inside::submit) answers. The request and the callback come
-    /// back.
+    /// Submits a request, and returns its number. The callback is held until it is called with the request's
+    /// completion.
+    /// Err: Full if the desk can't hold the callback, before all other faults; such a call has no entry, and isn't
+    /// counted. Otherwise as [`Inside::submit`](crate::Inside::submit) returns. The request and the callback are
+    /// returned.
     pub fn submit<R: Wait>(
         &mut self,
         rt: &R,
@@ -96,9 +97,10 @@ impl<'a, L: Ledger, C: Tells, A: TellsAsk> LockedClient<'a, L, C, A> {
         }
     }
 
-    /// Asks for a discovery, and gives its number. The callback is held, and called with the discovery's completion.
-    /// Err: Full where the desk has no place for the callback, before all other faults: such a call has no entry, and
-    /// isn't counted. Else as [`Inside::discover`](crate::Inside::discover) answers. The callback comes back.
+    /// Asks for a discovery, and returns its number. The callback is held until it is called with the discovery's
+    /// completion.
+    /// Err: Full if the desk can't hold the callback, before all other faults; such a call has no entry, and isn't
+    /// counted. Otherwise as [`Inside::discover`](crate::Inside::discover) returns. The callback is returned.
     pub fn discover<R: Wait>(
         &mut self,
         rt: &R,
@@ -134,16 +136,24 @@ impl<'a, L: Ledger, C: Tells, A: TellsAsk> LockedClient<'a, L, C, A> {
         }
     }
 
+    /// Of which kind the client's oldest outcome is that it hasn't collected, as
+    /// [`Inside::oldest`](crate::Inside::oldest) says. None: there is none.
+    pub fn oldest<R: Wait>(&self, rt: &R) -> Option<OutcomeKind> {
+        self.port.inside.lock(rt).oldest(self.number)
+    }
+
     /// Collects the client's oldest outcome: the oldest callback of its kind is called with its completion, after the
-    /// lock is given back. None: there is no outcome, or no callback is held for it; nothing changes. In the second
-    /// case it answers None from then on, and the outcome stays in the session.
+    /// mutex is released. The result has 32 KB, since it may contain a set of devices. For requests,
+    /// [`collect_request`](LockedClient::collect_request) costs less.
+    /// None: there is no outcome, or no callback is held for it; nothing changes. In the second case this call,
+    /// `collect_request` and `collect_discovery` return None from then on, and the outcome stays in the session.
     pub fn collect<R: Wait>(&mut self, rt: &R) -> Option<Collected>
         ensures collected { IfSome result (λ told.
             Collects C.calls C.tag_of A.calls A.tag_of self.old.desk told self.new.desk) }
         ensures counted { OnSome result (self.new.calls.count ≡ self.old.calls.count + 1) }
         ensures none { IfNone result ((self.new.desk ≡ self.old.desk) × (self.new.calls.count ≡ self.old.calls.count)) }
         ensures for_good { self.old.stranded ≡ true → IsNone result × (self.new.stranded ≡ true) }
-        // It comes to that only where no callback of one kind is held.
+        // That happens only if no callback of one kind is held.
         ensures strands { self.old.stranded ≡ false → self.new.stranded ≡ true
             → (length self.old.desk.requests ≡ 0) ⊎ (length self.old.desk.asks ≡ 0) }
         ensures client { self.new.number ≡ self.old.number }
@@ -151,35 +161,42 @@ impl<'a, L: Ledger, C: Tells, A: TellsAsk> LockedClient<'a, L, C, A> {
         if self.stranded {
             return None;
         }
-        let oldest = self.port.inside.lock(rt).oldest(self.number)?;
-        if oldest == OutcomeKind::Request {
-            let told = self.collect_request(rt)?;
-            return Some(Collected::Request(told));
+        match self.oldest(rt)? {
+            OutcomeKind::Request => {
+                let told = self.collect_request(rt)?;
+                Some(Collected::Request(told))
+            }
+            OutcomeKind::Discovery => self.collect_ask(rt),
         }
-        self.collect_discovery(rt)
     }
 
-    // Collects the oldest outcome where it is a request's and a callback is held for it.
-    fn collect_request<R: Wait>(&mut self, rt: &R) -> Option<Told>
+    /// Collects the client's oldest outcome if that is a request's, as [`collect`](LockedClient::collect) does. It
+    /// neither moves a set of devices nor has room for one.
+    /// None: there is no outcome, it is a discovery's, or no callback is held for it; nothing changes. In the last
+    /// case this call, `collect` and `collect_discovery` return None from then on.
+    pub fn collect_request<R: Wait>(&mut self, rt: &R) -> Option<Told>
         ensures collected { IfSome result (λ told.
             CollectsRequest C.calls C.tag_of self.old.desk told self.new.desk) }
         ensures counted { OnSome result (self.new.calls.count ≡ self.old.calls.count + 1) }
         ensures none { IfNone result ((self.new.desk ≡ self.old.desk) × (self.new.calls.count ≡ self.old.calls.count)) }
+        ensures for_good { self.old.stranded ≡ true → IsNone result × (self.new.stranded ≡ true) }
         ensures strands { self.old.stranded ≡ false → self.new.stranded ≡ true → length self.old.desk.requests ≡ 0 }
-        ensures nobody { length self.old.desk.requests ≡ 0 → IsNone result × (self.new.stranded ≡ true) }
         ensures client { self.new.number ≡ self.old.number }
     {
+        if self.stranded {
+            return None;
+        }
+        if self.desk.requests_held() == 0 {
+            self.stranded = self.oldest(rt) == Some(OutcomeKind::Request);
+            return None;
+        }
         let LockedClient {
             port,
             number,
             desk,
             calls,
-            stranded,
+            ..
         } = self;
-        if desk.requests_held() == 0 {
-            *stranded = true;
-            return None;
-        }
         let collected = port.inside.lock(rt).collect_request(*number, calls);
         let (_, done) = collected?;
         match desk.settle_request(done) {
@@ -188,39 +205,62 @@ impl<'a, L: Ledger, C: Tells, A: TellsAsk> LockedClient<'a, L, C, A> {
         }
     }
 
-    // Collects the oldest outcome where it is a discovery's and a callback is held for it. It isn't inlined, so that
-    // the path of a request has no set.
-    #[inline(never)]
-    fn collect_discovery<R: Wait>(&mut self, rt: &R) -> Option<Collected>
+    /// Collects the client's oldest outcome if that is a discovery's, as [`collect`](LockedClient::collect) does.
+    /// None: there is no outcome, it is a request's, or no callback is held for it; nothing changes. In the last case
+    /// this call, `collect` and `collect_request` return None from then on.
+    pub fn collect_discovery<R: Wait>(&mut self, rt: &R) -> Option<AskTold>
         ensures collected { IfSome result (λ told.
-            Collects C.calls C.tag_of A.calls A.tag_of self.old.desk told self.new.desk) }
+            CollectsDiscovery A.calls A.tag_of self.old.desk told self.new.desk) }
         ensures counted { OnSome result (self.new.calls.count ≡ self.old.calls.count + 1) }
         ensures none { IfNone result ((self.new.desk ≡ self.old.desk) × (self.new.calls.count ≡ self.old.calls.count)) }
+        ensures for_good { self.old.stranded ≡ true → IsNone result × (self.new.stranded ≡ true) }
         ensures strands { self.old.stranded ≡ false → self.new.stranded ≡ true → length self.old.desk.asks ≡ 0 }
-        ensures nobody { length self.old.desk.asks ≡ 0 → IsNone result × (self.new.stranded ≡ true) }
         ensures client { self.new.number ≡ self.old.number }
     {
+        if self.stranded {
+            return None;
+        }
+        if self.desk.asks_held() == 0 {
+            self.stranded = self.oldest(rt) == Some(OutcomeKind::Discovery);
+            return None;
+        }
         let LockedClient {
             port,
             number,
             desk,
             calls,
-            stranded,
+            ..
         } = self;
-        if desk.asks_held() == 0 {
-            *stranded = true;
-            return None;
-        }
-        let mut set = DeviceSet::new();
+        let mut done = AskCompletion {
+            run: 0,
+            fault: None,
+            set: DeviceSet::new(),
+        };
         let collected = port
             .inside
             .lock(rt)
-            .collect_discovery(*number, &mut set, calls);
-        let DiscoveryEnd { run, fault, .. } = collected?;
-        match desk.settle_ask(AskCompletion { run, fault, set }) {
-            Ok(told) => Some(Collected::Ask(told)),
+            .collect_discovery(*number, &mut done.set, calls);
+        let end = collected?;
+        done.run = end.run;
+        done.fault = end.fault;
+        match desk.settle_ask(done) {
+            Ok(told) => Some(told),
             Err(_) => unreachable!(),
         }
+    }
+
+    // Collects a discovery's outcome. It isn't inlined, so that `collect` has no set for a request's.
+    #[inline(never)]
+    fn collect_ask<R: Wait>(&mut self, rt: &R) -> Option<Collected>
+        ensures collected { IfSome result (λ told.
+            Collects C.calls C.tag_of A.calls A.tag_of self.old.desk told self.new.desk) }
+        ensures counted { OnSome result (self.new.calls.count ≡ self.old.calls.count + 1) }
+        ensures none { IfNone result ((self.new.desk ≡ self.old.desk) × (self.new.calls.count ≡ self.old.calls.count)) }
+        ensures strands { self.old.stranded ≡ false → self.new.stranded ≡ true → length self.old.desk.asks ≡ 0 }
+        ensures client { self.new.number ≡ self.old.number }
+    {
+        let told = self.collect_discovery(rt)?;
+        Some(Collected::Ask(told))
     }
 
     /// The devices that the last run without fault found, and that run; none and 0 before the first.
@@ -228,7 +268,7 @@ impl<'a, L: Ledger, C: Tells, A: TellsAsk> LockedClient<'a, L, C, A> {
         self.port.inside.lock(rt).devices()
     }
 
-    /// Leaves, and hands back the callbacks that were not spent, and the client's share of the calls. What it has
+    /// Leaves, and returns the callbacks that weren't called, and the client's share of the calls. What it has
     /// outstanding stays in the session.
     pub fn leave<R: Wait>(self, rt: &R) -> Left<L, C, A>
         ensures unspent { result.unspent ≡ record { requests = self.entry.desk.requests; asks = self.entry.desk.asks } }

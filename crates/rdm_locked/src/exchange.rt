@@ -1,4 +1,4 @@
-//! Exchanges, as a worker records them.
+//! Exchanges as a worker records them.
 ghost use Rattle.std.specs.Prelude.{◌≡◌, ◌+◌, map};
 ghost use Rattle.std.specs.Bool.{Decides};
 ghost use Rattle.rdm_log.specs.log.Entries.{cames};
@@ -11,7 +11,7 @@ use rdm_join::LineEvent;
 use rdm_queue::{Entry, Log};
 use rdm_wire::Frame;
 
-/// A frame that went over the line, and what came for it (profile of this project).
+/// A frame that went over the line, and what came back (profile of this project).
 #[derive(Debug, Drop)]
 pub struct Exchange {
     /// The frame's bytes.
@@ -20,7 +20,7 @@ pub struct Exchange {
     pub event: LineEvent,
 }
 
-/// Whether the log's exchanges are those of the record. The log is legal: what came is what came for the frames before.
+/// Whether the log's exchanges are those of the record. The log is legal, so each event belongs to the frame before it.
 pub(crate) fn has_exchanges(log: &Log, exchanges: &[Exchange]) -> bool
     requires { Legal log.now.opening log.now.entries }
     ensures { Decides result (exchanges_in log.now.entries ≡ recorded exchanges.now) }
@@ -48,7 +48,7 @@ fn has_events(entries: &[Entry], exchanges: &[Exchange]) -> bool
     left.is_empty()
 }
 
-// Whether the frames that were sent are those of the record; a frame that has no answer yet may follow.
+// Whether the frames that were sent are those of the record; a frame whose reply is awaited may follow.
 fn begins_with_frames(entries: &[Entry], exchanges: &[Exchange]) -> bool
     ensures { Decides result (Begins (map (λ x. x.frame) exchanges.now) (frames_in entries.now)) }
 {

@@ -1,10 +1,9 @@
-//! What lies under the lock.
+//! What a port's mutex holds.
 ghost use Rattle.std.specs.Prelude.{◌≡◌, ◌≢◌, ◌≤◌, ◌+◌, [], Ok, Err, Some, OnOk, OnErr, IfOk, IfErr, IfSome, IfNone};
 ghost use Rattle.std.specs.Prelude.{OnSome, nat_lt, if◌then◌else◌};
-ghost use Rattle.rdm_log.specs.log.Config.{IsConfig, steady};
+ghost use Rattle.rdm_log.specs.log.Config.{steady};
 ghost use Rattle.rdm_log.specs.log.History.{next_client};
 ghost use Rattle.rdm_log.specs.log.Legal.{Legal};
-ghost use Rattle.rdm_log.specs.log.LogState.{begun};
 ghost use Rattle.rdm_log.specs.log.Runs.{known_devices, devices_run};
 ghost use Rattle.rdm_log.specs.promises.Blocks.{JoinLogs, SubmitLogs, DiscoverLogs, PauseLogs, ResumeLogs, GrowsBy};
 ghost use Rattle.rdm_log.specs.promises.Blocks.{CloseAdds, DeliverAdds, CollectAdds};
@@ -12,6 +11,7 @@ ghost use Rattle.rdm_log.specs.promises.Promised.{Promised};
 ghost use Rattle.rdm_log.specs.promises.Outcomes.{oldest_kind, request_outcome, discovery_outcome};
 ghost use Rattle.rdm_log.specs.declared.outcome.OutcomeKind.TheVariants as kinds;
 ghost use Rattle.rdm_locked.specs.Calls.{count_calls, submits_logged, discovers_logged};
+ghost use Rattle.rdm_locked.specs.Openings.{MayOpen, IsOpened};
 ghost use Rattle.rdm_locked.specs.Turns.{TurnLogs};
 
 mod finish;
@@ -30,16 +30,15 @@ use rdm_wire::{DeviceSet, Request};
 use std::alloc::Global;
 use std::sync::ledger::{Blank, Book, Ledger, Share};
 
-/// A session with a book of its clients' calls: what lies under the lock of a [`Port`](crate::Port) (profile of this
-/// project). Each of its calls is made while the lock is held, and is one call of the session.
+/// A session with a book of its clients' calls: what the mutex of a [`Port`](crate::Port) holds (profile of this
+/// project). Each of its calls is made with the mutex taken, and is one call of the session.
 ///
-/// Whenever the lock is free these hold:
-/// - The log is legal and keeps all that clients are promised, and the session stands after it. One promise is the
-///   bound: a run on an honest line that doesn't fail, with a budget that suffices, is answered without fault unless
-///   the queue is closed.
-/// - The book has as many calls as the log: an Accept, an Ask, a Collect, and a Refuse of a client's call count one
-///   each.
-/// - There are 17 parts of the book: each client that joined has one, and the rest lies here.
+/// Whenever the mutex is free, these hold:
+/// - The log is legal and keeps all that clients are promised, and the session is the one that the log describes. One
+///   promise is the bound: a run on an honest line that doesn't fail, with a sufficient budget, is answered without
+///   fault unless the queue is closed.
+/// - The book has as many calls as the log. An Accept, an Ask, a Collect, and a Refuse of a client's call are one each.
+/// - The book has 17 parts: each client that joined has one, and the others are here.
 #[derive(Drop)]
 pub struct Inside<L: Ledger> {
     session: Session,
@@ -56,39 +55,31 @@ pub struct Inside<L: Ledger> {
 }
 
 impl<L: Ledger> Inside<L> {
-    /// A session with this configuration, without clients, whose runs search steadily. The blank has 17 parts; the
-    /// other conditions are those of [`Session::new`].
-    /// Err: there was no memory; the blank and the log come back as they were.
+    /// A session with this configuration, without clients, whose runs search steadily. The blank has 17 parts and the
+    /// name of the book `L`. The other conditions are those of [`Session::new`].
+    /// Err: out of memory; the blank and the log are returned unchanged.
     pub fn new(
         alloc: Global,
         blank: Blank,
         config: Config,
         log: Log,
     ) -> Result<Inside<L>, (NoMemory, Blank, Log)>
-        requires name { blank.name ≡ L.name }
-        requires parts { (blank.parts ≡ L.parts) × (L.parts ≡ 17) }
-        requires config_is { IsConfig config }
-        requires empty { log.entries ≡ [] }
-        ensures session { IfOk result (λ i. i.session ≡ begun (steady config) log) }
-        ensures clients { IfOk result (λ i. (i.joined ≡ 0) × (i.left ≡ 0)) }
+        requires may_open { MayOpen L.name L.parts blank config log }
+        ensures opened { IfOk result (λ i. IsOpened (steady config) log i.session i.joined i.left) }
         ensures back { IfErr result (λ e. (e.1 ≡ blank) × (e.2 ≡ log)) }
     {
         Inside::new_with(alloc, blank, Setup::steady(config), log)
     }
 
-    /// The same under the same conditions and with the same error, with a set-up that also says how runs search.
+    /// The same with a set-up, which also says how runs search. Conditions and error are those of `new`.
     pub fn new_with(
         alloc: Global,
         blank: Blank,
         setup: Setup,
         log: Log,
     ) -> Result<Inside<L>, (NoMemory, Blank, Log)>
-        requires name { blank.name ≡ L.name }
-        requires parts { (blank.parts ≡ L.parts) × (L.parts ≡ 17) }
-        requires config_is { IsConfig setup.config }
-        requires empty { log.entries ≡ [] }
-        ensures session { IfOk result (λ i. i.session ≡ begun setup log) }
-        ensures clients { IfOk result (λ i. (i.joined ≡ 0) × (i.left ≡ 0)) }
+        requires may_open { MayOpen L.name L.parts blank setup.config log }
+        ensures opened { IfOk result (λ i. IsOpened setup log i.session i.joined i.left) }
         ensures back { IfErr result (λ e. (e.1 ≡ blank) × (e.2 ≡ log)) }
     {
         let session = match Session::new_with(alloc, setup, log) {
@@ -105,8 +96,9 @@ impl<L: Ledger> Inside<L> {
         })
     }
 
-    /// Lets a client join, as [`Session::join_client`] does, and gives it its share, which has counted no call.
-    /// Err: LogFull, or else the first other fault that stands; nothing changes but the log.
+    /// Lets a client join, as [`Session::join_client`] does. Returns its number and its share, which has counted no
+    /// call.
+    /// Err: LogFull, or else the first other fault that applies; nothing changes but the log.
     pub fn join(&mut self, alloc: Global, places: u8) -> Result<(ClientId, CallShare<L>), JoinFault>
         ensures joined { IfOk result (λ r. GrowsBy self.old.session (JoinLogs self.old.session places (Ok r.0))
             self.new.session) }
@@ -129,10 +121,10 @@ impl<L: Ledger> Inside<L> {
         Ok((client, share))
     }
 
-    /// Accepts a client's request, as [`Session::submit`] does, and counts the call in the client's share, also where
-    /// it is refused; not where the log is full.
-    /// Err: LogFull, or else the first other fault that stands; nothing changes but the log and the counts, and the
-    /// request comes back.
+    /// Accepts a client's request, as [`Session::submit`] does, and counts the call in the client's share, even if it
+    /// is refused. If the log is full, it isn't counted.
+    /// Err: LogFull, or else the first other fault that applies; nothing changes but the log and the counts, and the
+    /// request is returned.
     pub fn submit(
         &mut self,
         client: ClientId,
@@ -153,9 +145,9 @@ impl<L: Ledger> Inside<L> {
         answer
     }
 
-    /// Accepts a client's discovery, as [`Session::discover`] does, and counts the call in the client's share, also
-    /// where it is refused; not where the log is full.
-    /// Err: LogFull, or else the first other fault that stands; nothing changes but the log and the counts.
+    /// Accepts a client's discovery, as [`Session::discover`] does, and counts the call in the client's share, even if
+    /// it is refused. If the log is full, it isn't counted.
+    /// Err: LogFull, or else the first other fault that applies; nothing changes but the log and the counts.
     pub fn discover(
         &mut self,
         client: ClientId,
@@ -176,16 +168,16 @@ impl<L: Ledger> Inside<L> {
         answer
     }
 
-    /// Of which kind a client's oldest outcome is that it hasn't collected, as [`Session::oldest`] says it. None: there
-    /// is none.
+    /// Of which kind a client's oldest outcome is that it hasn't collected, as [`Session::oldest`] says. None: there is
+    /// none.
     pub fn oldest(&self, client: ClientId) -> Option<OutcomeKind>
         ensures { result ≡ oldest_kind self.now.session.opening self.now.session.entries client.0 }
     {
         self.session.oldest(client)
     }
 
-    /// Collects a client's oldest outcome where that is a request's, as [`Session::next_completion`] does, and counts
-    /// the call in the client's share. It moves no set.
+    /// Collects a client's oldest outcome if that is a request's, as [`Session::next_completion`] does, and counts the
+    /// call in the client's share. It moves no set.
     /// None: there is no outcome, or it is a discovery's; nothing changes.
     pub fn collect_request(
         &mut self,
@@ -208,8 +200,8 @@ impl<L: Ledger> Inside<L> {
         Some(outcome)
     }
 
-    /// Collects a client's oldest outcome where that is a discovery's, as [`Session::next_discovery`] does, and counts
-    /// the call in the client's share. The devices that the run found are in `set`, in place of what was there.
+    /// Collects a client's oldest outcome if that is a discovery's, as [`Session::next_discovery`] does, and counts the
+    /// call in the client's share. The devices that the run found replace those in `set`.
     /// None: there is no outcome, or it is a request's; nothing changes.
     pub fn collect_discovery(
         &mut self,
@@ -261,7 +253,7 @@ impl<L: Ledger> Inside<L> {
         self.session.close();
     }
 
-    /// What a worker's turn is about: the next frame, as [`Session::take`] gives it, or why there is none.
+    /// What a worker has to do in its turn: send the next frame, as [`Session::take`] returns it, or why there is none.
     pub fn turn(&mut self) -> Turn
         ensures adds { GrowsBy self.old.session (TurnLogs self.old.session self.old.joined self.old.left result)
             self.new.session }
@@ -275,8 +267,8 @@ impl<L: Ledger> Inside<L> {
         }
     }
 
-    /// Takes what the line answered, as [`Session::deliver`] does.
-    /// Err: no reply is awaited; nothing has changed, and the event comes back.
+    /// Takes what came back over the line, as [`Session::deliver`] does.
+    /// Err: no reply is awaited; nothing has changed, and the event is returned.
     pub fn deliver(&mut self, alloc: Global, event: LineEvent) -> Result<(), (NotAsked, LineEvent)>
         ensures adds { GrowsBy self.old.session (DeliverAdds self.old.session event result) self.new.session }
         ensures clients { (self.new.joined ≡ self.old.joined) × (self.new.left ≡ self.old.left) }
@@ -295,7 +287,7 @@ impl<L: Ledger> Inside<L> {
         }
     }
 
-    /// A client has left. Where as many have left as have joined it has no effect.
+    /// A client has left. If as many have left as have joined, it has no effect.
     pub fn leave(&mut self)
         ensures left { self.new.left
             ≡ (if nat_lt self.old.left self.old.joined then self.old.left + 1 else self.old.left) }
@@ -321,7 +313,7 @@ impl<L: Ledger> Inside<L> {
     }
 }
 
-// How many calls a submit that is answered so has in the log: none where the log is full.
+// How many calls in the log a submit with this answer is: none if the log was full.
 fn submits_logged(answer: &Result<u64, (SubmitFault, Request)>) -> u64
     ensures { result ≡ submits_logged answer.now }
 {
@@ -331,7 +323,7 @@ fn submits_logged(answer: &Result<u64, (SubmitFault, Request)>) -> u64
     }
 }
 
-// How many calls a discover that is answered so has in the log.
+// How many calls in the log a discover with this answer is: none if the log was full.
 fn discovers_logged(answer: &Result<u64, AskFault>) -> u64
     ensures { result ≡ discovers_logged answer.now }
 {

@@ -1,9 +1,9 @@
-//! A session behind a lock: clients and a worker in threads of their own.
+//! A session with a mutex, for clients and a worker in threads of their own.
 //!
-//! What lies under the lock is an [`Inside`]: a session, with a book of its clients' calls. Each of its calls has a
-//! contract over the log. A [`Port`] and its clients lock, make one such call, and unlock; what they ensure speaks of
-//! what the caller holds: its callbacks, its count of calls, and the record of exchanges. At the end
-//! [`Port::finish`] shows that all of them fit the log.
+//! The mutex holds an [`Inside`]: a session with a book of its clients' calls. Each of its calls has a contract over
+//! the log. A [`Port`] and its clients take the mutex, make one such call, and release it. Their contracts are about
+//! what the caller holds: its callbacks, its count of calls, and the record of exchanges. At the end, [`Port::finish`]
+//! compares the counts and the record with the log.
 #![tactic(auto)]
 
 mod client;

@@ -1,12 +1,12 @@
-//! A session behind a lock.
+//! A session with a mutex.
 ghost use Rattle.std.specs.Prelude.{◌≡◌, [], length, false, IfOk, IfErr};
 ghost use Rattle.std.specs.List.{sum_by};
-ghost use Rattle.rdm_log.specs.log.Config.{IsConfig};
 ghost use Rattle.rdm_log.specs.log.History.{next_client};
 ghost use Rattle.rdm_log.specs.log.Legal.{Legal};
 ghost use Rattle.rdm_log.specs.promises.Promised.{Promised};
 ghost use Rattle.rdm_locked.specs.Calls.{count_calls};
 ghost use Rattle.rdm_locked.specs.Exchanges.{exchanges_in, recorded, Records};
+ghost use Rattle.rdm_locked.specs.Openings.{MayOpen};
 
 use crate::client::LockedClient;
 use crate::exchange::Exchange;
@@ -24,63 +24,57 @@ use std::sync::ledger::{Blank, Ledger};
 use std::sync::{Mutex, Wait};
 use std::thread;
 
-/// A session behind a lock, for clients and a worker in threads of their own (profile of this project). The lock is
-/// held for one call of the session at a time, and never during an exchange with the line. `client`, `pause`, `resume`,
-/// `close` and `work` wait for it. `finish` doesn't, since whoever owns the port has it alone.
+/// A session with a mutex, for clients and a worker in threads of their own (profile of this project). The mutex is
+/// taken for one call of the session at a time, and never during an exchange with the line. `client`, `pause`,
+/// `resume`, `close` and `work` wait for it. `finish` doesn't, since whoever owns the port has it exclusively.
 ///
-/// `L` names the book of the clients' calls. The program's call that begins the session picks it, as `Brand`.
+/// `L` names the book of the clients' calls. The program picks it as `Brand` in the call that opens the port.
 #[derive(Drop)]
 pub struct Port<L: Ledger> {
     pub(crate) inside: Mutex<Inside<L>>,
 }
 
 impl<L: Ledger> Port<L> {
-    /// A session with this configuration, without clients, behind a lock; its runs search steadily. The blank has 17
-    /// parts: one for each client, and one for the rest. The other conditions are those of
+    /// A session with this configuration and a mutex, without clients, whose runs search steadily. The blank has 17
+    /// parts, one for each client and one for the rest, and the name of the book `L`. The other conditions are those of
     /// [`Session::new`](rdm_queue::Session::new).
-    /// Err: there was no memory; the blank and the log come back as they were.
+    /// Err: out of memory; the blank and the log are returned unchanged.
     pub fn new(
         alloc: Global,
         blank: Blank,
         config: Config,
         log: Log,
     ) -> Result<Port<L>, (NoMemory, Blank, Log)>
-        requires name { blank.name ≡ L.name }
-        requires parts { (blank.parts ≡ L.parts) × (L.parts ≡ 17) }
-        requires config_is { IsConfig config }
-        requires empty { log.entries ≡ [] }
+        requires may_open { MayOpen L.name L.parts blank config log }
         ensures back { IfErr result (λ e. (e.1 ≡ blank) × (e.2 ≡ log)) }
     {
         Port::new_with(alloc, blank, Setup::steady(config), log)
     }
 
-    /// The same under the same conditions and with the same error, with a set-up that also says how runs search.
+    /// The same with a set-up, which also says how runs search. Conditions and error are those of `new`.
     pub fn new_with(
         alloc: Global,
         blank: Blank,
         setup: Setup,
         log: Log,
     ) -> Result<Port<L>, (NoMemory, Blank, Log)>
-        requires name { blank.name ≡ L.name }
-        requires parts { (blank.parts ≡ L.parts) × (L.parts ≡ 17) }
-        requires config_is { IsConfig setup.config }
-        requires empty { log.entries ≡ [] }
+        requires may_open { MayOpen L.name L.parts blank setup.config log }
         ensures back { IfErr result (λ e. (e.1 ≡ blank) × (e.2 ≡ log)) }
     {
         let inside = Inside::new_with(alloc, blank, setup, log)?;
         Ok(Port::holding(inside))
     }
 
-    // Puts it behind a lock.
+    // Puts it into a mutex.
     fn holding(inside: Inside<L>) -> Port<L> {
         Port {
             inside: Mutex::new(inside),
         }
     }
 
-    /// Lets a client join with this many places, 0 to 255, which its desk has too.
-    /// Err: NoMemory where there is none for the desk, before all other faults and without an entry; else as
-    /// [`Inside::join`] answers.
+    /// Lets a client join with this queue depth, 0 to 255, which its desk has too.
+    /// Err: NoMemory if there is none for the desk, before all other faults and without an entry. Otherwise as
+    /// [`Inside::join`] returns.
     pub fn client<C: Tells, A: TellsAsk, R: Wait>(
         &self,
         rt: &R,
@@ -104,27 +98,30 @@ impl<L: Ledger> Port<L> {
         }
     }
 
-    /// Pauses: nothing new is begun. Without effect where it is paused or closed already.
+    /// Pauses: nothing new is begun. It has no effect if the session is paused or closed already.
     /// Err: the log is full; nothing has changed.
     pub fn pause<R: Wait>(&self, rt: &R) -> Result<(), LogFull> {
         self.inside.lock(rt).pause()
     }
 
-    /// Resumes. Without effect where it isn't paused, or is closed.
+    /// Resumes. It has no effect if the session isn't paused, or is closed.
     /// Err: the log is full; nothing has changed.
     pub fn resume<R: Wait>(&self, rt: &R) -> Result<(), LogFull> {
         self.inside.lock(rt).resume()
     }
 
-    /// Closes: nothing more is accepted, and what waits is ended. Without effect where it is closed already.
+    /// Closes: nothing more is accepted, and what waits is ended. It has no effect if the session is closed already.
     pub fn close<R: Wait>(&self, rt: &R) {
         self.inside.lock(rt).close();
     }
 
-    /// Serves the line for this many turns. It ends before that where each client that has joined has left and no frame
-    /// may be sent, or where the log is full. A turn makes room in the record; where memory for it is refused, the turn
-    /// does no more. Then it takes a frame under the lock, makes the exchange without it, delivers under it what came,
+    /// Serves the line for this many turns. It ends earlier if each client that has joined has left and no frame may be
+    /// sent, or if the log is full. A turn first reserves room in the record; if that allocation fails, the turn does
+    /// nothing else. Then it takes a frame with the mutex, makes the exchange without it, delivers what came with it,
     /// and appends the exchange to the record. It never stops between taking and delivering.
+    ///
+    /// A record without room doubles its capacity, which copies it. If you know how many exchanges come, reserve as
+    /// many first: each has 552 bytes, and then no turn allocates for it.
     pub fn work<X: Line, R: Wait>(
         &self,
         rt: &R,
@@ -155,15 +152,16 @@ impl<L: Ledger> Port<L> {
         WorkerEnd::Turns
     }
 
-    /// Ends the port, where the share of each client that joined is there, and the log's exchanges are those of the
+    /// Ends the port, if the share of each client that joined is there, and the log's exchanges are those of the
     /// record. Then these hold, whatever the threads did:
     /// - The shares' sum is the number of calls in the log.
     /// - The log keeps all that clients are promised.
-    /// - A run on an honest line that didn't fail, with a budget that suffices, is answered without fault unless the
+    /// - A run on an honest line that didn't fail, with a sufficient budget, was answered without fault unless the
     ///   queue was closed before.
     ///
     /// A frame whose reply is awaited is no exchange yet.
-    /// Err: SharesMissing, or else ExchangesDiffer, as [`Inside::finish`] answers; all comes back as it was.
+    /// Err: SharesMissing, or else ExchangesDiffer, as [`Inside::finish`] returns. The port, which is as open as
+    /// before, and the shares are returned.
     pub fn finish(
         self,
         shares: Vec<CallShare<L>>,
@@ -186,7 +184,7 @@ impl<L: Ledger> Port<L> {
     }
 }
 
-// Sends a frame, and tells what came.
+// Sends a frame, and returns what came.
 fn exchanged<X: Line>(line: &mut X, frame: &Frame) -> LineEvent
     ensures { X.step line.old (frame.now, result) line.new }
 {

@@ -1,12 +1,12 @@
-//! A client's share of the calls that a log counts.
+//! A client's share of the calls in a log.
 ghost use Rattle.std.specs.Prelude.{◌≡◌, ◌+◌, ◌≤◌};
 
 use std::sync::ledger::{Book, Ledger, Share};
 
-/// How many calls a client made that stand in the log: its submits and discovers, those that were refused among them,
-/// and the outcomes that it collected (profile of this project). A call that a full log or a full desk refused isn't
-/// counted, since it has no entry. The shares of all clients together are the number of calls in the log, which
-/// [`Port::finish`](crate::Port::finish) shows.
+/// How many of the log's calls are a client's: its submits and discovers, even if they were refused, and the outcomes
+/// that it collected (profile of this project). A call that a full log or a full desk refused isn't counted, since it
+/// has no entry. The shares of all clients add up to the number of calls in the log, as
+/// [`Port::finish`](crate::Port::finish) says.
 #[derive(Drop)]
 pub struct CallShare<L: Ledger> {
     pub(crate) share: Share<L>,
@@ -24,7 +24,7 @@ impl<L: Ledger> CallShare<L> {
         CallShare { share, count: 0 }
     }
 
-    // Counts this many calls more, and writes them into the book, which then has `most` at most.
+    // Counts this many more calls, and adds them to the book, which then has `most` at most.
     pub(crate) fn add_calls(&mut self, book: &mut Book<L>, calls: u64, most: usize)
         requires { book.old.total + calls ≤ most }
         ensures count { self.new.count ≡ self.old.count + calls }
@@ -32,12 +32,12 @@ impl<L: Ledger> CallShare<L> {
     {
         let CallShare { share, count } = self;
         book.add(share, calls);
-        // For the proof alone: the share has no more than the book, so its count fits.
+        // For the proof alone: the share has no more than the book, so its count doesn't overflow.
         book.audit(share);
         *count += calls;
     }
 
-    /// How many calls they are.
+    /// How many calls these are.
     pub fn count(&self) -> u64
         ensures { result ≡ self.now.count }
     {

@@ -1,10 +1,10 @@
-//! What a worker's turn finds under the lock.
+//! What a worker has to do in its turn.
 use rdm_wire::Frame;
 
-/// What a worker's turn is about (profile of this project).
+/// What a worker has to do in its turn (profile of this project).
 #[derive(Debug, Drop)]
 pub enum Turn {
-    /// This frame goes over the line, and what comes for it is delivered.
+    /// Send this frame over the line, and deliver what comes back.
     Exchange(Frame),
     /// No frame may be sent now, and some client that joined hasn't left.
     Nothing,

@@ -7,6 +7,7 @@ mod failed;
 mod lanes;
 mod player;
 mod port;
+mod port_job;
 mod port_line;
 mod port_threads;
 mod setup;
@@ -18,6 +19,7 @@ pub use lanes::{
 };
 pub use player::{MOST_NOTED, Play, Player, Points, TRIES, waits};
 pub use port::{PortOver, PortSetup, PortStage, play_port};
+pub use port_job::{PortClient, PortJob, on_port, play_port_again};
 pub use port_line::{ClosingLine, PortNote};
 pub use port_threads::run_port;
 pub use setup::Setup;

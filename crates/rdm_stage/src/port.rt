@@ -348,8 +348,8 @@ pub(crate) fn port_of<L: Ledger>(
     }
 }
 
-// Makes the moves, and lets all clients leave.
-fn plays_on<L: Ledger, X: Line + Drop, R: Wait>(
+/// Makes the moves, and lets all clients leave.
+pub(crate) fn plays_on<L: Ledger, X: Line + Drop, R: Wait>(
     rt: &R,
     alloc: Global,
     port: &Port<L>,
@@ -386,9 +386,9 @@ fn ended<L: Ledger>(alloc: Global, port: Port<L>, gone: Gone<L>) -> Result<Sessi
     }
 }
 
-// The port isn't ended, for this fault, and comes back with the shares.
+/// The port isn't ended, for this fault, and comes back with the shares.
 #[inline(never)]
-fn refused<L: Ledger>(
+pub(crate) fn refused<L: Ledger>(
     port: Port<L>,
     shares: Vec<CallShare<L>>,
     record: &[Exchange],

@@ -1,4 +1,4 @@
-//! How a session leaves its lock.
+//! How a session is taken out of its mutex.
 ghost use Rattle.std.specs.Prelude.{◌≡◌, ◌≢◌, ◌≤◌, ◌<◌, ◌+◌, length, Some, OnOk, IfOk, IfErr, IfNone};
 ghost use Rattle.std.specs.List.{sum_by};
 ghost use Rattle.rdm_log.specs.log.History.{next_client};
@@ -14,7 +14,7 @@ use crate::share::CallShare;
 use rdm_queue::Session;
 use std::sync::ledger::{Book, Ledger, Share};
 
-/// A session that has left its lock, and how many calls its clients made (profile of this project).
+/// A session that was taken out of its mutex, and how many calls its clients made (profile of this project).
 #[derive(Debug, Drop)]
 pub struct SessionEnd {
     /// The session.
@@ -24,13 +24,13 @@ pub struct SessionEnd {
 }
 
 impl<L: Ledger> Inside<L> {
-    /// Ends it, where the share of each client that joined is there, and the log's exchanges are those of the record.
-    /// Then these hold:
-    /// - the shares are one of each client;
+    /// Ends it, if the share of each client that joined is there, and the log's exchanges are those of the record. Then
+    /// these hold:
+    /// - there is one share for each client;
     /// - their sum is the number of calls in the log;
     /// - the log keeps all that clients are promised.
     ///
-    /// Err: SharesMissing, or else ExchangesDiffer; all comes back as it was.
+    /// Err: SharesMissing, or else ExchangesDiffer; the session and the shares are returned unchanged.
     pub fn finish(
         self,
         shares: Vec<CallShare<L>>,
@@ -99,7 +99,7 @@ impl<L: Ledger> Inside<L> {
     }
 }
 
-// Puts the shares together, and adds up their counts. The book has this many calls at most.
+// Merges the shares, and adds up their counts. The book has this many calls at most.
 fn gather<L: Ledger>(
     book: &mut Book<L>,
     rest: &mut Share<L>,

@@ -1,9 +1,14 @@
-//! Sessions behind a lock, by hand and in threads.
+//! Sessions with a mutex, by hand and in threads.
 
+mod again;
 mod calls;
 mod faults;
+mod kept;
+mod kinds;
 mod refusals;
 mod runs;
 mod sessions;
 mod threads;
+mod turns;
 mod unlocked;
+mod wire;

@@ -130,3 +130,39 @@ fn lets_a_discoverys_closure_count_with_the_numbers(rt: HostRuntime) -> Result<(
     assert_eq!(rt; last.load(Ordering::SeqCst), 3);
     Ok(())
 }
+
+#[test]
+fn lets_a_closure_count_with_the_bytes(rt: HostRuntime) -> Result<(), Fail> {
+    let last = Arc::new(rt.alloc(), AtomicU64::new(0))?;
+    let place = Arc::try_clone(&last)?;
+    let run = Box::new(rt.alloc(), move |done: Completion| {
+        if let Some(byte) = done.bytes.first() {
+            place.store(u64::from(*byte) + 5, Ordering::SeqCst);
+        }
+        Told { tag: 7, done }
+    })?;
+    let done = answered(rt.alloc())?;
+    let told = Callback::new(7, run).spend(done);
+    assert_eq!(rt; of_request(told), Heard::Answered(7, 1, 0));
+    assert_eq!(rt; last.load(Ordering::SeqCst), 6);
+    Ok(())
+}
+
+#[test]
+fn lets_a_discoverys_closure_count_with_the_devices(rt: HostRuntime) -> Result<(), Fail> {
+    let last = Arc::new(rt.alloc(), AtomicU64::new(0))?;
+    let place = Arc::try_clone(&last)?;
+    let run = Box::new(rt.alloc(), move |done: AskCompletion| {
+        if let Some(device) = done.set.as_slice().first() {
+            place.store(u64::from(device.control) + 5, Ordering::SeqCst);
+        }
+        AskTold { tag: 14, done }
+    })?;
+    let told = AskCallback::new(14, run).spend(found(1));
+    assert_eq!(rt;
+        of_ask(told),
+        Heard::Discovery(14, 1, Ending::Faultless, Found::First)
+    );
+    assert_eq!(rt; last.load(Ordering::SeqCst), 7);
+    Ok(())
+}

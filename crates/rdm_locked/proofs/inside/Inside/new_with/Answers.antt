@@ -7,10 +7,10 @@ pub invariant_of-result : goal.invariant_of-result
 unfolding count_calls joins
 invariant_of-result g c =
     let session = c.in-Ok.ensures.ok in
-    let parts = c.open-calls.ensures.parts ∙ c.requires.parts.1 in
+    let parts = c.open-calls.ensures.parts ∙ c.requires.may_open.cut.1 in
     record {
-      counted = rw (session, c.requires.empty, c.open-calls.ensures.total) refl;
-      clients = rw (session, c.requires.empty) refl;
+      counted = rw (session, c.requires.may_open.empty, c.open-calls.ensures.total) refl;
+      clients = rw (session, c.requires.may_open.empty) refl;
       one_part_each = omega (arith, parts);
       few = omega arith;
       unused = c.open-calls.ensures.amount;

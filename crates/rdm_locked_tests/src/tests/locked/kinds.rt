@@ -1,0 +1,79 @@
+//! A client that collects each kind of outcome by a call of its own.
+use rdm_agent::Kind;
+use rdm_join::Status;
+use rdm_line::SimLine;
+use rdm_locked::{Exchange, Port};
+use rdm_queue::OutcomeKind;
+use rdm_rig::{AskNote, Note, one_device, request};
+use rdm_stage::{PortClient, PortJob, PortSetup, on_port};
+use std::alloc::Global;
+use std::sync::Wait;
+use std::sync::ledger::Ledger;
+use std::test::Fail;
+
+// What the oldest outcome is, the tag of a request's that is collected and how it ended, and the tag of a discovery's
+// that is collected and its run.
+type Looks = (Option<OutcomeKind>, Option<(u64, Status)>, Option<(u64, u64)>);
+
+// A discovery and a request are answered, in this order. The client tries to collect each kind, four times.
+#[derive(Drop)]
+struct Collects {
+    line: SimLine,
+    looks: [Looks; 4],
+}
+
+impl PortJob for Collects {
+    fn run<L: Ledger, R: Wait>(
+        &mut self,
+        rt: &R,
+        alloc: Global,
+        port: &Port<L>,
+        client: &mut PortClient<'_, L>,
+        record: &mut Vec<Exchange>,
+    ) {
+        self.looks[0] = looks(rt, client, true);
+        let _ = client.discover(rt, Kind::Full, AskNote(8));
+        let _ = client.submit(rt, request(9), Note(9));
+        port.work(rt, alloc, &mut self.line, 11, record);
+        self.looks[1] = looks(rt, client, true);
+        self.looks[2] = looks(rt, client, false);
+        self.looks[3] = looks(rt, client, true);
+    }
+}
+
+// Looks at the oldest outcome, and tries to collect both kinds, a request's first or last.
+fn looks<L: Ledger, R: Wait>(rt: &R, client: &mut PortClient<'_, L>, request_first: bool) -> Looks {
+    let oldest = client.oldest(rt);
+    if request_first {
+        let request = of_request(rt, client);
+        return (oldest, request, of_discovery(rt, client));
+    }
+    let discovery = of_discovery(rt, client);
+    (oldest, of_request(rt, client), discovery)
+}
+
+fn of_request<L: Ledger, R: Wait>(rt: &R, client: &mut PortClient<'_, L>) -> Option<(u64, Status)> {
+    let told = client.collect_request(rt)?;
+    Some((told.tag, told.done.status))
+}
+
+#[inline(never)]
+fn of_discovery<L: Ledger, R: Wait>(rt: &R, client: &mut PortClient<'_, L>) -> Option<(u64, u64)> {
+    let told = client.collect_discovery(rt)?;
+    Some((told.tag, told.done.run))
+}
+
+#[test]
+fn each_kind_is_collected_only_where_it_is_the_oldest(rt: HostRuntime) -> Result<(), Fail> {
+    let mut collects = Collects {
+        line: one_device(rt.alloc(), &[])?,
+        looks: [(None, None, None); 4],
+    };
+    let over = on_port(&rt, rt.alloc(), PortSetup::new(1, 100), &mut collects)?;
+    let discovery = (Some(OutcomeKind::Discovery), None, Some((8, 1)));
+    let request = (Some(OutcomeKind::Request), Some((9, Status::Completed)), None);
+    let nothing = (None, None, None);
+    assert_eq!(rt; collects.looks, [nothing, discovery, request, nothing]);
+    assert_eq!(rt; (over.calls, over.held, over.recorded), (4, 0, 11));
+    Ok(())
+}
