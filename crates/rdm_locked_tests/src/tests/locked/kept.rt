@@ -163,6 +163,9 @@ fn a_client_is_told_each_device_whole_and_sees_the_last_run(rt: HostRuntime) -> 
     };
     on_port(&rt, rt.alloc(), PortSetup::new(1, 1000), &mut runs)?;
     assert_eq!(rt; runs.found, [Some((1, Are::All)), Some((2, Are::Staying))]);
-    assert_eq!(rt; runs.seen, [(0, Are::Nobody), (1, Are::All), (2, Are::Staying)]);
+    assert_eq!(rt;
+        runs.seen,
+        [(0, Are::Nobody), (1, Are::All), (2, Are::Staying)]
+    );
     Ok(())
 }

@@ -13,7 +13,11 @@ use std::test::Fail;
 
 // What the oldest outcome is, the tag of a request's that is collected and how it ended, and the tag of a discovery's
 // that is collected and its run.
-type Looks = (Option<OutcomeKind>, Option<(u64, Status)>, Option<(u64, u64)>);
+type Looks = (
+    Option<OutcomeKind>,
+    Option<(u64, Status)>,
+    Option<(u64, u64)>,
+);
 
 // A discovery and a request are answered, in this order. The client tries to collect each kind, four times.
 #[derive(Drop)]
@@ -71,7 +75,11 @@ fn each_kind_is_collected_only_where_it_is_the_oldest(rt: HostRuntime) -> Result
     };
     let over = on_port(&rt, rt.alloc(), PortSetup::new(1, 100), &mut collects)?;
     let discovery = (Some(OutcomeKind::Discovery), None, Some((8, 1)));
-    let request = (Some(OutcomeKind::Request), Some((9, Status::Completed)), None);
+    let request = (
+        Some(OutcomeKind::Request),
+        Some((9, Status::Completed)),
+        None,
+    );
     let nothing = (None, None, None);
     assert_eq!(rt; collects.looks, [nothing, discovery, request, nothing]);
     assert_eq!(rt; (over.calls, over.held, over.recorded), (4, 0, 11));

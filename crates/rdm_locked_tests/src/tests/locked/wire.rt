@@ -109,7 +109,13 @@ fn is(exchange: &Exchange, bytes: &[u8]) -> bool {
 
 // Whether the callback with this tag was told of a reply with this head and these bytes.
 fn is_told(told: &Option<Told>, tag: u64, head: ReplyHead, bytes: &[u8]) -> bool {
-    let Some(Told { tag: told_tag, done }) = told else {
+    let Some(
+        Told {
+            tag: told_tag,
+            done,
+        },
+    ) = told
+    else {
         return false;
     };
     *told_tag == tag
