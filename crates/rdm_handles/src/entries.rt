@@ -1,6 +1,8 @@
 //! Entries of a log, as C reads them.
 ghost use Rattle.std.specs.Prelude.{◌≡◌, ◌≢◌, List, ℕ, length, take, Some, slice_get};
+ghost use Rattle.rdm_join.specs.Statuses.{number_of_status};
 ghost use Rattle.rdm_log.specs.declared.entry.Entry.{Entry};
+ghost use Rattle.rdm_handles.specs.Forms.{corrupt_uid, number_of_fault};
 ghost use Rattle.rdm_handles.specs.Entries.{plain_entry, entry_with_client, entry_with_caller, entry_with_request};
 ghost use Rattle.rdm_handles.specs.Entries.{entry_with_call, entry_with_owner, entry_with_event, form_of_entry};
 ghost use Rattle.rdm_handles.specs.Entries.{bytes_of_call, bytes_of_event, bytes_of_entry, number_of_kind};
@@ -35,7 +37,7 @@ pub fn read(log: &Log, index: usize, form: &mut EntryForC, buffer: &mut [u8]) ->
         return BUFFER_TOO_SMALL;
     }
     *form = entry_for_c(entry);
-    form.len = put_bytes(buffer, bytes);
+    put_bytes(buffer, bytes);
     DONE
 }
 
@@ -103,7 +105,7 @@ fn entry_for_c(entry: &Entry) -> EntryForC
             status,
             len,
         } => finished(*number, *status, *len),
-        Entry::Answer { number, run, fault } => answered(*number, *run, *fault),
+        Entry::Answer { number, run, fault } => answered(*number, *run, fault),
         Entry::Collect { client } => with_client(*client, plain(8)),
         Entry::Pause => plain(9),
         Entry::Resume => plain(10),
@@ -143,157 +145,147 @@ fn plain(kind: u32) -> EntryForC
 fn numbered(kind: u32, number: u64) -> EntryForC
     ensures { result ≡ record (plain_entry kind) { number = number } }
 {
-    EntryForC {
-        number,
-        ..plain(kind)
-    }
+    let mut form = plain(kind);
+    form.number = number;
+    form
 }
 
 fn joined(client: ClientId, places: u8) -> EntryForC
     ensures { result ≡ record (entry_with_client client (plain_entry 0)) { places = places } }
 {
-    EntryForC {
-        places,
-        ..with_client(client, plain(0))
-    }
+    let mut form = with_client(client, plain(0));
+    form.places = places;
+    form
 }
 
 fn refused(cause: Cause) -> EntryForC
     ensures { result ≡ record (plain_entry 1) { cause = cause.0 } }
 {
-    EntryForC {
-        cause: cause.0,
-        ..plain(1)
-    }
+    let mut form = plain(1);
+    form.cause = cause.0;
+    form
 }
 
 fn asked(client: ClientId, number: u64, kind: Kind) -> EntryForC
     ensures { result ≡ entry_with_client client
         (record (plain_entry 3) { number = number; discovery = number_of_kind kind }) }
 {
-    let asked = EntryForC {
-        discovery: number_of_kind(kind),
-        ..numbered(3, number)
-    };
-    with_client(client, asked)
+    let mut form = numbered(3, number);
+    form.discovery = number_of_kind(kind);
+    with_client(client, form)
 }
 
 fn sent(owner: Owner, len: usize) -> EntryForC
     ensures { result ≡ entry_with_owner owner (record (plain_entry 4) { len = len }) }
 {
-    with_owner(owner, EntryForC { len, ..plain(4) })
+    let mut form = plain(4);
+    form.len = len;
+    with_owner(owner, form)
 }
 
-fn finished(number: u64, status: Status, joined: usize) -> EntryForC
-    ensures { result ≡ record (plain_entry 6) { number = number; joined = joined; status = number_of_status status } }
+fn finished(number: u64, status: Status, len: usize) -> EntryForC
+    ensures { result ≡ record (plain_entry 6) { number = number; joined = len; status = number_of_status status } }
 {
-    EntryForC {
-        number,
-        joined,
-        status: u32::from(status.number()),
-        ..plain(6)
-    }
+    let mut form = numbered(6, number);
+    form.joined = len;
+    form.status = u32::from(status.number());
+    form
 }
 
-fn answered(number: u64, run: u64, fault: Option<AgentFault>) -> EntryForC
-    ensures { result ≡ record (plain_entry 7) { number = number; run = run; corrupt = corrupt_uid fault;
-        fault = number_of_fault fault } }
+fn answered(number: u64, run: u64, fault: &Option<AgentFault>) -> EntryForC
+    ensures { result ≡ record (plain_entry 7) {
+      number = number;
+      run = run;
+      corrupt = corrupt_uid fault.now;
+      fault = number_of_fault fault.now;
+    } }
 {
-    EntryForC {
-        number,
-        run,
-        corrupt: corrupt_uid(fault),
-        fault: number_of_fault(fault),
-        ..plain(7)
-    }
+    let mut form = numbered(7, number);
+    form.run = run;
+    form.corrupt = corrupt_uid(*fault);
+    form.fault = number_of_fault(*fault);
+    form
 }
 
 // The entry with a client.
-fn with_client(client: ClientId, entry: EntryForC) -> EntryForC
-    ensures { result ≡ entry_with_client client entry }
+fn with_client(client: ClientId, mut form: EntryForC) -> EntryForC
+    ensures { result ≡ entry_with_client client form }
 {
-    EntryForC {
-        client: client.0,
-        has_client: true,
-        ..entry
-    }
+    form.client = client.0;
+    form.has_client = true;
+    form
 }
 
 // The entry with the client that called, if there is one.
-fn with_caller(client: Option<ClientId>, entry: EntryForC) -> EntryForC
-    ensures { result ≡ entry_with_caller client entry }
+fn with_caller(client: Option<ClientId>, form: EntryForC) -> EntryForC
+    ensures { result ≡ entry_with_caller client form }
 {
     match client {
-        None => entry,
-        Some(client) => with_client(client, entry),
+        None => form,
+        Some(client) => with_client(client, form),
     }
 }
 
 // The entry with a request but its parameter data.
-fn with_request(request: &Request, entry: EntryForC) -> EntryForC
-    ensures { result ≡ entry_with_request request.now entry }
+fn with_request(request: &Request, mut form: EntryForC) -> EntryForC
+    ensures { result ≡ entry_with_request request.now form }
 {
-    EntryForC {
-        target: request.target.number(),
-        len: request.param.len(),
-        command_class: number_of_request(request.class),
-        sub_device: request.sub_device,
-        pid: request.pid,
-        ..entry
-    }
+    form.target = request.target.number();
+    form.len = request.param.len();
+    form.command_class = number_of_request(request.class);
+    form.sub_device = request.sub_device;
+    form.pid = request.pid;
+    form
 }
 
 // The entry with the call that was refused.
-fn with_call(call: &Call, entry: EntryForC) -> EntryForC
-    ensures { result ≡ entry_with_call call.now entry }
+fn with_call(call: &Call, mut form: EntryForC) -> EntryForC
+    ensures { result ≡ entry_with_call call.now form }
 {
     match call {
-        Call::Join(places) => EntryForC {
-            call: 0,
-            places: *places,
-            ..entry
-        },
-        Call::Submit(request) => with_request(request, EntryForC { call: 1, ..entry }),
-        Call::Discover(kind) => EntryForC {
-            call: 2,
-            discovery: number_of_kind(*kind),
-            ..entry
-        },
+        Call::Join(places) => {
+            form.call = 0;
+            form.places = *places;
+            form
+        }
+        Call::Submit(request) => {
+            form.call = 1;
+            with_request(request, form)
+        }
+        Call::Discover(kind) => {
+            form.call = 2;
+            form.discovery = number_of_kind(*kind);
+            form
+        }
     }
 }
 
 // The entry with whose frame it is.
-fn with_owner(owner: Owner, entry: EntryForC) -> EntryForC
-    ensures { result ≡ entry_with_owner owner entry }
+fn with_owner(owner: Owner, mut form: EntryForC) -> EntryForC
+    ensures { result ≡ entry_with_owner owner form }
 {
     match owner {
-        Owner::Request(number) => EntryForC {
-            owner: 0,
-            number,
-            ..entry
-        },
-        Owner::Run(run) => EntryForC {
-            owner: 1,
-            run,
-            ..entry
-        },
+        Owner::Request(number) => {
+            form.owner = 0;
+            form.number = number;
+        }
+        Owner::Run(run) => {
+            form.owner = 1;
+            form.run = run;
+        }
     }
+    form
 }
 
 // The entry with what came, but its bytes.
-fn with_event(event: &LineEvent, entry: EntryForC) -> EntryForC
-    ensures { result ≡ entry_with_event event.now entry }
+fn with_event(event: &LineEvent, mut form: EntryForC) -> EntryForC
+    ensures { result ≡ entry_with_event event.now form }
 {
     match event {
-        LineEvent::Reply(reply) => EntryForC {
-            len: reply.len(),
-            ..entry
-        },
-        LineEvent::Failed => EntryForC {
-            has_failed: true,
-            ..entry
-        },
+        LineEvent::Reply(reply) => form.len = reply.len(),
+        LineEvent::Failed => form.has_failed = true,
     }
+    form
 }
 
 // The number of a kind of discovery: 0 full, 1 incremental.
