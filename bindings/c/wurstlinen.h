@@ -407,46 +407,25 @@ uint32_t wurst_session_pause(struct wurst_session *handle);
 /* As wurst_controller_resume. WURST_LOG_FULL, even if the call would have no effect. */
 uint32_t wurst_session_resume(struct wurst_session *handle);
 
-/* As wurst_controller_close. */
-uint32_t wurst_session_close(struct wurst_session *handle);
-
 /* As wurst_controller_take. After WURST_BUFFER_TOO_SMALL comes WURST_LOG_FULL, even if there is nothing to send. */
 uint32_t wurst_session_take(struct wurst_session *handle, uint8_t *frame, size_t room, size_t *len);
 
-/* As wurst_controller_deliver. */
+/* As wurst_controller_deliver, _fail, _close, _oldest, _next_completion, _next_discovery, _devices, _devices_run,
+ * _is_idle, _is_paused, _is_closed and _awaits. */
 uint32_t wurst_session_deliver(struct wurst_session *handle, const uint8_t *reply, size_t len);
-
-/* As wurst_controller_fail. */
 uint32_t wurst_session_fail(struct wurst_session *handle);
-
-/* As wurst_controller_oldest. */
+uint32_t wurst_session_close(struct wurst_session *handle);
 uint32_t wurst_session_oldest(struct wurst_session *handle, uint8_t client, uint32_t *kind);
-
-/* As wurst_controller_next_completion. */
 uint32_t wurst_session_next_completion(struct wurst_session *handle, uint8_t client,
                                        struct wurst_completion *completion, uint8_t *buffer, size_t room);
-
-/* As wurst_controller_next_discovery. */
 uint32_t wurst_session_next_discovery(struct wurst_session *handle, uint8_t client, struct wurst_end *end,
                                       struct wurst_device *devices, size_t room);
-
-/* As wurst_controller_devices. */
 uint32_t wurst_session_devices(struct wurst_session *handle, struct wurst_device *devices, size_t room,
                                size_t *count);
-
-/* As wurst_controller_devices_run. */
 uint32_t wurst_session_devices_run(struct wurst_session *handle, uint64_t *run);
-
-/* As wurst_controller_is_idle. */
 uint32_t wurst_session_is_idle(struct wurst_session *handle, bool *answer);
-
-/* As wurst_controller_is_paused. */
 uint32_t wurst_session_is_paused(struct wurst_session *handle, bool *answer);
-
-/* As wurst_controller_is_closed. */
 uint32_t wurst_session_is_closed(struct wurst_session *handle, bool *answer);
-
-/* As wurst_controller_awaits. */
 uint32_t wurst_session_awaits(struct wurst_session *handle, bool *answer);
 
 /* Writes how many entries of the log are free: neither taken nor reserved. */

@@ -241,12 +241,7 @@ private:
 };
 
 inline std::vector<Device> copied(Devices devices) {
-    std::vector<Device> copies;
-    copies.reserve(devices.size());
-    for (Device device : devices) {
-        copies.push_back(device);
-    }
-    return copies;
+    return std::vector<Device>(devices.begin(), devices.end());
 }
 
 struct ControllerCalls {

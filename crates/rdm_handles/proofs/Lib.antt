@@ -6,4 +6,3 @@ pub mod AgentHandles
 pub mod SessionHandles
 pub mod LogHandles
 pub mod EntryLemmas
-pub mod SessionLemmas
