@@ -103,11 +103,11 @@ pub extern "C" fn wurst_session_rotate(
     ensures rotates { handle.old.is_open ≡ true → log.old.is_open ≡ false →
         rotate_status handle.old.value entries ≡ 0 → (result ≡ OUT_OF_MEMORY) ⊎ (result ≡ DONE) }
     ensures rotated { handle.old.is_open ≡ true → result ≡ DONE → handle.new.value ≡ record {
-          opening = opening_after handle.old.value.opening handle.old.value.entries;
-          entries = [];
-          room = entries + 1;
-          search = handle.old.value.search;
-        } }
+      opening = opening_after handle.old.value.opening handle.old.value.entries;
+      entries = [];
+      room = entries + 1;
+      search = handle.old.value.search;
+    } }
     ensures handed_back { handle.old.is_open ≡ true → result ≡ DONE →
         (log.new.is_open ≡ true) × (log.new.value ≡ handle.old.value) }
     ensures unchanged { handle.old.is_open ≡ true → result ≢ DONE →
