@@ -15,8 +15,8 @@
  * - No call is made from a signal handler, or in the forked child of a process with threads.
  *
  * Threads: calls on one handle are made one at a time, on any thread, ordered by a lock, a thread's start or a join.
- * Calls on different handles may run at the same time, and so may calls without a handle. No call blocks, starts a
- * thread, does input or output, or reads a clock.
+ * Calls on different handles may run at the same time, and so may calls without a handle. _rotate is a call on both
+ * of its handles. No call blocks, starts a thread, does input or output, or reads a clock.
  *
  * UIDs are numbers below 2^48: manufacturer * 2^32 + device. Buffers come as a pointer and a length; `room` is how much
  * there is room for. Strings aren't ended by 0.
