@@ -1,7 +1,6 @@
 -- What an entry of a log looks like in C, and how it is read back.
-use Rattle.std.specs.Prelude.{ℕ, Bool, true, false, List, [], length, Option, Some, None, ◌==◌, nat_lt, slice_get}
-use Rattle.std.specs.Prelude.{option_map, if◌then◌else◌}
-use Rattle.arrayvec.specs.ArrayVec.{ArrayVec}
+use Rattle.std.specs.Prelude.{ℕ, true, false, List, [], length, Option, Some, None, ◌==◌, nat_lt, slice_get}
+use Rattle.std.specs.Prelude.{if◌then◌else◌}
 use Rattle.rdm_wire.specs.declared.request.Request.{Request}
 use Rattle.rdm_join.specs.declared.event.LineEvent.{LineEvent}
 use Rattle.rdm_join.specs.declared.event.LineEvent.TheVariants as events
