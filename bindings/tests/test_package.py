@@ -236,8 +236,9 @@ class Queue(unittest.TestCase):
             self.assertTrue(controller.awaits())
             controller.fail()
 
-    def test_two_threads(self) -> None:
-        with Controller(SOURCE) as controller:
+    def share(self, controller) -> None:
+        """Two threads ask, and a third one serves the line."""
+        with controller:
             clients = [controller.join(4) for _ in range(2)]
             finished, over = [0, 0], threading.Event()
 
@@ -267,6 +268,12 @@ class Queue(unittest.TestCase):
             over.set()
             server.join()
             self.assertEqual(finished, [300, 300])
+
+    def test_two_threads(self) -> None:
+        self.share(Controller(SOURCE))
+
+    def test_two_threads_of_a_session(self) -> None:
+        self.share(Session(SOURCE, wurstlinen.MOST_ENTRIES))
 
 
 class Sessions(unittest.TestCase):
