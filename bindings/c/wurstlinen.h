@@ -1,7 +1,8 @@
 /* Wurstlinen: a controller for RDM (ANSI E1.20) with proved queue, discovery, readers and writers. C11 and C++.
  *
  * Every call tests its arguments and answers a status. A status other than WURST_DONE leaves the handle as it was, and
- * what a call would write is written only with WURST_DONE, unless a call says otherwise.
+ * what a call would write is written only with WURST_DONE, unless a call says otherwise. A session's log also keeps
+ * some of the calls that were refused.
  *
  * What a C program owes, since nothing checks it:
  * - A handle is all 0 (closed) or as the last call left it. It is never copied and never written by the program, and
@@ -14,13 +15,13 @@
  * - No call is made from a signal handler, or in the forked child of a process with threads.
  *
  * Threads: calls on one handle are made one at a time, on any thread, ordered by a lock, a thread's start or a join.
- * Calls on different handles may run at the same time, and so may calls without a handle. No call blocks, starts a
- * thread, does input or output, or reads a clock.
+ * Calls on different handles may run at the same time, and so may calls without a handle. _rotate is a call on both
+ * of its handles. No call blocks, starts a thread, does input or output, or reads a clock.
  *
  * UIDs are numbers below 2^48: manufacturer * 2^32 + device. Buffers come as a pointer and a length; `room` is how much
  * there is room for. Strings aren't ended by 0.
  *
- * Memory is allocated by _open, _join and _start, and by _deliver for a request's data. The other calls
+ * Memory is allocated by _open, _join, _start and _rotate, and by _deliver for a request's data. The other calls
  * allocate nothing. */
 #ifndef WURSTLINEN_H
 #define WURSTLINEN_H
@@ -48,9 +49,11 @@ extern "C" {
 #define WURST_BRANCH_REPLY_BYTES 24      /* of a device's reply to a branch, at most */
 #define WURST_UID_TEXT_BYTES 13          /* of a UID's text, as 7a70:00000001 */
 #define WURST_DEFAULT_BUDGET 384008      /* frames that suffice for 1,024 devices, and as many known ones */
+#define WURST_MOST_ENTRIES 1000000       /* free entries of a new log; each takes 296 bytes */
+#define WURST_LEAST_FREE 3               /* entries that have to be free for a call that a full log refuses */
 #define WURST_BROADCAST UINT64_C(0xffffffffffff) /* addresses all devices */
 
-/* How a call ended. 13, 24 and 25 aren't used. */
+/* How a call ended. */
 enum wurst_status {
     WURST_DONE = 0,
     WURST_NOTHING = 1,               /* there is nothing to give */
@@ -65,6 +68,7 @@ enum wurst_status {
     WURST_BAD_CLASS = 10,            /* no such command class or response class */
     WURST_DATA_TOO_LONG = 11,        /* more than 231 bytes of parameter data */
     WURST_REPLY_TOO_LONG = 12,       /* more than 257 bytes of a reply */
+    WURST_TOO_MANY_ENTRIES = 13,     /* more than 1,000,000 entries of a log */
     WURST_BUFFER_TOO_SMALL = 14,     /* a buffer has no room for what is to be written */
     WURST_OUT_OF_MEMORY = 15,        /* an allocation failed */
     WURST_CLOSED = 16,               /* the queue is closed */
@@ -75,6 +79,8 @@ enum wurst_status {
     WURST_LOG_FULL = 21,             /* fewer than three entries of the log are free */
     WURST_NOT_ASKED = 22,            /* no reply is awaited */
     WURST_OTHER_OUTCOME = 23,        /* the client's oldest outcome is of the other kind */
+    WURST_NOT_IDLE = 24,             /* the session isn't idle */
+    WURST_NO_ENTRY = 25,             /* the log has no entry of this index */
     WURST_BAD_RANGE = 26,            /* the lower bound is above the upper one */
     WURST_TOO_MANY_DEVICES = 27,     /* more than 1,024 devices */
     WURST_BAD_PREAMBLE = 28,         /* more than 7 preamble bytes */
@@ -142,6 +148,8 @@ enum wurst_fault {
 
 /* Handles. Begin with {0}; end with _dispose. */
 struct wurst_controller { void *at; bool is_open; };
+struct wurst_session { void *at; bool is_open; };
+struct wurst_log { void *at; bool is_open; };
 struct wurst_agent { void *at; bool is_open; };
 
 struct wurst_setup {
@@ -182,6 +190,49 @@ struct wurst_device {
     uint64_t binding;  /* 0 where it gave none */
     uint16_t control;  /* bits: 1 managed proxy, 2 sub-device, 4 boot-loader, 8 proxied device */
     bool has_binding;
+};
+
+/* What an entry of a log is, what a refused call was, and whose a frame is. */
+enum wurst_entry_kind {
+    WURST_ENTRY_JOIN = 0,     /* client, places: a client joined */
+    WURST_ENTRY_REFUSE = 1,   /* call, cause: a call was refused. client: the caller; a refused join has none.
+                                 places: of a join; discovery: of a discover; the request: of a submit */
+    WURST_ENTRY_ACCEPT = 2,   /* client, number: its request was accepted; the request */
+    WURST_ENTRY_ASK = 3,      /* client, number, discovery: its discovery was accepted */
+    WURST_ENTRY_SEND = 4,     /* owner, number or run: a frame was taken; bytes: the frame */
+    WURST_ENTRY_CAME = 5,     /* has_failed: the line failed; else bytes: the reply, none for silence */
+    WURST_ENTRY_FINISH = 6,   /* number, status, joined: a request ended */
+    WURST_ENTRY_ANSWER = 7,   /* number, run, fault, corrupt: a discovery was answered */
+    WURST_ENTRY_COLLECT = 8,  /* client: it collected its oldest outcome */
+    WURST_ENTRY_PAUSE = 9,
+    WURST_ENTRY_RESUME = 10,
+    WURST_ENTRY_CLOSE = 11
+};
+enum wurst_call { WURST_CALL_JOIN = 0, WURST_CALL_SUBMIT = 1, WURST_CALL_DISCOVER = 2 };
+enum wurst_owner { WURST_OF_REQUEST = 0, WURST_OF_RUN = 1 };
+
+struct wurst_entry {         /* what its kind doesn't have is 0 */
+    uint64_t number;         /* of the request, or of the discovery */
+    uint64_t run;            /* of a frame, the run that sent it; of an answer, the run that served it, 0 for none */
+    uint64_t corrupt;        /* the UID of WURST_CORRUPT */
+    uint64_t target;         /* of a request, as the next four and the bytes, which are its parameter data */
+    size_t len;              /* how many bytes the entry has */
+    size_t joined;           /* how many bytes the data of a request with WURST_COMPLETED have */
+    uint32_t kind;           /* enum wurst_entry_kind */
+    uint32_t call;           /* enum wurst_call */
+    uint32_t owner;          /* enum wurst_owner */
+    uint32_t discovery;      /* enum wurst_kind */
+    uint32_t status;         /* enum wurst_request_status */
+    uint32_t fault;          /* enum wurst_fault */
+    uint32_t command_class;  /* enum wurst_command_class */
+    uint16_t sub_device;
+    uint16_t pid;
+    uint8_t client;
+    uint8_t places;
+    uint8_t cause;           /* 1 the queue was closed; of a join, 2 sixteen clients, 3 too few places, 4 no memory;
+                                of a submit or a discover, 2 no such client, 3 full */
+    bool has_client;
+    bool has_failed;
 };
 
 struct wurst_response {
@@ -320,6 +371,92 @@ uint32_t wurst_controller_is_closed(struct wurst_controller *handle, bool *answe
 /* Writes whether a reply is awaited. */
 uint32_t wurst_controller_awaits(struct wurst_controller *handle, bool *answer);
 
+/* ---- Sessions: a controller with a log of all that it does.
+ *
+ * The log has room for a fixed number of entries. A request takes 5, and 2 for each further frame. A discovery takes 3,
+ * and its run 2 for each frame. _rotate goes on with a fresh log. Some entries are reserved: 1 for a close, 1 for a
+ * reply that is awaited, 2 for each request and discovery that hasn't ended, 1 for each outcome that isn't collected.
+ * A log with fewer than WURST_LEAST_FREE free entries refuses some calls; replies, closes and collects always fit.
+ *
+ * The calls that a controller also has do what the controller's do. What is said here comes in addition. On a closed
+ * handle each call but _open and _dispose answers WURST_NOT_OPEN. */
+
+/* Opens a closed handle: a session without clients, whose log has room for this many entries, 0 to
+ * WURST_MOST_ENTRIES, and one more for a close. Allocates the log's memory, 296 bytes for each entry.
+ * WURST_ALREADY_OPEN; the faults of the setup; WURST_TOO_MANY_ENTRIES; WURST_OUT_OF_MEMORY. */
+uint32_t wurst_session_open(struct wurst_session *handle, const struct wurst_setup *setup, size_t entries);
+
+/* Frees what the handle holds, with its log, and closes it. Without effect on a closed handle. */
+void wurst_session_dispose(struct wurst_session *handle);
+
+/* As wurst_controller_join. First WURST_LOG_FULL, without an entry; any other refusal is an entry. */
+uint32_t wurst_session_join(struct wurst_session *handle, uint8_t places, uint8_t *client);
+
+/* As wurst_controller_submit. After the faults of the request comes WURST_LOG_FULL, all without an entry; any other
+ * refusal is an entry. */
+uint32_t wurst_session_submit(struct wurst_session *handle, uint8_t client, const struct wurst_request *request,
+                              const uint8_t *param, size_t param_len, uint64_t *number);
+
+/* As wurst_controller_discover. After WURST_BAD_KIND comes WURST_LOG_FULL, both without an entry; any other refusal is
+ * an entry. */
+uint32_t wurst_session_discover(struct wurst_session *handle, uint8_t client, uint32_t kind, uint64_t *number);
+
+/* As wurst_controller_pause. WURST_LOG_FULL, even if the call would have no effect. */
+uint32_t wurst_session_pause(struct wurst_session *handle);
+
+/* As wurst_controller_resume. WURST_LOG_FULL, even if the call would have no effect. */
+uint32_t wurst_session_resume(struct wurst_session *handle);
+
+/* As wurst_controller_take. After WURST_BUFFER_TOO_SMALL comes WURST_LOG_FULL, even if there is nothing to send. */
+uint32_t wurst_session_take(struct wurst_session *handle, uint8_t *frame, size_t room, size_t *len);
+
+/* As wurst_controller_deliver, _fail, _close, _oldest, _next_completion, _next_discovery, _devices, _devices_run,
+ * _is_idle, _is_paused, _is_closed and _awaits. */
+uint32_t wurst_session_deliver(struct wurst_session *handle, const uint8_t *reply, size_t len);
+uint32_t wurst_session_fail(struct wurst_session *handle);
+uint32_t wurst_session_close(struct wurst_session *handle);
+uint32_t wurst_session_oldest(struct wurst_session *handle, uint8_t client, uint32_t *kind);
+uint32_t wurst_session_next_completion(struct wurst_session *handle, uint8_t client,
+                                       struct wurst_completion *completion, uint8_t *buffer, size_t room);
+uint32_t wurst_session_next_discovery(struct wurst_session *handle, uint8_t client, struct wurst_end *end,
+                                      struct wurst_device *devices, size_t room);
+uint32_t wurst_session_devices(struct wurst_session *handle, struct wurst_device *devices, size_t room,
+                               size_t *count);
+uint32_t wurst_session_devices_run(struct wurst_session *handle, uint64_t *run);
+uint32_t wurst_session_is_idle(struct wurst_session *handle, bool *answer);
+uint32_t wurst_session_is_paused(struct wurst_session *handle, bool *answer);
+uint32_t wurst_session_is_closed(struct wurst_session *handle, bool *answer);
+uint32_t wurst_session_awaits(struct wurst_session *handle, bool *answer);
+
+/* Writes how many entries of the log are free: neither taken nor reserved. */
+uint32_t wurst_session_free_entries(struct wurst_session *handle, size_t *count);
+
+/* Writes how many entries the log has. */
+uint32_t wurst_session_entry_count(struct wurst_session *handle, size_t *count);
+
+/* Writes the entry of this index, counted from 0, oldest first, and its bytes into the buffer.
+ * WURST_NO_ENTRY; WURST_BUFFER_TOO_SMALL: only entry->len is written, how many bytes are needed.
+ * WURST_MOST_FRAME_BYTES are enough for each entry. */
+uint32_t wurst_session_entry(struct wurst_session *handle, size_t index, struct wurst_entry *entry, uint8_t *buffer,
+                             size_t room);
+
+/* Goes on with a fresh log with room for this many entries, and opens the closed handle `log`, which then holds the
+ * old log until it is disposed of. Numbers, clients, devices and whether it is paused or closed go on. Allocates the
+ * fresh log's memory, and for a moment as much as a second session without entries has.
+ * WURST_ALREADY_OPEN (`log`); WURST_TOO_MANY_ENTRIES; WURST_LOG_FULL, for fewer than WURST_LEAST_FREE entries;
+ * WURST_NOT_IDLE; WURST_OUT_OF_MEMORY. */
+uint32_t wurst_session_rotate(struct wurst_session *handle, size_t entries, struct wurst_log *log);
+
+/* Frees the log that the handle holds, and closes the handle. Without effect on a closed handle. */
+void wurst_log_dispose(struct wurst_log *handle);
+
+/* As wurst_session_entry_count. */
+uint32_t wurst_log_entry_count(struct wurst_log *handle, size_t *count);
+
+/* As wurst_session_entry. */
+uint32_t wurst_log_entry(struct wurst_log *handle, size_t index, struct wurst_entry *entry, uint8_t *buffer,
+                         size_t room);
+
 /* ---- Readers and writers: packets without a queue. */
 
 /* Reads a UID's text, as 7a70:00000001, in either case.
@@ -431,18 +568,17 @@ static inline const char *wurst_text(uint32_t status) {
         "a UID is 2^48 or more", "a UID is broadcast", "more than 4,080 places", "the budget is 0",
         "no such search", "no such kind of discovery", "no such class",
         "more than 231 bytes of parameter data", "more than 257 bytes of a reply",
-        NULL, "the buffer is too small", "out of memory", "the queue is closed",
+        "more than 1,000,000 entries", "the buffer is too small", "out of memory", "the queue is closed",
         "no such client", "sixteen clients have joined", "too few places", "the client's places are taken",
-        "the log is full", "no reply is awaited", "the oldest outcome is of the other kind", NULL,
-        NULL, "the lower bound is above the upper one", "more than 1,024 devices",
+        "the log is full", "no reply is awaited", "the oldest outcome is of the other kind",
+        "the session isn't idle", "no such entry", "the lower bound is above the upper one", "more than 1,024 devices",
         "more than 7 preamble bytes", "no such response type", "the run hasn't ended", "the run has ended",
         "a UID has 13 characters", "a UID has a colon after its first four digits", "a UID has hexadecimal digits",
         "a packet has 26 bytes at least", "a packet begins with the start code cc",
         "a packet has the sub start code 01", "the message length does not fit the bytes",
         "the parameter data length does not fit the message length", "the checksum is wrong",
         "the command class is not that of a response", "there is no such response type", "the bytes aren't UTF-8"};
-    const bool is_known = status < sizeof texts / sizeof texts[0] && texts[status] != NULL;
-    return is_known ? texts[status] : "no such status";
+    return status < sizeof texts / sizeof texts[0] ? texts[status] : "no such status";
 }
 
 #ifdef __cplusplus

@@ -1,5 +1,6 @@
-// Wurstlinen for C++17: header only, over wurstlinen.h. Controllers and agents are move-only, and free what they hold.
-// Calls that can be refused throw wurst::Fault, but those whose refusal is a plain answer give a std::optional.
+// Wurstlinen for C++17: header only, over wurstlinen.h. Controllers, sessions, logs and agents are move-only, and free
+// what they hold. Calls that can be refused throw wurst::Fault, but those whose refusal is a plain answer give a
+// std::optional. Calls that are given memory of the caller's answer with a view of it: they copy and allocate nothing.
 // As in C, calls on one object are made one at a time.
 #ifndef WURSTLINEN_HPP
 #define WURSTLINEN_HPP
@@ -9,6 +10,7 @@
 #include <array>
 #include <cstddef>
 #include <cstdint>
+#include <iterator>
 #include <optional>
 #include <stdexcept>
 #include <string>
@@ -145,47 +147,163 @@ struct Discovery {
     wurst_fault fault() const { return static_cast<wurst_fault>(end.fault); }
 };
 
-inline std::vector<Device> devices_of(const std::vector<wurst_device> &forms, std::size_t count) {
-    std::vector<Device> devices;
-    devices.reserve(count);
-    for (std::size_t i = 0; i < count; i++) {
-        devices.push_back(Device::of(forms[i]));
+// Devices that a call wrote into memory of the caller's: a view of them, which makes a Device where one is looked at.
+class Devices {
+public:
+    class iterator {
+    public:
+        using iterator_category = std::input_iterator_tag;
+        using value_type = Device;
+        using difference_type = std::ptrdiff_t;
+        using pointer = const Device *;
+        using reference = Device;
+
+        explicit iterator(const wurst_device *at) : at_(at) {}
+        Device operator*() const { return Device::of(*at_); }
+        iterator &operator++() {
+            ++at_;
+            return *this;
+        }
+        iterator operator++(int) { return iterator(at_++); }
+        bool operator==(iterator other) const { return at_ == other.at_; }
+        bool operator!=(iterator other) const { return at_ != other.at_; }
+
+    private:
+        const wurst_device *at_;
+    };
+
+    Devices(const wurst_device *at, std::size_t size) : at_(at), size_(size) {}
+    std::size_t size() const { return size_; }
+    bool empty() const { return size_ == 0; }
+    Device operator[](std::size_t index) const { return Device::of(at_[index]); }
+    iterator begin() const { return iterator(at_); }
+    iterator end() const { return iterator(at_ + size_); }
+
+private:
+    const wurst_device *at_;
+    std::size_t size_;
+};
+
+// The same as Completion and Discovery, in memory of the caller's.
+struct CompletionView {
+    wurst_completion head;
+    Bytes data;
+
+    wurst_request_status status() const { return static_cast<wurst_request_status>(head.status); }
+};
+
+struct DiscoveryView {
+    wurst_end end;
+    Devices devices;
+
+    wurst_fault fault() const { return static_cast<wurst_fault>(end.fault); }
+};
+
+// An entry of a log, with its bytes in memory of the caller's.
+struct EntryView {
+    wurst_entry entry;
+    Bytes bytes;
+
+    wurst_entry_kind kind() const { return static_cast<wurst_entry_kind>(entry.kind); }
+};
+
+namespace detail {
+
+// Whether there was something to give.
+inline bool given(std::uint32_t status) {
+    if (status == WURST_NOTHING) {
+        return false;
     }
-    return devices;
+    check(status);
+    return true;
 }
 
-// The queue of requests and discoveries on one line.
-class Controller {
+// A handle, which is moved alone, and disposed of at its end.
+template <typename Form, void (*dispose)(Form *)> class Handle {
 public:
-    using Client = std::uint8_t;
-
-    explicit Controller(Uid source, std::uint16_t places = WURST_MOST_PLACES,
-                        std::uint64_t budget = WURST_DEFAULT_BUDGET, wurst_search search = WURST_STEADY) {
-        const wurst_setup setup{source.number(), budget, static_cast<std::uint32_t>(search), places};
-        check(wurst_controller_open(&handle_, &setup));
-    }
-
-    ~Controller() { wurst_controller_dispose(&handle_); }
-    Controller(const Controller &) = delete;
-    Controller &operator=(const Controller &) = delete;
-    Controller(Controller &&other) noexcept : handle_(std::exchange(other.handle_, {})) {}
-    Controller &operator=(Controller &&other) noexcept {
+    Handle() = default;
+    ~Handle() { dispose(&form_); }
+    Handle(const Handle &) = delete;
+    Handle &operator=(const Handle &) = delete;
+    Handle(Handle &&other) noexcept : form_(std::exchange(other.form_, {})) {}
+    Handle &operator=(Handle &&other) noexcept {
         if (this != &other) {
-            wurst_controller_dispose(&handle_);
-            handle_ = std::exchange(other.handle_, {});
+            dispose(&form_);
+            form_ = std::exchange(other.form_, {});
         }
         return *this;
     }
 
+    Form *get() { return &form_; }
+
+private:
+    Form form_{};
+};
+
+inline std::vector<Device> copied(Devices devices) {
+    return std::vector<Device>(devices.begin(), devices.end());
+}
+
+struct ControllerCalls {
+    using Form = wurst_controller;
+    static constexpr auto dispose = wurst_controller_dispose;
+    static constexpr auto join = wurst_controller_join;
+    static constexpr auto submit = wurst_controller_submit;
+    static constexpr auto discover = wurst_controller_discover;
+    static constexpr auto pause = wurst_controller_pause;
+    static constexpr auto resume = wurst_controller_resume;
+    static constexpr auto close = wurst_controller_close;
+    static constexpr auto take = wurst_controller_take;
+    static constexpr auto deliver = wurst_controller_deliver;
+    static constexpr auto fail = wurst_controller_fail;
+    static constexpr auto oldest = wurst_controller_oldest;
+    static constexpr auto next_completion = wurst_controller_next_completion;
+    static constexpr auto next_discovery = wurst_controller_next_discovery;
+    static constexpr auto devices = wurst_controller_devices;
+    static constexpr auto devices_run = wurst_controller_devices_run;
+    static constexpr auto is_idle = wurst_controller_is_idle;
+    static constexpr auto is_paused = wurst_controller_is_paused;
+    static constexpr auto is_closed = wurst_controller_is_closed;
+    static constexpr auto awaits = wurst_controller_awaits;
+};
+
+struct SessionCalls {
+    using Form = wurst_session;
+    static constexpr auto dispose = wurst_session_dispose;
+    static constexpr auto join = wurst_session_join;
+    static constexpr auto submit = wurst_session_submit;
+    static constexpr auto discover = wurst_session_discover;
+    static constexpr auto pause = wurst_session_pause;
+    static constexpr auto resume = wurst_session_resume;
+    static constexpr auto close = wurst_session_close;
+    static constexpr auto take = wurst_session_take;
+    static constexpr auto deliver = wurst_session_deliver;
+    static constexpr auto fail = wurst_session_fail;
+    static constexpr auto oldest = wurst_session_oldest;
+    static constexpr auto next_completion = wurst_session_next_completion;
+    static constexpr auto next_discovery = wurst_session_next_discovery;
+    static constexpr auto devices = wurst_session_devices;
+    static constexpr auto devices_run = wurst_session_devices_run;
+    static constexpr auto is_idle = wurst_session_is_idle;
+    static constexpr auto is_paused = wurst_session_is_paused;
+    static constexpr auto is_closed = wurst_session_is_closed;
+    static constexpr auto awaits = wurst_session_awaits;
+};
+
+// What controllers and sessions have in common: the queue of requests and discoveries on one line.
+template <typename Calls> class Queue {
+public:
+    using Client = std::uint8_t;
+
     Client join(std::uint8_t places) {
         Client client = 0;
-        check(wurst_controller_join(&handle_, places, &client));
+        check(Calls::join(handle_.get(), places, &client));
         return client;
     }
 
     std::uint64_t submit(Client client, const wurst_request &request, Bytes param = {}) {
         std::uint64_t number = 0;
-        check(wurst_controller_submit(&handle_, client, &request, param.data, param.size, &number));
+        check(Calls::submit(handle_.get(), client, &request, param.data, param.size, &number));
         return number;
     }
 
@@ -199,30 +317,30 @@ public:
 
     std::uint64_t discover(Client client, wurst_kind kind = WURST_FULL_DISCOVERY) {
         std::uint64_t number = 0;
-        check(wurst_controller_discover(&handle_, client, static_cast<std::uint32_t>(kind), &number));
+        check(Calls::discover(handle_.get(), client, static_cast<std::uint32_t>(kind), &number));
         return number;
     }
 
-    void pause() { check(wurst_controller_pause(&handle_)); }
-    void resume() { check(wurst_controller_resume(&handle_)); }
-    void close() { check(wurst_controller_close(&handle_)); }
+    void pause() { check(Calls::pause(handle_.get())); }
+    void resume() { check(Calls::resume(handle_.get())); }
+    void close() { check(Calls::close(handle_.get())); }
 
     // The next frame for the line; nullopt while a reply is awaited, or if nothing is to be sent.
     std::optional<Frame> take() {
-        Frame frame;
-        if (!given(wurst_controller_take(&handle_, frame.data(), Frame::room, frame.length()))) {
-            return std::nullopt;
+        std::optional<Frame> frame(std::in_place);
+        if (!given(Calls::take(handle_.get(), frame->data(), Frame::room, frame->length()))) {
+            frame.reset();
         }
         return frame;
     }
 
-    void deliver(Bytes reply) { check(wurst_controller_deliver(&handle_, reply.data, reply.size)); }
-    void fail() { check(wurst_controller_fail(&handle_)); }
+    void deliver(Bytes reply) { check(Calls::deliver(handle_.get(), reply.data, reply.size)); }
+    void fail() { check(Calls::fail(handle_.get())); }
 
     // nullopt: the client has no outcome.
     std::optional<wurst_outcome> oldest(Client client) {
         std::uint32_t kind = 0;
-        if (!given(wurst_controller_oldest(&handle_, client, &kind))) {
+        if (!given(Calls::oldest(handle_.get(), client, &kind))) {
             return std::nullopt;
         }
         return static_cast<wurst_outcome>(kind);
@@ -230,48 +348,72 @@ public:
 
     // nullopt: no outcome. Throws WURST_OTHER_OUTCOME if the oldest is a discovery's.
     std::optional<Completion> next_completion(Client client) {
-        Completion done;
-        done.data.resize(WURST_MOST_PARAMETER_BYTES);
-        auto status = wurst_controller_next_completion(&handle_, client, &done.head, done.data.data(), done.data.size());
+        std::optional<Completion> done(std::in_place);
+        auto &data = done->data;
+        data.resize(WURST_MOST_PARAMETER_BYTES);
+        auto status = Calls::next_completion(handle_.get(), client, &done->head, data.data(), data.size());
         if (status == WURST_BUFFER_TOO_SMALL) {
-            done.data.resize(done.head.len);
-            status = wurst_controller_next_completion(&handle_, client, &done.head, done.data.data(), done.data.size());
+            data.resize(done->head.len);
+            status = Calls::next_completion(handle_.get(), client, &done->head, data.data(), data.size());
         }
         if (!given(status)) {
             return std::nullopt;
         }
-        done.data.resize(done.head.len);
+        data.resize(done->head.len);
         return done;
+    }
+
+    // The same, with the data in a buffer of the caller's. Throws WURST_BUFFER_TOO_SMALL, and the outcome stays.
+    std::optional<CompletionView> next_completion(Client client, std::uint8_t *buffer, std::size_t room) {
+        wurst_completion head{};
+        if (!given(Calls::next_completion(handle_.get(), client, &head, buffer, room))) {
+            return std::nullopt;
+        }
+        return CompletionView{head, Bytes(buffer, head.len)};
     }
 
     // nullopt: no outcome. Throws WURST_OTHER_OUTCOME if the oldest is a request's.
     std::optional<Discovery> next_discovery(Client client) {
-        Discovery found;
         std::vector<wurst_device> forms(WURST_MOST_DEVICES);
-        if (!given(wurst_controller_next_discovery(&handle_, client, &found.end, forms.data(), forms.size()))) {
+        const auto found = next_discovery(client, forms.data(), forms.size());
+        if (!found) {
             return std::nullopt;
         }
-        found.devices = devices_of(forms, found.end.count);
-        return found;
+        return Discovery{found->end, copied(found->devices)};
     }
 
+    // The same, with the devices in an array of the caller's. Throws WURST_BUFFER_TOO_SMALL, and the outcome stays.
+    std::optional<DiscoveryView> next_discovery(Client client, wurst_device *forms, std::size_t room) {
+        wurst_end end{};
+        if (!given(Calls::next_discovery(handle_.get(), client, &end, forms, room))) {
+            return std::nullopt;
+        }
+        return DiscoveryView{end, Devices(forms, end.count)};
+    }
+
+    // Those that the last run without fault found.
     std::vector<Device> devices() {
         std::vector<wurst_device> forms(WURST_MOST_DEVICES);
+        return copied(devices(forms.data(), forms.size()));
+    }
+
+    // The same, in an array of the caller's. Throws WURST_BUFFER_TOO_SMALL.
+    Devices devices(wurst_device *forms, std::size_t room) {
         std::size_t count = 0;
-        check(wurst_controller_devices(&handle_, forms.data(), forms.size(), &count));
-        return devices_of(forms, count);
+        check(Calls::devices(handle_.get(), forms, room, &count));
+        return Devices(forms, count);
     }
 
     std::uint64_t devices_run() {
         std::uint64_t run = 0;
-        check(wurst_controller_devices_run(&handle_, &run));
+        check(Calls::devices_run(handle_.get(), &run));
         return run;
     }
 
-    bool is_idle() { return asked(wurst_controller_is_idle); }
-    bool is_paused() { return asked(wurst_controller_is_paused); }
-    bool is_closed() { return asked(wurst_controller_is_closed); }
-    bool awaits() { return asked(wurst_controller_awaits); }
+    bool is_idle() { return asked(Calls::is_idle); }
+    bool is_paused() { return asked(Calls::is_paused); }
+    bool is_closed() { return asked(Calls::is_closed); }
+    bool awaits() { return asked(Calls::awaits); }
 
     // Sends frames until there is none. `exchange` is given a Frame and answers a std::optional of the bytes that came
     // (nullopt: the line failed). The exchanges made.
@@ -289,22 +431,101 @@ public:
         return exchanges;
     }
 
-private:
-    bool given(std::uint32_t status) {
-        if (status == WURST_NOTHING) {
-            return false;
-        }
-        check(status);
-        return true;
-    }
+protected:
+    Queue() = default;
 
-    bool asked(std::uint32_t (*call)(wurst_controller *, bool *)) {
+    Handle<typename Calls::Form, Calls::dispose> handle_;
+
+private:
+    bool asked(std::uint32_t (*call)(typename Calls::Form *, bool *)) {
         bool answer = false;
-        check(call(&handle_, &answer));
+        check(call(handle_.get(), &answer));
         return answer;
     }
+};
 
-    wurst_controller handle_{};
+// What both sessions and logs have in common: entries, which are read from a handle by these calls.
+template <typename Form> struct Entries {
+    std::uint32_t (*count_of)(Form *, std::size_t *);
+    std::uint32_t (*read)(Form *, std::size_t, wurst_entry *, std::uint8_t *, std::size_t);
+
+    std::size_t count(Form *form) const {
+        std::size_t count = 0;
+        check(count_of(form, &count));
+        return count;
+    }
+
+    EntryView entry(Form *form, std::size_t index, std::uint8_t *buffer, std::size_t room) const {
+        wurst_entry entry{};
+        check(read(form, index, &entry, buffer, room));
+        return EntryView{entry, Bytes(buffer, entry.len)};
+    }
+};
+
+} // namespace detail
+
+// A queue without a log, which runs for years.
+class Controller : public detail::Queue<detail::ControllerCalls> {
+public:
+    explicit Controller(Uid source, std::uint16_t places = WURST_MOST_PLACES,
+                        std::uint64_t budget = WURST_DEFAULT_BUDGET, wurst_search search = WURST_STEADY) {
+        const wurst_setup setup{source.number(), budget, static_cast<std::uint32_t>(search), places};
+        check(wurst_controller_open(handle_.get(), &setup));
+    }
+};
+
+// The log of a session that went on with a fresh one.
+class Log {
+public:
+    std::size_t entry_count() { return entries.count(handle_.get()); }
+
+    // The entry of this index, with its bytes in a buffer of the caller's; WURST_MOST_FRAME_BYTES are enough. Throws
+    // WURST_NO_ENTRY or WURST_BUFFER_TOO_SMALL.
+    EntryView entry(std::size_t index, std::uint8_t *buffer, std::size_t room) {
+        return entries.entry(handle_.get(), index, buffer, room);
+    }
+
+private:
+    friend class Session;
+    Log() = default;
+
+    static constexpr detail::Entries<wurst_log> entries{wurst_log_entry_count, wurst_log_entry};
+    detail::Handle<wurst_log, wurst_log_dispose> handle_;
+};
+
+// A queue with a log of all that it does.
+class Session : public detail::Queue<detail::SessionCalls> {
+public:
+    // `entries`: how many entries the log has room for.
+    Session(Uid source, std::size_t entries, std::uint16_t places = WURST_MOST_PLACES,
+            std::uint64_t budget = WURST_DEFAULT_BUDGET, wurst_search search = WURST_STEADY) {
+        const wurst_setup setup{source.number(), budget, static_cast<std::uint32_t>(search), places};
+        check(wurst_session_open(handle_.get(), &setup, entries));
+    }
+
+    std::size_t free_entries() {
+        std::size_t count = 0;
+        check(wurst_session_free_entries(handle_.get(), &count));
+        return count;
+    }
+
+    std::size_t entry_count() { return log_entries.count(handle_.get()); }
+
+    // As Log::entry.
+    EntryView entry(std::size_t index, std::uint8_t *buffer, std::size_t room) {
+        return log_entries.entry(handle_.get(), index, buffer, room);
+    }
+
+    // Goes on with a fresh log with room for this many entries, and gives the old one. Throws WURST_NOT_IDLE,
+    // WURST_LOG_FULL, WURST_TOO_MANY_ENTRIES or WURST_OUT_OF_MEMORY.
+    Log rotate(std::size_t entries) {
+        Log log;
+        check(wurst_session_rotate(handle_.get(), entries, log.handle_.get()));
+        return log;
+    }
+
+private:
+    static constexpr detail::Entries<wurst_session> log_entries{wurst_session_entry_count, wurst_session_entry};
 };
 
 // A discovery run alone, on a line of the caller's own.
@@ -320,60 +541,54 @@ public:
         }
         const wurst_start start{source.number(), budget, static_cast<std::uint32_t>(kind),
                                 static_cast<std::uint32_t>(search), tn};
-        check(wurst_agent_start(&handle_, &start, numbers.data(), numbers.size()));
-    }
-
-    ~Agent() { wurst_agent_dispose(&handle_); }
-    Agent(const Agent &) = delete;
-    Agent &operator=(const Agent &) = delete;
-    Agent(Agent &&other) noexcept : handle_(std::exchange(other.handle_, {})) {}
-    Agent &operator=(Agent &&other) noexcept {
-        if (this != &other) {
-            wurst_agent_dispose(&handle_);
-            handle_ = std::exchange(other.handle_, {});
-        }
-        return *this;
+        check(wurst_agent_start(handle_.get(), &start, numbers.data(), numbers.size()));
     }
 
     // What the run asks next, and its frame; nullopt: it has ended.
     std::optional<std::pair<wurst_operation, Frame>> next() {
+        std::optional<std::pair<wurst_operation, Frame>> asked(std::in_place);
         std::uint32_t operation = 0;
-        Frame frame;
-        const auto status = wurst_agent_next(&handle_, &operation, frame.data(), Frame::room, frame.length());
-        if (status == WURST_NOTHING) {
+        Frame &frame = asked->second;
+        if (!detail::given(wurst_agent_next(handle_.get(), &operation, frame.data(), Frame::room, frame.length()))) {
             return std::nullopt;
         }
-        check(status);
-        return std::make_pair(static_cast<wurst_operation>(operation), frame);
+        asked->first = static_cast<wurst_operation>(operation);
+        return asked;
     }
 
-    void hear(Bytes reply) { check(wurst_agent_hear(&handle_, reply.data, reply.size)); }
-    void fail() { check(wurst_agent_fail(&handle_)); }
-    void stop() { check(wurst_agent_stop(&handle_)); }
+    void hear(Bytes reply) { check(wurst_agent_hear(handle_.get(), reply.data, reply.size)); }
+    void fail() { check(wurst_agent_fail(handle_.get())); }
+    void stop() { check(wurst_agent_stop(handle_.get())); }
 
+    // Those found so far.
     std::vector<Device> devices() {
         std::vector<wurst_device> forms(WURST_MOST_DEVICES);
+        return detail::copied(devices(forms.data(), forms.size()));
+    }
+
+    // The same, in an array of the caller's. Throws WURST_BUFFER_TOO_SMALL.
+    Devices devices(wurst_device *forms, std::size_t room) {
         std::size_t count = 0;
-        check(wurst_agent_devices(&handle_, forms.data(), forms.size(), &count));
-        return devices_of(forms, count);
+        check(wurst_agent_devices(handle_.get(), forms, room, &count));
+        return Devices(forms, count);
     }
 
     // Why it ended early. Throws WURST_NOT_ENDED before the end.
     wurst_fault fault() {
         std::uint32_t fault = 0;
         std::uint64_t corrupt = 0;
-        check(wurst_agent_fault(&handle_, &fault, &corrupt));
+        check(wurst_agent_fault(handle_.get(), &fault, &corrupt));
         return static_cast<wurst_fault>(fault);
     }
 
     std::uint64_t frames() {
         std::uint64_t frames = 0;
-        check(wurst_agent_frames(&handle_, &frames));
+        check(wurst_agent_frames(handle_.get(), &frames));
         return frames;
     }
 
 private:
-    wurst_agent handle_{};
+    detail::Handle<wurst_agent, wurst_agent_dispose> handle_;
 };
 
 } // namespace wurst

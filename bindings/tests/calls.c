@@ -3,12 +3,15 @@
 
 /* The sizes that the library has; its own proof says the same of them. */
 _Static_assert(sizeof(struct wurst_controller) == 16, "handles have 16 bytes");
+_Static_assert(sizeof(struct wurst_session) == 16, "handles have 16 bytes");
+_Static_assert(sizeof(struct wurst_log) == 16, "handles have 16 bytes");
 _Static_assert(sizeof(struct wurst_agent) == 16, "handles have 16 bytes");
 _Static_assert(sizeof(struct wurst_setup) == 24, "wurst_setup");
 _Static_assert(sizeof(struct wurst_request) == 16, "wurst_request");
 _Static_assert(sizeof(struct wurst_completion) == 40, "wurst_completion");
 _Static_assert(sizeof(struct wurst_end) == 40, "wurst_end");
 _Static_assert(sizeof(struct wurst_device) == 24, "wurst_device");
+_Static_assert(sizeof(struct wurst_entry) == 88, "wurst_entry");
 _Static_assert(sizeof(struct wurst_response) == 40, "wurst_response");
 _Static_assert(sizeof(struct wurst_command) == 56, "wurst_command");
 _Static_assert(sizeof(struct wurst_mute_ack) == 16, "wurst_mute_ack");
@@ -22,168 +25,6 @@ static size_t len;
 static uint64_t number;
 static uint32_t kind;
 static bool answered;
-
-static void opens(void) {
-    struct wurst_controller queue = {0};
-    struct wurst_setup bad = setup;
-    bad.source = UINT64_C(0x1000000000000);
-    CHECK(wurst_controller_open(&queue, &bad) == WURST_BAD_UID);
-    bad.source = UINT64_C(0x7a70ffffffff);
-    CHECK(wurst_controller_open(&queue, &bad) == WURST_BROADCAST_UID);
-    bad = setup;
-    bad.places = 4081;
-    CHECK(wurst_controller_open(&queue, &bad) == WURST_TOO_MANY_PLACES);
-    bad = setup;
-    bad.budget = 0;
-    CHECK(wurst_controller_open(&queue, &bad) == WURST_NO_BUDGET);
-    bad = setup;
-    bad.search = 2;
-    CHECK(wurst_controller_open(&queue, &bad) == WURST_BAD_SEARCH);
-    CHECK(!queue.is_open);
-    CHECK(wurst_controller_open(&queue, &setup) == WURST_DONE);
-    CHECK(wurst_controller_open(&queue, &setup) == WURST_ALREADY_OPEN);
-    wurst_controller_dispose(&queue);
-    CHECK(!queue.is_open);
-    wurst_controller_dispose(&queue);
-    CHECK(wurst_controller_open(&queue, &setup) == WURST_DONE);
-    wurst_controller_dispose(&queue);
-}
-
-static void is_closed_handle(void) {
-    struct wurst_controller queue = {0};
-    uint8_t client = 0;
-    CHECK(wurst_controller_join(&queue, 1, &client) == WURST_NOT_OPEN);
-    CHECK(wurst_controller_submit(&queue, 0, &device_info, no_bytes, 0, &number) == WURST_NOT_OPEN);
-    CHECK(wurst_controller_discover(&queue, 0, 0, &number) == WURST_NOT_OPEN);
-    CHECK(wurst_controller_pause(&queue) == WURST_NOT_OPEN);
-    CHECK(wurst_controller_resume(&queue) == WURST_NOT_OPEN);
-    CHECK(wurst_controller_close(&queue) == WURST_NOT_OPEN);
-    CHECK(wurst_controller_take(&queue, frame, sizeof frame, &len) == WURST_NOT_OPEN);
-    CHECK(wurst_controller_deliver(&queue, reply, 0) == WURST_NOT_OPEN);
-    CHECK(wurst_controller_fail(&queue) == WURST_NOT_OPEN);
-    CHECK(wurst_controller_oldest(&queue, 0, &kind) == WURST_NOT_OPEN);
-    CHECK(wurst_controller_next_completion(&queue, 0, &done, buffer, sizeof buffer) == WURST_NOT_OPEN);
-    CHECK(wurst_controller_next_discovery(&queue, 0, &end, devices, WURST_MOST_DEVICES) == WURST_NOT_OPEN);
-    CHECK(wurst_controller_devices(&queue, devices, WURST_MOST_DEVICES, &len) == WURST_NOT_OPEN);
-    CHECK(wurst_controller_devices_run(&queue, &number) == WURST_NOT_OPEN);
-    CHECK(wurst_controller_is_idle(&queue, &answered) == WURST_NOT_OPEN);
-    CHECK(wurst_controller_is_paused(&queue, &answered) == WURST_NOT_OPEN);
-    CHECK(wurst_controller_is_closed(&queue, &answered) == WURST_NOT_OPEN);
-    CHECK(wurst_controller_awaits(&queue, &answered) == WURST_NOT_OPEN);
-}
-
-static void serves_a_request(void) {
-    struct wurst_controller queue = {0};
-    uint8_t client = 99;
-    CHECK(wurst_controller_open(&queue, &setup) == WURST_DONE);
-    CHECK(wurst_controller_join(&queue, 11, &client) == WURST_NO_PLACES && client == 99);
-    CHECK(wurst_controller_join(&queue, 1, &client) == WURST_DONE && client == 0);
-    CHECK(wurst_controller_take(&queue, frame, sizeof frame, &len) == WURST_NOTHING);
-    number = 99;
-    CHECK(wurst_controller_submit(&queue, client, &device_info, no_bytes, 0, &number) == WURST_DONE && number == 0);
-    CHECK(wurst_controller_submit(&queue, client, &device_info, no_bytes, 0, &number) == WURST_FULL && number == 0);
-    CHECK(wurst_controller_take(&queue, frame, 256, &len) == WURST_BUFFER_TOO_SMALL);
-    CHECK(wurst_controller_take(&queue, frame, sizeof frame, &len) == WURST_DONE);
-    /* E1.20, packet format: its sum is 029e. */
-    CHECK(is_same(frame, len, "cc0118 123400000007 7a7000000001 00 01 00 0000 20 0060 00 029e"));
-    CHECK(wurst_controller_take(&queue, frame, sizeof frame, &len) == WURST_NOTHING);
-    CHECK(wurst_controller_awaits(&queue, &answered) == WURST_DONE && answered);
-    CHECK(wurst_controller_deliver(&queue, reply, 258) == WURST_REPLY_TOO_LONG);
-    CHECK(wurst_controller_awaits(&queue, &answered) == WURST_DONE && answered);
-    CHECK(wurst_controller_deliver(&queue, reply, answer(frame, 0, (const uint8_t *)"four", 4, reply)) == WURST_DONE);
-    CHECK(wurst_controller_deliver(&queue, reply, 0) == WURST_NOT_ASKED);
-    CHECK(wurst_controller_oldest(&queue, client, &kind) == WURST_DONE && kind == WURST_REQUEST_OUTCOME);
-    CHECK(wurst_controller_next_discovery(&queue, client, &end, devices, 0) == WURST_OTHER_OUTCOME);
-    done.len = 0;
-    CHECK(wurst_controller_next_completion(&queue, client, &done, buffer, 3) == WURST_BUFFER_TOO_SMALL);
-    CHECK(done.len == 4);
-    CHECK(wurst_controller_next_completion(&queue, client, &done, buffer, 4) == WURST_DONE);
-    CHECK(done.number == 0 && done.len == 4 && done.status == WURST_COMPLETED && done.has_head);
-    CHECK(done.ack == WURST_ACK && done.response_class == WURST_GET_RESPONSE && done.pid == 0x0060);
-    CHECK(done.sub_device == 0 && memcmp(buffer, "four", 4) == 0);
-    CHECK(wurst_controller_next_completion(&queue, client, &done, buffer, 4) == WURST_NOTHING);
-    CHECK(wurst_controller_is_idle(&queue, &answered) == WURST_DONE && answered);
-    wurst_controller_dispose(&queue);
-}
-
-static void joins_parts(void) {
-    struct wurst_controller queue = {0};
-    uint8_t client = 0, part[231];
-    memset(part, 7, sizeof part);
-    CHECK(wurst_controller_open(&queue, &setup) == WURST_DONE);
-    CHECK(wurst_controller_join(&queue, 1, &client) == WURST_DONE);
-    CHECK(wurst_controller_submit(&queue, client, &device_info, no_bytes, 0, &number) == WURST_DONE);
-    for (int i = 0; i < 3; i++) {
-        CHECK(wurst_controller_take(&queue, frame, sizeof frame, &len) == WURST_DONE);
-        CHECK(wurst_controller_deliver(&queue, reply, answer(frame, i < 2 ? 3 : 0, part, 231, reply)) == WURST_DONE);
-    }
-    CHECK(wurst_controller_next_completion(&queue, client, &done, buffer, 692) == WURST_BUFFER_TOO_SMALL);
-    CHECK(done.len == 693);
-    CHECK(wurst_controller_next_completion(&queue, client, &done, buffer, 693) == WURST_DONE && done.len == 693);
-    wurst_controller_dispose(&queue);
-}
-
-static void refuses(void) {
-    struct wurst_controller queue = {0};
-    struct wurst_request bad = device_info;
-    uint8_t client = 0;
-    CHECK(wurst_controller_open(&queue, &setup) == WURST_DONE);
-    CHECK(wurst_controller_join(&queue, 2, &client) == WURST_DONE);
-    bad.target = UINT64_C(0x1000000000000);
-    CHECK(wurst_controller_submit(&queue, client, &bad, no_bytes, 0, &number) == WURST_BAD_UID);
-    bad = device_info;
-    bad.command_class = 2;
-    CHECK(wurst_controller_submit(&queue, client, &bad, no_bytes, 0, &number) == WURST_BAD_CLASS);
-    CHECK(wurst_controller_submit(&queue, client, &device_info, buffer, 232, &number) == WURST_DATA_TOO_LONG);
-    CHECK(wurst_controller_submit(&queue, 1, &device_info, no_bytes, 0, &number) == WURST_UNKNOWN_CLIENT);
-    CHECK(wurst_controller_discover(&queue, client, 2, &number) == WURST_BAD_KIND);
-    CHECK(wurst_controller_discover(&queue, 1, 0, &number) == WURST_UNKNOWN_CLIENT);
-    CHECK(wurst_controller_oldest(&queue, 1, &kind) == WURST_UNKNOWN_CLIENT);
-    CHECK(wurst_controller_oldest(&queue, client, &kind) == WURST_NOTHING);
-    CHECK(wurst_controller_next_completion(&queue, 1, &done, buffer, 0) == WURST_UNKNOWN_CLIENT);
-    CHECK(wurst_controller_next_discovery(&queue, 1, &end, devices, 0) == WURST_UNKNOWN_CLIENT);
-    CHECK(wurst_controller_next_discovery(&queue, client, &end, devices, 0) == WURST_NOTHING);
-    CHECK(wurst_controller_fail(&queue) == WURST_NOT_ASKED);
-    for (int i = 0; i < 4; i++) {
-        CHECK(wurst_controller_discover(&queue, client, 0, &number) == WURST_DONE);
-    }
-    CHECK(wurst_controller_discover(&queue, client, 0, &number) == WURST_FULL);
-    for (int i = 1; i < 16; i++) {
-        CHECK(wurst_controller_join(&queue, 0, &client) == WURST_DONE && client == i);
-    }
-    CHECK(wurst_controller_join(&queue, 0, &client) == WURST_TOO_MANY_CLIENTS);
-    wurst_controller_dispose(&queue);
-}
-
-static void pauses_and_closes(void) {
-    struct wurst_controller queue = {0};
-    uint8_t client = 0;
-    CHECK(wurst_controller_open(&queue, &setup) == WURST_DONE);
-    CHECK(wurst_controller_join(&queue, 4, &client) == WURST_DONE);
-    CHECK(wurst_controller_pause(&queue) == WURST_DONE);
-    CHECK(wurst_controller_is_paused(&queue, &answered) == WURST_DONE && answered);
-    CHECK(wurst_controller_submit(&queue, client, &device_info, no_bytes, 0, &number) == WURST_DONE);
-    CHECK(wurst_controller_take(&queue, frame, sizeof frame, &len) == WURST_NOTHING);
-    CHECK(wurst_controller_resume(&queue) == WURST_DONE);
-    CHECK(wurst_controller_is_paused(&queue, &answered) == WURST_DONE && !answered);
-    CHECK(wurst_controller_take(&queue, frame, sizeof frame, &len) == WURST_DONE);
-    CHECK(wurst_controller_fail(&queue) == WURST_DONE);
-    CHECK(wurst_controller_next_completion(&queue, client, &done, buffer, 0) == WURST_DONE);
-    CHECK(done.status == WURST_FAILED_TO_SEND && !done.has_head && done.len == 0);
-    CHECK(wurst_controller_submit(&queue, client, &device_info, no_bytes, 0, &number) == WURST_DONE && number == 1);
-    CHECK(wurst_controller_discover(&queue, client, 0, &number) == WURST_DONE && number == 0);
-    CHECK(wurst_controller_close(&queue) == WURST_DONE);
-    CHECK(wurst_controller_is_closed(&queue, &answered) == WURST_DONE && answered);
-    CHECK(wurst_controller_submit(&queue, client, &device_info, no_bytes, 0, &number) == WURST_CLOSED);
-    CHECK(wurst_controller_discover(&queue, client, 0, &number) == WURST_CLOSED);
-    CHECK(wurst_controller_join(&queue, 0, &client) == WURST_CLOSED);
-    CHECK(wurst_controller_next_completion(&queue, client, &done, buffer, 0) == WURST_DONE);
-    CHECK(done.number == 1 && done.status == WURST_FAILED_TO_SEND);
-    CHECK(wurst_controller_next_completion(&queue, client, &done, buffer, 0) == WURST_OTHER_OUTCOME);
-    CHECK(wurst_controller_next_discovery(&queue, client, &end, devices, 0) == WURST_DONE);
-    CHECK(end.number == 0 && end.run == 0 && end.fault == WURST_ABORTED && end.count == 0);
-    wurst_controller_dispose(&queue);
-}
 
 /* A line with one device: its reply to a frame. */
 static size_t one_device(uint8_t *to_reply) {
@@ -209,29 +50,21 @@ static size_t one_device(uint8_t *to_reply) {
     return 0;
 }
 
-static void discovers(void) {
-    struct wurst_controller queue = {0};
-    uint8_t client = 0;
-    CHECK(wurst_controller_open(&queue, &setup) == WURST_DONE);
-    CHECK(wurst_controller_join(&queue, 0, &client) == WURST_DONE);
-    CHECK(wurst_controller_discover(&queue, client, WURST_FULL_DISCOVERY, &number) == WURST_DONE && number == 0);
-    while (wurst_controller_take(&queue, frame, sizeof frame, &len) == WURST_DONE) {
-        CHECK(wurst_controller_deliver(&queue, reply, one_device(reply)) == WURST_DONE);
-    }
-    CHECK(wurst_controller_oldest(&queue, client, &kind) == WURST_DONE && kind == WURST_DISCOVERY_OUTCOME);
-    CHECK(wurst_controller_next_completion(&queue, client, &done, buffer, 0) == WURST_OTHER_OUTCOME);
-    CHECK(wurst_controller_next_discovery(&queue, client, &end, devices, 0) == WURST_BUFFER_TOO_SMALL);
-    CHECK(end.count == 1);
-    CHECK(wurst_controller_next_discovery(&queue, client, &end, devices, 1) == WURST_DONE);
-    CHECK(end.number == 0 && end.run == 1 && end.fault == WURST_NO_FAULT && end.count == 1);
-    CHECK(devices[0].uid == device_info.target && devices[0].control == 4 && !devices[0].has_binding);
-    CHECK(wurst_controller_devices(&queue, devices, 0, &len) == WURST_BUFFER_TOO_SMALL && len == 1);
-    devices[0].uid = 0;
-    CHECK(wurst_controller_devices(&queue, devices, 1, &len) == WURST_DONE && len == 1);
-    CHECK(devices[0].uid == device_info.target);
-    CHECK(wurst_controller_devices_run(&queue, &number) == WURST_DONE && number == 1);
-    wurst_controller_dispose(&queue);
-}
+/* The calls that both kinds of queue have. */
+#define QUEUE controller
+#define HANDLE struct wurst_controller
+#define OPEN(handle, setup) wurst_controller_open(handle, setup)
+#include "queue.h"
+#undef QUEUE
+#undef HANDLE
+#undef OPEN
+#define QUEUE session
+#define HANDLE struct wurst_session
+#define OPEN(handle, setup) wurst_session_open(handle, setup, 10000)
+#include "queue.h"
+#undef QUEUE
+#undef HANDLE
+#undef OPEN
 
 static void reads_and_writes_uids(void) {
     uint64_t uid = 5;
@@ -390,13 +223,8 @@ static void runs_an_agent(void) {
 int main(void) {
     CHECK(wurst_version() == WURST_VERSION);
     CHECK(strcmp(wurst_text(WURST_NOT_TEXT), "the bytes aren't UTF-8") == 0);
-    opens();
-    is_closed_handle();
-    serves_a_request();
-    joins_parts();
-    refuses();
-    pauses_and_closes();
-    discovers();
+    tests_controller_all();
+    tests_session_all();
     reads_and_writes_uids();
     reads_and_writes_branch_replies();
     writes_commands();

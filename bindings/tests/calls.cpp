@@ -4,6 +4,8 @@
 #include <wurstlinen.hpp>
 
 static_assert(!std::is_copy_constructible<wurst::Controller>::value, "a controller is moved alone");
+static_assert(!std::is_copy_constructible<wurst::Session>::value, "a session is moved alone");
+static_assert(!std::is_copy_constructible<wurst::Log>::value, "a log is moved alone");
 static_assert(!std::is_copy_constructible<wurst::Agent>::value, "an agent is moved alone");
 
 static std::uint32_t fault_of(void (*call)()) {
@@ -15,8 +17,82 @@ static std::uint32_t fault_of(void (*call)()) {
     return WURST_DONE;
 }
 
+static const wurst::Uid source(0x7a70, 1), device(0x1234, 7);
+
+// A device's acknowledgement of its mute, with the control field 0004, and silence to all else.
+static std::optional<std::vector<std::uint8_t>> acknowledged(wurst::Bytes frame) {
+    std::vector<std::uint8_t> reply;
+    if (frame.data[20] == 0x10 && frame.data[22] == 2) {
+        const std::uint8_t control[] = {0, 4};
+        reply.resize(257);
+        reply.resize(answer(frame.data, 0, control, 2, reply.data()));
+    }
+    return reply;
+}
+
+// What calls write into memory of the caller's.
+static void views() {
+    wurst::Agent agent(source, WURST_INCREMENTAL, {device}, 1000);
+    while (const auto asked = agent.next()) {
+        agent.hear(*acknowledged(asked->second));
+    }
+    wurst_device forms[4];
+    const wurst::Devices found = agent.devices(forms, 4);
+    CHECK(found.size() == 1 && !found.empty() && found[0].uid == device && forms[0].uid == device.number());
+    for (const wurst::Device &each : found) {
+        CHECK(each.control == 4 && !each.binding);
+    }
+    CHECK(agent.devices().size() == 1 && agent.fault() == WURST_NO_FAULT);
+
+    wurst::Controller queue(source);
+    const auto client = queue.join(1);
+    std::uint8_t data[4], reply[257], five[] = {'1', '2', '3', '4', '5'};
+    queue.get(client, device, 0x0060);
+    const auto frame = queue.take();
+    queue.deliver(wurst::Bytes(reply, answer(frame->data(), 0, five, 5, reply)));
+    try {
+        queue.next_completion(client, data, 4);
+        CHECK(false);
+    } catch (const wurst::Fault &fault) {
+        CHECK(fault.status() == WURST_BUFFER_TOO_SMALL);
+    }
+    const auto done = queue.next_completion(client, reply, sizeof reply);
+    CHECK(done && done->status() == WURST_COMPLETED && done->data.data == reply && done->data.size == 5);
+    CHECK(!queue.next_completion(client, reply, sizeof reply));
+    queue.discover(client);
+    queue.run(acknowledged);
+    const auto ended = queue.next_discovery(client, forms, 0);
+    CHECK(ended && ended->fault() == WURST_NO_FAULT && ended->end.run == 1 && ended->devices.empty());
+    CHECK(queue.devices(forms, 0).empty() && queue.devices_run() == 1);
+}
+
+static void sessions() {
+    wurst::Session first(source, 100, 10, 1000);
+    wurst::Session session(std::move(first));
+    const auto client = session.join(2);
+    CHECK(session.free_entries() == 99 && session.entry_count() == 1);
+    session.set(client, device, 0x0082, std::vector<std::uint8_t>{65, 66});
+    std::uint8_t bytes[WURST_MOST_FRAME_BYTES];
+    const auto accepted = session.entry(1, bytes, sizeof bytes);
+    CHECK(accepted.kind() == WURST_ENTRY_ACCEPT && accepted.entry.target == device.number());
+    CHECK(accepted.bytes.data == bytes && is_same(bytes, accepted.bytes.size, "4142"));
+    CHECK(fault_of([] { wurst::Session(source, WURST_MOST_ENTRIES + 1); }) == WURST_TOO_MANY_ENTRIES);
+    try {
+        session.rotate(100);
+        CHECK(false);
+    } catch (const wurst::Fault &fault) {
+        CHECK(fault.status() == WURST_NOT_IDLE);
+    }
+    CHECK(session.run([](wurst::Bytes) { return std::optional<std::vector<std::uint8_t>>(); }) == 1);
+    CHECK(session.next_completion(client)->status() == WURST_FAILED_TO_SEND);
+    wurst::Log log = session.rotate(50);
+    CHECK(session.free_entries() == 50 && session.entry_count() == 0 && log.entry_count() == 6);
+    CHECK(log.entry(3, bytes, sizeof bytes).entry.has_failed);
+    log = session.rotate(50);
+    CHECK(log.entry_count() == 0);
+}
+
 int main() {
-    const wurst::Uid source(0x7a70, 1), device(0x1234, 7);
     CHECK(wurst::Uid::parse("7a70:00000001") == source && source.text() == "7a70:00000001");
     CHECK(!wurst::Uid::from_number(UINT64_C(1) << 48) && wurst::Uid::all().is_broadcast());
     CHECK(fault_of([] { wurst::Uid::parse("7a70"); }) == WURST_UID_LENGTH);
@@ -43,6 +119,9 @@ int main() {
     CHECK(queue.is_closed());
     queue = wurst::Controller(source);
     CHECK(!queue.is_closed());
+
+    views();
+    sessions();
 
     wurst::Agent agent(source, WURST_INCREMENTAL, {device}, 4);
     while (agent.next()) {

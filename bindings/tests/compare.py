@@ -10,7 +10,7 @@ import sys
 ROOT = os.path.dirname(os.path.dirname(os.path.dirname(os.path.abspath(__file__))))
 sys.path.insert(0, os.path.join(ROOT, "bindings", "python"))
 
-from wurstlinen import _faults, _library, _types  # noqa: E402
+from wurstlinen import _faults, _library, _types, entries  # noqa: E402
 
 passed = failed = 0
 
@@ -75,7 +75,8 @@ def main() -> int:
     forms = dict(re.findall(r"size_of::<(\w+)ForC>\(\) == (\d+)", read("crates", "rdm_handles", "src", "forms.rt")))
     of_package = {"Setup": _library.Setup, "Request": _library.RequestForm, "Completion": _library.CompletionForm,
                   "End": _library.EndForm, "Device": _library.DeviceForm, "Response": _library.ResponseForm,
-                  "Command": _library.CommandForm, "MuteAck": _library.MuteAckForm, "Start": _library.StartForm}
+                  "Command": _library.CommandForm, "MuteAck": _library.MuteAckForm, "Start": _library.StartForm,
+                  "Entry": _library.EntryForm}
     check(set(forms) == set(of_package), "the structs of the source aren't those of the package")
     for name, form in of_package.items():
         check(ctypes.sizeof(form) == int(forms.get(name, 0)), f"the size of {name}")
@@ -84,7 +85,9 @@ def main() -> int:
                        ("wurst_search", _types.Search), ("wurst_kind", _types.Kind),
                        ("wurst_command_class", _types.RequestClass), ("wurst_response_class", _types.ResponseClass),
                        ("wurst_outcome", _types.OutcomeKind), ("wurst_operation", _types.Operation),
-                       ("wurst_command_kind", _types.CommandKind), ("wurst_branch_reply", _types.BranchReplyKind)]:
+                       ("wurst_command_kind", _types.CommandKind), ("wurst_branch_reply", _types.BranchReplyKind),
+                       ("wurst_call", entries.CallKind),
+                       ("wurst_entry_kind", range(len(entries._READERS)))]:
         check(enum_of(header, name) == [int(one) for one in kind], f"the numbers of {name}")
     version = read("VERSION").strip()
     major, minor, patch = (int(part) for part in version.split("."))

@@ -69,18 +69,48 @@ static uint32_t one_request(bool *lacked_memory) {
     return status;
 }
 
-static void refuses_each(void) {
+/* The same with a session, which goes on with a fresh log at the end. */
+static uint32_t one_rotation(bool *lacked_memory) {
+    struct wurst_session queue = {0};
+    struct wurst_log log = {0};
+    struct wurst_completion done = {0};
+    uint8_t client = 0;
+    uint64_t number;
+    size_t count = 0;
+    uint32_t status = wurst_session_open(&queue, &setup, 20);
+    if (status == WURST_DONE) status = wurst_session_join(&queue, 10, &client);
+    if (status == WURST_DONE) status = wurst_session_submit(&queue, client, &device_info, no_bytes, 0, &number);
+    if (status == WURST_DONE) status = wurst_session_take(&queue, frame, sizeof frame, &len);
+    if (status == WURST_DONE) {
+        status = wurst_session_deliver(&queue, reply, answer(frame, 0, (const uint8_t *)"four", 4, reply));
+    }
+    if (status == WURST_DONE) status = wurst_session_next_completion(&queue, client, &done, data, sizeof data);
+    if (status == WURST_DONE) {
+        status = wurst_session_rotate(&queue, 30, &log);
+        /* A rotation that lacks memory changes nothing. */
+        CHECK(log.is_open == (status == WURST_DONE));
+        CHECK(wurst_session_entry_count(&queue, &count) == WURST_DONE && count == (status == WURST_DONE ? 0 : 6));
+        CHECK(wurst_session_submit(&queue, client, &device_info, no_bytes, 0, &number) == WURST_DONE && number == 1);
+    }
+    *lacked_memory = status == WURST_OUT_OF_MEMORY || done.status == WURST_NO_MEMORY;
+    wurst_session_dispose(&queue);
+    wurst_log_dispose(&log);
+    return status;
+}
+
+/* Refuses each allocation in turn, until there is none to refuse. */
+static void refuses_each(uint32_t (*scene)(bool *), const char *name) {
     size_t allocations = 0;
     bool lacked_memory = true;
     while (lacked_memory) {
         left = allocations;
-        const uint32_t status = one_request(&lacked_memory);
+        const uint32_t status = scene(&lacked_memory);
+        left = SIZE_MAX;
         CHECK(blocks == 0);
         CHECK(status == WURST_OUT_OF_MEMORY || status == WURST_DONE);
         allocations++;
     }
-    left = SIZE_MAX;
-    printf("allocations of a controller with one request: %zu\n", allocations - 1);
+    printf("allocations of %s: %zu\n", name, allocations - 1);
     CHECK(allocations > 5);
 }
 
@@ -120,9 +150,26 @@ static void serves_a_million(void) {
     CHECK(blocks == 0);
 }
 
+static void rotates_a_thousand_times(void) {
+    struct wurst_session queue = {0};
+    struct wurst_log log = {0};
+    size_t rotated = 0;
+    CHECK(wurst_session_open(&queue, &setup, 100) == WURST_DONE);
+    const size_t before = blocks;
+    for (int i = 0; i < 1000; i++) {
+        rotated += wurst_session_rotate(&queue, 100, &log) == WURST_DONE;
+        wurst_log_dispose(&log);
+    }
+    CHECK(rotated == 1000 && blocks == before);
+    wurst_session_dispose(&queue);
+    CHECK(blocks == 0);
+}
+
 int main(void) {
-    refuses_each();
+    refuses_each(one_request, "a controller with one request");
+    refuses_each(one_rotation, "a session with one request and a rotation");
     refuses_an_agent();
     serves_a_million();
+    rotates_a_thousand_times();
     return report();
 }

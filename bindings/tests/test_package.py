@@ -11,7 +11,7 @@ import wurstlinen
 from wurstlinen import (
     AckType, BranchReply, BranchReplyKind, CommandKind, Completion, Controller, Device, Discovery, DiscoveryAgent,
     Kind, LineFailed, MuteAck, Operation, OutcomeKind, ReplyHead, Request, RequestClass, Response, ResponseClass,
-    RunFault, RunFaultKind, Search, Status, Uid)
+    RunFault, RunFaultKind, Search, Session, Status, Uid, entries)
 
 SOURCE = Uid(0x7A70, 1)
 DEVICE = Uid(0x1234, 7)
@@ -236,8 +236,9 @@ class Queue(unittest.TestCase):
             self.assertTrue(controller.awaits())
             controller.fail()
 
-    def test_two_threads(self) -> None:
-        with Controller(SOURCE) as controller:
+    def share(self, controller) -> None:
+        """Two threads ask, and a third one serves the line."""
+        with controller:
             clients = [controller.join(4) for _ in range(2)]
             finished, over = [0, 0], threading.Event()
 
@@ -267,6 +268,102 @@ class Queue(unittest.TestCase):
             over.set()
             server.join()
             self.assertEqual(finished, [300, 300])
+
+    def test_two_threads(self) -> None:
+        self.share(Controller(SOURCE))
+
+    def test_two_threads_of_a_session(self) -> None:
+        self.share(Session(SOURCE, wurstlinen.MOST_ENTRIES))
+
+
+class Sessions(unittest.TestCase):
+    """The log, worked out by hand from docs/FORMATS.md and the comments in crates/rdm_log/src."""
+
+    def test_a_request(self) -> None:
+        label = Request(DEVICE, 0x8123, b"xyz", 0x0203, RequestClass.SET)
+        with Session(SOURCE, 100, 10) as session:
+            self.assertEqual((session.free_entries(), session.entry_count(), session.entries()), (100, 0, ()))
+            client = session.join(2)
+            with self.assertRaises(wurstlinen.NoPlaces):
+                session.join(9)
+            with self.assertRaises(wurstlinen.UnknownClient):
+                wurstlinen.Client(session, 5).submit(label)
+            self.assertEqual(client.submit(label), 0)
+            session.pause()
+            session.resume()
+            sent = packet(DEVICE, SOURCE, 0, 1, 0x30, 0x8123, b"xyz", sub_device=0x0203)
+            reply = packet(SOURCE, DEVICE, 0, 0, 0x31, 0x8123, b"four", sub_device=0x0203)
+            self.assertEqual(session.take(), sent)
+            session.deliver(reply)
+            self.assertEqual(client.next_completion().data, b"four")
+            self.assertEqual(session.entries(), (
+                entries.Join(0, 2),
+                entries.Refuse(entries.CallKind.JOIN, wurstlinen.NoPlaces, places=9),
+                entries.Refuse(entries.CallKind.SUBMIT, wurstlinen.UnknownClient, 5, request=label),
+                entries.Accept(0, 0, label),
+                entries.Pause(),
+                entries.Resume(),
+                entries.Send(0, None, sent),
+                entries.Came(reply),
+                entries.Finish(0, Status.COMPLETED, 4),
+                entries.Collect(0)))
+            self.assertEqual(session.entry(9), entries.Collect(0))
+            with self.assertRaises(wurstlinen.NoEntry):
+                session.entry(10)
+
+    def test_a_discovery(self) -> None:
+        line = Fixtures(DEVICE)
+        line.failing = True
+        with Session(SOURCE, 100) as session:
+            client = session.join(0)
+            with self.assertRaises(wurstlinen.UnknownClient):
+                wurstlinen.Client(session, 9).discover(Kind.INCREMENTAL)
+            client.discover(Kind.INCREMENTAL)
+            session.run(line)
+            session.close()
+            with self.assertRaises(wurstlinen.Closed):
+                client.discover()
+            self.assertEqual(session.entries(1), (
+                entries.Refuse(entries.CallKind.DISCOVER, wurstlinen.UnknownClient, 9, kind=Kind.INCREMENTAL),
+                entries.Ask(0, 0, Kind.INCREMENTAL),
+                entries.Send(None, 1, packet(Uid.ALL, SOURCE, 0, 1, 0x10, 3)),
+                entries.Came(None),
+                entries.Answer(0, 1, RunFault(RunFaultKind.LINE_FAILED)),
+                entries.Close(),
+                entries.Refuse(entries.CallKind.DISCOVER, wurstlinen.Closed, 0, kind=Kind.FULL)))
+            self.assertEqual(client.next_discovery().fault, RunFault(RunFaultKind.LINE_FAILED))
+
+    def test_a_full_log(self) -> None:
+        with Session(SOURCE, 3) as session:
+            client = session.join(1)
+            for call in (lambda: client.get(DEVICE, 1), client.discover, session.pause, session.resume, session.take):
+                with self.assertRaises(wurstlinen.LogFull):
+                    call()
+            session.rotate(10).dispose()
+            self.assertEqual((session.free_entries(), client.get(DEVICE, 1)), (10, 0))
+        with self.assertRaises(wurstlinen.TooManyEntries):
+            Session(SOURCE, wurstlinen.MOST_ENTRIES + 1)
+
+    def test_rotation(self) -> None:
+        with Session(SOURCE) as session:
+            client = session.join(1)
+            client.discover()
+            session.run(Fixtures(DEVICE))
+            for entry_count, fault in [(1_000_001, wurstlinen.TooManyEntries), (2, wurstlinen.LogFull),
+                                       (3, wurstlinen.NotIdle)]:
+                with self.assertRaises(fault):
+                    session.rotate(entry_count)
+            client.next_discovery()
+            old = session.entries()
+            log = session.rotate(20)
+            self.assertEqual((session.entry_count(), session.free_entries(), log.entries()), (0, 20, old))
+            self.assertEqual((session.devices(), session.devices_run()), ((Device(DEVICE, 4),), 1))
+            self.assertEqual((client.get(DEVICE, 1), session.entry(0).number), (0, 0))
+        self.assertEqual((log.entry_count(), log.entry(0)), (len(old), entries.Join(0, 1)))
+        log.dispose()
+        for held in (session, log):
+            with self.assertRaises(wurstlinen.NotOpen):
+                held.entry_count()
 
 
 class Agents(unittest.TestCase):
@@ -313,6 +410,7 @@ class Memory(unittest.TestCase):
         def make(count: int) -> None:
             for _ in range(count):
                 Controller(SOURCE).join(100)
+                Session(SOURCE).rotate()
                 DiscoveryAgent(SOURCE)
 
         make(50)

@@ -13,20 +13,22 @@
 from ._faults import (
     AlreadyOpen, BadClass, BadKind, BadPreamble, BadRange, BadResponseType, BadSearch, BadUid, BroadcastUid,
     BufferTooSmall, Closed, DataTooLong, Fault, Full, HasEnded, InvalidClass, InvalidResponseType, LengthMismatch,
-    LogFull, NoBudget, NoPlaces, NotAsked, NotEnded, NotOpen, NotText,
+    LogFull, NoBudget, NoEntry, NoPlaces, NotAsked, NotEnded, NotIdle, NotOpen, NotText,
     OtherOutcome, OutOfMemory, PacketFault, ParamLengthMismatch, ReplyTooLong, TooManyClients, TooManyDevices,
-    TooManyPlaces, TooShort, UidDigit, UidFault, UidLength, UidSeparator, UnknownClient,
+    TooManyEntries, TooManyPlaces, TooShort, UidDigit, UidFault, UidLength, UidSeparator, UnknownClient,
     WrongChecksum, WrongStart, WrongSubStart)
 from ._library import LibraryNotFound, VersionDiffers
 from ._types import (
-    DEFAULT_BUDGET, MOST_CLIENTS, MOST_DEVICES, MOST_FRAME_BYTES, MOST_JOINED_BYTES,
+    DEFAULT_BUDGET, MOST_CLIENTS, MOST_DEVICES, MOST_ENTRIES, MOST_FRAME_BYTES, MOST_JOINED_BYTES,
     MOST_PARAMETER_BYTES, MOST_PLACES, AckType, BranchReply, BranchReplyKind, Command, CommandKind, Completion,
     Device, Discovery, Kind, MuteAck, Operation, OutcomeKind, ReplyHead, Request, RequestClass, Response,
     ResponseClass, RunFault, RunFaultKind, Search, Status, Uid)
 from ._wire import (
     decode_response, encode_branch, encode_mute, encode_mute_ack, encode_request, encode_response, encode_unmute,
     read_branch_reply, read_command, read_mute_ack, write_branch_reply)
+from . import entries
 from ._queue import Client, Controller
+from ._session import Log, Session
 from ._agent import DiscoveryAgent
 from .line import Line, LineFailed
 

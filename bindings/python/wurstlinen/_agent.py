@@ -1,90 +1,76 @@
 """A discovery run alone."""
 
 import ctypes
-import threading
 from typing import Iterable, Optional, Tuple
 
 from ._faults import check, given
-from ._library import LIBRARY, DeviceForm, Handle, StartForm, buffer_of, room_for
+from ._held import Held
+from ._library import Calls, DeviceForm, StartForm, buffer_of, room_for
 from ._types import (
     DEFAULT_BUDGET, MOST_DEVICES, MOST_FRAME_BYTES, Device, Kind, Operation, RunFault, Search, Uid, devices_of,
     run_fault, whole)
 from .line import Line, LineFailed
 
 
-class DiscoveryAgent:
+class DiscoveryAgent(Held):
     """A discovery run alone, on a line of the caller's own.
 
     Calls may be made from any thread: each holds a lock of this object. It is a context manager, which disposes of it.
     """
 
+    _calls = Calls("wurst_agent_")
+
     def __init__(self, source: Uid, kind: Kind = Kind.FULL, known: Iterable[Uid] = (), *,
                  budget: int = DEFAULT_BUDGET, search: Search = Search.STEADY, first_tn: int = 0) -> None:
-        self._lock = threading.Lock()
-        self._handle = Handle()
+        super().__init__()
         numbers = [uid.number for uid in known]
         start = StartForm(source.number, whole(budget, 64, "budget"), int(kind), int(search),
                           whole(first_tn, 8, "transaction number"))
         array = (ctypes.c_uint64 * (len(numbers) + 1))(*numbers)
-        check(LIBRARY.wurst_agent_start(self._handle, start, array, len(numbers)))
-
-    def __enter__(self) -> "DiscoveryAgent":
-        return self
-
-    def __exit__(self, *why: object) -> None:
-        self.dispose()
-
-    def __del__(self) -> None:
-        if getattr(self, "_handle", None) and self._handle.is_open:
-            LIBRARY.wurst_agent_dispose(self._handle)
-
-    def dispose(self) -> None:
-        """Frees its memory. Later calls raise NotOpen."""
-        with self._lock:
-            LIBRARY.wurst_agent_dispose(self._handle)
+        check(self._calls.start(self._handle, start, array, len(numbers)))
 
     def next(self) -> Optional[Tuple[Operation, bytes]]:
         """What the run asks next, and its frame; None: it has ended. Asking again gives the same."""
         operation, frame, length = ctypes.c_uint32(), room_for(MOST_FRAME_BYTES), ctypes.c_size_t()
         with self._lock:
-            status = LIBRARY.wurst_agent_next(self._handle, operation, frame, MOST_FRAME_BYTES, length)
+            status = self._calls.next(self._handle, operation, frame, MOST_FRAME_BYTES, length)
         return (Operation(operation.value), bytes(frame[:length.value])) if given(status) else None
 
     def hear(self, reply: bytes) -> None:
         """Takes the bytes that the line answered; none are silence."""
         buffer, length = buffer_of(reply)
         with self._lock:
-            check(LIBRARY.wurst_agent_hear(self._handle, buffer, length))
+            check(self._calls.hear(self._handle, buffer, length))
 
     def fail(self) -> None:
         """Takes it that the line failed, which ends the run."""
         with self._lock:
-            check(LIBRARY.wurst_agent_fail(self._handle))
+            check(self._calls.fail(self._handle))
 
     def stop(self) -> None:
         """Ends the run with the fault ABORTED."""
         with self._lock:
-            check(LIBRARY.wurst_agent_stop(self._handle))
+            check(self._calls.stop(self._handle))
 
     def devices(self) -> Tuple[Device, ...]:
         """The devices found so far, ascending by UID."""
         forms, count = (DeviceForm * MOST_DEVICES)(), ctypes.c_size_t()
         with self._lock:
-            check(LIBRARY.wurst_agent_devices(self._handle, forms, MOST_DEVICES, count))
+            check(self._calls.devices(self._handle, forms, MOST_DEVICES, count))
         return devices_of(forms, count.value)
 
     def fault(self) -> Optional[RunFault]:
         """Why the run ended early; None if it didn't. Raises NotEnded before the end."""
         fault, corrupt = ctypes.c_uint32(), ctypes.c_uint64()
         with self._lock:
-            check(LIBRARY.wurst_agent_fault(self._handle, fault, corrupt))
+            check(self._calls.fault(self._handle, fault, corrupt))
         return run_fault(fault.value, corrupt.value)
 
     def frames(self) -> int:
         """How many exchanges the run has made."""
         frames = ctypes.c_uint64()
         with self._lock:
-            check(LIBRARY.wurst_agent_frames(self._handle, frames))
+            check(self._calls.frames(self._handle, frames))
         return frames.value
 
     def run(self, line: Line) -> Tuple[Device, ...]:

@@ -42,6 +42,14 @@ class DeviceForm(ctypes.Structure):
     _fields_ = [("uid", c_uint64), ("binding", c_uint64), ("control", c_uint16), ("has_binding", c_bool)]
 
 
+class EntryForm(ctypes.Structure):
+    _fields_ = [("number", c_uint64), ("run", c_uint64), ("corrupt", c_uint64), ("target", c_uint64), ("len", c_size_t),
+                ("joined", c_size_t), ("kind", c_uint32), ("call", c_uint32), ("owner", c_uint32),
+                ("discovery", c_uint32), ("status", c_uint32), ("fault", c_uint32), ("command_class", c_uint32),
+                ("sub_device", c_uint16), ("pid", c_uint16), ("client", c_uint8), ("places", c_uint8),
+                ("cause", c_uint8), ("has_client", c_bool), ("has_failed", c_bool)]
+
+
 class ResponseForm(ctypes.Structure):
     _fields_ = [("source", c_uint64), ("dest", c_uint64), ("len", c_size_t), ("ack", c_uint32),
                 ("response_class", c_uint32), ("sub_device", c_uint16), ("pid", c_uint16), ("tn", c_uint8),
@@ -67,29 +75,43 @@ _BYTES = POINTER(c_uint8)
 _LENGTH = POINTER(c_size_t)
 _HANDLE = POINTER(Handle)
 
+# The calls that controllers and sessions have in common.
+_QUEUE = {
+    "dispose": [_HANDLE],
+    "join": [_HANDLE, c_uint8, POINTER(c_uint8)],
+    "submit": [_HANDLE, c_uint8, POINTER(RequestForm), _BYTES, c_size_t, POINTER(c_uint64)],
+    "discover": [_HANDLE, c_uint8, c_uint32, POINTER(c_uint64)],
+    "pause": [_HANDLE],
+    "resume": [_HANDLE],
+    "close": [_HANDLE],
+    "take": [_HANDLE, _BYTES, c_size_t, _LENGTH],
+    "deliver": [_HANDLE, _BYTES, c_size_t],
+    "fail": [_HANDLE],
+    "oldest": [_HANDLE, c_uint8, POINTER(c_uint32)],
+    "next_completion": [_HANDLE, c_uint8, POINTER(CompletionForm), _BYTES, c_size_t],
+    "next_discovery": [_HANDLE, c_uint8, POINTER(EndForm), POINTER(DeviceForm), c_size_t],
+    "devices": [_HANDLE, POINTER(DeviceForm), c_size_t, _LENGTH],
+    "devices_run": [_HANDLE, POINTER(c_uint64)],
+    "is_idle": [_HANDLE, POINTER(c_bool)],
+    "is_paused": [_HANDLE, POINTER(c_bool)],
+    "is_closed": [_HANDLE, POINTER(c_bool)],
+    "awaits": [_HANDLE, POINTER(c_bool)],
+}
+
 # Each call, with the types of its arguments. All answer a status but _dispose.
 CALLS = {
     "wurst_version": [],
     "wurst_controller_open": [_HANDLE, POINTER(Setup)],
-    "wurst_controller_dispose": [_HANDLE],
-    "wurst_controller_join": [_HANDLE, c_uint8, POINTER(c_uint8)],
-    "wurst_controller_submit": [_HANDLE, c_uint8, POINTER(RequestForm), _BYTES, c_size_t, POINTER(c_uint64)],
-    "wurst_controller_discover": [_HANDLE, c_uint8, c_uint32, POINTER(c_uint64)],
-    "wurst_controller_pause": [_HANDLE],
-    "wurst_controller_resume": [_HANDLE],
-    "wurst_controller_close": [_HANDLE],
-    "wurst_controller_take": [_HANDLE, _BYTES, c_size_t, _LENGTH],
-    "wurst_controller_deliver": [_HANDLE, _BYTES, c_size_t],
-    "wurst_controller_fail": [_HANDLE],
-    "wurst_controller_oldest": [_HANDLE, c_uint8, POINTER(c_uint32)],
-    "wurst_controller_next_completion": [_HANDLE, c_uint8, POINTER(CompletionForm), _BYTES, c_size_t],
-    "wurst_controller_next_discovery": [_HANDLE, c_uint8, POINTER(EndForm), POINTER(DeviceForm), c_size_t],
-    "wurst_controller_devices": [_HANDLE, POINTER(DeviceForm), c_size_t, _LENGTH],
-    "wurst_controller_devices_run": [_HANDLE, POINTER(c_uint64)],
-    "wurst_controller_is_idle": [_HANDLE, POINTER(c_bool)],
-    "wurst_controller_is_paused": [_HANDLE, POINTER(c_bool)],
-    "wurst_controller_is_closed": [_HANDLE, POINTER(c_bool)],
-    "wurst_controller_awaits": [_HANDLE, POINTER(c_bool)],
+    **{"wurst_controller_" + name: types for name, types in _QUEUE.items()},
+    "wurst_session_open": [_HANDLE, POINTER(Setup), c_size_t],
+    **{"wurst_session_" + name: types for name, types in _QUEUE.items()},
+    "wurst_session_free_entries": [_HANDLE, _LENGTH],
+    "wurst_session_entry_count": [_HANDLE, _LENGTH],
+    "wurst_session_entry": [_HANDLE, c_size_t, POINTER(EntryForm), _BYTES, c_size_t],
+    "wurst_session_rotate": [_HANDLE, c_size_t, _HANDLE],
+    "wurst_log_dispose": [_HANDLE],
+    "wurst_log_entry_count": [_HANDLE, _LENGTH],
+    "wurst_log_entry": [_HANDLE, c_size_t, POINTER(EntryForm), _BYTES, c_size_t],
     "wurst_uid_read": [_BYTES, c_size_t, POINTER(c_uint64)],
     "wurst_uid_write": [c_uint64, _BYTES, c_size_t],
     "wurst_branch_reply_read": [_BYTES, c_size_t, POINTER(c_uint32), POINTER(c_uint64)],
@@ -163,6 +185,18 @@ class _Library:
 
 
 LIBRARY = _Library()
+
+
+class Calls:
+    """The calls on one kind of handle, by their names without the prefix."""
+
+    def __init__(self, prefix):
+        self._prefix = prefix
+
+    def __getattr__(self, name):
+        call = getattr(LIBRARY, self._prefix + name)
+        setattr(self, name, call)
+        return call
 
 
 def buffer_of(data: bytes):

@@ -6,7 +6,9 @@
 
 mod agents;
 mod controllers;
+mod logs;
 mod packets;
+mod sessions;
 
 /// The version of the interface: major times 1,000,000, minor times 1,000 and patch. The file `VERSION` has the same.
 #[unsafe(no_mangle)]

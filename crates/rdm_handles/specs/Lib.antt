@@ -5,3 +5,5 @@ pub mod Packets
 pub mod Agents
 pub mod Owned
 pub mod Rows
+pub mod Entries
+pub mod Sessions

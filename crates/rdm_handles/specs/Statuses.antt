@@ -53,6 +53,10 @@ data_too_long = 11
 abbrev pub reply_too_long : ℕ
 reply_too_long = 12
 
+-- the entries that the log is to have room for are more than 1,000,000
+abbrev pub too_many_entries : ℕ
+too_many_entries = 13
+
 -- the buffer is too small for what is to be written
 abbrev pub buffer_too_small : ℕ
 buffer_too_small = 14
@@ -92,6 +96,14 @@ not_asked = 22
 -- the client's oldest outcome is of the other kind
 abbrev pub other_outcome : ℕ
 other_outcome = 23
+
+-- the session isn't idle
+abbrev pub not_idle : ℕ
+not_idle = 24
+
+-- the log has no entry of this index
+abbrev pub no_entry : ℕ
+no_entry = 25
 
 -- the lower bound of a range is above the upper one
 abbrev pub bad_range : ℕ

@@ -159,6 +159,52 @@ pub struct StartForC {
     pub tn: u8,
 }
 
+/// An entry of a log but its bytes. What its kind doesn't have is 0.
+#[repr(C)]
+#[derive(Clone, Copy)]
+pub struct EntryForC {
+    /// The request's number, or the discovery's.
+    pub number: u64,
+    /// The number of the run that was sent a frame for, or that served a discovery; 0 where none was begun for it.
+    pub run: u64,
+    /// The UID of fault 1; else 0.
+    pub corrupt: u64,
+    /// A request's device, or a broadcast UID.
+    pub target: u64,
+    /// How many bytes there are: of a frame, a reply or a request's parameter data.
+    pub len: usize,
+    /// How many bytes the joined data of a finished request have.
+    pub joined: usize,
+    /// 0 Join, 1 Refuse, 2 Accept, 3 Ask, 4 Send, 5 Came, 6 Finish, 7 Answer, 8 Collect, 9 Pause, 10 Resume, 11 Close.
+    pub kind: u32,
+    /// What was refused: 0 a join, 1 a submit, 2 a discover.
+    pub call: u32,
+    /// Whose frame it is: 0 a request's, 1 a run's.
+    pub owner: u32,
+    /// What a discovery asks for: 0 full, 1 incremental.
+    pub discovery: u32,
+    /// How a request ended: the number of its status, 0 to 18.
+    pub status: u32,
+    /// Why a run ended early: 0 it didn't, 1 to 5 the number of its fault.
+    pub fault: u32,
+    /// A request's class: 0 GET, 1 SET.
+    pub command_class: u32,
+    /// A request's sub-device.
+    pub sub_device: u16,
+    /// A request's parameter.
+    pub pid: u16,
+    /// The client.
+    pub client: u8,
+    /// The places of a client that joined or was refused.
+    pub places: u8,
+    /// Why a call was refused: the number of its fault, from 1.
+    pub cause: u8,
+    /// Whether there is a client.
+    pub has_client: bool,
+    /// Whether the line failed, in place of a reply.
+    pub has_failed: bool,
+}
+
 // What the header says of their sizes.
 const _: () = prove!(size_of::<SetupForC>() == 24);
 
@@ -177,3 +223,5 @@ const _: () = prove!(size_of::<CommandForC>() == 56);
 const _: () = prove!(size_of::<MuteAckForC>() == 16);
 
 const _: () = prove!(size_of::<StartForC>() == 32);
+
+const _: () = prove!(size_of::<EntryForC>() == 88);

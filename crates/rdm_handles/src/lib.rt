@@ -1,4 +1,4 @@
-//! What C holds and hands over: handles of controllers and of runs of discovery, and structs of numbers.
+//! What C holds and hands over: handles of controllers, sessions, logs and runs of discovery, and structs of numbers.
 //!
 //! A handle is 16 bytes in the memory of its C program. It owns a value on the heap while it is open.
 #![tactic(auto)]
@@ -9,15 +9,21 @@ mod controller;
 pub mod controllers;
 pub mod convert;
 mod discovery;
+pub mod entries;
 mod forms;
+mod log;
 mod loose;
 pub mod packets;
+mod session;
+pub mod sessions;
 pub mod status;
 
 pub use agent::AgentHandle;
 pub use controller::ControllerHandle;
 pub use discovery::Discovery;
 pub use forms::{
-    CommandForC, CompletionForC, DeviceForC, EndForC, MuteAckForC, RequestForC, ResponseForC,
-    SetupForC, StartForC,
+    CommandForC, CompletionForC, DeviceForC, EndForC, EntryForC, MuteAckForC, RequestForC,
+    ResponseForC, SetupForC, StartForC,
 };
+pub use log::LogHandle;
+pub use session::SessionHandle;

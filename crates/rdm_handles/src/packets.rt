@@ -212,8 +212,8 @@ pub fn command_for_c(command: &Command, source: Uid, tn: u8) -> CommandForC
     form
 }
 
-// The number of a request's class: 0 GET, 1 SET.
-fn number_of_request(class: ReqClass) -> u32
+/// The number of a request's class: 0 GET, 1 SET.
+pub(crate) fn number_of_request(class: ReqClass) -> u32
     ensures { result ≡ number_of_request class }
 {
     match class {

@@ -39,6 +39,9 @@ pub const DATA_TOO_LONG: u32 = 11;
 /// The reply has more than 257 bytes.
 pub const REPLY_TOO_LONG: u32 = 12;
 
+/// The entries that the log is to have room for are more than 1,000,000.
+pub const TOO_MANY_ENTRIES: u32 = 13;
+
 /// The buffer is too small for what is to be written.
 pub const BUFFER_TOO_SMALL: u32 = 14;
 
@@ -68,6 +71,12 @@ pub const NOT_ASKED: u32 = 22;
 
 /// The client's oldest outcome is of the other kind.
 pub const OTHER_OUTCOME: u32 = 23;
+
+/// The session isn't idle.
+pub const NOT_IDLE: u32 = 24;
+
+/// The log has no entry of this index.
+pub const NO_ENTRY: u32 = 25;
 
 /// The lower bound of a range is above the upper one.
 pub const BAD_RANGE: u32 = 26;

@@ -1,0 +1,84 @@
+"""A queue with a log of all that it does."""
+
+import ctypes
+from typing import Tuple
+
+from ._faults import check
+from ._held import Held
+from ._library import Calls, EntryForm, room_for
+from ._queue import Queue, setup_of
+from ._types import DEFAULT_BUDGET, MOST_FRAME_BYTES, MOST_PLACES, Search, Uid, whole
+from .entries import Entry, entry_in
+
+
+class _Entries(Held):
+    """What sessions and logs have in common: entries."""
+
+    def _count(self) -> int:
+        count = ctypes.c_size_t()
+        check(self._calls.entry_count(self._handle, count))
+        return count.value
+
+    def _entry(self, index: int) -> Entry:
+        form, data = EntryForm(), room_for(MOST_FRAME_BYTES)
+        check(self._calls.entry(self._handle, index, form, data, MOST_FRAME_BYTES))
+        return entry_in(form, bytes(data[:form.len]))
+
+    def entry_count(self) -> int:
+        """How many entries the log has."""
+        with self._lock:
+            return self._count()
+
+    def entry(self, index: int) -> Entry:
+        """The entry of this index, counted from 0, oldest first. Raises NoEntry."""
+        whole(index, 64, "index")
+        with self._lock:
+            return self._entry(index)
+
+    def entries(self, start: int = 0) -> Tuple[Entry, ...]:
+        """The entries from this index on, oldest first."""
+        whole(start, 64, "index")
+        with self._lock:
+            return tuple(self._entry(index) for index in range(start, self._count()))
+
+
+class Log(_Entries):
+    """The log of a session that went on with a fresh one. It is made by `Session.rotate`.
+
+    Calls may be made from any thread: each holds a lock of this object. It is a context manager, which disposes of it.
+    """
+
+    _calls = Calls("wurst_log_")
+
+
+class Session(Queue, _Entries):
+    """A queue with a log, which has room for a fixed number of entries.
+
+    A request takes 5 entries, and 2 for each further frame. A discovery takes 3, and its run 2 for each frame. With
+    fewer than three free entries, calls raise LogFull; replies, closes and collects always fit.
+    """
+
+    _calls = Calls("wurst_session_")
+
+    def __init__(self, source: Uid, entries: int = 10_000, places: int = MOST_PLACES, *, budget: int = DEFAULT_BUDGET,
+                 search: Search = Search.STEADY) -> None:
+        super().__init__()
+        setup = setup_of(source, places, budget, search)
+        check(self._calls.open(self._handle, setup, whole(entries, 64, "entries")))
+
+    def free_entries(self) -> int:
+        """How many entries are free: neither taken nor reserved for what has to be logged later."""
+        count = ctypes.c_size_t()
+        with self._lock:
+            check(self._calls.free_entries(self._handle, count))
+        return count.value
+
+    def rotate(self, entries: int = 10_000) -> Log:
+        """Goes on with a fresh log with room for this many entries, and gives the old one.
+
+        Raises NotIdle, LogFull for fewer than three entries, TooManyEntries or OutOfMemory.
+        """
+        log = Log()
+        with self._lock:
+            check(self._calls.rotate(self._handle, whole(entries, 64, "entries"), log._handle))
+        return log

@@ -1,0 +1,192 @@
+//! The calls of C on the logs of sessions: how many entries there are and are free, each entry, and a fresh log.
+ghost use Rattle.std.specs.Prelude.{◌≡◌, ◌≢◌, ◌+◌, ◌⊎◌, [], length, take, true, false, Some, slice_get};
+ghost use Rattle.rdm_log.specs.declared.entry.Entry.{Entry};
+ghost use Rattle.rdm_log.specs.log.LogState.{free_entries, opening_after};
+ghost use Rattle.rdm_log.specs.log.Legal.{Legal};
+ghost use Rattle.rdm_log.specs.promises.Promised.{Promised};
+ghost use Rattle.rdm_handles.specs.Entries.{entry_status, form_of_entry, bytes_of_entry};
+ghost use Rattle.rdm_handles.specs.Sessions.{rotate_status};
+
+use rdm_handles::status::{
+    ALREADY_OPEN, BUFFER_TOO_SMALL, DONE, NO_ENTRY, NOT_OPEN, OUT_OF_MEMORY,
+};
+use rdm_handles::{EntryForC, LogHandle, SessionHandle, entries, sessions};
+use std::alloc::Global;
+
+/// Writes how many entries of the log are free: those that it has room for, less those that it has and those that are
+/// reserved.
+#[unsafe(no_mangle)]
+pub extern "C" fn wurst_session_free_entries(
+    alloc: Global,
+    handle: &mut SessionHandle,
+    count: &mut usize,
+) -> u32
+    ensures not_open { handle.old.is_open ≡ false → (result ≡ NOT_OPEN) × (count.new ≡ count.old) }
+    ensures stays { handle.new.is_open ≡ handle.old.is_open }
+    ensures same { handle.old.is_open ≡ true → (result ≡ DONE) × (handle.new.value ≡ handle.old.value) }
+    ensures count { handle.old.is_open ≡ true → count.new ≡ free_entries handle.old.value }
+{
+    let Some(session) = handle.take(alloc) else {
+        return NOT_OPEN;
+    };
+    *count = session.free();
+    handle.put(session);
+    DONE
+}
+
+/// Writes how many entries the log has. It is legal, and keeps all that clients are promised.
+#[unsafe(no_mangle)]
+pub extern "C" fn wurst_session_entry_count(
+    alloc: Global,
+    handle: &mut SessionHandle,
+    count: &mut usize,
+) -> u32
+    ensures not_open { handle.old.is_open ≡ false → (result ≡ NOT_OPEN) × (count.new ≡ count.old) }
+    ensures stays { handle.new.is_open ≡ handle.old.is_open }
+    ensures same { handle.old.is_open ≡ true → (result ≡ DONE) × (handle.new.value ≡ handle.old.value) }
+    ensures count { handle.old.is_open ≡ true → count.new ≡ length handle.old.value.entries }
+    ensures legal { handle.old.is_open ≡ true → Legal handle.old.value.opening handle.old.value.entries }
+    ensures promised { handle.old.is_open ≡ true → Promised handle.old.value }
+{
+    let Some(session) = handle.take(alloc) else {
+        return NOT_OPEN;
+    };
+    *count = session.log().entries().len();
+    handle.put(session);
+    DONE
+}
+
+/// Writes the log's entry of this index, from 0, with its bytes at the front of a buffer. `BUFFER_TOO_SMALL` writes how
+/// many bytes it needs into `len`.
+#[unsafe(no_mangle)]
+pub extern "C" fn wurst_session_entry(
+    alloc: Global,
+    handle: &mut SessionHandle,
+    index: usize,
+    entry: &mut EntryForC,
+    buffer: &mut [u8],
+) -> u32
+    ensures not_open { handle.old.is_open ≡ false → (result ≡ NOT_OPEN) × (entry.new ≡ entry.old)
+        × (buffer.new ≡ buffer.old) }
+    ensures stays { handle.new.is_open ≡ handle.old.is_open }
+    ensures same { handle.old.is_open ≡ true → handle.new.value ≡ handle.old.value }
+    ensures status { handle.old.is_open ≡ true →
+        result ≡ entry_status handle.old.value.entries index (length buffer.old) }
+    ensures needed { handle.old.is_open ≡ true → (e : Entry) → slice_get handle.old.value.entries index ≡ Some e →
+        result ≡ BUFFER_TOO_SMALL → entry.new.len ≡ length (bytes_of_entry e) }
+    ensures written { handle.old.is_open ≡ true → (e : Entry) → slice_get handle.old.value.entries index ≡ Some e →
+        result ≡ DONE → (entry.new ≡ form_of_entry e) × (take entry.new.len buffer.new ≡ bytes_of_entry e) }
+    ensures none { handle.old.is_open ≡ true → result ≡ NO_ENTRY → entry.new ≡ entry.old }
+    ensures unchanged { handle.old.is_open ≡ true → result ≢ DONE → buffer.new ≡ buffer.old }
+{
+    let Some(session) = handle.take(alloc) else {
+        return NOT_OPEN;
+    };
+    let status = entries::read(session.log(), index, entry, buffer);
+    handle.put(session);
+    status
+}
+
+/// Goes on with a fresh log with room for this many entries, and opens a closed handle of the old one.
+#[unsafe(no_mangle)]
+pub extern "C" fn wurst_session_rotate(
+    alloc: Global,
+    handle: &mut SessionHandle,
+    entries: usize,
+    log: &mut LogHandle,
+) -> u32
+    ensures not_open { handle.old.is_open ≡ false → (result ≡ NOT_OPEN) × (log.new.is_open ≡ log.old.is_open) }
+    ensures stays { handle.new.is_open ≡ handle.old.is_open }
+    ensures already { handle.old.is_open ≡ true → log.old.is_open ≡ true → result ≡ ALREADY_OPEN }
+    ensures bad { handle.old.is_open ≡ true → log.old.is_open ≡ false → rotate_status handle.old.value entries ≢ 0 →
+        result ≡ rotate_status handle.old.value entries }
+    ensures rotates { handle.old.is_open ≡ true → log.old.is_open ≡ false →
+        rotate_status handle.old.value entries ≡ 0 → (result ≡ OUT_OF_MEMORY) ⊎ (result ≡ DONE) }
+    ensures rotated { handle.old.is_open ≡ true → result ≡ DONE → handle.new.value ≡ record {
+      opening = opening_after handle.old.value.opening handle.old.value.entries;
+      entries = [];
+      room = entries + 1;
+      search = handle.old.value.search;
+    } }
+    ensures handed_back { handle.old.is_open ≡ true → result ≡ DONE →
+        (log.new.is_open ≡ true) × (log.new.value ≡ handle.old.value) }
+    ensures unchanged { handle.old.is_open ≡ true → result ≢ DONE →
+        (handle.new.value ≡ handle.old.value) × (log.new.is_open ≡ log.old.is_open) }
+    ensures kept { log.old.is_open ≡ true → log.new.value ≡ log.old.value }
+{
+    let Some(mut session) = handle.take(alloc) else {
+        return NOT_OPEN;
+    };
+    if let Some(held) = log.take(alloc) {
+        log.put(held);
+        handle.put(session);
+        return ALREADY_OPEN;
+    }
+    let rotated = sessions::rotate(&mut session, alloc, entries);
+    handle.put(session);
+    match rotated {
+        Ok(held) => {
+            log.put(held);
+            DONE
+        }
+        Err(fault) => fault,
+    }
+}
+
+/// Frees the log of an open handle; the handle is closed then. Without effect on a closed one.
+#[unsafe(no_mangle)]
+pub extern "C" fn wurst_log_dispose(alloc: Global, handle: &mut LogHandle)
+    ensures closed { handle.new.is_open ≡ false }
+{
+    drop(handle.take(alloc));
+}
+
+/// Writes how many entries the log has.
+#[unsafe(no_mangle)]
+pub extern "C" fn wurst_log_entry_count(
+    alloc: Global,
+    handle: &mut LogHandle,
+    count: &mut usize,
+) -> u32
+    ensures not_open { handle.old.is_open ≡ false → (result ≡ NOT_OPEN) × (count.new ≡ count.old) }
+    ensures stays { handle.new.is_open ≡ handle.old.is_open }
+    ensures same { handle.old.is_open ≡ true → (result ≡ DONE) × (handle.new.value ≡ handle.old.value) }
+    ensures count { handle.old.is_open ≡ true → count.new ≡ length handle.old.value.entries }
+{
+    let Some(log) = handle.take(alloc) else {
+        return NOT_OPEN;
+    };
+    *count = log.entries().len();
+    handle.put(log);
+    DONE
+}
+
+/// Writes the log's entry of this index, as `wurst_session_entry` does.
+#[unsafe(no_mangle)]
+pub extern "C" fn wurst_log_entry(
+    alloc: Global,
+    handle: &mut LogHandle,
+    index: usize,
+    entry: &mut EntryForC,
+    buffer: &mut [u8],
+) -> u32
+    ensures not_open { handle.old.is_open ≡ false → (result ≡ NOT_OPEN) × (entry.new ≡ entry.old)
+        × (buffer.new ≡ buffer.old) }
+    ensures stays { handle.new.is_open ≡ handle.old.is_open }
+    ensures same { handle.old.is_open ≡ true → handle.new.value ≡ handle.old.value }
+    ensures status { handle.old.is_open ≡ true →
+        result ≡ entry_status handle.old.value.entries index (length buffer.old) }
+    ensures needed { handle.old.is_open ≡ true → (e : Entry) → slice_get handle.old.value.entries index ≡ Some e →
+        result ≡ BUFFER_TOO_SMALL → entry.new.len ≡ length (bytes_of_entry e) }
+    ensures written { handle.old.is_open ≡ true → (e : Entry) → slice_get handle.old.value.entries index ≡ Some e →
+        result ≡ DONE → (entry.new ≡ form_of_entry e) × (take entry.new.len buffer.new ≡ bytes_of_entry e) }
+    ensures none { handle.old.is_open ≡ true → result ≡ NO_ENTRY → entry.new ≡ entry.old }
+    ensures unchanged { handle.old.is_open ≡ true → result ≢ DONE → buffer.new ≡ buffer.old }
+{
+    let Some(log) = handle.take(alloc) else {
+        return NOT_OPEN;
+    };
+    let status = entries::read(&log, index, entry, buffer);
+    handle.put(log);
+    status
+}

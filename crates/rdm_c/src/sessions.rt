@@ -1,0 +1,512 @@
+//! The calls of C on sessions. Each is the library's call of that name, on what the handle holds.
+ghost use Rattle.std.specs.Prelude.{◌≡◌, ◌≢◌, ◌≤◌, ◌<◌, ◌+◌, ◌⊎◌, ℕ, length, take, map, true, false, Some, None, Ok};
+ghost use Rattle.std.specs.Prelude.{if◌then◌else◌, nat_lt, List};
+ghost use Rattle.arrayvec.specs.ArrayVec.{ArrayVec as Bytes};
+ghost use Rattle.rdm_wire.specs.declared.device.Device.{Device};
+ghost use Rattle.rdm_join.specs.declared.event.LineEvent.TheVariants.{Reply, Failed};
+ghost use Rattle.rdm_log.specs.declared.entry.ClientId.{ClientId};
+ghost use Rattle.rdm_log.specs.declared.outcome.Completion.{Completion};
+ghost use Rattle.rdm_log.specs.declared.outcome.DiscoveryEnd.{DiscoveryEnd};
+ghost use Rattle.rdm_log.specs.declared.outcome.OutcomeKind.TheVariants as kinds;
+ghost use Rattle.rdm_log.specs.log.History.{awaited, is_idle, is_paused, is_closed};
+ghost use Rattle.rdm_log.specs.log.Legal.{Legal};
+ghost use Rattle.rdm_log.specs.log.LogState.{is_full_log, begun, blank_log};
+ghost use Rattle.rdm_log.specs.log.Runs.{known_devices, devices_run};
+ghost use Rattle.rdm_log.specs.promises.Blocks.{JoinLogs, SubmitLogs, DiscoverLogs, PauseLogs, ResumeLogs, TakeLogs};
+ghost use Rattle.rdm_log.specs.promises.Blocks.{CloseAdds, DeliverAdds, CollectAdds, GrowsBy};
+ghost use Rattle.rdm_log.specs.promises.Outcomes.{oldest_kind, request_outcome, discovery_outcome};
+ghost use Rattle.rdm_queue.specs.promises.Lengths.{oldest_length};
+ghost use Rattle.rdm_handles.specs.Forms.{setup_of, request_status, request_of, kind_of};
+ghost use Rattle.rdm_handles.specs.Forms.{form_of_completion, form_of_end, form_of_device};
+ghost use Rattle.rdm_handles.specs.Answers.{join_answer, submit_answer, ask_answer, collect_status, oldest_status};
+ghost use Rattle.rdm_handles.specs.Answers.{outcome_kind_of};
+ghost use Rattle.rdm_handles.specs.Sessions.{open_status, full_status};
+
+use rdm_handles::status::{
+    ALREADY_OPEN, BAD_KIND, BUFFER_TOO_SMALL, DONE, LOG_FULL, NOT_ASKED, NOT_OPEN, NOTHING,
+    OUT_OF_MEMORY, REPLY_TOO_LONG,
+};
+use rdm_handles::{
+    CompletionForC, DeviceForC, EndForC, RequestForC, SessionHandle, SetupForC, controllers,
+    sessions,
+};
+use rdm_join::LineEvent;
+use std::alloc::Global;
+
+/// Opens a handle: a session that is set up so, without clients, with a log with room for this many entries.
+#[unsafe(no_mangle)]
+pub extern "C" fn wurst_session_open(
+    alloc: Global,
+    handle: &mut SessionHandle,
+    setup: &SetupForC,
+    entries: usize,
+) -> u32
+    ensures already { handle.old.is_open ≡ true → (result ≡ ALREADY_OPEN) × (handle.new.is_open ≡ true)
+        × (handle.new.value ≡ handle.old.value) }
+    ensures bad { handle.old.is_open ≡ false → open_status setup.now entries ≢ 0 →
+        result ≡ open_status setup.now entries }
+    ensures opens { handle.old.is_open ≡ false → open_status setup.now entries ≡ 0 →
+        (result ≡ OUT_OF_MEMORY) ⊎ (result ≡ DONE) }
+    ensures opened { result ≡ DONE → (handle.new.is_open ≡ true)
+        × (handle.new.value ≡ begun (setup_of setup.now) (blank_log (entries + 1))) }
+    ensures refused { result ≢ DONE → handle.new.is_open ≡ handle.old.is_open }
+{
+    if let Some(session) = handle.take(alloc) {
+        handle.put(session);
+        return ALREADY_OPEN;
+    }
+    let session = match sessions::open(alloc, setup, entries) {
+        Ok(session) => session,
+        Err(fault) => return fault,
+    };
+    let Ok(boxed) = Box::new(alloc, session) else {
+        return OUT_OF_MEMORY;
+    };
+    handle.put(boxed);
+    DONE
+}
+
+/// Ends the session of an open handle and frees its memory, its log's too; the handle is closed then. Without effect
+/// on a closed one.
+#[unsafe(no_mangle)]
+pub extern "C" fn wurst_session_dispose(alloc: Global, handle: &mut SessionHandle)
+    ensures closed { handle.new.is_open ≡ false }
+{
+    drop(handle.take(alloc));
+}
+
+/// Lets a client join with this many places, and writes its number.
+#[unsafe(no_mangle)]
+pub extern "C" fn wurst_session_join(
+    alloc: Global,
+    handle: &mut SessionHandle,
+    places: u8,
+    client: &mut u8,
+) -> u32
+    ensures not_open { handle.old.is_open ≡ false → (result ≡ NOT_OPEN) × (client.new ≡ client.old) }
+    ensures stays { handle.new.is_open ≡ handle.old.is_open }
+    ensures adds { handle.old.is_open ≡ true → GrowsBy handle.old.value
+        (JoinLogs handle.old.value places (join_answer result client.new)) handle.new.value }
+    ensures legal { handle.old.is_open ≡ true → Legal handle.new.value.opening handle.new.value.entries }
+    ensures unchanged { handle.old.is_open ≡ true → result ≢ DONE → client.new ≡ client.old }
+{
+    let Some(mut session) = handle.take(alloc) else {
+        return NOT_OPEN;
+    };
+    let status = sessions::join(&mut session, alloc, places, client);
+    handle.put(session);
+    status
+}
+
+/// Accepts a client's request with these parameter data, and writes its number.
+#[unsafe(no_mangle)]
+pub extern "C" fn wurst_session_submit(
+    alloc: Global,
+    handle: &mut SessionHandle,
+    client: u8,
+    request: &RequestForC,
+    param_bytes: &[u8],
+    number: &mut u64,
+) -> u32
+    ensures not_open { handle.old.is_open ≡ false → (result ≡ NOT_OPEN) × (number.new ≡ number.old) }
+    ensures stays { handle.new.is_open ≡ handle.old.is_open }
+    ensures bad { handle.old.is_open ≡ true → request_status request.now param_bytes.now ≢ 0 →
+        (result ≡ request_status request.now param_bytes.now) × (handle.new.value ≡ handle.old.value) }
+    ensures adds { handle.old.is_open ≡ true → request_status request.now param_bytes.now ≡ 0 →
+        GrowsBy handle.old.value
+        (SubmitLogs handle.old.value (record { 0 = client }) (request_of request.now param_bytes.now)
+        (submit_answer result number.new (request_of request.now param_bytes.now))) handle.new.value }
+    ensures legal { handle.old.is_open ≡ true → request_status request.now param_bytes.now ≡ 0 →
+        Legal handle.new.value.opening handle.new.value.entries }
+    ensures unchanged { handle.old.is_open ≡ true → result ≢ DONE → number.new ≡ number.old }
+{
+    let Some(mut session) = handle.take(alloc) else {
+        return NOT_OPEN;
+    };
+    let status = sessions::submit(&mut session, client, request, param_bytes, number);
+    handle.put(session);
+    status
+}
+
+/// Accepts a client's discovery, 0 full or 1 incremental, and writes its number.
+#[unsafe(no_mangle)]
+pub extern "C" fn wurst_session_discover(
+    alloc: Global,
+    handle: &mut SessionHandle,
+    client: u8,
+    kind: u32,
+    number: &mut u64,
+) -> u32
+    ensures not_open { handle.old.is_open ≡ false → (result ≡ NOT_OPEN) × (number.new ≡ number.old) }
+    ensures stays { handle.new.is_open ≡ handle.old.is_open }
+    ensures bad { handle.old.is_open ≡ true → 1 < kind →
+        (result ≡ BAD_KIND) × (handle.new.value ≡ handle.old.value) }
+    ensures adds { handle.old.is_open ≡ true → kind ≤ 1 → GrowsBy handle.old.value
+        (DiscoverLogs handle.old.value (record { 0 = client }) (kind_of kind) (ask_answer result number.new))
+        handle.new.value }
+    ensures legal { handle.old.is_open ≡ true → kind ≤ 1 →
+        Legal handle.new.value.opening handle.new.value.entries }
+    ensures unchanged { handle.old.is_open ≡ true → result ≢ DONE → number.new ≡ number.old }
+{
+    let Some(mut session) = handle.take(alloc) else {
+        return NOT_OPEN;
+    };
+    let status = sessions::discover(&mut session, client, kind, number);
+    handle.put(session);
+    status
+}
+
+/// Begins no run and sends no request until `wurst_session_resume`.
+#[unsafe(no_mangle)]
+pub extern "C" fn wurst_session_pause(alloc: Global, handle: &mut SessionHandle) -> u32
+    ensures not_open { handle.old.is_open ≡ false → (result ≡ NOT_OPEN) }
+    ensures stays { handle.new.is_open ≡ handle.old.is_open }
+    ensures status { handle.old.is_open ≡ true → result ≡ full_status handle.old.value }
+    ensures adds { handle.old.is_open ≡ true → result ≡ DONE →
+        GrowsBy handle.old.value (PauseLogs handle.old.value (Ok tt)) handle.new.value }
+    ensures legal { handle.old.is_open ≡ true → Legal handle.new.value.opening handle.new.value.entries }
+    ensures unchanged { handle.old.is_open ≡ true → result ≢ DONE → handle.new.value ≡ handle.old.value }
+{
+    let Some(mut session) = handle.take(alloc) else {
+        return NOT_OPEN;
+    };
+    let status = sessions::pause(&mut session);
+    handle.put(session);
+    status
+}
+
+/// Begins runs and sends requests again.
+#[unsafe(no_mangle)]
+pub extern "C" fn wurst_session_resume(alloc: Global, handle: &mut SessionHandle) -> u32
+    ensures not_open { handle.old.is_open ≡ false → (result ≡ NOT_OPEN) }
+    ensures stays { handle.new.is_open ≡ handle.old.is_open }
+    ensures status { handle.old.is_open ≡ true → result ≡ full_status handle.old.value }
+    ensures adds { handle.old.is_open ≡ true → result ≡ DONE →
+        GrowsBy handle.old.value (ResumeLogs handle.old.value (Ok tt)) handle.new.value }
+    ensures legal { handle.old.is_open ≡ true → Legal handle.new.value.opening handle.new.value.entries }
+    ensures unchanged { handle.old.is_open ≡ true → result ≢ DONE → handle.new.value ≡ handle.old.value }
+{
+    let Some(mut session) = handle.take(alloc) else {
+        return NOT_OPEN;
+    };
+    let status = sessions::resume(&mut session);
+    handle.put(session);
+    status
+}
+
+/// Refuses all later joins, submits and discovers, and sends nothing more.
+#[unsafe(no_mangle)]
+pub extern "C" fn wurst_session_close(alloc: Global, handle: &mut SessionHandle) -> u32
+    ensures not_open { handle.old.is_open ≡ false → (result ≡ NOT_OPEN) }
+    ensures stays { handle.new.is_open ≡ handle.old.is_open }
+    ensures adds { handle.old.is_open ≡ true → (result ≡ DONE)
+        × GrowsBy handle.old.value (CloseAdds handle.old.value.opening handle.old.value.entries) handle.new.value }
+    ensures legal { handle.old.is_open ≡ true → Legal handle.new.value.opening handle.new.value.entries }
+{
+    let Some(mut session) = handle.take(alloc) else {
+        return NOT_OPEN;
+    };
+    session.close();
+    handle.put(session);
+    DONE
+}
+
+/// Writes the next frame for the line at the front of a buffer of 257 bytes, and how many bytes it has.
+#[unsafe(no_mangle)]
+pub extern "C" fn wurst_session_take(
+    alloc: Global,
+    handle: &mut SessionHandle,
+    frame: &mut [u8],
+    len: &mut usize,
+) -> u32
+    ensures not_open { handle.old.is_open ≡ false → (result ≡ NOT_OPEN) × (len.new ≡ len.old)
+        × (frame.new ≡ frame.old) }
+    ensures stays { handle.new.is_open ≡ handle.old.is_open }
+    ensures small { handle.old.is_open ≡ true → length frame.old < 257 → result ≡ BUFFER_TOO_SMALL }
+    ensures given { handle.old.is_open ≡ true → result ≡ DONE →
+        (sent : Bytes ℕ) × (take len.new frame.new ≡ sent.items)
+        × GrowsBy handle.old.value (TakeLogs handle.old.value (Ok (Some sent))) handle.new.value }
+    ensures nothing { handle.old.is_open ≡ true → result ≡ NOTHING →
+        GrowsBy handle.old.value (TakeLogs handle.old.value (Ok None)) handle.new.value }
+    ensures full { handle.old.is_open ≡ true → result ≡ LOG_FULL → is_full_log handle.old.value ≡ true }
+    ensures statuses { handle.old.is_open ≡ true →
+        (result ≡ BUFFER_TOO_SMALL) ⊎ ((result ≡ NOTHING) ⊎ ((result ≡ LOG_FULL) ⊎ (result ≡ DONE))) }
+    ensures legal { handle.old.is_open ≡ true → 257 ≤ length frame.old →
+        Legal handle.new.value.opening handle.new.value.entries }
+    ensures unchanged { handle.old.is_open ≡ true → result ≢ DONE →
+        (handle.new.value ≡ handle.old.value) × (len.new ≡ len.old) × (frame.new ≡ frame.old) }
+{
+    let Some(mut session) = handle.take(alloc) else {
+        return NOT_OPEN;
+    };
+    let status = sessions::take(&mut session, frame, len);
+    handle.put(session);
+    status
+}
+
+/// Takes the bytes that the line answered to the last frame; none are silence.
+#[unsafe(no_mangle)]
+pub extern "C" fn wurst_session_deliver(
+    alloc: Global,
+    handle: &mut SessionHandle,
+    reply: &[u8],
+) -> u32
+    ensures not_open { handle.old.is_open ≡ false → (result ≡ NOT_OPEN) }
+    ensures stays { handle.new.is_open ≡ handle.old.is_open }
+    ensures long { handle.old.is_open ≡ true → 257 < length reply.now → result ≡ REPLY_TOO_LONG }
+    ensures heard { handle.old.is_open ≡ true → result ≡ DONE → GrowsBy handle.old.value
+        (DeliverAdds handle.old.value (Reply (record { items = reply.now })) (Ok tt)) handle.new.value }
+    ensures not_asked { handle.old.is_open ≡ true → result ≡ NOT_ASKED → awaited handle.old.value.entries ≡ false }
+    ensures legal { handle.old.is_open ≡ true → length reply.now ≤ 257 →
+        Legal handle.new.value.opening handle.new.value.entries }
+    ensures unchanged { handle.old.is_open ≡ true → result ≢ DONE → handle.new.value ≡ handle.old.value }
+{
+    let Some(mut session) = handle.take(alloc) else {
+        return NOT_OPEN;
+    };
+    let status = sessions::deliver(&mut session, alloc, reply);
+    handle.put(session);
+    status
+}
+
+/// Takes it that the line failed at the last frame.
+#[unsafe(no_mangle)]
+pub extern "C" fn wurst_session_fail(alloc: Global, handle: &mut SessionHandle) -> u32
+    ensures not_open { handle.old.is_open ≡ false → (result ≡ NOT_OPEN) }
+    ensures stays { handle.new.is_open ≡ handle.old.is_open }
+    ensures heard { handle.old.is_open ≡ true → result ≡ DONE →
+        GrowsBy handle.old.value (DeliverAdds handle.old.value Failed (Ok tt)) handle.new.value }
+    ensures not_asked { handle.old.is_open ≡ true → result ≡ NOT_ASKED → awaited handle.old.value.entries ≡ false }
+    ensures legal { handle.old.is_open ≡ true → Legal handle.new.value.opening handle.new.value.entries }
+    ensures unchanged { handle.old.is_open ≡ true → result ≢ DONE → handle.new.value ≡ handle.old.value }
+{
+    let Some(mut session) = handle.take(alloc) else {
+        return NOT_OPEN;
+    };
+    let status = sessions::hear(&mut session, alloc, LineEvent::Failed);
+    handle.put(session);
+    status
+}
+
+/// Writes of which kind a client's oldest outcome is: 0 a request's, 1 a discovery's.
+#[unsafe(no_mangle)]
+pub extern "C" fn wurst_session_oldest(
+    alloc: Global,
+    handle: &mut SessionHandle,
+    client: u8,
+    kind: &mut u32,
+) -> u32
+    ensures not_open { handle.old.is_open ≡ false → (result ≡ NOT_OPEN) × (kind.new ≡ kind.old) }
+    ensures stays { handle.new.is_open ≡ handle.old.is_open }
+    ensures same { handle.old.is_open ≡ true → handle.new.value ≡ handle.old.value }
+    ensures status { handle.old.is_open ≡ true →
+        result ≡ oldest_status handle.old.value.opening handle.old.value.entries client }
+    ensures kind { handle.old.is_open ≡ true → result ≡ DONE →
+        oldest_kind handle.old.value.opening handle.old.value.entries client ≡ Some (outcome_kind_of kind.new) }
+    ensures unchanged { handle.old.is_open ≡ true → result ≢ DONE → kind.new ≡ kind.old }
+{
+    let Some(session) = handle.take(alloc) else {
+        return NOT_OPEN;
+    };
+    let status = sessions::oldest(&session, client, kind);
+    handle.put(session);
+    status
+}
+
+/// Collects a client's oldest outcome where that is a request's, and writes how it ended, with its data at the front of
+/// a buffer. `BUFFER_TOO_SMALL` writes how many bytes it needs into `len`.
+#[unsafe(no_mangle)]
+pub extern "C" fn wurst_session_next_completion(
+    alloc: Global,
+    handle: &mut SessionHandle,
+    client: u8,
+    completion: &mut CompletionForC,
+    buffer: &mut [u8],
+) -> u32
+    ensures not_open { handle.old.is_open ≡ false → (result ≡ NOT_OPEN) × (completion.new ≡ completion.old)
+        × (buffer.new ≡ buffer.old) }
+    ensures stays { handle.new.is_open ≡ handle.old.is_open }
+    ensures status { handle.old.is_open ≡ true → result ≡ collect_status handle.old.value.opening
+        handle.old.value.entries client kinds.Request (length buffer.old) }
+    ensures needed { handle.old.is_open ≡ true → result ≡ BUFFER_TOO_SMALL →
+        oldest_length handle.old.value.opening handle.old.value.entries client ≡ Some completion.new.len }
+    ensures collected { handle.old.is_open ≡ true → result ≡ DONE → (number : ℕ) × (done : Completion)
+        × (completion.new ≡ form_of_completion number done) × (take completion.new.len buffer.new ≡ done.bytes.items)
+        × GrowsBy handle.old.value (CollectAdds handle.old.value.opening handle.old.value.entries
+        (record { 0 = client }) (Some (request_outcome (number, done)))) handle.new.value }
+    ensures legal { handle.old.is_open ≡ true → result ≡ DONE →
+        Legal handle.new.value.opening handle.new.value.entries }
+    ensures unchanged { handle.old.is_open ≡ true → result ≢ DONE → handle.new.value ≡ handle.old.value }
+{
+    let Some(mut session) = handle.take(alloc) else {
+        return NOT_OPEN;
+    };
+    let status = sessions::next_completion(&mut session, client, completion, buffer);
+    handle.put(session);
+    status
+}
+
+/// Collects a client's oldest outcome where that is a discovery's, and writes how it ended, with its devices at the
+/// front of a buffer. `BUFFER_TOO_SMALL` writes how many devices it needs into `count`.
+#[unsafe(no_mangle)]
+pub extern "C" fn wurst_session_next_discovery(
+    alloc: Global,
+    handle: &mut SessionHandle,
+    client: u8,
+    end: &mut EndForC,
+    devices: &mut [DeviceForC],
+) -> u32
+    ensures not_open { handle.old.is_open ≡ false → (result ≡ NOT_OPEN) × (end.new ≡ end.old)
+        × (devices.new ≡ devices.old) }
+    ensures stays { handle.new.is_open ≡ handle.old.is_open }
+    ensures status { handle.old.is_open ≡ true → result ≡ collect_status handle.old.value.opening
+        handle.old.value.entries client kinds.Discovery (length devices.old) }
+    ensures needed { handle.old.is_open ≡ true → result ≡ BUFFER_TOO_SMALL →
+        oldest_length handle.old.value.opening handle.old.value.entries client ≡ Some end.new.count }
+    ensures collected { handle.old.is_open ≡ true → result ≡ DONE → (ended : DiscoveryEnd) × (set : List Device)
+        × (end.new ≡ form_of_end ended (length set)) × (take (length set) devices.new ≡ map form_of_device set)
+        × GrowsBy handle.old.value (CollectAdds handle.old.value.opening handle.old.value.entries
+        (record { 0 = client }) (Some (discovery_outcome ended set))) handle.new.value }
+    ensures legal { handle.old.is_open ≡ true → result ≡ DONE →
+        Legal handle.new.value.opening handle.new.value.entries }
+    ensures unchanged { handle.old.is_open ≡ true → result ≢ DONE → handle.new.value ≡ handle.old.value }
+{
+    let Some(mut session) = handle.take(alloc) else {
+        return NOT_OPEN;
+    };
+    let status = sessions::next_discovery(&mut session, client, end, devices);
+    handle.put(session);
+    status
+}
+
+/// Writes the devices of the last run without fault at the front of a buffer, and how many there are; with
+/// `BUFFER_TOO_SMALL` only that.
+#[unsafe(no_mangle)]
+pub extern "C" fn wurst_session_devices(
+    alloc: Global,
+    handle: &mut SessionHandle,
+    devices: &mut [DeviceForC],
+    count: &mut usize,
+) -> u32
+    ensures not_open { handle.old.is_open ≡ false → (result ≡ NOT_OPEN) × (devices.new ≡ devices.old)
+        × (count.new ≡ count.old) }
+    ensures stays { handle.new.is_open ≡ handle.old.is_open }
+    ensures same { handle.old.is_open ≡ true → handle.new.value ≡ handle.old.value }
+    ensures count { handle.old.is_open ≡ true →
+        count.new ≡ length (known_devices handle.old.value.opening handle.old.value.entries) }
+    ensures status { handle.old.is_open ≡ true →
+        result ≡ (if nat_lt (length devices.old) count.new then BUFFER_TOO_SMALL else DONE) }
+    ensures written { handle.old.is_open ≡ true → result ≡ DONE → take count.new devices.new
+        ≡ map form_of_device (known_devices handle.old.value.opening handle.old.value.entries) }
+    ensures unchanged { handle.old.is_open ≡ true → result ≢ DONE → devices.new ≡ devices.old }
+{
+    let Some(session) = handle.take(alloc) else {
+        return NOT_OPEN;
+    };
+    let status = controllers::devices(session.devices(), devices, count);
+    handle.put(session);
+    status
+}
+
+/// Writes the number of the run that found the devices; 0 before the first.
+#[unsafe(no_mangle)]
+pub extern "C" fn wurst_session_devices_run(
+    alloc: Global,
+    handle: &mut SessionHandle,
+    run: &mut u64,
+) -> u32
+    ensures not_open { handle.old.is_open ≡ false → (result ≡ NOT_OPEN) × (run.new ≡ run.old) }
+    ensures stays { handle.new.is_open ≡ handle.old.is_open }
+    ensures same { handle.old.is_open ≡ true → (result ≡ DONE) × (handle.new.value ≡ handle.old.value) }
+    ensures answer { handle.old.is_open ≡ true →
+        run.new ≡ devices_run handle.old.value.opening handle.old.value.entries }
+{
+    let Some(session) = handle.take(alloc) else {
+        return NOT_OPEN;
+    };
+    *run = session.devices_run();
+    handle.put(session);
+    DONE
+}
+
+/// Writes whether nothing waits, is under way, is asked or is uncollected.
+#[unsafe(no_mangle)]
+pub extern "C" fn wurst_session_is_idle(
+    alloc: Global,
+    handle: &mut SessionHandle,
+    answer: &mut bool,
+) -> u32
+    ensures not_open { handle.old.is_open ≡ false → (result ≡ NOT_OPEN) × (answer.new ≡ answer.old) }
+    ensures stays { handle.new.is_open ≡ handle.old.is_open }
+    ensures same { handle.old.is_open ≡ true → (result ≡ DONE) × (handle.new.value ≡ handle.old.value) }
+    ensures answer { handle.old.is_open ≡ true → answer.new ≡ is_idle handle.old.value.entries }
+{
+    let Some(session) = handle.take(alloc) else {
+        return NOT_OPEN;
+    };
+    *answer = session.is_idle();
+    handle.put(session);
+    DONE
+}
+
+/// Writes whether sending is paused.
+#[unsafe(no_mangle)]
+pub extern "C" fn wurst_session_is_paused(
+    alloc: Global,
+    handle: &mut SessionHandle,
+    answer: &mut bool,
+) -> u32
+    ensures not_open { handle.old.is_open ≡ false → (result ≡ NOT_OPEN) × (answer.new ≡ answer.old) }
+    ensures stays { handle.new.is_open ≡ handle.old.is_open }
+    ensures same { handle.old.is_open ≡ true → (result ≡ DONE) × (handle.new.value ≡ handle.old.value) }
+    ensures answer { handle.old.is_open ≡ true →
+        answer.new ≡ is_paused handle.old.value.opening handle.old.value.entries }
+{
+    let Some(session) = handle.take(alloc) else {
+        return NOT_OPEN;
+    };
+    *answer = session.is_paused();
+    handle.put(session);
+    DONE
+}
+
+/// Writes whether the queue is closed.
+#[unsafe(no_mangle)]
+pub extern "C" fn wurst_session_is_closed(
+    alloc: Global,
+    handle: &mut SessionHandle,
+    answer: &mut bool,
+) -> u32
+    ensures not_open { handle.old.is_open ≡ false → (result ≡ NOT_OPEN) × (answer.new ≡ answer.old) }
+    ensures stays { handle.new.is_open ≡ handle.old.is_open }
+    ensures same { handle.old.is_open ≡ true → (result ≡ DONE) × (handle.new.value ≡ handle.old.value) }
+    ensures answer { handle.old.is_open ≡ true →
+        answer.new ≡ is_closed handle.old.value.opening handle.old.value.entries }
+{
+    let Some(session) = handle.take(alloc) else {
+        return NOT_OPEN;
+    };
+    *answer = session.is_closed();
+    handle.put(session);
+    DONE
+}
+
+/// Writes whether a reply is awaited.
+#[unsafe(no_mangle)]
+pub extern "C" fn wurst_session_awaits(
+    alloc: Global,
+    handle: &mut SessionHandle,
+    answer: &mut bool,
+) -> u32
+    ensures not_open { handle.old.is_open ≡ false → (result ≡ NOT_OPEN) × (answer.new ≡ answer.old) }
+    ensures stays { handle.new.is_open ≡ handle.old.is_open }
+    ensures same { handle.old.is_open ≡ true → (result ≡ DONE) × (handle.new.value ≡ handle.old.value) }
+    ensures answer { handle.old.is_open ≡ true → answer.new ≡ awaited handle.old.value.entries }
+{
+    let Some(session) = handle.take(alloc) else {
+        return NOT_OPEN;
+    };
+    *answer = session.awaits();
+    handle.put(session);
+    DONE
+}

@@ -1,0 +1,90 @@
+//! A session that C holds.
+ghost use Rattle.std.specs.Prelude.{◌≡◌, false, true, IfSome, IfNone};
+ghost use Rattle.rdm_handles.specs.Owned.{handle_owns};
+ghost use Rattle.rdm_handles.specs.Rows.{session_row};
+ghost use Rattle.rdm_log.specs.log.LogState.{LogState};
+
+use crate::loose::Loose;
+use rdm_queue::Session;
+use std::alloc::Global;
+use std::marker::Model;
+use std::mem::{replace, size_of};
+use std::ptr::null_mut;
+
+/// A session that C holds. All bytes 0 is a closed handle.
+///
+/// It is let go without a call only when it is closed: what an open one holds would never be freed.
+#[repr(C)]
+#[derive(Drop)]
+pub struct SessionHandle {
+    at: *mut u8,
+    /// Whether it holds a session.
+    pub is_open: bool,
+    /// The session that an open one holds.
+    pub ghost value: { LogState } by { session_row.coded },
+}
+
+// What the header says of its size.
+const _: () = prove!(size_of::<SessionHandle>() == 16);
+
+impl Model for SessionHandle {
+    ghost also_owns = { λ h. handle_owns session_row h.is_open h.at h.value };
+}
+
+impl SessionHandle {
+    /// A closed handle.
+    pub fn closed() -> SessionHandle
+        ensures { result.is_open ≡ false }
+    {
+        SessionHandle {
+            at: null_mut(),
+            is_open: false,
+        }
+    }
+
+    // A handle of what the pointer owns.
+    fn of(held: Loose<Session, Global>) -> SessionHandle
+        ensures open { result.is_open ≡ true }
+        ensures value { result.value ≡ held.value }
+    {
+        let Loose { at, alloc: _ } = held;
+        SessionHandle {
+            at: at as *mut u8,
+            is_open: true,
+        }
+    }
+
+    // The pointer of an open handle.
+    fn into_loose(self, alloc: Global) -> Option<Loose<Session, Global>>
+        ensures some { IfSome result (λ held. (self.is_open ≡ true) × (held.value ≡ self.value)) }
+        ensures none { IfNone result (self.is_open ≡ false) }
+    {
+        let SessionHandle { at, is_open } = self;
+        let at = at as *mut Session;
+        if is_open {
+            Some(Loose { at, alloc })
+        } else {
+            None
+        }
+    }
+
+    /// Takes the session out of an open handle, which is closed then. None: it is closed.
+    pub fn take(&mut self, alloc: Global) -> Option<Box<Session>>
+        ensures some { IfSome result (λ held. (self.old.is_open ≡ true) × (held.value ≡ self.old.value)) }
+        ensures none { IfNone result (self.old.is_open ≡ false) }
+        ensures closed { self.new.is_open ≡ false }
+    {
+        let held = replace(self, SessionHandle::closed()).into_loose(alloc)?;
+        Some(held.into_box())
+    }
+
+    /// Puts a session into a closed handle. What an open one holds is never freed.
+    pub fn put(&mut self, held: Box<Session>)
+        ensures open { self.new.is_open ≡ true }
+        ensures value { self.new.value ≡ held.value }
+    {
+        *self = SessionHandle::of(Loose::of(held));
+    }
+}
+
+unsafe impl Send for SessionHandle {}
