@@ -95,5 +95,4 @@ impl Tells for Callback {
 // For the proof alone: each byte is in the range of its type.
 fn bytes_fit(bytes: &[u8])
     ensures { BytesFit bytes.now }
-{
-}
+{}

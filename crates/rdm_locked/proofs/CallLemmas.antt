@@ -42,8 +42,11 @@ calls_few h = omega (arith, length-filter_both is_call (λ (e : Entry). not (is_
 
 pub calls_append : (h k : List Entry) → count_calls (h ++ k) ≡ count_calls h + count_calls k
 unfolding count_calls
-calls_append h k = omega (arith, ap length (filter-append is_call h k),
-    length-append (filter is_call h) (filter is_call k))
+calls_append h k = omega (
+  arith,
+  ap length (filter-append is_call h k),
+  length-append (filter is_call h) (filter is_call k),
+)
 
 -- a block with this many calls, and this many joins
 pub record Brings (calls clients : ℕ) (block : List Entry) : Type 0 where
@@ -66,8 +69,13 @@ grown_counts old Adds new n m grows brings =
     record {
       calls_are = rw entries (omega (arith, calls_append h grows.block, b.calls_are));
       clients_are = rw (entries, opening, joins-append h grows.block)
-          (omega (arith, length-append places (joins h ++ joins grows.block),
-          length-append (joins h) (joins grows.block), length-append places (joins h), b.clients_are));
+          (omega (
+            arith,
+            length-append places (joins h ++ joins grows.block),
+            length-append (joins h) (joins grows.block),
+            length-append places (joins h),
+            b.clients_are,
+          ));
     }
 
 -- no entry, one entry, and one before others
@@ -171,8 +179,10 @@ submit_brings k c request (Err e) block is = by_flag (is_full_log k) is
         (Err (submit_faults.LogFull, request)) × (block ≡ [])) (SubmitAdds k.opening k.entries c request (Err e) block)
         → Brings (refused_submits e.0) 0 block
     by_flag true refused = rw (full refused.0) (nothing block refused.1)
-    by_flag false refused = rw (counted_submit e.0 (λ is_full. no_full_submit _ _ _ (refused.0 ∙ ap Some is_full)),
-        refused.2) (one (submit_refused c request e.0))
+    by_flag false refused = rw (
+      counted_submit e.0 (λ is_full. no_full_submit _ _ _ (refused.0 ∙ ap Some is_full)),
+      refused.2,
+    ) (one (submit_refused c request e.0))
 
 pub discover_brings : (k : LogState) (c : ClientId) (kind : Kind) (answer : Result ℕ AskFault) (block : List Entry)
     → DiscoverLogs k c kind answer block → Brings (discovers_logged answer) 0 block
@@ -187,8 +197,11 @@ discover_brings k c kind (Err fault) block is = by_flag (is_full_log k) is
         × (block ≡ [])) (DiscoverAdds k.opening k.entries c kind (Err fault) block)
         → Brings (refused_discovers fault) 0 block
     by_flag true refused = rw (full refused.0) (nothing block refused.1)
-    by_flag false refused = rw (counted_discover fault (λ is_full. no_full_discover _ _ _
-        (refused.0 ∙ ap Some is_full)), refused.1) (one (ask_refused c kind fault))
+    by_flag false refused = rw (
+      counted_discover fault (λ is_full. no_full_discover _ _ _
+          (refused.0 ∙ ap Some is_full)),
+      refused.1,
+    ) (one (ask_refused c kind fault))
 
 -- a collect
 pub collect_brings : (o : Opening) (h : List Entry) (c : ClientId) (outcome : Outcome) (block : List Entry)

@@ -126,8 +126,11 @@ module _ {X : Type 0} where
     pub same_end : {P : Type 0} (f : E → X) (left : List E) (b : Bool) → P ↔ ([] ≡ map f left) → b ≡ (length left == 0)
         → Decides b P
     same_end f [] b both is = (λ yes. both.1 refl, λ p. is)
-    same_end f (y ∷ left) b both is = (λ yes. absurd (let none =
-        eqb-true (length (y ∷ left)) 0 (sym is ∙ yes) in omega arith), λ p. let same = both.0 p in cc)
+    same_end f (y ∷ left) b both is = (
+      λ yes. absurd (let none =
+          eqb-true (length (y ∷ left)) 0 (sym is ∙ yes) in omega arith),
+      λ p. let same = both.0 p in cc,
+    )
 
     pub begins_none : (f : E → X) (xs : List X) (left : List E) → length left ≡ 0 → Begins (map f left) xs
     begins_none f xs [] none = record { rest = xs; whole = refl }
@@ -136,8 +139,11 @@ module _ {X : Type 0} where
     pub begins_end : {P : Type 0} (f : E → X) (left : List E) (b : Bool) → P ↔ Begins (map f left) []
         → b ≡ (length left == 0) → Decides b P
     begins_end f [] b both is = (λ yes. both.1 (record { rest = []; whole = refl }), λ p. is)
-    begins_end f (y ∷ left) b both is = (λ yes. absurd (let none =
-        eqb-true (length (y ∷ left)) 0 (sym is ∙ yes) in omega arith), λ p. let same = (both.0 p).whole in cc)
+    begins_end f (y ∷ left) b both is = (
+      λ yes. absurd (let none =
+          eqb-true (length (y ∷ left)) 0 (sym is ∙ yes) in omega arith),
+      λ p. let same = (both.0 p).whole in cc,
+    )
 
 -- a log's exchanges are those of a record just where its events are, and its frames begin with the record's
 exchanges_split : (ss : List Sending) (es : List LineEvent) (xs : List Exchange) → length es ≤ length ss
@@ -150,9 +156,11 @@ exchanges_split [] (e ∷ es) xs few same = absurd (omega arith)
 exchanges_split (s ∷ ss) (e ∷ es) [] few same = cc
 exchanges_split (s ∷ ss) (e ∷ es) (x ∷ xs) few same =
     let first = same_heads (s.frame, e) (x.frame, x.event) _ _ same in
-    let later = exchanges_split ss es xs (omega arith) (ap tail_of same) in
-    (cons_more e x.event _ _ (ap (λ p. p.1) first) later.0, begins_more s.frame x.frame _ _
-        (ap (λ p. p.0) first) later.1)
+    let later = exchanges_split ss es xs (omega arith) (ap tail_of same) in (
+      cons_more e x.event _ _ (ap (λ p. p.1) first) later.0,
+      begins_more s.frame x.frame _ _
+          (ap (λ p. p.0) first) later.1,
+    )
 
 exchanges_joined : (ss : List Sending) (es : List LineEvent) (xs : List Exchange) → es ≡ map (λ x. x.event) xs
     → Begins (map (λ x. x.frame) xs) (map (λ s. s.frame) ss) → map in_log (map traded_of (zip ss es)) ≡ recorded xs
@@ -165,16 +173,17 @@ exchanges_joined (s ∷ ss) (e ∷ es) (x ∷ xs) same begins =
     let event : e ≡ x.event = same_heads e x.event _ _ same in
     let frame : s.frame ≡ x.frame = begins_heads s.frame x.frame _ _ begins in
     rw (event, frame) (ap (λ ys. (x.frame, x.event) ∷ ys) (exchanges_joined ss es xs (ap tail_of same)
-        (record { rest = begins.rest; whole = ap tail_of begins.whole })))
+    (record { rest = begins.rest; whole = ap tail_of begins.whole })))
 
 pub exchanges_decided : (o : Opening) (h : List Entry) (xs : List Exchange) → Legal o h
     → (exchanges_in h ≡ recorded xs) ↔ ((cames h ≡ map (λ x. x.event) xs)
     × Begins (map (λ x. x.frame) xs) (frames_in h))
 unfolding traded
 exchanges_decided o h xs legal =
-    let facts = legal_facts o h legal.each in
-    (exchanges_split (sends h) (cames h) xs (omega (arith, facts.exchanges)),
-        λ both. exchanges_joined (sends h) (cames h) xs both.0 both.1)
+    let facts = legal_facts o h legal.each in (
+      exchanges_split (sends h) (cames h) xs (omega (arith, facts.exchanges)),
+      λ both. exchanges_joined (sends h) (cames h) xs both.0 both.1,
+    )
 
 -- a line's exchanges, with one more
 makes_push : (L : Type 0) (step : L → LineExchange → L → Type 0) (a : L) (xs : List LineExchange) (b : L)

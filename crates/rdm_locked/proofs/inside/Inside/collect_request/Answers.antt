@@ -8,7 +8,7 @@ add_calls-requires g c =
     let k = me.session in
     let after = c.next_completion.new.self in
     let counts = grown_counts k _ after 1 0 c.in_ok-outcome.ensures.adds
-        (λ block. collect_brings k.opening k.entries c.args.client _ block) in
+    (λ block. collect_brings k.opening k.entries c.args.client _ block) in
     rw (c.entries.ensures, c.log.ensures.log) (omega (arith, counts.calls_are, me.counted, calls_few after.entries))
 
 pub invariant_of-self-2 : goal.invariant_of-self-2
@@ -16,7 +16,7 @@ invariant_of-self-2 g c =
     let me = c.args.self.now in
     let k = me.session in
     let counts = grown_counts k _ c.next_completion.new.self 1 0 c.in_ok-outcome.ensures.adds
-        (λ block. collect_brings k.opening k.entries c.args.client _ block) in
+    (λ block. collect_brings k.opening k.entries c.args.client _ block) in
     record {
       counted = rw c.add_calls.ensures.total (omega (arith, counts.calls_are, me.counted));
       clients = omega (arith, counts.clients_are, me.clients);

@@ -9,7 +9,7 @@ invariant_of-self g c =
     let me = c.args.self.now in
     let k = me.session in
     let counts = grown_counts k _ c.join_client.new.self 0 0 c.in_err-client.ensures.adds
-        (λ block. join_refused_brings k c.args.places _ block) in
+    (λ block. join_refused_brings k c.args.places _ block) in
     record {
       counted = omega (arith, counts.calls_are, me.counted);
       clients = omega (arith, counts.clients_are, me.clients);
@@ -25,9 +25,9 @@ invariant_of-self-2 g c =
     let k = me.session in
     let adds = c.in_ok-client.ensures.adds in
     let counts = grown_counts k _ c.join_client.new.self 0 1 adds
-        (λ block. join_brings k c.args.places c.in_ok-client.client block) in
+    (λ block. join_brings k c.args.places c.in_ok-client.client block) in
     let passes = join_passes k.opening k.entries c.args.places
-        (join_ok k c.args.places c.in_ok-client.client adds.block adds.adds).0 in
+    (join_ok k c.args.places c.in_ok-client.client adds.block adds.adds).0 in
     record {
       counted = omega (arith, counts.calls_are, me.counted);
       clients = omega (arith, counts.clients_are, me.clients);

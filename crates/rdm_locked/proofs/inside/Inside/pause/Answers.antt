@@ -7,7 +7,7 @@ invariant_of-self g c =
     let me = c.args.self.now in
     let k = me.session in
     let counts = grown_counts k _ c.pause.new.self 0 0 c.pause.ensures.adds
-        (λ block. pause_brings k c.pause.result block) in
+    (λ block. pause_brings k c.pause.result block) in
     record {
       counted = omega (arith, counts.calls_are, me.counted);
       clients = omega (arith, counts.clients_are, me.clients);

@@ -7,7 +7,7 @@ invariant_of-self g c =
     let me = c.args.self.now in
     let k = me.session in
     let counts = grown_counts k _ c.resume.new.self 0 0 c.resume.ensures.adds
-        (λ block. resume_brings k c.resume.result block) in
+    (λ block. resume_brings k c.resume.result block) in
     record {
       counted = omega (arith, counts.calls_are, me.counted);
       clients = omega (arith, counts.clients_are, me.clients);

@@ -8,16 +8,16 @@ add_calls-requires g c =
     let k = me.session in
     let after = c.submit-answer.new.self in
     let counts = grown_counts k _ after _ 0 c.submit-answer.ensures.adds
-        (λ block. submit_brings k c.args.client c.args.request c.submit-answer.result block) in
+    (λ block. submit_brings k c.args.client c.args.request c.submit-answer.result block) in
     rw (c.entries.ensures, c.log.ensures.log, c.submits_logged.ensures)
-        (omega (arith, counts.calls_are, me.counted, calls_few after.entries))
+    (omega (arith, counts.calls_are, me.counted, calls_few after.entries))
 
 pub invariant_of-self : goal.invariant_of-self
 invariant_of-self g c =
     let me = c.args.self.now in
     let k = me.session in
     let counts = grown_counts k _ c.submit-answer.new.self _ 0 c.submit-answer.ensures.adds
-        (λ block. submit_brings k c.args.client c.args.request c.submit-answer.result block) in
+    (λ block. submit_brings k c.args.client c.args.request c.submit-answer.result block) in
     record {
       counted = rw c.add_calls.ensures.total (rw c.submits_logged.ensures
           (omega (arith, counts.calls_are, me.counted)));

@@ -12,9 +12,9 @@ turns-preserved g c =
           let x : Exchange = record { frame = w.in-Exchange.frame; event = w.exchanged-event.result } in
           rw (w.line-is, w.exchanges-is, w.push_reserved.ensures.items, c.reserve.ensures.items)
           (records_more _ step c.args.line.now was c.turns.line c.turns.exchanges.items c.turns._turn x
-              w.exchanged-event.new.line c.turns.invariant w.exchanged-event.ensures)
+          w.exchanged-event.new.line c.turns.invariant w.exchanged-event.ensures)
       | in-Nothing w ↦
           rw (w.line-is, w.exchanges-is, c.reserve.ensures.items)
           (records_later _ step c.args.line.now was c.turns.line c.turns.exchanges.items c.turns._turn
-              c.turns.invariant)
+          c.turns.invariant)
     ]
