@@ -6,8 +6,8 @@ use Rattle.rdm_log.specs.declared.config.Setup.{Setup}
 use Rattle.rdm_log.specs.log.Config.{IsConfig}
 use Rattle.rdm_log.specs.log.LogState.{LogState, begun}
 
--- the blank is that of the book with this name and these parts, which are 17: one for each client, and one for the rest.
--- The configuration is valid, and the log has no entries
+-- the blank is that of the book with this name and these parts, which are 17: one for each client, and one for the
+-- rest. The configuration is valid, and the log has no entries
 pub record MayOpen (name parts : ℕ) (blank : Blank) (config : Config) (log : LogState) : Type 0 where
   pub named : blank.name ≡ name
   pub cut : (blank.parts ≡ parts) × (parts ≡ 17)
