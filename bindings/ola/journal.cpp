@@ -1,0 +1,103 @@
+#include "journal.hpp"
+
+#include <cerrno>
+#include <cstdlib>
+#include <cstring>
+#include <ctime>
+
+namespace stand_in {
+namespace {
+
+// What a variable says; nothing if it is empty.
+std::string setting(const char *name) {
+    const char *text = std::getenv(name);
+    return text != nullptr ? text : "";
+}
+
+void refuse(const char *name, const std::string &text, const char *why) {
+    std::fprintf(stderr, "wurstlinen: %s=%s: %s\n", name, text.c_str(), why);
+}
+
+void read_search(const std::string &text, Settings &found) {
+    if (text == "steady") {
+        found.search = WURST_STEADY;
+    } else if (!text.empty() && text != "quick") {
+        refuse("WURSTLINEN_SEARCH", text, "it is quick or steady; quick is used");
+    }
+}
+
+void read_budget(const std::string &text, Settings &found) {
+    errno = 0;
+    const unsigned long long value = std::strtoull(text.c_str(), nullptr, 10);
+    if (text.find_first_not_of("0123456789") == text.npos && errno == 0 && value > 0) {
+        found.budget = value;
+    } else if (!text.empty()) {
+        refuse("WURSTLINEN_BUDGET", text, "it is a number of frames, from 1; the default is used");
+    }
+}
+
+void open_log(const std::string &name, Settings &found) {
+    found.log = name.empty() ? nullptr : std::fopen(name.c_str(), "ae");
+    if (found.log != nullptr) {
+        std::setvbuf(found.log, nullptr, _IOLBF, BUFSIZ);
+    } else if (!name.empty()) {
+        refuse("WURSTLINEN_LOG", name, std::strerror(errno));
+    }
+}
+
+Settings read_settings() {
+    Settings found;
+    read_search(setting("WURSTLINEN_SEARCH"), found);
+    read_budget(setting("WURSTLINEN_BUDGET"), found);
+    open_log(setting("WURSTLINEN_LOG"), found);
+    return found;
+}
+
+} // namespace
+
+const Settings &settings() {
+    static const Settings found = read_settings();
+    return found;
+}
+
+void tell(unsigned int controller, const std::string &text) {
+    std::fprintf(stderr, "wurstlinen: controller %u: %s\n", controller, text.c_str());
+}
+
+std::string json(const std::string &text) { return '"' + text + '"'; }
+
+std::string json(std::uint64_t number) { return std::to_string(number); }
+
+std::string json(wurst::Bytes bytes) {
+    static const char digits[] = "0123456789abcdef";
+    std::string hex;
+    for (const std::uint8_t each : bytes) {
+        hex += digits[each >> 4];
+        hex += digits[each & 15];
+    }
+    return json(hex);
+}
+
+std::string json(const std::vector<wurst::Device> &devices) {
+    std::string all;
+    for (const auto &each : devices) {
+        all += (all.empty() ? "" : ",") + json(each.uid.text());
+    }
+    return '[' + all + ']';
+}
+
+void write_record(unsigned int controller, std::initializer_list<std::string> fields) {
+    timespec now{};
+    clock_gettime(CLOCK_REALTIME, &now);
+    char time[40];
+    std::snprintf(time, sizeof time, "{\"time\":%lld.%06ld", static_cast<long long>(now.tv_sec), now.tv_nsec / 1000);
+    std::string line = time + (",\"controller\":" + std::to_string(controller));
+    bool is_key = true;
+    for (const auto &each : fields) {
+        line += (is_key ? ',' : ':') + each;
+        is_key = !is_key;
+    }
+    std::fputs((line + "}\n").c_str(), settings().log);
+}
+
+} // namespace stand_in
