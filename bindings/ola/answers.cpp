@@ -12,8 +12,6 @@ namespace stand_in {
 
 using namespace ola::rdm;
 
-namespace {
-
 using Bytes = std::vector<std::uint8_t>;
 
 // Bits to change in a byte of a packet without data, and its checksum with them, so that the core judges it like this
@@ -25,17 +23,10 @@ struct Change {
 };
 
 constexpr Change CHANGES[] = {
-    {RDM_WRONG_SUB_START_CODE, 1, 2},
-    {RDM_PACKET_LENGTH_MISMATCH, 2, 1},
-    {RDM_DEST_UID_MISMATCH, 8, 1},
-    {RDM_SRC_UID_MISMATCH, 14, 1},
-    {RDM_TRANSACTION_MISMATCH, 15, 1},
-    {RDM_INVALID_RESPONSE_TYPE, 16, 0x0c},
-    {RDM_SUB_DEVICE_MISMATCH, 19, 1},
-    {RDM_INVALID_COMMAND_CLASS, 20, 1},
-    {RDM_PARAM_LENGTH_MISMATCH, 23, 1},
-    {RDM_CHECKSUM_INCORRECT, 25, 1},
-};
+    {RDM_WRONG_SUB_START_CODE, 1, 2}, {RDM_PACKET_LENGTH_MISMATCH, 2, 1}, {RDM_DEST_UID_MISMATCH, 8, 1},
+    {RDM_SRC_UID_MISMATCH, 14, 1}, {RDM_TRANSACTION_MISMATCH, 15, 1}, {RDM_INVALID_RESPONSE_TYPE, 16, 0x0c},
+    {RDM_SUB_DEVICE_MISMATCH, 19, 1}, {RDM_INVALID_COMMAND_CLASS, 20, 1}, {RDM_PARAM_LENGTH_MISMATCH, 23, 1},
+    {RDM_CHECKSUM_INCORRECT, 25, 1}};
 
 // By the number of the core's status. OLA has no code for a wrong start code (6). Without memory for its data (18) a
 // request was carried out all the same, so it isn't "failed to send", after which a client may send it again.
@@ -46,23 +37,27 @@ constexpr std::array<RDMStatusCode, 19> STATUSES{
     RDM_SUB_DEVICE_MISMATCH, RDM_SRC_UID_MISMATCH, RDM_DEST_UID_MISMATCH, RDM_COMMAND_CLASS_MISMATCH,
     RDM_INVALID_RESPONSE};
 
+constexpr std::size_t LEAST_RESPONSE_BYTES = 26;
 // More than one device replied to a branch, or one that nobody understands.
 const Bytes COLLISION{0};
 
-// The raw bytes of the last reply, or of its response if the layer below keeps no raw bytes.
-Bytes bytes_of(const RDMReply &reply) {
+// The raw bytes of the last reply. If a good reply has none, or too few for a response, they are its response's.
+static Bytes bytes_of(const RDMReply &reply) {
     ola::io::ByteString raw;
     if (!reply.Frames().empty()) {
         raw = reply.Frames().back().data;
-    } else if (reply.Response() != nullptr) {
-        RDMCommandSerializer::PackWithStartCode(*reply.Response(), &raw);
+    }
+    if (reply.StatusCode() == RDM_COMPLETED_OK && raw.size() < LEAST_RESPONSE_BYTES) {
+        raw.clear();
+        if (reply.Response() != nullptr) {
+            RDMCommandSerializer::PackWithStartCode(*reply.Response(), &raw);
+        }
     }
     // Some adapters add bytes after the checksum.
-    const std::size_t size = std::min<std::size_t>(raw.size(), WURST_MOST_FRAME_BYTES);
-    return Bytes(raw.begin(), raw.begin() + static_cast<std::ptrdiff_t>(size));
+    return Bytes(raw.begin(), raw.begin() + std::min<std::ptrdiff_t>(raw.size(), WURST_MOST_FRAME_BYTES));
 }
 
-Bytes written(const wurst_response &response, const wurst::Bytes &data) {
+static Bytes written(const wurst_response &response, const wurst::Bytes &data) {
     Bytes frame(WURST_MOST_FRAME_BYTES);
     std::size_t len = 0;
     wurst::check(wurst_response_write(&response, data.data, response.len, frame.data(), frame.size(), &len));
@@ -71,7 +66,7 @@ Bytes written(const wurst_response &response, const wurst::Bytes &data) {
 }
 
 // The same reply as if the core's own frame had been sent. Bytes that aren't a response stay as they are.
-Bytes readdressed(const Bytes &bytes, const wurst_command &sent) {
+static Bytes readdressed(const Bytes &bytes, const wurst_command &sent) {
     const wurst::Bytes raw(bytes);
     wurst_response response{};
     std::array<std::uint8_t, WURST_MOST_PARAMETER_BYTES> data{};
@@ -84,7 +79,7 @@ Bytes readdressed(const Bytes &bytes, const wurst_command &sent) {
 }
 
 // A response that is right in all but one thing, which the core looks at last: it ends a request as InvalidResponse.
-wurst_response wrong_response(const wurst_command &sent) {
+static wurst_response wrong_response(const wurst_command &sent) {
     wurst_response response{};
     response.source = sent.target;
     response.dest = sent.source;
@@ -102,7 +97,7 @@ wurst_response wrong_response(const wurst_command &sent) {
 }
 
 // Bytes that the core judges as the layer below has judged those that it kept for itself.
-Bytes judged_as(RDMStatusCode status, const wurst_command &sent) {
+static Bytes judged_as(RDMStatusCode status, const wurst_command &sent) {
     wurst_response response = wrong_response(sent);
     if (status == RDM_COMMAND_CLASS_MISMATCH) {
         response.response_class = WURST_DISCOVERY_RESPONSE;
@@ -122,13 +117,12 @@ Bytes judged_as(RDMStatusCode status, const wurst_command &sent) {
     return frame;
 }
 
-bool is_silence(RDMStatusCode status) {
-    return status == RDM_TIMEOUT || status == RDM_WAS_BROADCAST
-        || status == RDM_UNKNOWN_UID;
+static bool is_silence(RDMStatusCode status) {
+    return status == RDM_TIMEOUT || status == RDM_WAS_BROADCAST || status == RDM_UNKNOWN_UID;
 }
 
 // What the core is told if a reply has no bytes.
-Bytes bytes_for(RDMStatusCode status, const wurst_command &sent) {
+static Bytes bytes_for(RDMStatusCode status, const wurst_command &sent) {
     if (sent.kind == WURST_BRANCH) {
         return is_silence(status) ? Bytes() : COLLISION;
     }
@@ -137,8 +131,6 @@ Bytes bytes_for(RDMStatusCode status, const wurst_command &sent) {
     }
     return judged_as(status, sent);
 }
-
-} // namespace
 
 Heard hear(const RDMReply &reply, const wurst_command &sent) {
     Heard heard;
@@ -162,25 +154,16 @@ RDMStatusCode status_of(std::uint32_t status) {
 }
 
 std::unique_ptr<RDMResponse> response_to(const RDMRequest &request, const wurst::Completion &done,
-                                                   std::uint8_t message_count) {
+                                         std::uint8_t message_count) {
     const auto &head = done.head;
     if (done.status() != WURST_COMPLETED || !head.has_head) {
         return nullptr;
     }
-    const auto command_class = head.response_class == WURST_SET_RESPONSE
-        ? RDMCommand::SET_COMMAND_RESPONSE : RDMCommand::GET_COMMAND_RESPONSE;
+    const bool is_set = head.response_class == WURST_SET_RESPONSE;
+    const auto command_class = is_set ? RDMCommand::SET_COMMAND_RESPONSE : RDMCommand::GET_COMMAND_RESPONSE;
     return std::make_unique<RDMResponse>(
-        request.DestinationUID(), request.SourceUID(), request.TransactionNumber(),
-        static_cast<std::uint8_t>(head.ack), message_count, head.sub_device, command_class, head.pid,
-        done.data.data(), static_cast<unsigned int>(done.data.size()));
-}
-
-std::uint64_t number_of(const UID &uid) {
-    return std::uint64_t{uid.ManufacturerId()} << 32 | uid.DeviceId();
-}
-
-UID uid_of(std::uint64_t number) {
-    return UID(static_cast<std::uint16_t>(number >> 32), static_cast<std::uint32_t>(number));
+        request.DestinationUID(), request.SourceUID(), request.TransactionNumber(), head.ack, message_count,
+        head.sub_device, command_class, head.pid, done.data.data(), done.data.size());
 }
 
 } // namespace stand_in

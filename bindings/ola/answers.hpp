@@ -4,9 +4,7 @@
 #include <wurstlinen.hpp>
 
 #include <ola/rdm/RDMReply.h>
-#include <ola/rdm/UID.h>
 
-#include <cstdint>
 #include <memory>
 #include <vector>
 
@@ -31,8 +29,5 @@ ola::rdm::RDMStatusCode status_of(std::uint32_t status);
 // the last reply.
 std::unique_ptr<ola::rdm::RDMResponse> response_to(const ola::rdm::RDMRequest &request, const wurst::Completion &done,
                                                    std::uint8_t message_count);
-
-std::uint64_t number_of(const ola::rdm::UID &uid);
-ola::rdm::UID uid_of(std::uint64_t number);
 
 } // namespace stand_in

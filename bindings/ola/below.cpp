@@ -1,24 +1,35 @@
 #include "below.hpp"
 
+#include "journal.hpp"
+
 #include <algorithm>
 #include <cstring>
 #include <typeinfo>
 
 namespace stand_in {
-namespace {
+
+using namespace ola::rdm;
 
 // It sends discovery's frames as requests, which no interface of OLA says.
 constexpr const char *SENDS_DISCOVERY = "DmxterWidgetImpl";
 
+constexpr unsigned int MOST_BYTES = WURST_MOST_FRAME_BYTES;
+
 // The core's own frame, read.
-wurst_command read(const wurst::Frame &frame) {
+static wurst_command read(const wurst::Frame &frame) {
     wurst_command command{};
     std::array<std::uint8_t, WURST_MOST_PARAMETER_BYTES> data{};
     wurst::check(wurst_command_read(frame.data(), frame.size(), &command, data.data(), data.size()));
     return command;
 }
 
-} // namespace
+static UID uid_of(std::uint64_t number) {
+    return UID(static_cast<std::uint16_t>(number >> 32), static_cast<std::uint32_t>(number));
+}
+
+std::uint64_t number_of(const UID &uid) {
+    return std::uint64_t{uid.ManufacturerId()} << 32 | uid.DeviceId();
+}
 
 const char *text_of(Bridge bridge) {
     switch (bridge) {
@@ -29,23 +40,23 @@ const char *text_of(Bridge bridge) {
     }
 }
 
-Below::Below(ola::rdm::RDMControllerInterface *lower, Listener &listener)
-    : lower_(lower), discoverable_(dynamic_cast<ola::rdm::DiscoverableRDMControllerInterface *>(lower)),
-      target_(dynamic_cast<Target *>(lower)), listener_(listener), bridge_(choose()) {
+Below::Below(RDMControllerInterface *lower)
+    : lower_(lower), discoverable_(dynamic_cast<DiscoverableRDMControllerInterface *>(lower)),
+      target_(dynamic_cast<Target *>(lower)), bridge_(choose()) {
     for (unsigned int turn = 0; turn < callbacks_.size(); turn++) {
-        Callbacks &each = callbacks_[turn];
-        each.replied.reset(ola::NewCallback(this, &Below::replied, turn));
-        each.branched.reset(ola::NewCallback(this, &Below::branched, turn));
-        each.unmuted.reset(ola::NewCallback(this, &Below::unmuted, turn));
-        each.found.reset(ola::NewCallback(this, &Below::found, turn));
+        callbacks_[turn].replied.reset(ola::NewCallback(this, &Below::replied, turn));
+        callbacks_[turn].branched.reset(ola::NewCallback(this, &Below::branched, turn));
+        callbacks_[turn].unmuted.reset(ola::NewCallback(this, &Below::unmuted, turn));
+        callbacks_[turn].found.reset(ola::NewCallback(this, &Below::found_by_itself, turn));
     }
 }
 
 Bridge Below::choose() const {
-    if (target_ != nullptr) {
+    const bool is_proved = settings().is_proved_discovery;
+    if (is_proved && target_ != nullptr) {
         return Bridge::Target;
     }
-    if (lower_ != nullptr && std::strstr(typeid(*lower_).name(), SENDS_DISCOVERY) != nullptr) {
+    if (is_proved && lower_ != nullptr && std::strstr(typeid(*lower_).name(), SENDS_DISCOVERY) != nullptr) {
         return Bridge::Requests;
     }
     return discoverable_ != nullptr ? Bridge::Own : Bridge::None;
@@ -66,68 +77,57 @@ bool Below::ends(Awaited awaited, unsigned int turn) {
     return true;
 }
 
-void Below::send(const wurst::Frame &frame, const ola::rdm::RDMRequest *request) {
+void Below::send_down(const wurst::Frame &frame, const RDMRequest *request) {
     sent_ = read(frame);
-    if (sent_.kind == WURST_REQUEST) {
-        lower_->SendRDMRequest(request->Duplicate(), begin(Awaited::Reply).replied.get());
-    } else {
-        send_of_discovery(frame);
-    }
-}
-
-void Below::send_of_discovery(const wurst::Frame &frame) {
     if (bridge_ == Bridge::Target && sent_.kind == WURST_UNMUTE) {
         target_->UnMuteAll(begin(Awaited::UnMute).unmuted.get());
     } else if (bridge_ == Bridge::Target && sent_.kind == WURST_BRANCH) {
         target_->Branch(uid_of(sent_.lo), uid_of(sent_.hi), begin(Awaited::Branch).branched.get());
     } else {
         const auto size = static_cast<unsigned int>(frame.size());
-        auto *request = ola::rdm::RDMRequest::InflateFromData(frame.data() + 1, size - 1);
-        lower_->SendRDMRequest(request, begin(Awaited::Reply).replied.get());
+        auto *const sent = sent_.kind == WURST_REQUEST
+            ? request->Duplicate() : RDMRequest::InflateFromData(frame.data() + 1, size - 1);
+        lower_->SendRDMRequest(sent, begin(Awaited::Reply).replied.get());
     }
 }
 
-void Below::hand_down(std::unique_ptr<ola::rdm::RDMRequest> request) {
+void Below::hand_down(std::unique_ptr<RDMRequest> request) {
     lower_->SendRDMRequest(request.release(), begin(Awaited::HandedBack).replied.get());
 }
 
-void Below::discover(bool is_full) {
-    auto *found = begin(Awaited::Devices).found.get();
+void Below::discover_below(bool is_full) {
+    auto *const callback = begin(Awaited::Devices).found.get();
     if (is_full) {
-        discoverable_->RunFullDiscovery(found);
+        discoverable_->RunFullDiscovery(callback);
     } else {
-        discoverable_->RunIncrementalDiscovery(found);
+        discoverable_->RunIncrementalDiscovery(callback);
     }
 }
 
-void Below::replied(unsigned int turn, ola::rdm::RDMReply *reply) {
+void Below::replied(unsigned int turn, RDMReply *reply) {
     if (ends(Awaited::Reply, turn)) {
-        listener_.heard(hear(*reply, sent_), sent_.kind == WURST_REQUEST ? reply : nullptr);
+        heard(hear(*reply, sent_), sent_.kind == WURST_REQUEST ? reply : nullptr);
     } else if (ends(Awaited::HandedBack, turn)) {
-        listener_.handed_back(reply);
+        handed_back(reply);
     }
 }
 
 void Below::branched(unsigned int turn, const std::uint8_t *data, unsigned int length) {
-    if (!ends(Awaited::Branch, turn)) {
-        return;
+    if (ends(Awaited::Branch, turn)) {
+        const std::uint8_t *const end = data != nullptr ? data + std::min(length, MOST_BYTES) : data;
+        heard({false, {data, end}, RDM_COMPLETED_OK}, nullptr);
     }
-    Heard heard;
-    if (data != nullptr) {
-        heard.bytes.assign(data, data + std::min<unsigned int>(length, WURST_MOST_FRAME_BYTES));
-    }
-    listener_.heard(heard, nullptr);
 }
 
 void Below::unmuted(unsigned int turn) {
     if (ends(Awaited::UnMute, turn)) {
-        listener_.heard(Heard(), nullptr);
+        heard(Heard(), nullptr);
     }
 }
 
-void Below::found(unsigned int turn, const ola::rdm::UIDSet &devices) {
+void Below::found_by_itself(unsigned int turn, const UIDSet &devices) {
     if (ends(Awaited::Devices, turn)) {
-        listener_.found(devices);
+        found(devices);
     }
 }
 

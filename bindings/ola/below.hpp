@@ -21,24 +21,14 @@ enum class Bridge {
 };
 
 const char *text_of(Bridge bridge);
-
-// Is told what comes back, within the call of the layer below.
-class Listener {
-public:
-    virtual ~Listener() = default;
-    // After send. `reply` is null unless a client's request was sent.
-    virtual void heard(const Heard &heard, const ola::rdm::RDMReply *reply) = 0;
-    // After hand_down.
-    virtual void handed_back(ola::rdm::RDMReply *reply) = 0;
-    // After discover.
-    virtual void found(const ola::rdm::UIDSet &devices) = 0;
-};
+std::uint64_t number_of(const ola::rdm::UID &uid);
 
 // One exchange at a time. Its answer may come within the call that begins it, later, or never; all others are dropped.
 class Below {
-public:
+protected:
     // `lower` isn't owned, and may be gone before this object is.
-    Below(ola::rdm::RDMControllerInterface *lower, Listener &listener);
+    explicit Below(ola::rdm::RDMControllerInterface *lower);
+    virtual ~Below() = default;
     Below(const Below &) = delete;
     Below &operator=(const Below &) = delete;
 
@@ -46,20 +36,26 @@ public:
     bool is_busy() const { return awaited_ != Awaited::Nothing; }
 
     // Sends the core's frame. If that is a request's, `request` is the client's, of which a copy goes down.
-    void send(const wurst::Frame &frame, const ola::rdm::RDMRequest *request);
+    void send_down(const wurst::Frame &frame, const ola::rdm::RDMRequest *request);
     // Sends a request that the core can't send.
     void hand_down(std::unique_ptr<ola::rdm::RDMRequest> request);
     // Begins the adapter's own discovery.
-    void discover(bool is_full);
+    void discover_below(bool is_full);
     // Drops what is awaited.
     void forget() { awaited_ = Awaited::Nothing; }
+
+    // What comes back after each of the three, within the call of the layer below. `reply` is null unless a client's
+    // request was sent.
+    virtual void heard(const Heard &heard, const ola::rdm::RDMReply *reply) = 0;
+    virtual void handed_back(ola::rdm::RDMReply *reply) = 0;
+    virtual void found(const ola::rdm::UIDSet &devices) = 0;
 
 private:
     enum class Awaited { Nothing, Reply, HandedBack, Branch, UnMute, Devices };
     using Target = ola::rdm::DiscoveryTargetInterface;
 
-    // The callbacks that the layer below may keep. They are used in turn, since a second answer to an exchange
-    // may come when the next one is under way already.
+    // Callbacks that the layer below may keep. Two sets are used by turns, since a second answer to an exchange may
+    // come when the next one is under way already.
     struct Callbacks {
         std::unique_ptr<ola::rdm::RDMCallback> replied;
         std::unique_ptr<Target::BranchCallback> branched;
@@ -70,16 +66,14 @@ private:
     Bridge choose() const;
     Callbacks &begin(Awaited awaited);
     bool ends(Awaited awaited, unsigned int turn);
-    void send_of_discovery(const wurst::Frame &frame);
     void replied(unsigned int turn, ola::rdm::RDMReply *reply);
     void branched(unsigned int turn, const std::uint8_t *data, unsigned int length);
     void unmuted(unsigned int turn);
-    void found(unsigned int turn, const ola::rdm::UIDSet &devices);
+    void found_by_itself(unsigned int turn, const ola::rdm::UIDSet &devices);
 
     ola::rdm::RDMControllerInterface *lower_;
     ola::rdm::DiscoverableRDMControllerInterface *discoverable_;
     Target *target_;
-    Listener &listener_;
     Bridge bridge_;
     Awaited awaited_ = Awaited::Nothing;
     unsigned int turn_ = 0;

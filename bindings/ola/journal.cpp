@@ -6,27 +6,27 @@
 #include <ctime>
 
 namespace stand_in {
-namespace {
 
 // What a variable says; nothing if it is empty.
-std::string setting(const char *name) {
+static std::string setting(const char *name) {
     const char *text = std::getenv(name);
     return text != nullptr ? text : "";
 }
 
-void refuse(const char *name, const std::string &text, const char *why) {
+static void refuse(const char *name, const std::string &text, const char *why) {
     std::fprintf(stderr, "wurstlinen: %s=%s: %s\n", name, text.c_str(), why);
 }
 
-void read_search(const std::string &text, Settings &found) {
-    if (text == "steady") {
-        found.search = WURST_STEADY;
-    } else if (!text.empty() && text != "quick") {
-        refuse("WURSTLINEN_SEARCH", text, "it is quick or steady; quick is used");
+// Whether a variable has the second of two values. The first is used if it has neither.
+static bool is_second(const char *name, const std::string &first, const std::string &second) {
+    const std::string text = setting(name);
+    if (!text.empty() && text != first && text != second) {
+        refuse(name, text, ("it is " + first + " or " + second + "; " + first + " is used").c_str());
     }
+    return text == second;
 }
 
-void read_budget(const std::string &text, Settings &found) {
+static void read_budget(const std::string &text, Settings &found) {
     errno = 0;
     const unsigned long long value = std::strtoull(text.c_str(), nullptr, 10);
     if (text.find_first_not_of("0123456789") == text.npos && errno == 0 && value > 0) {
@@ -36,7 +36,7 @@ void read_budget(const std::string &text, Settings &found) {
     }
 }
 
-void open_log(const std::string &name, Settings &found) {
+static void open_log(const std::string &name, Settings &found) {
     found.log = name.empty() ? nullptr : std::fopen(name.c_str(), "ae");
     if (found.log != nullptr) {
         std::setvbuf(found.log, nullptr, _IOLBF, BUFSIZ);
@@ -45,15 +45,14 @@ void open_log(const std::string &name, Settings &found) {
     }
 }
 
-Settings read_settings() {
+static Settings read_settings() {
     Settings found;
-    read_search(setting("WURSTLINEN_SEARCH"), found);
+    found.is_proved_discovery = !is_second("WURSTLINEN_DISCOVERY", "proved", "adapter");
+    found.search = is_second("WURSTLINEN_SEARCH", "quick", "steady") ? WURST_STEADY : WURST_QUICK;
     read_budget(setting("WURSTLINEN_BUDGET"), found);
     open_log(setting("WURSTLINEN_LOG"), found);
     return found;
 }
-
-} // namespace
 
 const Settings &settings() {
     static const Settings found = read_settings();

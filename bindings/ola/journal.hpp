@@ -12,6 +12,7 @@ namespace stand_in {
 
 // From the environment, read once. What can't be used is told, and the default is used.
 struct Settings {
+    bool is_proved_discovery = true;             // WURSTLINEN_DISCOVERY: proved, or adapter for the adapters' own
     wurst_search search = WURST_QUICK;           // WURSTLINEN_SEARCH: quick or steady
     std::uint64_t budget = WURST_DEFAULT_BUDGET; // WURSTLINEN_BUDGET: frames that a discovery may take, from 1
     std::FILE *log = nullptr;                    // WURSTLINEN_LOG: a file to add to

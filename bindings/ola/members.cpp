@@ -7,23 +7,18 @@
 #include <map>
 #include <memory>
 
-namespace {
-
 using stand_in::StandIn;
 
 // By the address of OLA's object, whose layout can't be changed. It is never destroyed, since OLA's may be later.
-std::map<const void *, std::shared_ptr<StandIn>> &stand_ins() {
+static std::map<const void *, std::shared_ptr<StandIn>> &stand_ins() {
     static auto &all = *new std::map<const void *, std::shared_ptr<StandIn>>;
     return all;
 }
 
 // Shared, since a callback may destroy OLA's object.
-std::shared_ptr<StandIn> of(const void *object) { return stand_ins().at(object); }
+static std::shared_ptr<StandIn> of(const void *object) { return stand_ins().at(object); }
 
-} // namespace
-
-namespace ola {
-namespace rdm {
+namespace ola::rdm {
 
 QueueingRDMController::QueueingRDMController(RDMControllerInterface *controller, unsigned int max_queue_size)
     : m_controller(controller), m_max_queue_size(max_queue_size), m_rdm_request_pending(false), m_active(true) {
@@ -36,7 +31,6 @@ QueueingRDMController::~QueueingRDMController() {
 }
 
 void QueueingRDMController::Pause() { of(this)->pause(); }
-
 void QueueingRDMController::Resume() { of(this)->resume(); }
 
 void QueueingRDMController::SendRDMRequest(RDMRequest *request, RDMCallback *callback) {
@@ -45,7 +39,6 @@ void QueueingRDMController::SendRDMRequest(RDMRequest *request, RDMCallback *cal
 
 // Nobody calls these two, but OLA's header declares them virtual.
 void QueueingRDMController::TakeNextAction() {}
-
 bool QueueingRDMController::CheckForBlockingCondition() { return false; }
 
 DiscoverableQueueingRDMController::DiscoverableQueueingRDMController(DiscoverableRDMControllerInterface *controller,
@@ -61,8 +54,6 @@ void DiscoverableQueueingRDMController::RunIncrementalDiscovery(RDMDiscoveryCall
 }
 
 void DiscoverableQueueingRDMController::TakeNextAction() {}
-
 bool DiscoverableQueueingRDMController::CheckForBlockingCondition() { return false; }
 
-} // namespace rdm
-} // namespace ola
+} // namespace ola::rdm

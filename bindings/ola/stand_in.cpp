@@ -9,33 +9,31 @@ namespace stand_in {
 
 using namespace ola::rdm;
 
-namespace {
-
 // The controller's UID in the core's frames. Its manufacturer is left to prototypes by E1.20, so that no reply to
 // the adapter's or a client's own UID looks like a reply to a frame of the core.
 constexpr wurst::Uid SOURCE{0x7ff0, 0x00000001};
 constexpr unsigned int MOST_PLACES = 255;
 constexpr unsigned int HEADER_BYTES = 24;
 
-unsigned int next_number() {
+static unsigned int next_number() {
     static unsigned int number = 0;
     return ++number;
 }
 
 // Whether the core can send a request: it has no discovery requests of clients, and sets all of these fields itself.
-bool is_for_core(const RDMRequest &request) {
+static bool is_for_core(const RDMRequest &request) {
     const auto length = static_cast<std::uint8_t>(HEADER_BYTES + request.ParamDataSize());
     return (request.CommandClass() == RDMCommand::GET_COMMAND || request.CommandClass() == RDMCommand::SET_COMMAND)
         && request.SubStartCode() == SUB_START_CODE && request.MessageLength() == length
         && request.MessageCount() == 0 && request.Checksum(0) == 0 && request.Checksum(1) == 1;
 }
 
-wurst_request form_of(const RDMRequest &request) {
+static wurst_request form_of(const RDMRequest &request) {
     const auto command_class = request.CommandClass() == RDMCommand::SET_COMMAND ? WURST_SET : WURST_GET;
     return {number_of(request.DestinationUID()), command_class, request.SubDevice(), request.ParamId()};
 }
 
-UIDSet set_of(const std::vector<wurst::Device> &devices) {
+static UIDSet set_of(const std::vector<wurst::Device> &devices) {
     UIDSet set;
     for (const auto &each : devices) {
         set.AddUID(UID(each.uid.manufacturer(), each.uid.device()));
@@ -43,7 +41,7 @@ UIDSet set_of(const std::vector<wurst::Device> &devices) {
     return set;
 }
 
-std::string text_of(const wurst_end &end) {
+static std::string text_of(const wurst_end &end) {
     switch (end.fault) {
     case WURST_CORRUPT:
         return "the branch of " + wurst::Uid::from_number(end.corrupt)->text()
@@ -55,16 +53,14 @@ std::string text_of(const wurst_end &end) {
     }
 }
 
-} // namespace
-
 StandIn::StandIn(RDMControllerInterface *lower, unsigned int places)
-    : controller_(next_number()), places_(static_cast<std::uint8_t>(std::clamp(places, 1U, MOST_PLACES))),
-      core_(SOURCE, places_, settings().budget, settings().search), client_(core_.join(places_)),
-      below_(lower, *this) {
+    : Below(lower), controller_(next_number()),
+      places_(static_cast<std::uint8_t>(std::clamp(places, 1U, MOST_PLACES))),
+      core_(SOURCE, places_, settings().budget, settings().search), client_(core_.join(places_)) {
     if (places_ != places) {
         tell(controller_, "its queue has " + std::to_string(places_) + " places, not " + std::to_string(places));
     }
-    tell(controller_, text_of(below_.bridge()));
+    tell(controller_, text_of(bridge()));
     record(controller_, "call", "open", "places", places_);
 }
 
@@ -112,7 +108,7 @@ void StandIn::refuse(RDMCallback *callback, const char *why) {
 
 void StandIn::discover(wurst_kind kind, RDMDiscoveryCallback *callback) {
     record(controller_, "call", kind == WURST_FULL_DISCOVERY ? "full discovery" : "incremental discovery");
-    if (below_.bridge() == Bridge::Own || !ask({kind, {callback}})) {
+    if (bridge() == Bridge::Own || !ask({kind, {callback}})) {
         waiting_.kind = kind == WURST_FULL_DISCOVERY ? kind : waiting_.kind;
         waiting_.callbacks.push_back(callback);
     }
@@ -145,7 +141,7 @@ void StandIn::pump() {
     }
     const auto self = shared_from_this();
     is_within_ = true;
-    while (!has_ended_ && !is_paused_ && !below_.is_busy() && send_next()) {
+    while (!has_ended_ && !is_paused_ && !is_busy() && send_next()) {
     }
     is_within_ = false;
 }
@@ -153,15 +149,15 @@ void StandIn::pump() {
 bool StandIn::send_next() {
     if (is_handed_down_next()) {
         record(controller_, "sent", "handed down", "request", handed_.front().order);
-        below_.hand_down(std::move(handed_.front().request));
-    } else if (below_.bridge() == Bridge::Own && !is_under_way_ && !waiting_.callbacks.empty()) {
+        hand_down(std::move(handed_.front().request));
+    } else if (bridge() == Bridge::Own && !is_under_way_ && !waiting_.callbacks.empty()) {
         record(controller_, "sent", "the adapter's own discovery");
         discoveries_.push_back(std::exchange(waiting_, {}));
-        below_.discover(discoveries_.front().kind == WURST_FULL_DISCOVERY);
+        discover_below(discoveries_.front().kind == WURST_FULL_DISCOVERY);
     } else if (const auto frame = core_.take()) {
         record(controller_, "sent", "frame", "frame", wurst::Bytes(*frame));
         is_under_way_ = true;
-        below_.send(*frame, requests_.empty() ? nullptr : requests_.front().request.get());
+        send_down(*frame, requests_.empty() ? nullptr : requests_.front().request.get());
     } else {
         return false;
     }
@@ -245,7 +241,7 @@ void StandIn::answer_oldest(const UIDSet &devices) {
     const Discoveries answered = std::move(discoveries_.front());
     discoveries_.pop_front();
     last_given_ = devices;
-    if (below_.bridge() != Bridge::Own && !waiting_.callbacks.empty() && ask(waiting_)) {
+    if (bridge() != Bridge::Own && !waiting_.callbacks.empty() && ask(waiting_)) {
         waiting_ = {};
     }
     for (auto *callback : answered.callbacks) {
@@ -276,7 +272,7 @@ void StandIn::end() {
         return;
     }
     record(controller_, "call", "close");
-    below_.forget();
+    forget();
     within([&] {
         core_.close();
         if (core_.awaits()) {

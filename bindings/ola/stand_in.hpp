@@ -14,9 +14,8 @@ namespace stand_in {
 
 // All on one thread. Callbacks run within the call of the layer below that answers, each exactly once. They may call
 // here again, and may end this object.
-class StandIn : public std::enable_shared_from_this<StandIn>, private Listener {
+class StandIn : public std::enable_shared_from_this<StandIn>, private Below {
 public:
-    // `lower` isn't owned, and may be gone before this object ends.
     StandIn(ola::rdm::RDMControllerInterface *lower, unsigned int places);
 
     // Nothing is sent until `resume`, not even the next frame of a discovery that has begun.
@@ -67,7 +66,6 @@ private:
     const std::uint8_t places_;
     wurst::Controller core_;
     const wurst::Controller::Client client_;
-    Below below_;
     // Requests of the core, and those that are handed down, each in their order.
     std::deque<Request> requests_;
     std::deque<Request> handed_;

@@ -49,8 +49,8 @@ void test_bytes() {
     CHECK(status_of(ok, with(16, RDM_NACK_REASON)) == RDM_COMPLETED_OK);
     CHECK(status_of(ok, with(22, 0x83)) == RDM_INVALID_RESPONSE);
     CHECK(status_of(ok, with(22, 0x83), PID_QUEUED_MESSAGE) == RDM_COMPLETED_OK);
-    CHECK(status_of(ok, [](Data &frame) { frame.resize(25); }) == RDM_PACKET_TOO_SHORT);
-    CHECK(status_of(ok, [](Data &frame) { frame.resize(1); }) == RDM_PACKET_TOO_SHORT);
+    CHECK(status_of(RDM_PACKET_LENGTH_MISMATCH, [](Data &frame) { frame.resize(25); }) == RDM_PACKET_TOO_SHORT);
+    CHECK(status_of(RDM_INVALID_RESPONSE, [](Data &frame) { frame.resize(1); }) == RDM_PACKET_TOO_SHORT);
     CHECK(status_of(ok, with(0, 0xcd)) == RDM_INVALID_RESPONSE);
     CHECK(status_of(ok, with(1, 2)) == RDM_WRONG_SUB_START_CODE);
     CHECK(status_of(ok, with(2, 25)) == RDM_PACKET_LENGTH_MISMATCH);
@@ -89,8 +89,7 @@ void test_statuses_alone() {
         if (each != RDM_WAS_BROADCAST) {
             CHECK(status_without_bytes(each, get()) == each);
             CHECK(status_without_bytes(each, set()) == each);
-            CHECK(status_without_bytes(each, get(PID_QUEUED_MESSAGE)) == each
-                  || (each == RDM_SUB_DEVICE_MISMATCH && true));
+            CHECK(status_without_bytes(each, get(PID_QUEUED_MESSAGE)) == each || each == RDM_SUB_DEVICE_MISMATCH);
         }
     }
     const UID all = UID::AllDevices();
@@ -106,17 +105,18 @@ void test_statuses_alone() {
           == RDM_INVALID_RESPONSE);
 }
 
-// A layer below that has no raw bytes, but a response.
-void test_response_alone() {
+// A layer below that has a response, but no raw bytes or no whole ones.
+void test_response_alone(const RDMFrames &frames) {
     Lower lower;
-    lower.answers = [](const RDMRequest &request) {
+    lower.answers = [&](const RDMRequest &request) {
         const std::uint8_t data[] = {5, 6, 7};
-        return std::make_unique<RDMReply>(RDM_COMPLETED_OK, GetResponseFromData(&request, data, sizeof data));
+        auto *const response = GetResponseFromData(&request, data, sizeof data);
+        return std::make_unique<RDMReply>(RDM_COMPLETED_OK, response, frames);
     };
     Client client;
     Queue queue(&lower, 20);
     queue.SendRDMRequest(get(), client.callback());
-    CHECK(client.last() == RDM_COMPLETED_OK && client.got[0].frames.empty());
+    CHECK(client.last() == RDM_COMPLETED_OK && client.got[0].frames == frames);
     CHECK(data_of(*client.got[0].response) == Data({5, 6, 7}));
 }
 
@@ -137,7 +137,9 @@ void test_no_memory() {
 void test_statuses() {
     test_bytes();
     test_statuses_alone();
-    test_response_alone();
+    test_response_alone({});
+    const std::uint8_t two[] = {1, 2};
+    test_response_alone({RDMFrame(two, sizeof two)});
     test_no_memory();
 }
 

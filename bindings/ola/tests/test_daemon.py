@@ -8,15 +8,15 @@ The last line is 'N passed, M failed'.
 """
 from __future__ import annotations
 
+import itertools
 import json
 import random
 import signal
 import sys
-import traceback
 from pathlib import Path
-from typing import Any, Dict, List, NoReturn, Optional, Sequence, Tuple
+from typing import Any, Dict, List, NoReturn, Sequence, Tuple
 
-from daemon import Daemon, DaemonFailed
+from daemon import Daemon
 from wurstlinen.lines.scene import Scene, parse_scene
 
 # The two that OLA tells apart: below 4.15, label 12 follows the replies to branches.
@@ -27,7 +27,7 @@ MANUFACTURERS = (0x1234, 0x454E, 0x9ABC)
 TRIES = 5
 TERMINATED = 143
 # What OLA's tools print if there was no reply.
-NO_REPLY = ("Error: The response was not received", "Error: Timeout", "Timeout", "timed out")
+NO_REPLY = "Error: Response Timeout"
 
 
 class Checks:
@@ -99,12 +99,7 @@ def check_value(checks: Checks, loss: float, name: str, wanted: str, daemon: Dae
     got: List[str] = []
     while len(got) < (TRIES if loss else 1) and (not got or got[-1] != wanted):
         got.append(daemon.get(uid, pid))
-    checks.check(got[-1] == wanted and all(is_no_reply(each) for each in got[:-1]), f"{name}: {got}, not {wanted}")
-
-
-def is_no_reply(text: str) -> bool:
-    """Whether a tool says that there was no reply."""
-    return "timed out" in text.lower() or "timeout" in text.lower()
+    checks.check(got[-1] == wanted and all(each == NO_REPLY for each in got[:-1]), f"{name}: {got}, not {wanted}")
 
 
 def check_parts(checks: Checks, files: Tuple[Path, Path]) -> None:
@@ -120,18 +115,38 @@ def check_parts(checks: Checks, files: Tuple[Path, Path]) -> None:
         checks.check(daemon.get("1234:00000007", "device_label") == "", "an empty label")
 
 
-def check_log(checks: Checks, files: Tuple[Path, Path], folder: Path) -> None:
-    """The log, the other search, and settings that are none."""
-    log = folder / "log"
+def check_settings(checks: Checks, files: Tuple[Path, Path]) -> None:
+    """The log, and settings that are none."""
     scene = random_scene(3, seed=9)
-    settings = {"WURSTLINEN_LOG": str(log), "WURSTLINEN_SEARCH": "fast", "WURSTLINEN_BUDGET": "0"}
+    uid = uids_of(scene)[1]
+    settings = {"WURSTLINEN_LOG": "FOLDER/log", "WURSTLINEN_SEARCH": "fast", "WURSTLINEN_BUDGET": "0"}
     with Daemon(scene, files[1], files[0], settings=settings) as daemon:
-        log = daemon.folder / "log"
         checks.check(daemon.discover(True) == uids_of(scene), "a discovery with a log")
-        daemon.get(uids_of(scene)[0], "device_label")
-        messages = daemon.messages
-    for text in ("WURSTLINEN_SEARCH=fast: it is quick or steady", "WURSTLINEN_BUDGET=0: it is a number of frames"):
-        checks.check(text in messages, f"the daemon doesn't say: {text}")
+        label = daemon.get(uid, "device_label")
+        log = [json.loads(line) for line in (daemon.folder / "log").read_text().splitlines()]
+        for text in ("WURSTLINEN_SEARCH=fast: it is quick or steady", "WURSTLINEN_BUDGET=0: it is a number of frames"):
+            checks.check(text in daemon.messages, f"the daemon doesn't say: {text}")
+    kinds = [kind for kind in ("call", "sent", "heard", "result") for entry in log if kind in entry]
+    checks.check(kinds.count("sent") == kinds.count("heard") == daemon.rig.exchanges, "each exchange is in the log")
+    results = [entry for entry in log if "result" in entry]
+    found = [entry["found"] for entry in results if entry["result"] == "discovery"]
+    checks.check(bool(found) and all(each == uids_of(scene) for each in found), f"the log's discoveries: {found}")
+    checks.check(bytes.fromhex(results[-1]["data"]).decode() == label and results[-1]["status"] == 0,
+                 f"the log's last result: {results[-1]}")
+
+
+def check_search(checks: Checks, files: Tuple[Path, Path]) -> None:
+    """The steady search takes more frames than the quick one, and a small budget ends it."""
+    exchanges: Dict[str, int] = {}
+    for name, settings in (("quick", {}), ("steady", {"WURSTLINEN_SEARCH": "steady"}),
+                           ("small", {"WURSTLINEN_BUDGET": "7"})):
+        scene = random_scene(10, seed=10)
+        with Daemon(scene, files[1], files[0], settings=settings) as daemon:
+            found = daemon.discover(True)
+            exchanges[name] = daemon.rig.exchanges
+            is_told = "discovery failed: the run has used up its budget of frames" in daemon.messages
+        checks.check((found == uids_of(scene)) == (name != "small") == (not is_told), f"{name}: found {found}")
+    checks.check(exchanges["small"] < exchanges["quick"] < exchanges["steady"], f"frames: {exchanges}")
 
 
 def check_fault(checks: Checks, files: Tuple[Path, Path]) -> None:
@@ -150,13 +165,10 @@ def main(arguments: Sequence[str]) -> int:
     signal.signal(signal.SIGTERM, ended)
     files = (Path(arguments[0]).resolve(), Path(arguments[1]).resolve())
     checks = Checks()
-    lines = [(count, firmware, loss) for count in COUNTS for firmware in FIRMWARES for loss in LOSSES]
-    for work in [lambda line=line: check_line(checks, files, *line) for line in lines] + [
-            lambda: check_parts(checks, files), lambda: check_fault(checks, files)]:
-        try:
-            work()
-        except (DaemonFailed, OSError) as error:
-            checks.check(False, str(error))
+    for count, firmware, loss in itertools.product(COUNTS, FIRMWARES, LOSSES):
+        check_line(checks, files, count, firmware, loss)
+    for check in (check_parts, check_fault, check_settings, check_search):
+        check(checks, files)
     print(f"{checks.passed} passed, {checks.failed} failed")
     return 1 if checks.failed else 0
 
