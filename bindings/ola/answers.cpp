@@ -1,15 +1,10 @@
 #include "answers.hpp"
-
-#include <ola/rdm/RDMCommand.h>
 #include <ola/rdm/RDMCommandSerializer.h>
 #include <ola/rdm/RDMEnums.h>
-
 #include <algorithm>
 #include <array>
-#include <cstddef>
 
 namespace stand_in {
-
 using namespace ola::rdm;
 
 using Bytes = std::vector<std::uint8_t>;
@@ -43,10 +38,7 @@ const Bytes COLLISION{0};
 
 // The raw bytes of the last reply. If a good reply has none, or too few for a response, they are its response's.
 static Bytes bytes_of(const RDMReply &reply) {
-    ola::io::ByteString raw;
-    if (!reply.Frames().empty()) {
-        raw = reply.Frames().back().data;
-    }
+    auto raw = reply.Frames().empty() ? ola::io::ByteString() : reply.Frames().back().data;
     if (reply.StatusCode() == RDM_COMPLETED_OK && raw.size() < LEAST_RESPONSE_BYTES) {
         raw.clear();
         if (reply.Response() != nullptr) {
@@ -80,20 +72,11 @@ static Bytes readdressed(const Bytes &bytes, const wurst_command &sent) {
 
 // A response that is right in all but one thing, which the core looks at last: it ends a request as InvalidResponse.
 static wurst_response wrong_response(const wurst_command &sent) {
-    wurst_response response{};
-    response.source = sent.target;
-    response.dest = sent.source;
-    response.tn = sent.tn;
-    response.sub_device = sent.sub_device;
-    response.pid = sent.pid;
     if (sent.command_class == WURST_GET && sent.pid != PID_QUEUED_MESSAGE) {
-        response.response_class = WURST_GET_RESPONSE;
-        response.pid = static_cast<std::uint16_t>(sent.pid ^ 1);
-    } else {
-        response.response_class = WURST_SET_RESPONSE;
-        response.ack = WURST_ACK_OVERFLOW;
+        const auto other_pid = static_cast<std::uint16_t>(sent.pid ^ 1);
+        return {sent.target, sent.source, 0, WURST_ACK, WURST_GET_RESPONSE, sent.sub_device, other_pid, sent.tn, 0};
     }
-    return response;
+    return {sent.target, sent.source, 0, WURST_ACK_OVERFLOW, WURST_SET_RESPONSE, sent.sub_device, sent.pid, sent.tn, 0};
 }
 
 // Bytes that the core judges as the layer below has judged those that it kept for itself.
@@ -117,19 +100,14 @@ static Bytes judged_as(RDMStatusCode status, const wurst_command &sent) {
     return frame;
 }
 
-static bool is_silence(RDMStatusCode status) {
-    return status == RDM_TIMEOUT || status == RDM_WAS_BROADCAST || status == RDM_UNKNOWN_UID;
-}
-
 // What the core is told if a reply has no bytes.
 static Bytes bytes_for(RDMStatusCode status, const wurst_command &sent) {
+    const bool is_silence = status == RDM_TIMEOUT || status == RDM_WAS_BROADCAST || status == RDM_UNKNOWN_UID;
     if (sent.kind == WURST_BRANCH) {
-        return is_silence(status) ? Bytes() : COLLISION;
+        return is_silence ? Bytes() : COLLISION;
     }
-    if (sent.kind != WURST_REQUEST || is_silence(status) || status == RDM_COMPLETED_OK) {
-        return {};
-    }
-    return judged_as(status, sent);
+    const bool is_fault = !is_silence && status != RDM_COMPLETED_OK;
+    return sent.kind == WURST_REQUEST && is_fault ? judged_as(status, sent) : Bytes();
 }
 
 Heard hear(const RDMReply &reply, const wurst_command &sent) {
@@ -149,9 +127,7 @@ Heard hear(const RDMReply &reply, const wurst_command &sent) {
     return heard;
 }
 
-RDMStatusCode status_of(std::uint32_t status) {
-    return status < STATUSES.size() ? STATUSES[status] : RDM_INVALID_RESPONSE;
-}
+RDMStatusCode status_of(std::uint32_t status) { return STATUSES.at(status); }
 
 std::unique_ptr<RDMResponse> response_to(const RDMRequest &request, const wurst::Completion &done,
                                          std::uint8_t message_count) {
@@ -165,5 +141,4 @@ std::unique_ptr<RDMResponse> response_to(const RDMRequest &request, const wurst:
         request.DestinationUID(), request.SourceUID(), request.TransactionNumber(), head.ack, message_count,
         head.sub_device, command_class, head.pid, done.data.data(), done.data.size());
 }
-
 } // namespace stand_in

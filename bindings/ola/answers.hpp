@@ -1,10 +1,7 @@
 // What replies of the layer below mean to the core, and what the core's results mean to clients of OLA.
 #pragma once
-
 #include <wurstlinen.hpp>
-
 #include <ola/rdm/RDMReply.h>
-
 #include <memory>
 #include <vector>
 
@@ -14,8 +11,7 @@ namespace stand_in {
 struct Heard {
     bool is_failed = false;
     std::vector<std::uint8_t> bytes;
-    // That of the layer below.
-    ola::rdm::RDMStatusCode status = ola::rdm::RDM_COMPLETED_OK;
+    ola::rdm::RDMStatusCode status = ola::rdm::RDM_COMPLETED_OK; // of the layer below
 };
 
 // What a reply says of the frame that was sent. `sent` is the frame as the core wrote it; the layer below has sent its
@@ -29,5 +25,4 @@ ola::rdm::RDMStatusCode status_of(std::uint32_t status);
 // the last reply.
 std::unique_ptr<ola::rdm::RDMResponse> response_to(const ola::rdm::RDMRequest &request, const wurst::Completion &done,
                                                    std::uint8_t message_count);
-
 } // namespace stand_in

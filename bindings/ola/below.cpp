@@ -1,19 +1,15 @@
 #include "below.hpp"
-
 #include "journal.hpp"
-
 #include <algorithm>
 #include <cstring>
 #include <typeinfo>
 
 namespace stand_in {
-
 using namespace ola::rdm;
 
 // It sends discovery's frames as requests, which no interface of OLA says.
 constexpr const char *SENDS_DISCOVERY = "DmxterWidgetImpl";
 
-constexpr unsigned int MOST_BYTES = WURST_MOST_FRAME_BYTES;
 
 // The core's own frame, read.
 static wurst_command read(const wurst::Frame &frame) {
@@ -25,19 +21,6 @@ static wurst_command read(const wurst::Frame &frame) {
 
 static UID uid_of(std::uint64_t number) {
     return UID(static_cast<std::uint16_t>(number >> 32), static_cast<std::uint32_t>(number));
-}
-
-std::uint64_t number_of(const UID &uid) {
-    return std::uint64_t{uid.ManufacturerId()} << 32 | uid.DeviceId();
-}
-
-const char *text_of(Bridge bridge) {
-    switch (bridge) {
-    case Bridge::Target: return "the proved discovery, by the adapter's discovery calls and requests";
-    case Bridge::Requests: return "the proved discovery, by the adapter's requests";
-    case Bridge::Own: return "the adapter's own discovery, which isn't proved";
-    default: return "no discovery";
-    }
 }
 
 Below::Below(RDMControllerInterface *lower)
@@ -114,8 +97,8 @@ void Below::replied(unsigned int turn, RDMReply *reply) {
 
 void Below::branched(unsigned int turn, const std::uint8_t *data, unsigned int length) {
     if (ends(Awaited::Branch, turn)) {
-        const std::uint8_t *const end = data != nullptr ? data + std::min(length, MOST_BYTES) : data;
-        heard({false, {data, end}, RDM_COMPLETED_OK}, nullptr);
+        const auto size = data != nullptr ? std::min<unsigned int>(length, WURST_MOST_FRAME_BYTES) : 0;
+        heard({false, {data, data + size}, RDM_COMPLETED_OK}, nullptr);
     }
 }
 
@@ -130,5 +113,4 @@ void Below::found_by_itself(unsigned int turn, const UIDSet &devices) {
         found(devices);
     }
 }
-
 } // namespace stand_in

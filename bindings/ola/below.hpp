@@ -1,27 +1,16 @@
 // The layer below: an adapter's class of OLA, which gets frames as requests and discovery calls.
 #pragma once
-
 #include "answers.hpp"
-
 #include <ola/Callback.h>
 #include <ola/rdm/DiscoveryAgent.h>
 #include <ola/rdm/RDMControllerInterface.h>
-
 #include <array>
-#include <memory>
 
 namespace stand_in {
 
-// How the frames of a discovery go down.
-enum class Bridge {
-    Target,     // branches and unmutes by discovery calls, mutes as requests
-    Requests,   // all as requests
-    Own,        // none does: discovery is the adapter's own
-    None,       // there is no discovery
-};
-
-const char *text_of(Bridge bridge);
-std::uint64_t number_of(const ola::rdm::UID &uid);
+// How the frames of a discovery go down: branches and unmutes by discovery calls and mutes as requests; all as
+// requests; or not at all, since discovery is the adapter's own, or there is none.
+enum class Bridge { Target, Requests, Own, None };
 
 // One exchange at a time. Its answer may come within the call that begins it, later, or never; all others are dropped.
 class Below {
@@ -29,8 +18,6 @@ protected:
     // `lower` isn't owned, and may be gone before this object is.
     explicit Below(ola::rdm::RDMControllerInterface *lower);
     virtual ~Below() = default;
-    Below(const Below &) = delete;
-    Below &operator=(const Below &) = delete;
 
     Bridge bridge() const { return bridge_; }
     bool is_busy() const { return awaited_ != Awaited::Nothing; }
@@ -80,5 +67,4 @@ private:
     wurst_command sent_{};
     std::array<Callbacks, 2> callbacks_;
 };
-
 } // namespace stand_in

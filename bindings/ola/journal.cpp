@@ -1,5 +1,4 @@
 #include "journal.hpp"
-
 #include <cerrno>
 #include <cstdlib>
 #include <cstring>
@@ -26,7 +25,8 @@ static bool is_second(const char *name, const std::string &first, const std::str
     return text == second;
 }
 
-static void read_budget(const std::string &text, Settings &found) {
+static void read_budget(Settings &found) {
+    const std::string text = setting("WURSTLINEN_BUDGET");
     errno = 0;
     const unsigned long long value = std::strtoull(text.c_str(), nullptr, 10);
     if (text.find_first_not_of("0123456789") == text.npos && errno == 0 && value > 0) {
@@ -36,21 +36,16 @@ static void read_budget(const std::string &text, Settings &found) {
     }
 }
 
-static void open_log(const std::string &name, Settings &found) {
-    found.log = name.empty() ? nullptr : std::fopen(name.c_str(), "ae");
-    if (found.log != nullptr) {
-        std::setvbuf(found.log, nullptr, _IOLBF, BUFSIZ);
-    } else if (!name.empty()) {
-        refuse("WURSTLINEN_LOG", name, std::strerror(errno));
-    }
-}
-
 static Settings read_settings() {
     Settings found;
     found.is_proved_discovery = !is_second("WURSTLINEN_DISCOVERY", "proved", "adapter");
     found.search = is_second("WURSTLINEN_SEARCH", "quick", "steady") ? WURST_STEADY : WURST_QUICK;
-    read_budget(setting("WURSTLINEN_BUDGET"), found);
-    open_log(setting("WURSTLINEN_LOG"), found);
+    read_budget(found);
+    const std::string name = setting("WURSTLINEN_LOG");
+    found.log = name.empty() ? nullptr : std::fopen(name.c_str(), "ae");
+    if (found.log == nullptr && !name.empty()) {
+        refuse("WURSTLINEN_LOG", name, std::strerror(errno));
+    }
     return found;
 }
 
@@ -64,8 +59,8 @@ void tell(unsigned int controller, const std::string &text) {
 }
 
 std::string json(const std::string &text) { return '"' + text + '"'; }
-
 std::string json(std::uint64_t number) { return std::to_string(number); }
+std::string json(const ola::rdm::UID &uid) { return json(uid.ToString()); }
 
 std::string json(wurst::Bytes bytes) {
     static const char digits[] = "0123456789abcdef";
@@ -88,15 +83,14 @@ std::string json(const std::vector<wurst::Device> &devices) {
 void write_record(unsigned int controller, std::initializer_list<std::string> fields) {
     timespec now{};
     clock_gettime(CLOCK_REALTIME, &now);
-    char time[40];
-    std::snprintf(time, sizeof time, "{\"time\":%lld.%06ld", static_cast<long long>(now.tv_sec), now.tv_nsec / 1000);
-    std::string line = time + (",\"controller\":" + std::to_string(controller));
+    const auto microseconds = std::uint64_t(now.tv_sec) * 1000000 + std::uint64_t(now.tv_nsec) / 1000;
+    std::string line = "{\"microseconds\":" + json(microseconds) + ",\"controller\":" + json(controller);
     bool is_key = true;
     for (const auto &each : fields) {
         line += (is_key ? ',' : ':') + each;
         is_key = !is_key;
     }
     std::fputs((line + "}\n").c_str(), settings().log);
+    std::fflush(settings().log);
 }
-
 } // namespace stand_in

@@ -1,8 +1,7 @@
 // The settings of a process, and its log.
 #pragma once
-
 #include <wurstlinen.hpp>
-
+#include <ola/rdm/UID.h>
 #include <cstdio>
 #include <initializer_list>
 #include <string>
@@ -26,6 +25,7 @@ void tell(unsigned int controller, const std::string &text);
 // The log's keys and values. No text has a character that JSON escapes.
 std::string json(const std::string &text);
 std::string json(std::uint64_t number);
+std::string json(const ola::rdm::UID &uid);
 std::string json(wurst::Bytes bytes);
 std::string json(const std::vector<wurst::Device> &devices);
 void write_record(unsigned int controller, std::initializer_list<std::string> fields);
@@ -36,5 +36,4 @@ template <typename... Fields> void record(unsigned int controller, const Fields 
         write_record(controller, {json(fields)...});
     }
 }
-
 } // namespace stand_in

@@ -1,9 +1,7 @@
 // The members of OLA's two queueing classes, defined anew. The dynamic linker takes them in place of those in OLA's
 // library, which is built from the same header.
 #include "stand_in.hpp"
-
 #include <ola/rdm/QueueingRDMController.h>
-
 #include <map>
 #include <memory>
 
@@ -55,5 +53,4 @@ void DiscoverableQueueingRDMController::RunIncrementalDiscovery(RDMDiscoveryCall
 
 void DiscoverableQueueingRDMController::TakeNextAction() {}
 bool DiscoverableQueueingRDMController::CheckForBlockingCondition() { return false; }
-
 } // namespace ola::rdm

@@ -1,24 +1,18 @@
 #include "stand_in.hpp"
-
 #include "journal.hpp"
-
 #include <algorithm>
-#include <utility>
 
 namespace stand_in {
-
 using namespace ola::rdm;
 
 // The controller's UID in the core's frames. Its manufacturer is left to prototypes by E1.20, so that no reply to
 // the adapter's or a client's own UID looks like a reply to a frame of the core.
 constexpr wurst::Uid SOURCE{0x7ff0, 0x00000001};
-constexpr unsigned int MOST_PLACES = 255;
 constexpr unsigned int HEADER_BYTES = 24;
-
-static unsigned int next_number() {
-    static unsigned int number = 0;
-    return ++number;
-}
+constexpr const char *DISCOVERY_BY_BRIDGE[] = {
+    "the proved discovery, by the adapter's discovery calls and requests",
+    "the proved discovery, by the adapter's requests", "the adapter's own discovery, which isn't proved",
+    "no discovery"};
 
 // Whether the core can send a request: it has no discovery requests of clients, and sets all of these fields itself.
 static bool is_for_core(const RDMRequest &request) {
@@ -30,7 +24,8 @@ static bool is_for_core(const RDMRequest &request) {
 
 static wurst_request form_of(const RDMRequest &request) {
     const auto command_class = request.CommandClass() == RDMCommand::SET_COMMAND ? WURST_SET : WURST_GET;
-    return {number_of(request.DestinationUID()), command_class, request.SubDevice(), request.ParamId()};
+    const wurst::Uid target(request.DestinationUID().ManufacturerId(), request.DestinationUID().DeviceId());
+    return {target.number(), command_class, request.SubDevice(), request.ParamId()};
 }
 
 static UIDSet set_of(const std::vector<wurst::Device> &devices) {
@@ -42,25 +37,19 @@ static UIDSet set_of(const std::vector<wurst::Device> &devices) {
 }
 
 static std::string text_of(const wurst_end &end) {
-    switch (end.fault) {
-    case WURST_CORRUPT:
-        return "the branch of " + wurst::Uid::from_number(end.corrupt)->text()
-            + " alone was answered, but showed no new device";
-    case WURST_TOO_MANY: return "more than " + std::to_string(WURST_MOST_DEVICES) + " devices answered";
-    case WURST_EXHAUSTED: return "the run has used up its budget of frames";
-    case WURST_LINE_FAILED: return "the adapter couldn't send a frame";
-    default: return "it was aborted";
-    }
+    static const char *const faults[] = {
+        "no fault", " alone answered its branch, but isn't a new device", "more than 1,024 devices answered",
+        "the run has used up its budget of frames", "the adapter couldn't send a frame", "it was aborted"};
+    return (end.fault == WURST_CORRUPT ? wurst::Uid::from_number(end.corrupt)->text() : "") + faults[end.fault];
 }
 
 StandIn::StandIn(RDMControllerInterface *lower, unsigned int places)
-    : Below(lower), controller_(next_number()),
-      places_(static_cast<std::uint8_t>(std::clamp(places, 1U, MOST_PLACES))),
+    : Below(lower), controller_(++controllers_), places_(std::clamp<unsigned int>(places, 1, UINT8_MAX)),
       core_(SOURCE, places_, settings().budget, settings().search), client_(core_.join(places_)) {
     if (places_ != places) {
         tell(controller_, "its queue has " + std::to_string(places_) + " places, not " + std::to_string(places));
     }
-    tell(controller_, text_of(bridge()));
+    tell(controller_, DISCOVERY_BY_BRIDGE[static_cast<int>(bridge())]);
     record(controller_, "call", "open", "places", places_);
 }
 
@@ -82,18 +71,17 @@ void StandIn::send(RDMRequest *taken, RDMCallback *callback) {
     const bool is_cores = is_for_core(*taken);
     const wurst_request form = form_of(*taken);
     const wurst::Bytes data(taken->ParamData(), taken->ParamDataSize());
-    record(controller_, "call", is_cores ? "request" : "handed down", "request", request.order, "target", form.target,
-           "class", taken->CommandClass(), "sub_device", form.sub_device, "pid", form.pid, "data", data);
-    if (is_cores) {
-        try {
+    record(controller_, "call", is_cores ? "request" : "handed down", "request", request.order, "target",
+           taken->DestinationUID(), "class", taken->CommandClass(), "sub_device", form.sub_device, "pid", form.pid,
+           "data", data);
+    try {
+        if (is_cores) {
             core_.submit(client_, form, data);
-        } catch (const wurst::Fault &fault) {
-            refuse(callback, fault.what());
-            return;
+        } else if (has_ended_ || handed_.size() >= places_) {
+            throw wurst::Fault(WURST_FULL);
         }
-    } else if (has_ended_ || handed_.size() >= places_) {
-        refuse(callback, "as many as there are places wait to be handed down");
-        return;
+    } catch (const wurst::Fault &fault) {
+        return refuse(callback, fault.what());
     }
     (is_cores ? requests_ : handed_).push_back(std::move(request));
     pump();
@@ -131,20 +119,12 @@ template <typename Work> void StandIn::within(Work work) {
     const auto self = shared_from_this();
     const bool was_within = std::exchange(is_within_, true);
     work();
+    while (!was_within && !has_ended_ && !is_paused_ && !is_busy() && send_next()) {
+    }
     is_within_ = was_within;
-    pump();
 }
 
-void StandIn::pump() {
-    if (is_within_) {
-        return;
-    }
-    const auto self = shared_from_this();
-    is_within_ = true;
-    while (!has_ended_ && !is_paused_ && !is_busy() && send_next()) {
-    }
-    is_within_ = false;
-}
+void StandIn::pump() { within([] {}); }
 
 bool StandIn::send_next() {
     if (is_handed_down_next()) {
@@ -268,34 +248,27 @@ void StandIn::found(const UIDSet &devices) {
 }
 
 void StandIn::end() {
-    if (std::exchange(has_ended_, true)) {
-        return;
-    }
     record(controller_, "call", "close");
+    has_ended_ = true;
     forget();
-    within([&] {
+    within([this] {
         core_.close();
         if (core_.awaits()) {
             core_.fail();
         }
         collect();
-        end_others();
+        // The rest isn't the core's. Callbacks may add to it.
+        while (!handed_.empty()) {
+            auto *const callback = handed_.front().callback;
+            handed_.pop_front();
+            refuse(callback, "the controller has ended");
+        }
+        while (!discoveries_.empty() || !waiting_.callbacks.empty()) {
+            if (discoveries_.empty()) {
+                discoveries_.push_back(std::exchange(waiting_, {}));
+            }
+            answer_oldest(UIDSet(last_given_));
+        }
     });
 }
-
-// Answers what the core doesn't have. Callbacks may add to it.
-void StandIn::end_others() {
-    while (!handed_.empty()) {
-        auto *const callback = handed_.front().callback;
-        handed_.pop_front();
-        refuse(callback, "the controller has ended");
-    }
-    while (!discoveries_.empty() || !waiting_.callbacks.empty()) {
-        if (discoveries_.empty()) {
-            discoveries_.push_back(std::exchange(waiting_, {}));
-        }
-        answer_oldest(UIDSet(last_given_));
-    }
-}
-
 } // namespace stand_in

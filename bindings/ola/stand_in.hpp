@@ -1,14 +1,7 @@
 // What stands in for one queueing controller of OLA: a proved controller, with OLA's callbacks and the layer below.
 #pragma once
-
 #include "below.hpp"
-
-#include <wurstlinen.hpp>
-
-#include <cstdint>
 #include <deque>
-#include <memory>
-#include <vector>
 
 namespace stand_in {
 
@@ -60,8 +53,8 @@ private:
     void answer_oldest(const ola::rdm::UIDSet &devices);
     bool ask(const Discoveries &discoveries);
     void refuse(ola::rdm::RDMCallback *callback, const char *why);
-    void end_others();
 
+    static inline unsigned int controllers_ = 0;
     const unsigned int controller_;
     const std::uint8_t places_;
     wurst::Controller core_;
@@ -81,5 +74,4 @@ private:
     bool is_within_ = false;
     bool has_ended_ = false;
 };
-
 } // namespace stand_in

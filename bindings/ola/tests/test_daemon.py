@@ -156,7 +156,7 @@ def check_fault(checks: Checks, files: Tuple[Path, Path]) -> None:
     with Daemon(scene, files[1], files[0], settings={"WURSTLINEN_SEARCH": "steady"}) as daemon:
         found = daemon.discover(True)
         checks.check("1234:00000007" in found, f"a fixture that mutes is lost: {found}")
-        wanted = "discovery failed: the branch of ffff:00000001 alone was answered"
+        wanted = "discovery failed: ffff:00000001 alone answered its branch"
         checks.check(wanted in daemon.messages, f"the fault isn't told: {daemon.messages}")
 
 
