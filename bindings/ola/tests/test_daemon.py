@@ -160,6 +160,16 @@ def check_fault(checks: Checks, files: Tuple[Path, Path]) -> None:
         checks.check(wanted in daemon.messages, f"the fault isn't told: {daemon.messages}")
 
 
+def check_own_discovery(checks: Checks, files: Tuple[Path, Path]) -> None:
+    """The adapter's own discovery, behind the queue."""
+    scene = random_scene(5, seed=11)
+    with Daemon(scene, files[1], files[0], settings={"WURSTLINEN_DISCOVERY": "adapter"}) as daemon:
+        for is_full in (True, False):
+            found = daemon.discover(is_full)
+            checks.check(found == uids_of(scene), f"the adapter's own discovery found {found}")
+        checks.check("controller 1: the adapter's own discovery" in daemon.messages, "the bridge isn't told")
+
+
 def main(arguments: Sequence[str]) -> int:
     """Runs all."""
     signal.signal(signal.SIGTERM, ended)
@@ -167,7 +177,7 @@ def main(arguments: Sequence[str]) -> int:
     checks = Checks()
     for count, firmware, loss in itertools.product(COUNTS, FIRMWARES, LOSSES):
         check_line(checks, files, count, firmware, loss)
-    for check in (check_parts, check_fault, check_settings, check_search):
+    for check in (check_parts, check_fault, check_settings, check_search, check_own_discovery):
         check(checks, files)
     print(f"{checks.passed} passed, {checks.failed} failed")
     return 1 if checks.failed else 0
