@@ -1,4 +1,5 @@
-# The C library: how it is built from its proved archive, and put into a folder. For the scripts in the folder above.
+# The C library, and the library for OLA: how they are built from the proved archive, and put into a folder. For the
+# scripts in the folder above.
 # shellcheck shell=bash
 
 # The shared object's version of the interface. It changes if programs have to be compiled again.
@@ -40,4 +41,37 @@ Version: $(cat "$root/VERSION")
 Libs: -L\${libdir} -lwurstlinen
 Cflags: -I\${includedir}
 END
+}
+
+# What stands in for OLA's controllers, and the flags that it is compiled with.
+ola_library=libwurstlinen-ola.so
+ola_flags=(-std=c++17 -Wall -Wextra -Werror -pedantic)
+
+has_ola_headers() {
+    echo '#include <ola/rdm/QueueingRDMController.h>' | c++ "${ola_flags[@]}" -x c++ -fsyntax-only - 2> /dev/null
+}
+
+# Makes it in a folder that has libwurstlinen.a. It exports the members of OLA's two classes alone.
+make_ola_library() {
+    local root="$1" folder="$2"
+    cat > "$folder/exports" << 'END'
+{
+    global:
+        extern "C++" {
+            ola::rdm::QueueingRDMController::*;
+            ola::rdm::DiscoverableQueueingRDMController::*;
+            "vtable for ola::rdm::QueueingRDMController";
+            "vtable for ola::rdm::DiscoverableQueueingRDMController";
+            "typeinfo for ola::rdm::QueueingRDMController";
+            "typeinfo for ola::rdm::DiscoverableQueueingRDMController";
+            "typeinfo name for ola::rdm::QueueingRDMController";
+            "typeinfo name for ola::rdm::DiscoverableQueueingRDMController";
+        };
+    local: *;
+};
+END
+    c++ "${ola_flags[@]}" -O2 -fPIC -shared -I"$root/bindings/c" -I"$root/bindings/cpp" "$root"/bindings/ola/*.cpp \
+        -o "$folder/$ola_library" -Wl,--version-script="$folder/exports" -Wl,--no-undefined \
+        "$folder/libwurstlinen.a" -lolacommon || return
+    rm "$folder/exports"
 }

@@ -1,0 +1,144 @@
+#include "answers.hpp"
+#include <ola/rdm/RDMCommandSerializer.h>
+#include <ola/rdm/RDMEnums.h>
+#include <algorithm>
+#include <array>
+
+namespace stand_in {
+using namespace ola::rdm;
+
+using Bytes = std::vector<std::uint8_t>;
+
+// Bits to change in a byte of a packet without data, and its checksum with them, so that the core judges it like this
+// (E1.20, packet format).
+struct Change {
+    RDMStatusCode status;
+    std::size_t at;
+    std::uint8_t bits;
+};
+
+constexpr Change CHANGES[] = {
+    {RDM_WRONG_SUB_START_CODE, 1, 2}, {RDM_PACKET_LENGTH_MISMATCH, 2, 1}, {RDM_DEST_UID_MISMATCH, 8, 1},
+    {RDM_SRC_UID_MISMATCH, 14, 1}, {RDM_TRANSACTION_MISMATCH, 15, 1}, {RDM_INVALID_RESPONSE_TYPE, 16, 0x0c},
+    {RDM_SUB_DEVICE_MISMATCH, 19, 1}, {RDM_INVALID_COMMAND_CLASS, 20, 1}, {RDM_PARAM_LENGTH_MISMATCH, 23, 1},
+    {RDM_CHECKSUM_INCORRECT, 25, 1}};
+
+// By the number of the core's status. OLA has no code for a wrong start code (6). Without memory for its data (18) a
+// request was carried out all the same, so it isn't "failed to send", after which a client may send it again.
+constexpr std::array<RDMStatusCode, 19> STATUSES{
+    RDM_COMPLETED_OK, RDM_WAS_BROADCAST, RDM_FAILED_TO_SEND, RDM_TIMEOUT, RDM_INVALID_RESPONSE, RDM_PACKET_TOO_SHORT,
+    RDM_INVALID_RESPONSE, RDM_WRONG_SUB_START_CODE, RDM_PACKET_LENGTH_MISMATCH, RDM_PARAM_LENGTH_MISMATCH,
+    RDM_CHECKSUM_INCORRECT, RDM_INVALID_COMMAND_CLASS, RDM_INVALID_RESPONSE_TYPE, RDM_TRANSACTION_MISMATCH,
+    RDM_SUB_DEVICE_MISMATCH, RDM_SRC_UID_MISMATCH, RDM_DEST_UID_MISMATCH, RDM_COMMAND_CLASS_MISMATCH,
+    RDM_INVALID_RESPONSE};
+
+constexpr std::size_t LEAST_RESPONSE_BYTES = 26;
+// More than one device replied to a branch, or one that nobody understands.
+const Bytes COLLISION{0};
+
+// The raw bytes of the last reply. If a good reply has none, or too few for a response, they are its response's.
+static Bytes bytes_of(const RDMReply &reply) {
+    auto raw = reply.Frames().empty() ? ola::io::ByteString() : reply.Frames().back().data;
+    if (reply.StatusCode() == RDM_COMPLETED_OK && raw.size() < LEAST_RESPONSE_BYTES) {
+        raw.clear();
+        if (reply.Response() != nullptr) {
+            RDMCommandSerializer::PackWithStartCode(*reply.Response(), &raw);
+        }
+    }
+    // Some adapters add bytes after the checksum.
+    return Bytes(raw.begin(), raw.begin() + std::min<std::ptrdiff_t>(raw.size(), WURST_MOST_FRAME_BYTES));
+}
+
+static Bytes written(const wurst_response &response, const wurst::Bytes &data) {
+    Bytes frame(WURST_MOST_FRAME_BYTES);
+    std::size_t len = 0;
+    wurst::check(wurst_response_write(&response, data.data, response.len, frame.data(), frame.size(), &len));
+    frame.resize(len);
+    return frame;
+}
+
+// The same reply as if the core's own frame had been sent. Bytes that aren't a response stay as they are.
+static Bytes readdressed(const Bytes &bytes, const wurst_command &sent) {
+    const wurst::Bytes raw(bytes);
+    wurst_response response{};
+    std::array<std::uint8_t, WURST_MOST_PARAMETER_BYTES> data{};
+    if (wurst_response_read(raw.data, raw.size, &response, data.data(), data.size()) != WURST_DONE) {
+        return bytes;
+    }
+    response.dest = sent.source;
+    response.tn = sent.tn;
+    return written(response, data);
+}
+
+// A response that is right in all but one thing, which the core looks at last: it ends a request as InvalidResponse.
+static wurst_response wrong_response(const wurst_command &sent) {
+    if (sent.command_class == WURST_GET && sent.pid != PID_QUEUED_MESSAGE) {
+        const auto other_pid = static_cast<std::uint16_t>(sent.pid ^ 1);
+        return {sent.target, sent.source, 0, WURST_ACK, WURST_GET_RESPONSE, sent.sub_device, other_pid, sent.tn, 0};
+    }
+    return {sent.target, sent.source, 0, WURST_ACK_OVERFLOW, WURST_SET_RESPONSE, sent.sub_device, sent.pid, sent.tn, 0};
+}
+
+// Bytes that the core judges as the layer below has judged those that it kept for itself.
+static Bytes judged_as(RDMStatusCode status, const wurst_command &sent) {
+    wurst_response response = wrong_response(sent);
+    if (status == RDM_COMMAND_CLASS_MISMATCH) {
+        response.response_class = WURST_DISCOVERY_RESPONSE;
+    }
+    Bytes frame = written(response, {});
+    const std::size_t sum = frame.size() - 2;
+    for (const auto &each : CHANGES) {
+        if (each.status == status) {
+            const int difference = (frame[each.at] ^ each.bits) - frame[each.at];
+            const int changed = (frame[sum] << 8 | frame[sum + 1]) + difference;
+            frame[each.at] = static_cast<std::uint8_t>(frame[each.at] ^ each.bits);
+            frame[sum] = static_cast<std::uint8_t>(changed >> 8);
+            frame[sum + 1] = static_cast<std::uint8_t>(changed);
+        }
+    }
+    frame.resize(status == RDM_PACKET_TOO_SHORT ? frame.size() - 1 : frame.size());
+    return frame;
+}
+
+// What the core is told if a reply has no bytes.
+static Bytes bytes_for(RDMStatusCode status, const wurst_command &sent) {
+    const bool is_silence = status == RDM_TIMEOUT || status == RDM_WAS_BROADCAST || status == RDM_UNKNOWN_UID;
+    if (sent.kind == WURST_BRANCH) {
+        return is_silence ? Bytes() : COLLISION;
+    }
+    const bool is_fault = !is_silence && status != RDM_COMPLETED_OK;
+    return sent.kind == WURST_REQUEST && is_fault ? judged_as(status, sent) : Bytes();
+}
+
+Heard hear(const RDMReply &reply, const wurst_command &sent) {
+    Heard heard;
+    heard.status = reply.StatusCode();
+    heard.is_failed = heard.status == RDM_FAILED_TO_SEND
+        || (heard.status == RDM_PLUGIN_DISCOVERY_NOT_SUPPORTED && sent.kind != WURST_REQUEST);
+    if (heard.is_failed) {
+        return heard;
+    }
+    heard.bytes = bytes_of(reply);
+    if (heard.bytes.empty()) {
+        heard.bytes = bytes_for(heard.status, sent);
+    } else if (heard.status == RDM_COMPLETED_OK && sent.kind != WURST_BRANCH) {
+        heard.bytes = readdressed(heard.bytes, sent);
+    }
+    return heard;
+}
+
+RDMStatusCode status_of(std::uint32_t status) { return STATUSES.at(status); }
+
+std::unique_ptr<RDMResponse> response_to(const RDMRequest &request, const wurst::Completion &done,
+                                         std::uint8_t message_count) {
+    const auto &head = done.head;
+    if (done.status() != WURST_COMPLETED || !head.has_head) {
+        return nullptr;
+    }
+    const bool is_set = head.response_class == WURST_SET_RESPONSE;
+    const auto command_class = is_set ? RDMCommand::SET_COMMAND_RESPONSE : RDMCommand::GET_COMMAND_RESPONSE;
+    return std::make_unique<RDMResponse>(
+        request.DestinationUID(), request.SourceUID(), request.TransactionNumber(), head.ack, message_count,
+        head.sub_device, command_class, head.pid, done.data.data(), done.data.size());
+}
+} // namespace stand_in

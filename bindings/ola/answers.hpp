@@ -1,0 +1,28 @@
+// What replies of the layer below mean to the core, and what the core's results mean to clients of OLA.
+#pragma once
+#include <wurstlinen.hpp>
+#include <ola/rdm/RDMReply.h>
+#include <memory>
+#include <vector>
+
+namespace stand_in {
+
+// What the core is told after a frame: the bytes that came (none are silence), or that the line failed.
+struct Heard {
+    bool is_failed = false;
+    std::vector<std::uint8_t> bytes;
+    ola::rdm::RDMStatusCode status = ola::rdm::RDM_COMPLETED_OK; // of the layer below
+};
+
+// What a reply says of the frame that was sent. `sent` is the frame as the core wrote it; the layer below has sent its
+// own source UID and transaction number instead, and has compared them only if its status is RDM_COMPLETED_OK.
+Heard hear(const ola::rdm::RDMReply &reply, const wurst_command &sent);
+
+// The status that a client gets for the core's.
+ola::rdm::RDMStatusCode status_of(std::uint32_t status);
+
+// The response to a client's request, with the joined data; null unless the device answered. `message_count` is that of
+// the last reply.
+std::unique_ptr<ola::rdm::RDMResponse> response_to(const ola::rdm::RDMRequest &request, const wurst::Completion &done,
+                                                   std::uint8_t message_count);
+} // namespace stand_in

@@ -1,0 +1,274 @@
+#include "stand_in.hpp"
+#include "journal.hpp"
+#include <algorithm>
+
+namespace stand_in {
+using namespace ola::rdm;
+
+// The controller's UID in the core's frames. Its manufacturer is left to prototypes by E1.20, so that no reply to
+// the adapter's or a client's own UID looks like a reply to a frame of the core.
+constexpr wurst::Uid SOURCE{0x7ff0, 0x00000001};
+constexpr unsigned int HEADER_BYTES = 24;
+constexpr const char *DISCOVERY_BY_BRIDGE[] = {
+    "the proved discovery, by the adapter's discovery calls and requests",
+    "the proved discovery, by the adapter's requests", "the adapter's own discovery, which isn't proved",
+    "no discovery"};
+
+// Whether the core can send a request: it has no discovery requests of clients, and sets all of these fields itself.
+static bool is_for_core(const RDMRequest &request) {
+    const auto length = static_cast<std::uint8_t>(HEADER_BYTES + request.ParamDataSize());
+    return (request.CommandClass() == RDMCommand::GET_COMMAND || request.CommandClass() == RDMCommand::SET_COMMAND)
+        && request.SubStartCode() == SUB_START_CODE && request.MessageLength() == length
+        && request.MessageCount() == 0 && request.Checksum(0) == 0 && request.Checksum(1) == 1;
+}
+
+static wurst_request form_of(const RDMRequest &request) {
+    const auto command_class = request.CommandClass() == RDMCommand::SET_COMMAND ? WURST_SET : WURST_GET;
+    const wurst::Uid target(request.DestinationUID().ManufacturerId(), request.DestinationUID().DeviceId());
+    return {target.number(), command_class, request.SubDevice(), request.ParamId()};
+}
+
+static UIDSet set_of(const std::vector<wurst::Device> &devices) {
+    UIDSet set;
+    for (const auto &each : devices) {
+        set.AddUID(UID(each.uid.manufacturer(), each.uid.device()));
+    }
+    return set;
+}
+
+static std::string text_of(const wurst_end &end) {
+    static const char *const faults[] = {
+        "no fault", " alone answered its branch, but isn't a new device", "more than 1,024 devices answered",
+        "the run has used up its budget of frames", "the adapter couldn't send a frame", "it was aborted"};
+    return (end.fault == WURST_CORRUPT ? wurst::Uid::from_number(end.corrupt)->text() : "") + faults[end.fault];
+}
+
+StandIn::StandIn(RDMControllerInterface *lower, unsigned int places)
+    : Below(lower), controller_(++controllers_), places_(std::clamp<unsigned int>(places, 1, UINT8_MAX)),
+      core_(SOURCE, places_, settings().budget, settings().search), client_(core_.join(places_)) {
+    if (places_ != places) {
+        tell(controller_, "its queue has " + std::to_string(places_) + " places, not " + std::to_string(places));
+    }
+    tell(controller_, DISCOVERY_BY_BRIDGE[static_cast<int>(bridge())]);
+    record(controller_, "call", "open", "places", places_);
+}
+
+void StandIn::pause() {
+    record(controller_, "call", "pause");
+    is_paused_ = true;
+    core_.pause();
+}
+
+void StandIn::resume() {
+    record(controller_, "call", "resume");
+    is_paused_ = false;
+    core_.resume();
+    pump();
+}
+
+void StandIn::send(RDMRequest *taken, RDMCallback *callback) {
+    Request request{requests_made_++, std::unique_ptr<RDMRequest>(taken), callback, {}};
+    const bool is_cores = is_for_core(*taken);
+    const wurst_request form = form_of(*taken);
+    const wurst::Bytes data(taken->ParamData(), taken->ParamDataSize());
+    record(controller_, "call", is_cores ? "request" : "handed down", "request", request.order, "target",
+           taken->DestinationUID(), "class", taken->CommandClass(), "sub_device", form.sub_device, "pid", form.pid,
+           "data", data);
+    try {
+        if (is_cores) {
+            core_.submit(client_, form, data);
+        } else if (has_ended_ || handed_.size() >= places_) {
+            throw wurst::Fault(WURST_FULL);
+        }
+    } catch (const wurst::Fault &fault) {
+        return refuse(callback, fault.what());
+    }
+    (is_cores ? requests_ : handed_).push_back(std::move(request));
+    pump();
+}
+
+void StandIn::refuse(RDMCallback *callback, const char *why) {
+    record(controller_, "result", "refused", "why", why);
+    if (callback != nullptr) {
+        RunRDMCallback(callback, RDM_FAILED_TO_SEND);
+    }
+}
+
+void StandIn::discover(wurst_kind kind, RDMDiscoveryCallback *callback) {
+    record(controller_, "call", kind == WURST_FULL_DISCOVERY ? "full discovery" : "incremental discovery");
+    if (bridge() == Bridge::Own || !ask({kind, {callback}})) {
+        waiting_.kind = kind == WURST_FULL_DISCOVERY ? kind : waiting_.kind;
+        waiting_.callbacks.push_back(callback);
+    }
+    pump();
+}
+
+// Asks the core for a discovery. False: as many are outstanding as the core lets a client have, or it is closed.
+bool StandIn::ask(const Discoveries &discoveries) {
+    try {
+        core_.discover(client_, discoveries.kind);
+    } catch (const wurst::Fault &) {
+        return false;
+    }
+    discoveries_.push_back(discoveries);
+    return true;
+}
+
+// Does what may run callbacks, and then sends what is to be sent. A callback that calls here again doesn't send.
+template <typename Work> void StandIn::within(Work work) {
+    const auto self = shared_from_this();
+    const bool was_within = std::exchange(is_within_, true);
+    work();
+    while (!was_within && !has_ended_ && !is_paused_ && !is_busy() && send_next()) {
+    }
+    is_within_ = was_within;
+}
+
+void StandIn::pump() { within([] {}); }
+
+bool StandIn::send_next() {
+    if (is_handed_down_next()) {
+        record(controller_, "sent", "handed down", "request", handed_.front().order);
+        hand_down(std::move(handed_.front().request));
+    } else if (bridge() == Bridge::Own && !is_under_way_ && !waiting_.callbacks.empty()) {
+        record(controller_, "sent", "the adapter's own discovery");
+        discoveries_.push_back(std::exchange(waiting_, {}));
+        discover_below(discoveries_.front().kind == WURST_FULL_DISCOVERY);
+    } else if (const auto frame = core_.take()) {
+        record(controller_, "sent", "frame", "frame", wurst::Bytes(*frame));
+        is_under_way_ = true;
+        send_down(*frame, requests_.empty() ? nullptr : requests_.front().request.get());
+    } else {
+        return false;
+    }
+    return true;
+}
+
+// Discoveries go first, and then requests in their order.
+bool StandIn::is_handed_down_next() const {
+    return !handed_.empty() && !is_under_way_ && discoveries_.empty() && waiting_.callbacks.empty()
+        && (requests_.empty() || handed_.front().order < requests_.front().order);
+}
+
+void StandIn::heard(const Heard &heard, const RDMReply *reply) {
+    record(controller_, "heard", heard.is_failed ? "failed" : "reply", "reply", wurst::Bytes(heard.bytes),
+           "status_below", heard.status);
+    if (reply != nullptr) {
+        Request &request = requests_.front();
+        request.frames.insert(request.frames.end(), reply->Frames().begin(), reply->Frames().end());
+        request.message_count = reply->Response() != nullptr ? reply->Response()->MessageCount() : 0;
+        request.status = heard.status;
+        request.replies++;
+    }
+    within([&] {
+        if (heard.is_failed) {
+            core_.fail();
+        } else {
+            core_.deliver(heard.bytes);
+        }
+        collect();
+    });
+}
+
+// Runs the callbacks of all that has ended.
+void StandIn::collect() {
+    while (const auto kind = core_.oldest(client_)) {
+        is_under_way_ = false;
+        if (*kind == WURST_REQUEST_OUTCOME) {
+            finish(*core_.next_completion(client_));
+        } else {
+            answer(*core_.next_discovery(client_));
+        }
+    }
+}
+
+void StandIn::finish(const wurst::Completion &done) {
+    const Request request = std::move(requests_.front());
+    requests_.pop_front();
+    RDMStatusCode status = status_of(done.head.status);
+    // These three the core can't know.
+    if (done.status() == WURST_TIMEOUT && request.status == RDM_UNKNOWN_UID) {
+        status = RDM_UNKNOWN_UID;
+    } else if (done.status() == WURST_TIMEOUT && request.status == RDM_COMPLETED_OK && request.replies == 1) {
+        status = RDM_COMPLETED_OK;
+    } else if (done.status() == WURST_SOURCE_MISMATCH && request.replies > 1) {
+        status = RDM_INVALID_RESPONSE;
+    }
+    record(controller_, "result", "request", "request", request.order, "status", done.head.status, "status_given",
+           status, "data", wurst::Bytes(done.data));
+    RDMReply reply(status, response_to(*request.request, done, request.message_count).release(), request.frames);
+    if (request.callback != nullptr) {
+        request.callback->Run(&reply);
+    }
+}
+
+// OLA's callback has no fault. So after one, OLA is given what the last run without fault found, or if there was none,
+// what this one has found.
+void StandIn::answer(const wurst::Discovery &done) {
+    const bool is_good = done.fault() == WURST_NO_FAULT || core_.devices_run() == 0;
+    const UIDSet devices = set_of(is_good ? done.devices : core_.devices());
+    record(controller_, "result", "discovery", "run", done.end.run, "fault", done.end.fault, "found", done.devices,
+           "given", devices.Size());
+    if (done.fault() != WURST_NO_FAULT && !has_ended_ && run_told_ != done.end.run) {
+        run_told_ = done.end.run;
+        tell(controller_, "discovery failed: " + text_of(done.end) + "; it found " + std::to_string(done.end.count)
+                              + " devices until then, and OLA is given " + std::to_string(devices.Size()));
+    }
+    answer_oldest(devices);
+}
+
+void StandIn::answer_oldest(const UIDSet &devices) {
+    const Discoveries answered = std::move(discoveries_.front());
+    discoveries_.pop_front();
+    last_given_ = devices;
+    if (bridge() != Bridge::Own && !waiting_.callbacks.empty() && ask(waiting_)) {
+        waiting_ = {};
+    }
+    for (auto *callback : answered.callbacks) {
+        if (callback != nullptr) {
+            callback->Run(devices);
+        }
+    }
+}
+
+void StandIn::handed_back(RDMReply *reply) {
+    const Request request = std::move(handed_.front());
+    handed_.pop_front();
+    record(controller_, "result", "handed down", "request", request.order, "status_given", reply->StatusCode());
+    within([&] {
+        if (request.callback != nullptr) {
+            request.callback->Run(reply);
+        }
+    });
+}
+
+void StandIn::found(const UIDSet &devices) {
+    record(controller_, "result", "the adapter's own discovery", "given", devices.Size());
+    within([&] { answer_oldest(devices); });
+}
+
+void StandIn::end() {
+    record(controller_, "call", "close");
+    has_ended_ = true;
+    forget();
+    within([this] {
+        core_.close();
+        if (core_.awaits()) {
+            core_.fail();
+        }
+        collect();
+        // The rest isn't the core's. Callbacks may add to it.
+        while (!handed_.empty()) {
+            auto *const callback = handed_.front().callback;
+            handed_.pop_front();
+            refuse(callback, "the controller has ended");
+        }
+        while (!discoveries_.empty() || !waiting_.callbacks.empty()) {
+            if (discoveries_.empty()) {
+                discoveries_.push_back(std::exchange(waiting_, {}));
+            }
+            answer_oldest(UIDSet(last_given_));
+        }
+    });
+}
+} // namespace stand_in

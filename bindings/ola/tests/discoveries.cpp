@@ -1,0 +1,221 @@
+// Discoveries by each bridge, beside requests, many at once, and with faults.
+#include "checks.hpp"
+
+namespace tests {
+namespace {
+
+template <typename L> void test_exact(When when, unsigned int count) {
+    L lower;
+    lower.when = when;
+    lower.wire.fixtures = fixtures(count);
+    Client client;
+    Queue queue(&lower, 20);
+    queue.RunFullDiscovery(client.discovery());
+    lower.answer_all();
+    CHECK(client.sets.size() == 1 && client.sets[0] == uids_of(lower.wire) && client.sets[0].Size() == count);
+    CHECK(lower.wire.unmutes == (when == When::InsideTwice ? 6U : 3U) && lower.own_full == 0);
+    lower.wire.fixtures.pop_back();
+    queue.RunIncrementalDiscovery(client.discovery());
+    lower.answer_all();
+    CHECK(client.sets.size() == 2 && client.sets[1] == uids_of(lower.wire) && lower.own_incremental == 0);
+}
+
+// Each reply is lost four times in a row before one comes.
+template <typename L> void test_losses() {
+    struct Losing : L {
+        unsigned int losses = 0;
+    } lower;
+    lower.wire.fixtures = fixtures(3);
+    lower.answers = [&](const RDMRequest &request) -> Lower::Reply {
+        const bool is_lost = ++lower.losses % 5 != 0 && request.ParamId() != PID_DISC_UN_MUTE;
+        return is_lost ? std::make_unique<RDMReply>(RDM_TIMEOUT) : nullptr;
+    };
+    Client client;
+    Queue queue(&lower, 20);
+    queue.RunFullDiscovery(client.discovery());
+    CHECK(client.sets.size() == 1 && client.sets[0] == uids_of(lower.wire));
+}
+
+// Mutes go down as requests, and branches too if there is no call for them.
+void test_bridges() {
+    TargetLower target;
+    DmxterWidgetImpl requests;
+    for (Lower *lower : std::initializer_list<Lower *>{&target, &requests}) {
+        lower->wire.fixtures = fixtures(2);
+    }
+    Client client;
+    Queue first(&target, 20), second(&requests, 20);
+    first.RunFullDiscovery(client.discovery());
+    second.RunFullDiscovery(client.discovery());
+    CHECK(target.sent.size() == target.wire.mutes && target.wire.mutes >= 2);
+    CHECK(target.sent[0]->ParamId() == PID_DISC_MUTE);
+    CHECK(requests.sent.size() == requests.wire.mutes + requests.wire.branches + 3);
+    CHECK(requests.sent[0]->ParamId() == PID_DISC_UN_MUTE && requests.sent[0]->DestinationUID() == UID::AllDevices());
+    CHECK(requests.sent[3]->ParamId() == PID_DISC_UNIQUE_BRANCH && requests.sent[3]->ParamDataSize() == 12);
+}
+
+void test_own_discovery() {
+    Lower lower;
+    lower.when = When::Later;
+    lower.wire.fixtures = fixtures(4);
+    Client client;
+    Queue queue(&lower, 20);
+    queue.RunIncrementalDiscovery(client.discovery());
+    CHECK(lower.own_incremental == 1);
+    queue.RunIncrementalDiscovery(client.discovery());
+    queue.RunFullDiscovery(client.discovery());
+    queue.SendRDMRequest(get(), client.callback());
+    CHECK(lower.own_full == 0 && lower.sent.empty());
+    lower.answer();
+    CHECK(client.sets.size() == 1 && lower.own_full == 1 && lower.own_incremental == 1 && lower.sent.empty());
+    lower.answer_again();
+    CHECK(client.sets.size() == 1);
+    lower.answer();
+    CHECK(client.sets.size() == 3 && client.sets[2] == uids_of(lower.wire) && lower.sent.size() == 1);
+    lower.answer();
+    CHECK(client.got.size() == 1);
+}
+
+// A discovery waits for the exchange under way, and requests for the discovery.
+void test_beside_requests() {
+    TargetLower lower;
+    lower.when = When::Later;
+    lower.wire.fixtures = fixtures(3);
+    Client client;
+    Queue queue(&lower, 20);
+    queue.SendRDMRequest(get(), client.callback());
+    queue.SendRDMRequest(set(), client.callback());
+    queue.RunFullDiscovery(client.discovery());
+    queue.SendRDMRequest(NewMuteRequest(CLIENT, DEVICE, 1), client.callback());
+    CHECK(lower.wire.unmutes == 0 && lower.sent.size() == 1);
+    lower.answer();
+    CHECK(client.got.size() == 1 && client.sets.empty());
+    while (client.sets.empty() && lower.awaits()) {
+        CHECK(client.got.size() == 1);
+        lower.answer();
+    }
+    CHECK(client.sets.size() == 1 && client.sets[0] == uids_of(lower.wire));
+    lower.answer_all();
+    CHECK(client.got.size() == 3 && client.last() == RDM_COMPLETED_OK && lower.sent.back()->ParamId() == PID_DISC_MUTE);
+}
+
+void test_fifty(unsigned int of_which_full) {
+    TargetLower lower;
+    lower.when = When::Later;
+    lower.wire.fixtures = fixtures(5);
+    std::vector<Client> clients(50);
+    Queue queue(&lower, 20);
+    for (unsigned int i = 0; i < clients.size(); i++) {
+        if (i < of_which_full) {
+            queue.RunFullDiscovery(clients[i].discovery());
+        } else {
+            queue.RunIncrementalDiscovery(clients[i].discovery());
+        }
+    }
+    lower.answer_all();
+    bool all = true;
+    for (const auto &each : clients) {
+        all &= each.sets.size() == 1 && each.sets[0] == uids_of(lower.wire);
+    }
+    CHECK(all && lower.wire.unmutes == 6);
+    lower.answer_again();
+    CHECK(!lower.awaits());
+}
+
+// Callbacks that ask again.
+void test_asking_again() {
+    TargetLower lower;
+    lower.wire.fixtures = fixtures(2);
+    Client client;
+    Queue queue(&lower, 20);
+    client.then = [&] {
+        if (client.calls() < 40) {
+            queue.RunIncrementalDiscovery(client.discovery());
+            queue.SendRDMRequest(get(), nullptr);
+        }
+    };
+    queue.RunFullDiscovery(client.discovery());
+    CHECK(client.sets.size() == 40 && lower.wire.unmutes == 120);
+}
+
+// After a fault OLA is given what the last good run found, and before the first one what this run has found.
+void test_faults() {
+    TargetLower lower;
+    lower.wire.fixtures = fixtures(3);
+    const UIDSet good = uids_of(lower.wire);
+    lower.wire.fixtures.push_back({UID(0xffff, 0xfffffffe), false, false});
+    Client client;
+    Queue queue(&lower, 20);
+    queue.RunFullDiscovery(client.discovery());
+    CHECK(client.sets.size() == 1 && (client.sets[0] == good || client.sets[0] == uids_of(lower.wire)));
+    lower.wire.fixtures.pop_back();
+    queue.RunFullDiscovery(client.discovery());
+    CHECK(client.sets.size() == 2 && client.sets[1] == good);
+    lower.wire.fixtures.erase(lower.wire.fixtures.begin());
+    lower.answers = [](const RDMRequest &) { return std::make_unique<RDMReply>(RDM_FAILED_TO_SEND); };
+    queue.RunFullDiscovery(client.discovery());
+    CHECK(client.sets.size() == 3 && client.sets[2] == good);
+    queue.RunIncrementalDiscovery(client.discovery());
+    CHECK(client.sets.size() == 4 && client.sets[3] == good);
+}
+
+// A status without bytes isn't silence, and one that can't be ends the run.
+void test_branches_without_bytes() {
+    DmxterWidgetImpl lower;
+    lower.wire.fixtures = fixtures(1);
+    Client client;
+    Queue queue(&lower, 20);
+    bool is_first = true;
+    lower.answers = [&](const RDMRequest &request) -> Lower::Reply {
+        const bool is_branch = request.ParamId() == PID_DISC_UNIQUE_BRANCH;
+        return is_branch && std::exchange(is_first, false) ? std::make_unique<RDMReply>(RDM_INVALID_RESPONSE) : nullptr;
+    };
+    queue.RunFullDiscovery(client.discovery());
+    CHECK(client.sets.size() == 1 && client.sets[0] == uids_of(lower.wire) && lower.wire.branches > 1);
+    lower.answers = [](const RDMRequest &) { return std::make_unique<RDMReply>(RDM_PLUGIN_DISCOVERY_NOT_SUPPORTED); };
+    lower.wire.fixtures.clear();
+    queue.RunFullDiscovery(client.discovery());
+    CHECK(client.sets.size() == 2 && client.sets[1] == client.sets[0]);
+}
+
+// A run that has begun stands still while the queue is paused.
+void test_pause() {
+    TargetLower lower;
+    lower.when = When::Later;
+    lower.wire.fixtures = fixtures(2);
+    Client client;
+    Queue queue(&lower, 20);
+    queue.RunFullDiscovery(client.discovery());
+    lower.answer();
+    lower.answer();
+    queue.Pause();
+    lower.answer();
+    CHECK(!lower.awaits() && client.calls() == 0);
+    queue.Resume();
+    lower.answer_all();
+    CHECK(client.sets.size() == 1 && client.sets[0] == uids_of(lower.wire) && lower.wire.unmutes == 3);
+}
+
+} // namespace
+
+void test_discoveries() {
+    for (const auto when : {When::Inside, When::InsideTwice, When::Later}) {
+        test_exact<TargetLower>(when, 5);
+        test_exact<DmxterWidgetImpl>(when, 5);
+    }
+    test_exact<TargetLower>(When::Inside, 200);
+    test_losses<TargetLower>();
+    test_losses<DmxterWidgetImpl>();
+    test_bridges();
+    test_own_discovery();
+    test_beside_requests();
+    test_fifty(50);
+    test_fifty(0);
+    test_fifty(7);
+    test_asking_again();
+    test_faults();
+    test_branches_without_bytes();
+    test_pause();
+}
+
+} // namespace tests

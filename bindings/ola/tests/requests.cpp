@@ -1,0 +1,273 @@
+// Requests: their answers at each time, parts, pauses, the queue's limit, what is handed down.
+#include "checks.hpp"
+
+namespace tests {
+namespace {
+
+void test_answer(When when) {
+    Lower lower;
+    lower.when = when;
+    Client client;
+    Queue queue(&lower, 20);
+    queue.SendRDMRequest(get(), client.callback());
+    queue.SendRDMRequest(set(), client.callback());
+    lower.answer_all();
+    CHECK(client.got.size() == 2 && lower.sent.size() == 2);
+    const std::unique_ptr<RDMRequest> first(get());
+    CHECK(*lower.sent[0] == *first && lower.sent[0]->SourceUID() == CLIENT);
+    const Got &got = client.got[0];
+    CHECK(got.status == RDM_COMPLETED_OK && got.response && got.frames.size() == 1);
+    CHECK(got.response->SourceUID() == DEVICE && got.response->DestinationUID() == CLIENT);
+    CHECK(got.response->TransactionNumber() == CLIENTS_NUMBER && got.response->SubDevice() == 3);
+    CHECK(got.response->CommandClass() == RDMCommand::GET_COMMAND_RESPONSE);
+    CHECK(got.response->ParamId() == PID_DEVICE_LABEL && got.response->ResponseType() == RDM_ACK);
+    CHECK(data_of(*got.response) == Data({9, 8}));
+    const RDMResponse &second = *client.got[1].response;
+    CHECK(second.CommandClass() == RDMCommand::SET_COMMAND_RESPONSE && second.ParamId() == PID_DMX_START_ADDRESS);
+    CHECK(data_of(second) == Data({1, 2}));
+}
+
+// The second answer to an exchange comes when the next one is under way: it isn't that one's.
+void test_second_answer() {
+    Lower lower;
+    lower.when = When::Later;
+    Client client;
+    Queue queue(&lower, 20);
+    queue.SendRDMRequest(get(PID_DEVICE_LABEL, DEVICE), client.callback());
+    queue.SendRDMRequest(get(PID_DEVICE_LABEL, OTHER), client.callback());
+    lower.answer();
+    CHECK(client.got.size() == 1 && lower.sent.size() == 2);
+    lower.answer_again();
+    CHECK(client.got.size() == 1);
+    lower.answer();
+    CHECK(client.got.size() == 2 && client.got[1].response && client.got[1].response->SourceUID() == OTHER);
+    lower.answer_again();
+    CHECK(client.got.size() == 2);
+}
+
+// One part of an answer to each request, and the last one ends it.
+Lower::Reply part(const RDMRequest &request, const Data &data, bool is_last, const UID &source = DEVICE) {
+    const RDMGetResponse response(source, request.SourceUID(), request.TransactionNumber(),
+                                  is_last ? std::uint8_t{RDM_ACK} : ACK_OVERFLOW, is_last ? 6 : 0, request.SubDevice(),
+                                  request.ParamId(), data.data(), static_cast<unsigned int>(data.size()));
+    return Lower::Reply(RDMReply::FromFrame(frame_of(response), &request));
+}
+
+void test_parts() {
+    Lower lower;
+    lower.when = When::Later;
+    unsigned int parts = 0;
+    lower.answers = [&](const RDMRequest &request) {
+        parts++;
+        return part(request, Data(200, static_cast<std::uint8_t>(parts)), parts == 3);
+    };
+    Client client;
+    Queue queue(&lower, 20);
+    queue.SendRDMRequest(get(), client.callback());
+    lower.answer();
+    queue.Pause();
+    queue.SendRDMRequest(set(), client.callback());
+    queue.RunFullDiscovery(client.discovery());
+    CHECK(lower.sent.size() == 2);
+    lower.answer();
+    CHECK(client.calls() == 0 && lower.sent.size() == 2 && !lower.awaits());
+    queue.Resume();
+    CHECK(lower.sent.size() == 3 && *lower.sent[2] == *lower.sent[0]);
+    lower.answer();
+    CHECK(client.got.size() == 1 && client.got[0].frames.size() == 3);
+    const RDMResponse &response = *client.got[0].response;
+    CHECK(response.ParamDataSize() == 600 && response.ParamData()[399] == 2 && response.ParamData()[400] == 3);
+    CHECK(response.ResponseType() == RDM_ACK && response.MessageCount() == 6);
+    CHECK(lower.own_full == 1);
+    lower.answer();
+    CHECK(client.sets.size() == 1 && lower.sent.size() == 4);
+}
+
+// The status of a request whose first part comes, and then this.
+RDMStatusCode status_after_part(Lower::Reply (*second)(const RDMRequest &), std::size_t frames) {
+    Lower lower;
+    bool is_first = true;
+    lower.answers = [&](const RDMRequest &request) {
+        return std::exchange(is_first, false) ? part(request, {1}, false) : second(request);
+    };
+    Client client;
+    Queue queue(&lower, 20);
+    queue.SendRDMRequest(get(), client.callback());
+    CHECK(client.got.size() == 1 && !client.got[0].response && client.got[0].frames.size() == frames);
+    return client.last();
+}
+
+// Of a layer below that doesn't compare replies with requests.
+template <typename Response> Lower::Reply uncompared(const RDMRequest &request, const UID &source) {
+    auto *const response = new Response(source, request.SourceUID(), request.TransactionNumber(), RDM_ACK, 0,
+                                        request.SubDevice(), request.ParamId(), nullptr, 0);
+    return std::make_unique<RDMReply>(RDM_COMPLETED_OK, response);
+}
+
+void test_parts_that_fail() {
+    CHECK(status_after_part([](const RDMRequest &) { return std::make_unique<RDMReply>(RDM_TIMEOUT); }, 1)
+          == RDM_TIMEOUT);
+    CHECK(status_after_part([](const RDMRequest &) { return std::make_unique<RDMReply>(RDM_COMPLETED_OK); }, 1)
+          == RDM_TIMEOUT);
+    CHECK(status_after_part([](const RDMRequest &request) { return part(request, {2}, true, OTHER); }, 2)
+          == RDM_TRANSACTION_MISMATCH);
+    // As OLA's own class says.
+    CHECK(status_after_part([](const RDMRequest &request) { return uncompared<RDMGetResponse>(request, OTHER); }, 1)
+          == RDM_INVALID_RESPONSE);
+    CHECK(status_after_part([](const RDMRequest &request) { return uncompared<RDMSetResponse>(request, DEVICE); }, 1)
+          == RDM_COMMAND_CLASS_MISMATCH);
+}
+
+void test_pauses() {
+    Lower lower;
+    lower.when = When::Later;
+    Client client;
+    Queue queue(&lower, 20);
+    queue.Pause();
+    queue.SendRDMRequest(get(), client.callback());
+    queue.RunIncrementalDiscovery(client.discovery());
+    CHECK(lower.sent.empty() && lower.own_incremental == 0);
+    queue.Resume();
+    queue.Resume();
+    CHECK(lower.own_incremental == 1 && lower.sent.empty());
+    queue.Pause();
+    lower.answer();
+    CHECK(client.sets.size() == 1 && lower.sent.empty());
+    queue.Pause();
+    queue.Resume();
+    CHECK(lower.sent.size() == 1);
+    queue.Pause();
+    lower.answer();
+    CHECK(client.got.size() == 1 && client.last() == RDM_COMPLETED_OK);
+}
+
+void test_limits() {
+    Lower lower;
+    lower.when = When::Later;
+    Client client;
+    Queue queue(&lower, 3), wide(&lower, 1000), none(&lower, 0);
+    for (int i = 0; i < 5; i++) {
+        queue.SendRDMRequest(get(), client.callback());
+    }
+    CHECK(client.got.size() == 2 && client.got[0].status == RDM_FAILED_TO_SEND && lower.sent.size() == 1);
+    queue.SendRDMRequest(get(), nullptr);
+    // A place is free when its request's callback runs.
+    client.then = [&, is_first = true]() mutable {
+        if (std::exchange(is_first, false)) {
+            queue.SendRDMRequest(get(), client.callback());
+        }
+    };
+    lower.answer();
+    CHECK(client.got.size() == 3 && client.last() == RDM_COMPLETED_OK);
+    lower.answer_all();
+    CHECK(client.got.size() == 6 && client.last() == RDM_COMPLETED_OK);
+    Client many;
+    for (int i = 0; i < 256; i++) {
+        wide.SendRDMRequest(get(), many.callback());
+    }
+    CHECK(many.got.size() == 1);
+    lower.answer_all();
+    CHECK(many.got.size() == 256);
+    none.SendRDMRequest(get(), client.callback());
+    CHECK(client.got.size() == 6);
+    lower.answer();
+    CHECK(client.got.size() == 7 && client.last() == RDM_COMPLETED_OK);
+    queue.SendRDMRequest(get(PID_DEVICE_LABEL, DEVICE, 0, Data(232, 1)), client.callback());
+    CHECK(client.got.size() == 8 && client.last() == RDM_FAILED_TO_SEND && !lower.awaits());
+}
+
+void test_null_callbacks() {
+    Lower lower;
+    lower.when = When::Later;
+    Queue queue(&lower, 20);
+    for (int i = 0; i < 2; i++) {
+        queue.SendRDMRequest(get(), nullptr);
+        queue.SendRDMRequest(NewMuteRequest(CLIENT, DEVICE, 1), nullptr);
+        queue.RunFullDiscovery(nullptr);
+        if (i == 0) {
+            lower.answer_all();
+        }
+    }
+    CHECK(lower.sent.size() == 3 && lower.own_full == 1);
+}
+
+RDMRequest *with_overrides(int which) {
+    RDMRequest::OverrideOptions options;
+    switch (which) {
+    case 0: options.SetMessageLength(99); break;
+    case 1: options.SetChecksum(0xbeef); break;
+    case 2: options.sub_start_code = 7; break;
+    default: options.message_count = 5;
+    }
+    return new RDMGetRequest(CLIENT, DEVICE, CLIENTS_NUMBER, 1, 3, PID_DEVICE_LABEL, nullptr, 0, options);
+}
+
+// What the core can't send goes down as it is, and its reply comes back as it is, in the order of all requests.
+void test_handed_down() {
+    Lower lower;
+    lower.when = When::Later;
+    Client client;
+    Queue queue(&lower, 8);
+    lower.wire.fixtures = {{DEVICE}};
+    queue.SendRDMRequest(get(), client.callback());
+    for (int which = 0; which < 4; which++) {
+        queue.SendRDMRequest(with_overrides(which), client.callback());
+    }
+    queue.SendRDMRequest(NewMuteRequest(CLIENT, DEVICE, 1), client.callback());
+    queue.SendRDMRequest(set(), client.callback());
+    queue.RunFullDiscovery(client.discovery());
+    CHECK(lower.sent.size() == 1);
+    lower.answer();
+    CHECK(lower.own_full == 1 && lower.sent.size() == 1);
+    lower.answer();
+    CHECK(lower.sent.size() == 2 && lower.sent[1]->MessageLength() == 99);
+    lower.answer_all();
+    CHECK(lower.sent.size() == 7 && client.got.size() == 7);
+    CHECK(lower.sent[2]->Checksum(1) == 0xbeef && lower.sent[3]->SubStartCode() == 7);
+    CHECK(lower.sent[4]->MessageCount() == 5 && lower.sent[5]->ParamId() == PID_DISC_MUTE);
+    CHECK(lower.sent[6]->CommandClass() == RDMCommand::SET_COMMAND);
+    CHECK(client.got[5].response && client.got[5].response->DestinationUID() == ADAPTER);
+    CHECK(client.got[5].response->CommandClass() == RDMCommand::DISCOVER_COMMAND_RESPONSE);
+    for (int i = 0; i < 9; i++) {
+        queue.SendRDMRequest(NewMuteRequest(CLIENT, DEVICE, 1), client.callback());
+    }
+    CHECK(client.got.size() == 8 && client.last() == RDM_FAILED_TO_SEND);
+    lower.answer_all();
+    CHECK(client.got.size() == 16);
+}
+
+} // namespace
+
+void test_requests() {
+    test_answer(When::Inside);
+    test_answer(When::InsideTwice);
+    test_answer(When::Later);
+    test_second_answer();
+    test_parts();
+    test_parts_that_fail();
+    test_pauses();
+    test_limits();
+    test_null_callbacks();
+    test_handed_down();
+}
+
+// So many requests, each sent by the callback of the one before: neither the stack nor the heap grows.
+void test_length(unsigned long requests) {
+    Lower lower;
+    lower.keeps = false;
+    Client client;
+    Queue queue(&lower, 20);
+    unsigned long done = 0;
+    std::size_t blocks_before = 0;
+    client.then = [&] {
+        client.got.clear();
+        blocks_before = done == 100 ? blocks : blocks_before;
+        if (++done < requests) {
+            queue.SendRDMRequest(done % 2 == 0 ? get() : set(), client.callback());
+        }
+    };
+    queue.SendRDMRequest(get(), client.callback());
+    CHECK(done == requests && blocks == blocks_before);
+}
+
+} // namespace tests

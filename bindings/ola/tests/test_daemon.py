@@ -1,0 +1,192 @@
+"""An unchanged olad with the stand-in, in front of an emulated adapter: discoveries, GETs and SETs by OLA's tools.
+
+usage: test_daemon.py LIBRARY REDIRECT
+  LIBRARY   libwurstlinen-ola.so
+  REDIRECT  what redirect.c makes
+
+The last line is 'N passed, M failed'.
+"""
+from __future__ import annotations
+
+import itertools
+import json
+import random
+import signal
+import sys
+from pathlib import Path
+from typing import Any, Dict, List, NoReturn, Sequence, Tuple
+
+from daemon import Daemon
+from wurstlinen.lines.scene import Scene, parse_scene
+
+# The two that OLA tells apart: below 4.15, label 12 follows the replies to branches.
+FIRMWARES = ((2, 4), (4, 15))
+COUNTS = (3, 5, 40)
+LOSSES = (0.0, 0.2)
+MANUFACTURERS = (0x1234, 0x454E, 0x9ABC)
+TRIES = 5
+TERMINATED = 143
+# What OLA's tools print if there was no reply.
+NO_REPLY = "Error: Response Timeout"
+
+
+class Checks:
+    """Counts checks, and prints those that fail."""
+
+    def __init__(self) -> None:
+        self.passed = 0
+        self.failed = 0
+
+    def check(self, holds: bool, text: str) -> None:
+        """One check."""
+        if holds:
+            self.passed += 1
+        else:
+            self.failed += 1
+            print(f"failed: {text}", flush=True)
+
+
+def random_scene(count: int, seed: int, loss: float = 0.0, **rig: Any) -> Scene:
+    """So many fixtures with UIDs by chance, half of them close neighbours, each with a label and an address."""
+    chance = random.Random(seed)
+    uids: List[int] = []
+    while len(uids) < count:
+        near = bool(uids) and chance.random() < 0.5
+        uid = uids[-1] + chance.randint(1, 3) if near else chance.choice(MANUFACTURERS) << 32 | chance.getrandbits(31)
+        if uid not in uids:
+            uids.append(uid)
+    devices = [{"uid": uid_text(uid), "rig": {"label": f"Fixture {number}", "address": number + 1}}
+               for number, uid in enumerate(uids)]
+    return parse_scene({"source": "7ff0:00000001", "devices": devices, "rig": {"loss": loss, "seed": seed, **rig}})
+
+
+def uid_text(uid: int) -> str:
+    """A UID as OLA prints it."""
+    return f"{uid >> 32:04x}:{uid & 0xFFFFFFFF:08x}"
+
+
+def uids_of(scene: Scene) -> List[str]:
+    """The UIDs of a scene's fixtures, ascending, as OLA prints them."""
+    return [uid_text(uid) for uid in sorted(device.uid for device in scene.devices)]
+
+
+def check_line(checks: Checks, files: Tuple[Path, Path], count: int, firmware: Tuple[int, int], loss: float) -> None:
+    """Two discoveries, and GETs and SETs of some of the fixtures."""
+    library, redirect = files
+    name = f"{count} fixtures, firmware {firmware[0]}.{firmware[1]}, loss {loss}"
+    scene = random_scene(count, seed=count * 100 + firmware[0], loss=loss)
+    wanted = uids_of(scene)
+    with Daemon(scene, redirect, library, firmware) as daemon:
+        for is_full in (True, False):
+            found = daemon.discover(is_full)
+            checks.check(found == wanted, f"{name}: found {found} in place of {wanted}")
+        for device in scene.devices[:3]:
+            uid = uid_text(device.uid)
+            number = scene.devices.index(device)
+            check_value(checks, loss, f"{name}: label of {uid}", f"Fixture {number}", daemon, uid, "device_label")
+            check_value(checks, loss, f"{name}: address of {uid}", f"DMX Address: {number + 1}", daemon, uid,
+                        "dmx_start_address")
+            value = f"New {number} {count}"
+            if not loss:
+                checks.check(daemon.set(uid, "device_label", value) == "", f"{name}: the SET isn't acknowledged")
+                check_value(checks, loss, f"{name}: new label of {uid}", value, daemon, uid, "device_label")
+        checks.check("controller 1: the proved discovery" in daemon.messages, f"{name}: the bridge isn't told")
+    checks.check(daemon.status == 0, f"{name}: olad ended with {daemon.status}")
+
+
+def check_value(checks: Checks, loss: float, name: str, wanted: str, daemon: Daemon, uid: str, pid: str) -> None:
+    """A GET is right; or it has no reply, if replies are lost, and then one of several is right."""
+    got: List[str] = []
+    while len(got) < (TRIES if loss else 1) and (not got or got[-1] != wanted):
+        got.append(daemon.get(uid, pid))
+    checks.check(got[-1] == wanted and all(each == NO_REPLY for each in got[:-1]), f"{name}: {got}, not {wanted}")
+
+
+def check_parts(checks: Checks, files: Tuple[Path, Path]) -> None:
+    """An answer in parts, a refusal, and a label that is empty."""
+    scene = parse_scene({"source": "7ff0:00000001", "devices": [
+        {"uid": "1234:00000007", "rig": {"part": 4}}, {"uid": "1234:00000009", "rig": {"nack": "0006"}}]})
+    with Daemon(scene, files[1], files[0]) as daemon:
+        checks.check(daemon.discover(True) == ["1234:00000007", "1234:00000009"], "two fixtures")
+        pids = daemon.get("1234:00000007", "supported_parameters")
+        checks.check("device_label" in pids and "dmx_personality" in pids, f"parts: {pids}")
+        refused = daemon.get("1234:00000009", "device_label")
+        checks.check("NACK" in refused, f"refusal: {refused}")
+        checks.check(daemon.get("1234:00000007", "device_label") == "", "an empty label")
+
+
+def check_settings(checks: Checks, files: Tuple[Path, Path]) -> None:
+    """The log, and settings that are none."""
+    scene = random_scene(3, seed=9)
+    uid = uids_of(scene)[1]
+    settings = {"WURSTLINEN_LOG": "FOLDER/log", "WURSTLINEN_SEARCH": "fast", "WURSTLINEN_BUDGET": "0"}
+    with Daemon(scene, files[1], files[0], settings=settings) as daemon:
+        checks.check(daemon.discover(True) == uids_of(scene), "a discovery with a log")
+        label = daemon.get(uid, "device_label")
+        log = [json.loads(line) for line in (daemon.folder / "log").read_text().splitlines()]
+        for text in ("WURSTLINEN_SEARCH=fast: it is quick or steady", "WURSTLINEN_BUDGET=0: it is a number of frames"):
+            checks.check(text in daemon.messages, f"the daemon doesn't say: {text}")
+    kinds = [kind for kind in ("call", "sent", "heard", "result") for entry in log if kind in entry]
+    checks.check(kinds.count("sent") == kinds.count("heard") == daemon.rig.exchanges, "each exchange is in the log")
+    results = [entry for entry in log if "result" in entry]
+    found = [entry["found"] for entry in results if entry["result"] == "discovery"]
+    checks.check(bool(found) and all(each == uids_of(scene) for each in found), f"the log's discoveries: {found}")
+    checks.check(bytes.fromhex(results[-1]["data"]).decode() == label and results[-1]["status"] == 0,
+                 f"the log's last result: {results[-1]}")
+
+
+def check_search(checks: Checks, files: Tuple[Path, Path]) -> None:
+    """The steady search takes more frames than the quick one, and a small budget ends it."""
+    exchanges: Dict[str, int] = {}
+    for name, settings in (("quick", {}), ("steady", {"WURSTLINEN_SEARCH": "steady"}),
+                           ("small", {"WURSTLINEN_BUDGET": "7"})):
+        scene = random_scene(10, seed=10)
+        with Daemon(scene, files[1], files[0], settings=settings) as daemon:
+            found = daemon.discover(True)
+            exchanges[name] = daemon.rig.exchanges
+            is_told = "discovery failed: the run has used up its budget of frames" in daemon.messages
+        checks.check((found == uids_of(scene)) == (name != "small") == (not is_told), f"{name}: found {found}")
+    checks.check(exchanges["small"] < exchanges["quick"] < exchanges["steady"], f"frames: {exchanges}")
+
+
+def check_fault(checks: Checks, files: Tuple[Path, Path]) -> None:
+    """A discovery that fails: the others are still there, and the fault is told."""
+    scene = parse_scene({"source": "7ff0:00000001", "devices": [
+        {"uid": "1234:00000007"}, {"uid": "ffff:00000001", "rig": {"lies": ["stays unmuted"]}}]})
+    with Daemon(scene, files[1], files[0], settings={"WURSTLINEN_SEARCH": "steady"}) as daemon:
+        found = daemon.discover(True)
+        checks.check("1234:00000007" in found, f"a fixture that mutes is lost: {found}")
+        wanted = "discovery failed: ffff:00000001 alone answered its branch"
+        checks.check(wanted in daemon.messages, f"the fault isn't told: {daemon.messages}")
+
+
+def check_own_discovery(checks: Checks, files: Tuple[Path, Path]) -> None:
+    """The adapter's own discovery, behind the queue."""
+    scene = random_scene(5, seed=11)
+    with Daemon(scene, files[1], files[0], settings={"WURSTLINEN_DISCOVERY": "adapter"}) as daemon:
+        for is_full in (True, False):
+            found = daemon.discover(is_full)
+            checks.check(found == uids_of(scene), f"the adapter's own discovery found {found}")
+        checks.check("controller 1: the adapter's own discovery" in daemon.messages, "the bridge isn't told")
+
+
+def main(arguments: Sequence[str]) -> int:
+    """Runs all."""
+    signal.signal(signal.SIGTERM, ended)
+    files = (Path(arguments[0]).resolve(), Path(arguments[1]).resolve())
+    checks = Checks()
+    for count, firmware, loss in itertools.product(COUNTS, FIRMWARES, LOSSES):
+        check_line(checks, files, count, firmware, loss)
+    for check in (check_parts, check_fault, check_settings, check_search, check_own_discovery):
+        check(checks, files)
+    print(f"{checks.passed} passed, {checks.failed} failed")
+    return 1 if checks.failed else 0
+
+
+def ended(number: int, frame: object) -> NoReturn:
+    """Ends the daemon by the end of its `with`."""
+    sys.exit(TERMINATED)
+
+
+if __name__ == "__main__":
+    sys.exit(main(sys.argv[1:]))
