@@ -53,6 +53,36 @@ pub trait Stage {
     fn act(&mut self, alloc: Global, act: Act) -> Heard;
 }
 
+/// Who drives a stage.
+pub trait Driver {
+    /// Does acts there.
+    fn drive<S: Stage>(&mut self, alloc: Global, stage: &mut S);
+}
+
+/// A driver that makes these moves.
+#[derive(Drop)]
+pub struct Mover<'a> {
+    moves: &'a [Move],
+    /// What came of them. Err: the first one that came to something else.
+    pub made: Result<(), Wrong>,
+}
+
+impl<'a> Mover<'a> {
+    /// A driver that will make these moves.
+    pub fn new(moves: &'a [Move]) -> Mover<'a> {
+        Mover {
+            moves,
+            made: Ok(()),
+        }
+    }
+}
+
+impl Driver for Mover<'_> {
+    fn drive<S: Stage>(&mut self, alloc: Global, stage: &mut S) {
+        self.made = moved(alloc, stage, self.moves);
+    }
+}
+
 /// Makes these moves. Err: the first one that came to something else.
 pub fn moved<S: Stage>(alloc: Global, stage: &mut S, moves: &[Move]) -> Result<(), Wrong> {
     for (number, (act, wanted)) in moves.iter().enumerate() {

@@ -4,7 +4,7 @@
 //! tests have what it came to.
 use crate::found::{Ending, Found, ending_by, found_in};
 use crate::refusal::Refusal;
-use crate::setup::sub_device_of;
+use crate::setup::{pid_of, sub_device_of};
 use rdm_client::Collected;
 use rdm_join::{ReplyHead, Status};
 use rdm_queue::{AskCompletion, Completion, Outcome};
@@ -71,6 +71,14 @@ pub fn outcome_told(outcome: &Option<Outcome>) -> Heard {
     }
 }
 
+/// What a session's completion says.
+pub fn completion_told(completion: &Option<(u64, Completion)>) -> Heard {
+    match completion {
+        None => Heard::Nothing,
+        Some((number, done)) => of_request(*number, done),
+    }
+}
+
 // How the request with this tag ended. A reply is there for status Completed alone, and is the device's to that request.
 fn of_request(tag: u64, done: &Completion) -> Heard {
     match &done.reply {
@@ -87,7 +95,7 @@ fn of_request(tag: u64, done: &Completion) -> Heard {
 fn is_of(head: &ReplyHead, tag: u64) -> bool {
     head.ack == AckType::Ack
         && head.class == RespClass::Get
-        && head.pid == 0x0060
+        && head.pid == pid_of(tag)
         && head.sub_device == sub_device_of(tag)
 }
 

@@ -7,6 +7,7 @@
 #![tactic(auto)]
 
 mod act;
+mod checks;
 mod device;
 mod found;
 mod heard;
@@ -20,16 +21,17 @@ mod state;
 mod tape;
 mod wrong;
 
-pub use act::{Act, Move, Stage, Step, moved};
+pub use act::{Act, Driver, Move, Mover, Stage, Step, moved};
+pub use checks::check;
 pub use device::{Who, device_of};
 pub use found::{Ending, Found, ending_by, found_in};
-pub use heard::{Heard, Stop, outcome_told, told};
+pub use heard::{Heard, Stop, completion_told, outcome_told, told};
 pub use line::{LineOf, Meeting, Placed, line_of, one_device, two_devices};
 pub use note::{AskNote, Note, cancels};
 pub use refusal::Refusal;
 pub use said::{Said, log_of, says, says_at, says_run};
-pub use session::{SessionStage, open_session, switched};
-pub use setup::{config, config_with, controller, get, log, request};
+pub use session::{SessionStage, open_session, session_of, switched};
+pub use setup::{LONG, config, config_with, controller, get, is_blank, log, request};
 pub use state::{Counts, LastFrame, State, state_of};
 pub use tape::{Came, silent, tape_of};
 pub use wrong::Wrong;

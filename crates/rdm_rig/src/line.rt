@@ -5,7 +5,7 @@ use crate::wrong::Wrong;
 use arrayvec::ArrayVec;
 use rdm_join::LineReply;
 use rdm_line::{
-    Collision, CollisionBytes, Parameter, ParameterPart, Parameters, Scene, SceneDevice,
+    Collision, CollisionBytes, NoMemory, Parameter, ParameterPart, Parameters, Scene, SceneDevice,
     SceneDevices, SimLine,
 };
 use rdm_wire::Uid;
@@ -44,7 +44,8 @@ pub enum Meeting {
     Phantom,
 }
 
-/// A scene in short. Each device has the parameter `0060`, in one part of two bytes, 1 and 2.
+/// A scene in short. Each device has the parameter `0060`, in one part of two bytes, 1 and 2, and the parameter `8001`,
+/// in three parts of 231 bytes.
 #[derive(Clone, Copy, Debug)]
 pub struct LineOf<'a> {
     /// The devices.
@@ -57,12 +58,23 @@ pub struct LineOf<'a> {
     pub fails: &'a [u64],
 }
 
-/// A line of this scene.
+/// A line of this scene. If there is no memory for it, it is made with the scene that came back.
 pub fn line_of(alloc: Global, of: LineOf) -> Result<SimLine, Wrong> {
     match SimLine::new(alloc, scene_of(alloc, of)?) {
         Ok(line) => Ok(line),
-        Err(_) => Err(Wrong::NoMemory),
+        Err((NoMemory, scene)) if is_of(&scene, of) => match SimLine::new(alloc, scene) {
+            Ok(line) => Ok(line),
+            Err(_) => Err(Wrong::NotAgain),
+        },
+        Err(_) => Err(Wrong::NotAgain),
     }
+}
+
+// Whether the scene that came back has these losses and failures.
+fn is_of(scene: &Scene, of: LineOf) -> bool {
+    scene.source == controller()
+        && scene.losses.as_slice() == of.losses
+        && scene.fails.as_slice() == of.fails
 }
 
 /// A line with [`Who::First`] alone, which fails at these exchanges.
@@ -156,17 +168,32 @@ fn add(alloc: Global, devices: &mut SceneDevices, placed: Placed) -> Result<(), 
     }
 }
 
-// The parameter `0060` in one part of two bytes.
+// The parameters `0060` and `8001`.
 fn params_of(alloc: Global) -> Result<Parameters, Wrong> {
-    let mut part: ParameterPart = ArrayVec::new();
-    let _ = part.try_extend_from_slice(&[1, 2]);
-    let mut parts = Vec::new(alloc);
-    if parts.push(part).is_err() {
-        return Err(Wrong::NoMemory);
-    }
     let mut params = Vec::new(alloc);
-    if params.push(Parameter::new(0x0060, parts)).is_err() {
+    add_param(alloc, &mut params, 0x0060, &[&[1, 2]])?;
+    let part: &[u8] = &[0x5a; 231];
+    add_param(alloc, &mut params, 0x8001, &[part, part, part])?;
+    Ok(Parameters::new(params))
+}
+
+// Adds a parameter in these parts, of which there is one at least.
+fn add_param(
+    alloc: Global,
+    params: &mut Vec<Parameter>,
+    pid: u16,
+    of: &[&[u8]],
+) -> Result<(), Wrong> {
+    let mut parts = Vec::new(alloc);
+    for bytes in of {
+        let mut part: ParameterPart = ArrayVec::new();
+        let _ = part.try_extend_from_slice(bytes);
+        if parts.push(part).is_err() {
+            return Err(Wrong::NoMemory);
+        }
+    }
+    if parts.is_empty() || params.push(Parameter::new(pid, parts)).is_err() {
         return Err(Wrong::NoMemory);
     }
-    Ok(Parameters::new(params))
+    Ok(())
 }

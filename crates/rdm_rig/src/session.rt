@@ -1,15 +1,18 @@
 //! A session and its line in one thread.
+ghost use Rattle.std.specs.Prelude.{◌≡◌, []};
+ghost use Rattle.rdm_log.specs.log.Config.{IsConfig};
+
 use crate::act::{Act, Stage, Step};
 use crate::found::found_in;
 use crate::heard::{Heard, Stop, outcome_told};
 use crate::refusal::Refusal;
-use crate::setup::{config_with, log, request};
+use crate::setup::{config_with, is_blank, log, request};
 use crate::state::{State, state_of};
 use crate::wrong::Wrong;
 use rdm_agent::Kind;
 use rdm_join::LineEvent;
 use rdm_line::{Line, LineFault};
-use rdm_queue::{ClientId, LogFull, NotAsked, Session};
+use rdm_queue::{ClientId, Config, Log, LogFull, NoMemory, NotAsked, Session};
 use rdm_wire::Frame;
 use std::alloc::Global;
 
@@ -21,7 +24,17 @@ pub struct SessionStage<X: Drop> {
     awaited: Option<Frame>,
 }
 
-/// A session without clients that has this many places and this budget, or 1, over a log with this many free entries.
+/// A session with this many places and this budget, or 1, over a log with this many free entries. If there is no memory
+/// for it, it is made with the log that came back.
+pub fn session_of(alloc: Global, places: u8, budget: u64, free: usize) -> Result<Session, Wrong> {
+    let config = config_with(places, budget);
+    match Session::new(alloc, config, log(alloc, free)?) {
+        Ok(session) => Ok(session),
+        Err((NoMemory, log)) => session_again(alloc, config, log),
+    }
+}
+
+/// A stage with such a session, without clients, and this line.
 pub fn open_session<X: Drop>(
     alloc: Global,
     places: u8,
@@ -29,13 +42,25 @@ pub fn open_session<X: Drop>(
     free: usize,
     line: X,
 ) -> Result<SessionStage<X>, Wrong> {
-    match Session::new(alloc, config_with(places, budget), log(alloc, free)?) {
-        Ok(session) => Ok(SessionStage {
-            session,
-            line,
-            awaited: None,
-        }),
-        Err(_) => Err(Wrong::NoMemory),
+    let session = session_of(alloc, places, budget, free)?;
+    Ok(SessionStage {
+        session,
+        line,
+        awaited: None,
+    })
+}
+
+// A session with the log that came back.
+fn session_again(alloc: Global, config: Config, log: Log) -> Result<Session, Wrong>
+    requires config { IsConfig config }
+    requires empty { log.entries ≡ [] }
+{
+    if !is_blank(&log) {
+        return Err(Wrong::NotAgain);
+    }
+    match Session::new(alloc, config, log) {
+        Ok(session) => Ok(session),
+        Err(_) => Err(Wrong::NotAgain),
     }
 }
 

@@ -32,14 +32,27 @@ pub fn config_with(places: u8, budget: u64) -> Config
     }
 }
 
-/// A log with this many free entries.
+/// A log with this many free entries. If there is no memory for it, it is tried once more.
 pub fn log(alloc: Global, free: usize) -> Result<Log, Wrong>
     ensures { IfOk result (λ log. log.entries ≡ []) }
 {
-    match Log::new(alloc, free.min(1_000_000)) {
-        Ok(log) => Ok(log),
-        Err(_) => Err(Wrong::NoMemory),
+    let room = free.min(1_000_000);
+    if let Ok(log) = Log::new(alloc, room) {
+        return Ok(log);
     }
+    match Log::new(alloc, room) {
+        Ok(log) => Ok(log),
+        Err(_) => Err(Wrong::NotAgain),
+    }
+}
+
+/// Whether the log is as a new one.
+pub fn is_blank(log: &Log) -> bool {
+    let opening = log.opening();
+    log.entries().is_empty()
+        && opening.budget == 0
+        && opening.greatest == 0
+        && opening.next_run == 0
 }
 
 /// A GET of the parameter `0060` from `1234:00000001`, to its root, without data.
@@ -47,8 +60,11 @@ pub fn get() -> Request {
     request(0)
 }
 
-/// The request with this tag: a GET of the parameter `0060` from `1234:00000001`. The tag 0 has no sub-device and no
-/// data. Each other one names another sub-device, up to 511, and has its last byte as data.
+/// The tags from this one on are of requests for the parameter `8001`.
+pub const LONG: u64 = 1 << 32;
+
+/// The request with this tag: a GET of the parameter `0060`, or `8001`, from `1234:00000001`. The tag 0 has no sub-device
+/// and no data. Each other one names another sub-device, up to 511, and has its last byte as data.
 pub fn request(tag: u64) -> Request {
     let mut param = ArrayVec::new();
     if tag != 0 {
@@ -58,9 +74,14 @@ pub fn request(tag: u64) -> Request {
         target: Uid::new(0x1234, 1),
         sub_device: sub_device_of(tag),
         class: ReqClass::Get,
-        pid: 0x0060,
+        pid: pid_of(tag),
         param,
     }
+}
+
+/// The parameter that the request with this tag asks for.
+pub(crate) fn pid_of(tag: u64) -> u16 {
+    if tag < LONG { 0x0060 } else { 0x8001 }
 }
 
 /// The sub-device that the request with this tag names.

@@ -8,6 +8,8 @@ use crate::said::Said;
 pub enum Wrong {
     /// Out of memory.
     NoMemory,
+    /// A call that was made again with what came back found no memory either, or what came back had changed.
+    NotAgain,
     /// The scene has a device that a line can't have.
     Device,
     /// The move with this number came to this.

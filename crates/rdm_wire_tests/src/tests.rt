@@ -6,5 +6,6 @@ mod faults;
 mod joining;
 mod judging;
 mod packets;
+mod rig;
 mod sets;
 mod uid;

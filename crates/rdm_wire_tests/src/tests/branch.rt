@@ -1,4 +1,5 @@
 //! Replies to a branch.
+use super::rig::{bytes_of, check, is_text};
 use rdm_wire::BranchReply::{Collision, One, Silent};
 use rdm_wire::{BranchReply, Uid, read_branch_reply, write_branch_reply};
 use std::alloc::Global;
@@ -20,10 +21,8 @@ fn broadcast() -> Uid {
 
 // What bytes say.
 fn reads(rt: &impl Abort, alloc: Global, text: &str, wanted: BranchReply) {
-    match hex::decode(alloc, text) {
-        Ok(bytes) => assert!(rt; read_branch_reply(&bytes) == wanted, "{text}"),
-        Err(_) => panic!(rt; "hex"),
-    }
+    let bytes = bytes_of(rt, alloc, text);
+    assert!(rt; read_branch_reply(&bytes) == wanted, "{text}");
 }
 
 #[test]
@@ -57,10 +56,13 @@ fn reads_collisions(rt: HostRuntime) {
 }
 
 fn writes(rt: &impl Abort, alloc: Global, uid: Uid, preamble: u8, text: &str) {
-    assert!(rt; preamble <= 7);
-    let reply = write_branch_reply(uid, preamble);
-    let written = hex::encode(alloc, reply.as_slice()).expect(rt, "memory");
-    assert!(rt; written.as_str() == text, "{text}");
+    check(rt, preamble <= 7);
+    is_text(
+        rt,
+        alloc,
+        write_branch_reply(uid, preamble).as_slice(),
+        text,
+    );
 }
 
 #[test]

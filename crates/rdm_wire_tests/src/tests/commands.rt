@@ -1,8 +1,8 @@
 //! Commands read from their frames, and responses written.
-use arrayvec::ArrayVec;
+use super::rig::{bytes_of, controller, data, device, is_text};
 use rdm_wire::{
-    AckType, Command, MOST_PARAMETER_BYTES, ReqClass, Request, RespClass, Response, Uid, UidRange,
-    encode_response, read_command,
+    AckType, Command, ReqClass, Request, RespClass, Response, Uid, UidRange, encode_response,
+    read_command,
 };
 use std::alloc::Global;
 use std::process::Abort;
@@ -20,27 +20,6 @@ const NO_COMMANDS: [&str; 9] = [
     "cc0118ffffffffffff7a700000010000010000001000030007",
     "cc011a7a7000000100123400000001000300000021006002010202a2",
 ];
-
-fn controller() -> Uid {
-    Uid::new(0x7a70, 0x100)
-}
-
-fn device() -> Uid {
-    Uid::new(0x1234, 1)
-}
-
-fn data(rt: &impl Abort, bytes: &[u8]) -> ArrayVec<u8, MOST_PARAMETER_BYTES> {
-    let mut param = ArrayVec::new();
-    assert!(rt; param.try_extend_from_slice(bytes).is_ok());
-    param
-}
-
-fn bytes_of(rt: &impl Abort, alloc: Global, text: &str) -> Vec<u8> {
-    match hex::decode(alloc, text) {
-        Ok(bytes) => bytes,
-        Err(_) => panic!(rt; "hex"),
-    }
-}
 
 // A GET of the parameter `0060`.
 fn get(rt: &impl Abort) -> Request {
@@ -105,11 +84,7 @@ fn reads_no_commands(rt: HostRuntime) {
 
 // The response as bytes.
 fn encodes(rt: &impl Abort, alloc: Global, response: &Response, text: &str) {
-    let bytes = bytes_of(rt, alloc, text);
-    assert!(rt;
-        encode_response(response).as_slice() == bytes.as_slice(),
-        "{text}"
-    );
+    is_text(rt, alloc, encode_response(response).as_slice(), text);
 }
 
 // A response to a GET of the parameter `0060`, in parts.

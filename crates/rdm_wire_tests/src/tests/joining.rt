@@ -1,9 +1,10 @@
 //! Replies in parts, and what they are joined to.
 ghost use Rattle.rdm_join.specs.JoinerStanding.{IsOpen};
 
+use super::rig::{check, controller, device};
 use arrayvec::ArrayVec;
 use rdm_join::{Joiner, Judged, Status, Step};
-use rdm_wire::{AckType, RespClass, Response, Uid};
+use rdm_wire::{AckType, RespClass, Response};
 use std::alloc::Global;
 use std::process::Abort;
 
@@ -11,11 +12,11 @@ use std::process::Abort;
 fn response(rt: &impl Abort, ack: AckType, length: usize, value: u8) -> Response {
     let mut param = ArrayVec::new();
     for _ in 0..length {
-        assert!(rt; param.try_push(value).is_ok());
+        check(rt, param.try_push(value).is_ok());
     }
     Response {
-        source: Uid::new(0x1234, 1),
-        dest: Uid::new(0x7a70, 0x100),
+        source: device(),
+        dest: controller(),
         tn: 0,
         ack,
         count: 0,
@@ -41,7 +42,7 @@ fn with_parts(rt: &impl Abort, count: usize, length: usize) -> Joiner
     let mut joiner = Joiner::new();
     for number in 0..count {
         let step = joiner.add(part(rt, length, (number % 256) as u8));
-        assert!(rt; step == Step::More);
+        check(rt, step == Step::More);
     }
     joiner
 }
@@ -50,7 +51,12 @@ fn with_parts(rt: &impl Abort, count: usize, length: usize) -> Joiner
 fn ends(rt: &impl Abort, joiner: &mut Joiner, reply: Judged, status: Status)
     requires { IsOpen joiner.old }
 {
-    assert!(rt; joiner.add(reply) == Step::Done(status));
+    check(rt, joiner.add(reply) == Step::Done(status));
+}
+
+// Whether the last reply has this type.
+fn ends_with(joiner: &Joiner, ack: AckType) -> bool {
+    matches!(joiner.head(), Some(head) if head.ack == ack)
 }
 
 // The data that was joined.
@@ -62,18 +68,18 @@ fn data(rt: &impl Abort, alloc: Global, joiner: &Joiner) -> Vec<u8> {
 fn has_part(rt: &impl Abort, data: &[u8], from: usize, to: usize, value: u8) {
     let part = data.get(from..to).expect(rt, "a part");
     for byte in part {
-        assert!(rt; *byte == value);
+        check(rt, *byte == value);
     }
 }
 
 #[test]
 fn joins_parts_in_order(rt: HostRuntime) {
     let mut joiner = with_parts(&rt, 2, 231);
-    assert!(rt; joiner.head().is_none());
+    check(&rt, joiner.head().is_none());
     ends(&rt, &mut joiner, whole(&rt, 3, 2), Status::Completed);
-    assert!(rt; joiner.head().is_some_and(|head| head.ack == AckType::Ack));
+    check(&rt, ends_with(&joiner, AckType::Ack));
     let data = data(&rt, rt.alloc(), &joiner);
-    assert!(rt; data.len() == 465);
+    check(&rt, data.len() == 465);
     has_part(&rt, &data, 0, 231, 0);
     has_part(&rt, &data, 231, 462, 1);
     has_part(&rt, &data, 462, 465, 2);
@@ -84,14 +90,14 @@ fn joins(rt: &impl Abort, alloc: Global, mut joiner: Joiner, rest: usize, length
     requires { IsOpen joiner }
 {
     ends(rt, &mut joiner, whole(rt, rest, 1), Status::Completed);
-    assert!(rt; data(rt, alloc, &joiner).len() == length);
+    check(rt, data(rt, alloc, &joiner).len() == length);
 }
 
 #[test]
 fn ends_at_the_last_part(rt: HostRuntime) {
     let mut refused = with_parts(&rt, 511, 0);
     ends(&rt, &mut refused, part(&rt, 0, 1), Status::InvalidResponse);
-    assert!(rt; refused.head().is_none());
+    check(&rt, refused.head().is_none());
     joins(&rt, rt.alloc(), with_parts(&rt, 511, 0), 0, 0);
 }
 
@@ -104,7 +110,7 @@ fn joins_no_more_bytes_than_fit(rt: HostRuntime) {
         whole(&rt, 163, 1),
         Status::InvalidResponse,
     );
-    assert!(rt; data(&rt, rt.alloc(), &refused).is_empty());
+    check(&rt, data(&rt, rt.alloc(), &refused).is_empty());
 }
 
 // Each length is joined of parts of 231 bytes and a whole reply with the rest.
@@ -124,14 +130,17 @@ fn joins_answers_of_each_length(rt: HostRuntime) {
 fn joins_again_after_a_reset(rt: HostRuntime) {
     let mut joiner = with_parts(&rt, 1, 231);
     joiner.reset();
-    assert!(rt; joiner.is_open());
-    assert!(rt; joiner.head().is_none());
-    assert!(rt; data(&rt, rt.alloc(), &joiner).is_empty());
+    check(&rt, joiner.is_open());
+    check(&rt, joiner.head().is_none());
+    check(&rt, data(&rt, rt.alloc(), &joiner).is_empty());
     ends(&rt, &mut joiner, whole(&rt, 2, 7), Status::Completed);
-    assert!(rt; !joiner.is_open());
-    assert!(rt; data(&rt, rt.alloc(), &joiner).as_slice() == [7, 7].as_slice());
+    check(&rt, !joiner.is_open());
+    check(
+        &rt,
+        data(&rt, rt.alloc(), &joiner).as_slice() == [7, 7].as_slice(),
+    );
     joiner.reset();
-    assert!(rt; joiner.add(part(&rt, 1, 8)) == Step::More);
+    check(&rt, joiner.add(part(&rt, 1, 8)) == Step::More);
 }
 
 // A reply of another kind than the part before it ends the joining.
@@ -170,7 +179,7 @@ fn ends_at_once(rt: HostRuntime) {
     let mut joiner = Joiner::new();
     let nack = response(&rt, AckType::Nack, 2, 0);
     ends(&rt, &mut joiner, Judged::Whole(nack), Status::Completed);
-    assert!(rt; joiner.head().is_some_and(|head| head.ack == AckType::Nack));
+    check(&rt, ends_with(&joiner, AckType::Nack));
     let mut joiner = Joiner::new();
     ends(
         &rt,

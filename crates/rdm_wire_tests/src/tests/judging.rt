@@ -1,4 +1,5 @@
 //! Replies to a GET of the parameter `0060`, and what they mean.
+use super::rig::{check, controller, device};
 use arrayvec::ArrayVec;
 use rdm_join::{Judged, LineEvent, LineReply, Sent, Status, judge};
 use rdm_wire::{ReqClass, Uid};
@@ -48,8 +49,8 @@ use Expected::{Ended, Part, Whole};
 
 fn get() -> Sent {
     Sent {
-        target: Uid::new(0x1234, 1),
-        source: Uid::new(0x7a70, 0x100),
+        target: device(),
+        source: controller(),
         tn: 0,
         sub_device: 0,
         class: ReqClass::Get,
@@ -68,7 +69,7 @@ fn kind(judged: &Judged) -> Expected {
 // What the request makes of these bytes.
 fn judged(rt: &impl Abort, sent: &Sent, bytes: &[u8]) -> Judged {
     let mut reply: LineReply = ArrayVec::new();
-    assert!(rt; reply.try_extend_from_slice(bytes).is_ok());
+    check(rt, reply.try_extend_from_slice(bytes).is_ok());
     judge(sent, &LineEvent::Reply(reply))
 }
 
@@ -76,7 +77,7 @@ fn judged(rt: &impl Abort, sent: &Sent, bytes: &[u8]) -> Judged {
 fn judges(rt: &impl Abort, sent: &Sent, changes: [Change; 2], checksum: u16, wanted: Expected) {
     let mut bytes = OVERFLOW;
     for (at, byte) in changes {
-        assert!(rt; at < bytes.len());
+        check(rt, at < bytes.len());
         bytes[at] = byte;
     }
     let [high, low] = checksum.to_be_bytes();
@@ -151,7 +152,7 @@ fn ends(rt: &impl Abort, sent: &Sent, bytes: Option<&[u8]>, status: u8) {
         Some(bytes) => judged(rt, sent, bytes),
         None => judge(sent, &LineEvent::Failed),
     };
-    assert!(rt; kind(&judged) == Ended(status));
+    check(rt, kind(&judged) == Ended(status));
 }
 
 #[test]
@@ -172,8 +173,8 @@ fn judges_events_without_a_packet(rt: HostRuntime) {
 fn gives_the_response(rt: HostRuntime) {
     match judged(&rt, &get(), &OVERFLOW) {
         Judged::Part(part) => {
-            assert!(rt; part.source == Uid::new(0x1234, 1));
-            assert!(rt; part.param.as_slice() == [1, 2].as_slice());
+            check(&rt, part.source == Uid::new(0x1234, 1));
+            check(&rt, part.param.as_slice() == [1, 2].as_slice());
         }
         _ => panic!(rt; "no part"),
     }
@@ -183,37 +184,37 @@ fn gives_the_response(rt: HostRuntime) {
 fn copies_events(rt: HostRuntime) {
     let bytes: LineReply = ArrayVec::from([0x5a; 257]);
     match LineEvent::Reply(bytes).copied() {
-        LineEvent::Reply(copy) => assert!(rt; copy.as_slice() == [0x5a; 257].as_slice()),
+        LineEvent::Reply(copy) => check(&rt, copy.as_slice() == [0x5a; 257].as_slice()),
         LineEvent::Failed => panic!(rt; "no reply"),
     }
-    assert!(rt; matches!(LineEvent::Failed.copied(), LineEvent::Failed));
+    check(&rt, matches!(LineEvent::Failed.copied(), LineEvent::Failed));
+}
+
+// The status has this number.
+fn has_number(rt: &impl Abort, status: Status, number: u8) {
+    check(rt, status.number() == number);
 }
 
 #[test]
 fn numbers_statuses(rt: HostRuntime) {
     use Status::*;
-    let statuses = [
-        Completed,
-        WasBroadcast,
-        FailedToSend,
-        Timeout,
-        InvalidResponse,
-        TooShort,
-        WrongStart,
-        WrongSubStart,
-        LengthMismatch,
-        ParamLengthMismatch,
-        Checksum,
-        InvalidClass,
-        InvalidResponseType,
-        TransactionMismatch,
-        SubDeviceMismatch,
-        SourceMismatch,
-        DestMismatch,
-        ClassMismatch,
-        NoMemory,
-    ];
-    for (status, number) in statuses.into_iter().zip(0..19) {
-        assert!(rt; status.number() == number);
-    }
+    has_number(&rt, Completed, 0);
+    has_number(&rt, WasBroadcast, 1);
+    has_number(&rt, FailedToSend, 2);
+    has_number(&rt, Timeout, 3);
+    has_number(&rt, InvalidResponse, 4);
+    has_number(&rt, TooShort, 5);
+    has_number(&rt, WrongStart, 6);
+    has_number(&rt, WrongSubStart, 7);
+    has_number(&rt, LengthMismatch, 8);
+    has_number(&rt, ParamLengthMismatch, 9);
+    has_number(&rt, Checksum, 10);
+    has_number(&rt, InvalidClass, 11);
+    has_number(&rt, InvalidResponseType, 12);
+    has_number(&rt, TransactionMismatch, 13);
+    has_number(&rt, SubDeviceMismatch, 14);
+    has_number(&rt, SourceMismatch, 15);
+    has_number(&rt, DestMismatch, 16);
+    has_number(&rt, ClassMismatch, 17);
+    has_number(&rt, NoMemory, 18);
 }

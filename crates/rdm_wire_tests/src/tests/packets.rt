@@ -1,5 +1,5 @@
 //! Packets: those of the controller, and those of devices.
-use arrayvec::ArrayVec;
+use super::rig::{bytes_of, check, controller, data, device, is_text};
 use rdm_wire::PacketFault::{
     Checksum, InvalidClass, InvalidResponseType, LengthMismatch, ParamLengthMismatch, TooShort,
     WrongStart, WrongSubStart,
@@ -27,65 +27,6 @@ const GETS: [(u8, &str); 3] = [
 
 const SET: &str = "cc0119ffffffffffff7a7000000100ff0100ffff30100001010b0b";
 
-const FAULTS: [(&str, PacketFault); 14] = [
-    ("", TooShort),
-    // The first 25, 26 and 27 bytes of an acknowledgement.
-    (
-        "cc011a7a700000010012340000000104000000001100020200",
-        TooShort,
-    ),
-    (
-        "cc011a7a70000001001234000000010400000000110002020000",
-        LengthMismatch,
-    ),
-    (
-        "cc011a7a7000000100123400000001040000000011000202000002",
-        LengthMismatch,
-    ),
-    (
-        "cd011a7a700000010012340000000104000000001100020200000232",
-        WrongStart,
-    ),
-    (
-        "cc021a7a700000010012340000000104000000001100020200000232",
-        WrongSubStart,
-    ),
-    // Message lengths 23 and 255, where 24 is the least, and for 255 there are too few bytes.
-    (
-        "cc01177a700000010012340000000104000000001100020200000232",
-        LengthMismatch,
-    ),
-    (
-        "cc01ff7a700000010012340000000104000000001100020200000232",
-        LengthMismatch,
-    ),
-    (
-        "cc011a7a7000000100123400000001000300000021006001010202a1",
-        ParamLengthMismatch,
-    ),
-    (
-        "cc011a7a700000010012340000000104000000001100020200000233",
-        Checksum,
-    ),
-    (
-        "cc011a7a700000010012340000000100030000001000600201020291",
-        InvalidClass,
-    ),
-    (
-        "cc011a7a7000000100123400000001000400000021006002010202a3",
-        InvalidResponseType,
-    ),
-    // Two faults: both of the first bytes, and both of the class and the response type.
-    (
-        "cd021a7a700000010012340000000104000000001100020200000232",
-        WrongStart,
-    ),
-    (
-        "cc011a7a700000010012340000000100040000001000600201020292",
-        InvalidClass,
-    ),
-];
-
 // Of three bytes; of a GET; of an unmute; a timer; of another device; to another controller; with a wrong checksum; no
 // bytes.
 const NO_ACKNOWLEDGEMENTS: [&str; 8] = [
@@ -99,20 +40,6 @@ const NO_ACKNOWLEDGEMENTS: [&str; 8] = [
     "",
 ];
 
-fn controller() -> Uid {
-    Uid::new(0x7a70, 0x100)
-}
-
-fn device() -> Uid {
-    Uid::new(0x1234, 1)
-}
-
-fn data(rt: &impl Abort, bytes: &[u8]) -> ArrayVec<u8, 231> {
-    let mut param = ArrayVec::new();
-    assert!(rt; param.try_extend_from_slice(bytes).is_ok());
-    param
-}
-
 // A request of the parameter `0060`.
 fn request(rt: &impl Abort, class: ReqClass, param: &[u8]) -> Request {
     Request {
@@ -124,26 +51,12 @@ fn request(rt: &impl Abort, class: ReqClass, param: &[u8]) -> Request {
     }
 }
 
-// The bytes that a text gives in hexadecimal.
-fn bytes_of(rt: &impl Abort, alloc: Global, text: &str) -> Vec<u8> {
-    match hex::decode(alloc, text) {
-        Ok(bytes) => bytes,
-        Err(_) => panic!(rt; "hex"),
-    }
-}
-
-// The frame is these bytes.
-fn is_frame(rt: &impl Abort, alloc: Global, frame: &Frame, text: &str) {
-    let bytes = bytes_of(rt, alloc, text);
-    assert!(rt; frame.as_slice() == bytes.as_slice(), "{text}");
-}
-
 #[test]
 fn encodes_requests(rt: HostRuntime) {
     let get = request(&rt, ReqClass::Get, &[]);
     for (tn, text) in GETS {
         let frame = encode_request(&get, controller(), tn);
-        is_frame(&rt, rt.alloc(), &frame, text);
+        is_text(&rt, rt.alloc(), &frame, text);
     }
 }
 
@@ -157,7 +70,7 @@ fn encodes_a_broadcast(rt: HostRuntime) {
         param: data(&rt, &[1]),
     };
     let frame = encode_request(&set, controller(), 255);
-    is_frame(&rt, rt.alloc(), &frame, SET);
+    is_text(&rt, rt.alloc(), &frame, SET);
 }
 
 // A response of the device to the controller.
@@ -209,24 +122,71 @@ fn ignores_bytes_after_the_checksum(rt: HostRuntime) {
     decodes_to(&rt, rt.alloc(), text, Ok(ack));
 }
 
+// The bytes are no response, for this fault.
+fn is_no_packet(rt: &impl Abort, alloc: Global, fault: PacketFault, text: &str) {
+    decodes_to(rt, alloc, text, Err(fault));
+}
+
+#[test]
+fn finds_faults_of_starts_and_lengths(rt: HostRuntime) {
+    let alloc = rt.alloc();
+    is_no_packet(&rt, alloc, TooShort, "");
+    // The first 25, 26 and 27 bytes of an acknowledgement.
+    is_no_packet(
+        &rt,
+        alloc,
+        TooShort,
+        "cc011a7a700000010012340000000104000000001100020200",
+    );
+    let text = "cc011a7a70000001001234000000010400000000110002020000";
+    is_no_packet(&rt, alloc, LengthMismatch, text);
+    let text = "cc011a7a7000000100123400000001040000000011000202000002";
+    is_no_packet(&rt, alloc, LengthMismatch, text);
+    let text = "cd011a7a700000010012340000000104000000001100020200000232";
+    is_no_packet(&rt, alloc, WrongStart, text);
+    let text = "cc021a7a700000010012340000000104000000001100020200000232";
+    is_no_packet(&rt, alloc, WrongSubStart, text);
+    // Message lengths 23 and 255, where 24 is the least, and for 255 there are too few bytes.
+    let text = "cc01177a700000010012340000000104000000001100020200000232";
+    is_no_packet(&rt, alloc, LengthMismatch, text);
+    let text = "cc01ff7a700000010012340000000104000000001100020200000232";
+    is_no_packet(&rt, alloc, LengthMismatch, text);
+}
+
 #[test]
 fn finds_the_first_fault(rt: HostRuntime) {
-    for (text, fault) in FAULTS {
-        decodes_to(&rt, rt.alloc(), text, Err(fault));
-    }
+    let alloc = rt.alloc();
+    let text = "cc011a7a7000000100123400000001000300000021006001010202a1";
+    is_no_packet(&rt, alloc, ParamLengthMismatch, text);
+    is_no_packet(
+        &rt,
+        alloc,
+        Checksum,
+        "cc011a7a700000010012340000000104000000001100020200000233",
+    );
+    let text = "cc011a7a700000010012340000000100030000001000600201020291";
+    is_no_packet(&rt, alloc, InvalidClass, text);
+    let text = "cc011a7a7000000100123400000001000400000021006002010202a3";
+    is_no_packet(&rt, alloc, InvalidResponseType, text);
+    // Two faults: both of the first bytes, and both of the class and the response type.
+    let text = "cd021a7a700000010012340000000104000000001100020200000232";
+    is_no_packet(&rt, alloc, WrongStart, text);
+    let text = "cc011a7a700000010012340000000100040000001000600201020292";
+    is_no_packet(&rt, alloc, InvalidClass, text);
 }
 
 // The longest packet: its header, 231 zeros and its checksum.
 fn longest(rt: &impl Abort, alloc: Global, header: &str, sum: [u8; 2]) -> Frame {
     let mut frame = Frame::new();
-    assert!(rt;
+    check(
+        rt,
         frame
             .try_extend_from_slice(&bytes_of(rt, alloc, header))
-            .is_ok()
+            .is_ok(),
     );
-    assert!(rt; frame.try_extend_from_slice(&[0; 231]).is_ok());
-    assert!(rt; frame.try_extend_from_slice(&sum).is_ok());
-    assert!(rt; frame.len() == 257);
+    check(rt, frame.try_extend_from_slice(&[0; 231]).is_ok());
+    check(rt, frame.try_extend_from_slice(&sum).is_ok());
+    check(rt, frame.len() == 257);
     frame
 }
 
@@ -234,7 +194,7 @@ fn longest(rt: &impl Abort, alloc: Global, header: &str, sum: [u8; 2]) -> Frame 
 fn reads_the_longest_packet(rt: HostRuntime) {
     let header = "cc01ff7a70000001001234000000010000000000210060e7";
     match decode_response(&longest(&rt, rt.alloc(), header, [0x04, 0x66])) {
-        Ok(response) => assert!(rt; response.param.as_slice() == [0; 231].as_slice()),
+        Ok(response) => check(&rt, response.param.as_slice() == [0; 231].as_slice()),
         Err(_) => panic!(rt; "a packet"),
     }
 }
@@ -244,7 +204,7 @@ fn reads_the_longest_packet(rt: HostRuntime) {
 fn reads_no_longer_packet(rt: HostRuntime) {
     let header = "cc01ff7a70000001001234000000010000000000210060e8";
     let frame = longest(&rt, rt.alloc(), header, [0x04, 0x67]);
-    assert!(rt; decode_response(&frame) == Err(ParamLengthMismatch));
+    check(&rt, decode_response(&frame) == Err(ParamLengthMismatch));
 }
 
 #[test]
@@ -252,7 +212,7 @@ fn encodes_the_longest_packet(rt: HostRuntime) {
     let header = "cc01ff1234000000017a70000001000001000000300060e7";
     let frame = longest(&rt, rt.alloc(), header, [0x04, 0x76]);
     let set = request(&rt, ReqClass::Set, &[0; 231]);
-    assert!(rt; encode_request(&set, controller(), 0) == frame);
+    check(&rt, encode_request(&set, controller(), 0) == frame);
 }
 
 // Which acknowledgement of the mute with this number bytes are.

@@ -2,6 +2,7 @@
 ghost use Rattle.std.specs.Prelude.{◌≡◌, false};
 ghost use Rattle.rdm_wire.specs.Uid.{is_broadcast};
 
+use super::rig::check;
 use rdm_wire::{Device, DeviceSet, SetFull, Uid, UidRange, UidSet};
 use std::process::Abort;
 
@@ -10,7 +11,7 @@ fn uid(rt: &impl Abort, number: u32) -> Uid
     ensures { is_broadcast result ≡ false }
 {
     let own = Uid::new(0x1234, number);
-    assert!(rt; !own.is_broadcast());
+    check(rt, !own.is_broadcast());
     own
 }
 
@@ -22,43 +23,52 @@ fn halves(rt: &impl Abort, range: UidRange) -> (UidRange, UidRange) {
 #[test]
 fn ranges(rt: HostRuntime) {
     let whole = UidRange::whole();
-    assert!(rt; whole.lo.number() == 0);
-    assert!(rt; whole.hi.number() == 0xffff_ffff_ffff);
+    check(&rt, whole.lo.number() == 0);
+    check(&rt, whole.hi.number() == 0xffff_ffff_ffff);
     let (lower, upper) = halves(&rt, whole);
-    assert!(rt; lower.hi.number() == 0x7fff_ffff_ffff);
-    assert!(rt; upper.lo.number() == 0x8000_0000_0000);
-    assert!(rt; lower.contains(lower.hi) && !lower.contains(upper.lo));
+    check(&rt, lower.hi.number() == 0x7fff_ffff_ffff);
+    check(&rt, upper.lo.number() == 0x8000_0000_0000);
+    check(&rt, lower.contains(lower.hi) && !lower.contains(upper.lo));
 }
 
 #[test]
 fn small_ranges(rt: HostRuntime) {
     let three = UidRange::new(Uid::new(0, 0), Uid::new(0, 2)).expect(&rt, "in order");
     let (two, one) = halves(&rt, three);
-    assert!(rt; (two.lo, two.hi) == (Uid::new(0, 0), Uid::new(0, 1)));
-    assert!(rt; (one.lo, one.hi) == (Uid::new(0, 2), Uid::new(0, 2)));
-    assert!(rt; one.halves().is_none());
-    assert!(rt; UidRange::new(Uid::new(0, 5), Uid::new(0, 4)).is_none());
+    check(&rt, two.lo == Uid::new(0, 0) && two.hi == Uid::new(0, 1));
+    check(&rt, one.lo == Uid::new(0, 2) && one.hi == Uid::new(0, 2));
+    check(&rt, one.halves().is_none());
+    check(&rt, UidRange::new(Uid::new(0, 5), Uid::new(0, 4)).is_none());
 }
 
 // Whether the UID with this number was new.
 fn inserts(rt: &impl Abort, set: &mut UidSet, number: u32, wanted: Result<bool, SetFull>) {
-    assert!(rt; set.insert(uid(rt, number)) == wanted);
+    check(rt, set.insert(uid(rt, number)) == wanted);
+}
+
+// The next UID of a set has this number.
+fn is_next(rt: &impl Abort, next: Option<&Uid>, number: u32) {
+    check(rt, next == Some(&Uid::new(0x1234, number)));
 }
 
 #[test]
 fn sets(rt: HostRuntime) {
     let mut set = UidSet::new();
-    assert!(rt; set.is_empty());
+    check(&rt, set.is_empty());
     inserts(&rt, &mut set, 7, Ok(true));
     inserts(&rt, &mut set, 3, Ok(true));
     inserts(&rt, &mut set, 9, Ok(true));
     inserts(&rt, &mut set, 3, Ok(false));
-    assert!(rt; set.len() == 3);
-    let numbers = [3, 7, 9];
-    for (uid, number) in set.iter().zip(numbers.iter()) {
-        assert!(rt; *uid == Uid::new(0x1234, *number));
-    }
-    assert!(rt; set.contains(Uid::new(0x1234, 7)) && !set.contains(Uid::new(0x1234, 8)));
+    check(&rt, set.len() == 3);
+    let mut uids = set.iter();
+    is_next(&rt, uids.next(), 3);
+    is_next(&rt, uids.next(), 7);
+    is_next(&rt, uids.next(), 9);
+    check(&rt, uids.next().is_none());
+    check(
+        &rt,
+        set.contains(Uid::new(0x1234, 7)) && !set.contains(Uid::new(0x1234, 8)),
+    );
 }
 
 #[test]
@@ -66,11 +76,11 @@ fn copies_of_sets(rt: HostRuntime) {
     let mut set = UidSet::new();
     inserts(&rt, &mut set, 7, Ok(true));
     inserts(&rt, &mut set, 8, Ok(true));
-    assert!(rt; set.clone().is_ok_and(|clone| set.copied() == clone));
+    check(&rt, set.clone().ok() == Some(set.copied()));
     let mut other = UidSet::new();
     inserts(&rt, &mut other, 1, Ok(true));
     other.copy_from(&set);
-    assert!(rt; other == set);
+    check(&rt, other == set);
 }
 
 #[test]
@@ -79,12 +89,12 @@ fn a_full_set(rt: HostRuntime) {
     for number in 0..1024 {
         inserts(&rt, &mut set, 1024 - number, Ok(true));
     }
-    assert!(rt; set.is_full());
+    check(&rt, set.is_full());
     inserts(&rt, &mut set, 1, Ok(false));
     inserts(&rt, &mut set, 0, Err(SetFull));
-    assert!(rt; set.len() == 1024);
+    check(&rt, set.len() == 1024);
     set.clear();
-    assert!(rt; set.is_empty());
+    check(&rt, set.is_empty());
 }
 
 // A device with this control field and no binding UID.
@@ -102,7 +112,7 @@ fn device(rt: &impl Abort, number: u32, control: u16) -> Device
 fn adds(rt: &impl Abort, set: &mut DeviceSet, device: Device, wanted: Result<bool, SetFull>)
     requires { is_broadcast device.uid ≡ false }
 {
-    assert!(rt; set.insert(device) == wanted);
+    check(rt, set.insert(device) == wanted);
 }
 
 // Device 5, with a binding UID.
@@ -119,39 +129,54 @@ fn bound(rt: &impl Abort) -> Device
 // The devices 1, 5 and 9 in order; device 5 is the one that was put in first.
 fn three_devices(rt: &impl Abort) -> DeviceSet {
     let mut set = DeviceSet::new();
-    assert!(rt; set.is_empty());
+    check(rt, set.is_empty());
     adds(rt, &mut set, bound(rt), Ok(true));
     adds(rt, &mut set, device(rt, 9, 8), Ok(true));
     adds(rt, &mut set, device(rt, 1, 1), Ok(true));
     adds(rt, &mut set, device(rt, 5, 4), Ok(false));
-    assert!(rt; set.get(Uid::new(0x1234, 5)) == Some(bound(rt)));
+    check(rt, set.get(Uid::new(0x1234, 5)) == Some(bound(rt)));
     set
+}
+
+// The UID of a device that is there.
+fn uid_of(device: Option<&Device>) -> Option<&Uid> {
+    match device {
+        Some(device) => Some(&device.uid),
+        None => None,
+    }
 }
 
 #[test]
 fn sets_of_devices(rt: HostRuntime) {
     let set = three_devices(&rt);
-    assert!(rt; set.len() == 3);
-    assert!(rt; set.get(Uid::new(0x1234, 6)).is_none());
-    assert!(rt; set.contains(Uid::new(0x1234, 9)) && !set.contains(Uid::new(0x1234, 8)));
-    let numbers = [1, 5, 9];
-    for (device, number) in set.iter().zip(numbers.iter()) {
-        assert!(rt; device.uid == Uid::new(0x1234, *number));
-    }
+    check(&rt, set.len() == 3);
+    check(&rt, set.get(Uid::new(0x1234, 6)).is_none());
+    check(
+        &rt,
+        set.contains(Uid::new(0x1234, 9)) && !set.contains(Uid::new(0x1234, 8)),
+    );
+    let mut devices = set.iter();
+    is_next(&rt, uid_of(devices.next()), 1);
+    is_next(&rt, uid_of(devices.next()), 5);
+    is_next(&rt, uid_of(devices.next()), 9);
+    check(&rt, devices.next().is_none());
 }
 
 #[test]
 fn copies_of_sets_of_devices(rt: HostRuntime) {
     let set = three_devices(&rt);
     let uids = set.uids();
-    assert!(rt; uids.len() == 3);
-    assert!(rt; uids.contains(Uid::new(0x1234, 5)) && !uids.contains(Uid::new(0x1234, 6)));
+    check(&rt, uids.len() == 3);
+    check(
+        &rt,
+        uids.contains(Uid::new(0x1234, 5)) && !uids.contains(Uid::new(0x1234, 6)),
+    );
     let mut other = DeviceSet::new();
     other.copy_from(&set);
-    assert!(rt; set.clone().is_ok_and(|clone| set.copied() == clone));
-    assert!(rt; other == set);
+    check(&rt, set.clone().ok() == Some(set.copied()));
+    check(&rt, other == set);
     other.clear();
-    assert!(rt; other.is_empty() && !set.is_empty());
+    check(&rt, other.is_empty() && !set.is_empty());
 }
 
 #[test]
@@ -160,10 +185,10 @@ fn a_full_set_of_devices(rt: HostRuntime) {
     for number in 0..1024 {
         adds(&rt, &mut set, device(&rt, 1024 - number, 0), Ok(true));
     }
-    assert!(rt; set.is_full());
+    check(&rt, set.is_full());
     adds(&rt, &mut set, device(&rt, 1, 1), Ok(false));
     adds(&rt, &mut set, device(&rt, 0, 1), Err(SetFull));
-    assert!(rt; set.len() == 1024);
-    assert!(rt; set.as_slice().first() == Some(&device(&rt, 1, 0)));
-    assert!(rt; set.uids().len() == 1024);
+    check(&rt, set.len() == 1024);
+    check(&rt, set.as_slice().first() == Some(&device(&rt, 1, 0)));
+    check(&rt, set.uids().len() == 1024);
 }

@@ -1,27 +1,28 @@
 //! UIDs as numbers and as text.
+use super::rig::check;
 use rdm_wire::{Uid, UidFault};
 use std::process::Abort;
 
 #[test]
 fn makes_a_uid_of_its_parts(rt: HostRuntime) {
-    assert!(rt; Uid::new(0x7a70, 1).number() == 0x7a70_0000_0001);
+    check(&rt, Uid::new(0x7a70, 1).number() == 0x7a70_0000_0001);
 }
 
 #[test]
 fn makes_a_uid_of_48_bits(rt: HostRuntime) {
     let uid = Uid::from_number(0x7a70_0000_0001);
-    assert!(rt; uid == Some(Uid::new(0x7a70, 1)));
+    check(&rt, uid == Some(Uid::new(0x7a70, 1)));
     let greatest = Uid::from_number((1 << 48) - 1);
-    assert!(rt; greatest == Some(Uid::ALL));
-    assert!(rt; Uid::from_number(1 << 48).is_none());
+    check(&rt, greatest == Some(Uid::ALL));
+    check(&rt, Uid::from_number(1 << 48).is_none());
 }
 
 #[test]
 fn tells_broadcasts(rt: HostRuntime) {
-    assert!(rt; Uid::ALL.is_broadcast());
-    assert!(rt; Uid::new(0x7a70, 0xffff_ffff).is_broadcast());
-    assert!(rt; !Uid::new(0xffff, 0xffff_fffe).is_broadcast());
-    assert!(rt; !Uid::new(0x7a70, 1).is_broadcast());
+    check(&rt, Uid::ALL.is_broadcast());
+    check(&rt, Uid::new(0x7a70, 0xffff_ffff).is_broadcast());
+    check(&rt, !Uid::new(0xffff, 0xffff_fffe).is_broadcast());
+    check(&rt, !Uid::new(0x7a70, 1).is_broadcast());
 }
 
 // What a text spells.
@@ -47,13 +48,13 @@ fn parses_texts(rt: HostRuntime) {
 
 #[test]
 fn writes_lower_case(rt: HostRuntime) {
-    assert!(rt; Uid::new(0x7a70, 1).to_text() == *b"7a70:00000001");
-    assert!(rt; Uid::ALL.to_text() == *b"ffff:ffffffff");
+    check(&rt, Uid::new(0x7a70, 1).to_text() == *b"7a70:00000001");
+    check(&rt, Uid::ALL.to_text() == *b"ffff:ffffffff");
 }
 
 #[test]
 fn prints_lower_case(rt: HostRuntime) {
     let uid = Uid::new(0x7a70, 0xab);
     let text = format!(in rt.alloc(); "{uid}").expect(&rt, "memory");
-    assert!(rt; text.as_str() == "7a70:000000ab");
+    check(&rt, text.as_str() == "7a70:000000ab");
 }

@@ -1,5 +1,6 @@
 //! Runs by replies made by hand.
 use super::line::{ack_of, ended, plain, set_of};
+use crate::tests::checks::check;
 use rdm_agent::{Agent, AgentFault, DEFAULT_BUDGET, Kind, Op, OpReply};
 use rdm_wire::{BranchReply, DeviceSet, Uid, UidRange, UidSet};
 use std::process::Abort;
@@ -7,7 +8,7 @@ use std::process::Abort;
 // The agent hears a reply that is to fit.
 fn hear(rt: &impl Abort, agent: &mut Agent, reply: OpReply) {
     let op = agent.next();
-    assert!(rt; reply.fits(&op));
+    check(rt, reply.fits(&op));
     agent.hear(reply);
 }
 
@@ -23,68 +24,82 @@ fn begun(rt: &impl Abort) -> Agent {
 // A full run with a small budget, after one unmute.
 fn unmuted_once(rt: &impl Abort, budget: u64) -> Agent {
     let agent = Agent::start(Kind::Full, &UidSet::new(), budget);
-    assert!(rt; OpReply::Done.fits(&agent.next()));
+    check(rt, OpReply::Done.fits(&agent.next()));
     agent.feed(OpReply::Done)
 }
 
+// The agent has ended with this fault, and found nobody.
+fn ends_by(rt: &impl Abort, agent: Agent, fault: AgentFault) {
+    check(rt, ended(rt, agent) == Err((fault, DeviceSet::new())));
+}
+
+// It has asked this many frames.
+fn has_asked(rt: &impl Abort, agent: &Agent, frames: u64) {
+    check(rt, agent.frames() == frames);
+}
+
+// The last split leaves one range at each depth, and one more at the deepest.
 #[test]
 fn a_line_that_always_collides(rt: HostRuntime) {
     let mut agent = begun(&rt);
     for _ in 0..48 {
         hear(&rt, &mut agent, OpReply::Branch(BranchReply::Collision));
     }
-    // The last split left one range at each depth, and one more at the deepest.
-    assert_eq!(rt; agent.open_ranges(), 49);
+    check(&rt, agent.open_ranges() == 49);
     hear(&rt, &mut agent, OpReply::Branch(BranchReply::Collision));
-    assert_eq!(rt; agent.frames(), 52);
-    assert_eq!(rt;
-        ended(&rt, agent),
-        Err((AgentFault::Corrupt(Uid::new(0, 0)), DeviceSet::new()))
-    );
+    has_asked(&rt, &agent, 52);
+    ends_by(&rt, agent, AgentFault::Corrupt(Uid::new(0, 0)));
+}
+
+// The whole range shows this device, which acknowledges its mute.
+fn shows(rt: &impl Abort, agent: &mut Agent, uid: Uid) {
+    hear(rt, agent, OpReply::Branch(BranchReply::One(uid)));
+    check(rt, agent.next() == Op::Mute(uid));
+    hear(rt, agent, OpReply::Mute(Some(ack_of(plain(uid)))));
+}
+
+// The agent has ended with 1,024 devices, and one more was there.
+fn ends_with_too_many(rt: &impl Abort, agent: Agent) {
+    match ended(rt, agent) {
+        Ok(_) => panic!(rt; "it has no fault"),
+        Err((fault, found)) => {
+            check(rt, fault == AgentFault::TooMany && fault.number() == 2);
+            check(rt, found.len() == 1024);
+        }
+    }
 }
 
 #[test]
 fn one_device_too_many(rt: HostRuntime) {
     let mut agent = begun(&rt);
     for number in 0..1025 {
-        let uid = Uid::new(0x1234, number);
-        hear(&rt, &mut agent, OpReply::Branch(BranchReply::One(uid)));
-        assert_eq!(rt; agent.next(), Op::Mute(uid));
-        hear(&rt, &mut agent, OpReply::Mute(Some(ack_of(plain(uid)))));
+        shows(&rt, &mut agent, Uid::new(0x1234, number));
     }
-    assert_eq!(rt; agent.frames(), 2_053);
-    assert_eq!(rt; agent.found().len(), 1024);
-    assert_eq!(rt; agent.next(), Op::End);
-    assert_eq!(rt; agent.fault(), Some(AgentFault::TooMany));
-    let Err((fault, found)) = ended(&rt, agent) else {
-        panic!(rt; "it has no fault")
-    };
-    assert_eq!(rt; fault, AgentFault::TooMany);
-    assert_eq!(rt; fault.number(), 2);
-    assert_eq!(rt; found.len(), 1024);
+    has_asked(&rt, &agent, 2_053);
+    check(&rt, agent.found().len() == 1024);
+    check(&rt, agent.fault() == Some(AgentFault::TooMany));
+    ends_with_too_many(&rt, agent);
 }
 
 #[test]
-fn a_failure_and_an_abort(rt: HostRuntime) {
+fn a_failure(rt: HostRuntime) {
     let mut failed = begun(&rt);
     hear(&rt, &mut failed, OpReply::Failed);
-    assert_eq!(rt; failed.frames(), 4);
-    assert_eq!(rt;
-        ended(&rt, failed.abort()),
-        Err((AgentFault::LineFailed, DeviceSet::new()))
-    );
-    let mut aborted = begun(&rt);
-    aborted.stop();
-    assert_eq!(rt; aborted.next(), Op::End);
-    assert_eq!(rt; aborted.fault(), Some(AgentFault::Aborted));
-    assert!(rt; aborted.found().is_empty());
-    assert_eq!(rt; aborted.frames(), 3);
+    has_asked(&rt, &failed, 4);
+    ends_by(&rt, failed.abort(), AgentFault::LineFailed);
+}
+
+#[test]
+fn an_abort(rt: HostRuntime) {
+    let mut stopped = begun(&rt);
+    stopped.stop();
+    has_asked(&rt, &stopped, 3);
+    check(&rt, stopped.fault() == Some(AgentFault::Aborted));
+    check(&rt, stopped.found().is_empty());
+    check(&rt, stopped.next() == Op::End);
     let aborted = begun(&rt).abort();
-    assert_eq!(rt; aborted.frames(), 3);
-    assert_eq!(rt;
-        ended(&rt, aborted),
-        Err((AgentFault::Aborted, DeviceSet::new()))
-    );
+    has_asked(&rt, &aborted, 3);
+    ends_by(&rt, aborted, AgentFault::Aborted);
 }
 
 // What the last reply itself shows comes before a budget that is used up, and that before an abort.
@@ -92,30 +107,21 @@ fn a_failure_and_an_abort(rt: HostRuntime) {
 fn the_first_of_several_faults(rt: HostRuntime) {
     let mut failed = unmuted_once(&rt, 2);
     hear(&rt, &mut failed, OpReply::Failed);
-    assert_eq!(rt;
-        ended(&rt, failed.abort()),
-        Err((AgentFault::LineFailed, DeviceSet::new()))
-    );
+    ends_by(&rt, failed.abort(), AgentFault::LineFailed);
     let used_up = unmuted_once(&rt, 1);
-    assert_eq!(rt;
-        ended(&rt, used_up.abort()),
-        Err((AgentFault::Exhausted, DeviceSet::new()))
-    );
+    ends_by(&rt, used_up.abort(), AgentFault::Exhausted);
 }
 
 #[test]
 fn a_budget_of_no_frames(rt: HostRuntime) {
     let agent = Agent::start(Kind::Full, &UidSet::new(), 0);
-    assert_eq!(rt; agent.next(), Op::End);
-    assert_eq!(rt;
-        ended(&rt, agent),
-        Err((AgentFault::Exhausted, DeviceSet::new()))
-    );
+    check(&rt, agent.next() == Op::End);
+    ends_by(&rt, agent, AgentFault::Exhausted);
 }
 
 // The agent asks this, and hears that reply.
 fn asks(rt: &impl Abort, agent: &mut Agent, op: &Op, reply: OpReply) {
-    assert_eq!(rt; &agent.next(), op);
+    check(rt, agent.next() == *op);
     hear(rt, agent, reply);
 }
 
@@ -132,9 +138,9 @@ fn finds(rt: &impl Abort, agent: &mut Agent, range: UidRange, uid: Uid) {
 
 // The run has found both devices, in this many frames.
 fn has_found_both(rt: &impl Abort, agent: Agent, frames: u64) {
-    assert_eq!(rt; agent.frames(), frames);
+    has_asked(rt, &agent, frames);
     let both = set_of(rt, &[plain(near()), plain(far())]);
-    assert_eq!(rt; ended(rt, agent), Ok(both));
+    check(rt, ended(rt, agent) == Ok(both));
 }
 
 fn near() -> Uid {

@@ -1,4 +1,5 @@
 //! Operations as packets, and bytes as replies.
+use crate::tests::checks::{bytes_of, check, frame_of};
 use rdm_agent::{Op, OpReply};
 use rdm_wire::{BranchReply, Frame, MuteAck, Uid, UidRange};
 use std::alloc::Global;
@@ -27,16 +28,9 @@ const ACK: &str = "cc01207a70000001001234000000010400000000110002080002123400000
 // What a branch is answered by the device 7a70:00000001.
 const TEXT: &str = "aafa7ffa75aa55aa55aa55ab55ae57eff5";
 
-fn bytes_of(rt: &impl Abort, alloc: Global, text: &str) -> Vec<u8> {
-    match hex::decode(alloc, text) {
-        Ok(bytes) => bytes,
-        Err(_) => panic!(rt; "hex"),
-    }
-}
-
 // The frame is these bytes, in hexadecimal.
 fn is_frame(rt: &impl Abort, alloc: Global, frame: &Frame, text: &str) {
-    assert!(rt; frame.as_slice() == bytes_of(rt, alloc, text).as_slice());
+    check(rt, frame == &frame_of(rt, alloc, text));
 }
 
 #[test]
@@ -46,17 +40,17 @@ fn frames_of_operations(rt: HostRuntime) {
     let branch = Op::Branch(UidRange::whole()).frame(source(), 3);
     is_frame(&rt, rt.alloc(), &branch, BRANCH);
     let device = device();
-    assert!(rt; !device.is_broadcast());
+    check(&rt, !device.is_broadcast());
     let mute = Op::Mute(device).frame(source(), 4);
     is_frame(&rt, rt.alloc(), &mute, MUTE);
 }
 
 // Whether a reply may answer an unmute, a mute, a branch, and nothing.
 fn fits_each(rt: &impl Abort, reply: OpReply, fits: [bool; 4]) {
-    assert!(rt; reply.fits(&Op::UnmuteAll) == fits[0]);
-    assert!(rt; reply.fits(&Op::Mute(device())) == fits[1]);
-    assert!(rt; reply.fits(&Op::Branch(UidRange::whole())) == fits[2]);
-    assert!(rt; reply.fits(&Op::End) == fits[3]);
+    check(rt, reply.fits(&Op::UnmuteAll) == fits[0]);
+    check(rt, reply.fits(&Op::Mute(device())) == fits[1]);
+    check(rt, reply.fits(&Op::Branch(UidRange::whole())) == fits[2]);
+    check(rt, reply.fits(&Op::End) == fits[3]);
 }
 
 #[test]
@@ -72,7 +66,7 @@ fn a_reply_fits_its_own_operation(rt: HostRuntime) {
 fn mute_reads(rt: &impl Abort, alloc: Global, tn: u8, text: &str, wanted: OpReply) {
     let bytes = bytes_of(rt, alloc, text);
     let read = Op::Mute(device()).read_reply(source(), tn, Some(&bytes));
-    assert!(rt; read == wanted);
+    check(rt, read == wanted);
 }
 
 #[test]
@@ -85,14 +79,14 @@ fn replies_to_a_mute(rt: HostRuntime) {
     mute_reads(&rt, rt.alloc(), 5, ACK, OpReply::Mute(None));
     mute_reads(&rt, rt.alloc(), 4, "", OpReply::Mute(None));
     let failed = Op::Mute(device()).read_reply(source(), 4, None);
-    assert!(rt; failed == OpReply::Failed);
+    check(&rt, failed == OpReply::Failed);
 }
 
 // How a branch with number 3 reads bytes, in hexadecimal.
 fn branch_reads(rt: &impl Abort, alloc: Global, text: &str, wanted: BranchReply) {
     let bytes = bytes_of(rt, alloc, text);
     let read = Op::Branch(UidRange::whole()).read_reply(source(), 3, Some(&bytes));
-    assert!(rt; read == OpReply::Branch(wanted));
+    check(rt, read == OpReply::Branch(wanted));
 }
 
 #[test]
@@ -105,7 +99,7 @@ fn replies_to_a_branch(rt: HostRuntime) {
 #[test]
 fn replies_to_an_unmute(rt: HostRuntime) {
     let done = Op::UnmuteAll.read_reply(source(), 0, Some(&[]));
-    assert!(rt; done == OpReply::Done);
+    check(&rt, done == OpReply::Done);
     let failed = Op::UnmuteAll.read_reply(source(), 0, None);
-    assert!(rt; failed == OpReply::Failed);
+    check(&rt, failed == OpReply::Failed);
 }

@@ -1,4 +1,5 @@
 //! What the faults say.
+use crate::tests::checks::check;
 use rdm_agent::AgentFault;
 use rdm_wire::Uid;
 use std::alloc::Global;
@@ -6,7 +7,7 @@ use std::process::Abort;
 
 // A fault's number, and what it says.
 fn says(rt: &impl Abort, alloc: Global, fault: AgentFault, number: u8, text: &str) {
-    assert!(rt; fault.number() == number);
+    check(rt, fault.number() == number);
     let said = format!(in alloc; "{fault}").expect(rt, "memory");
     assert!(rt; said.as_str() == text, "{text}");
 }

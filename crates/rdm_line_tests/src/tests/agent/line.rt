@@ -1,4 +1,5 @@
 //! A line in memory, and a run over it.
+use crate::tests::checks::check;
 use rdm_agent::{Agent, AgentFault, Op, OpReply};
 use rdm_wire::{BranchReply, Device, DeviceSet, MuteAck, Uid, UidRange, UidSet};
 use std::process::Abort;
@@ -21,7 +22,7 @@ pub(crate) fn ack_of(device: Device) -> MuteAck {
 }
 
 /// How a device misbehaves.
-#[derive(Clone, Copy, Debug, PartialEq, Eq)]
+#[derive(Clone, Copy, PartialEq)]
 pub(crate) enum Fault {
     /// It acknowledges no mute, and isn't muted.
     NeverMutes,
@@ -108,7 +109,10 @@ impl<'a> TestLine<'a> {
 
     // Whether a device misbehaves so.
     fn has(&self, uid: Uid, fault: Fault) -> bool {
-        self.bad == Some((uid, fault))
+        match self.bad {
+            Some((bad, own)) => bad == uid && own == fault,
+            None => false,
+        }
     }
 
     /// Runs the agent to its end.
@@ -119,7 +123,7 @@ impl<'a> TestLine<'a> {
                 break;
             }
             let reply = self.answer(op);
-            assert!(rt; reply.fits(&op));
+            check(rt, reply.fits(&op));
             agent.hear(reply);
         }
     }
@@ -137,8 +141,8 @@ pub(crate) fn ended(rt: &impl Abort, agent: Agent) -> Result<DeviceSet, (AgentFa
 pub(crate) fn set_of(rt: &impl Abort, devices: &[Device]) -> DeviceSet {
     let mut set = DeviceSet::new();
     for device in devices {
-        assert!(rt; !device.uid.is_broadcast());
-        assert!(rt; set.insert(*device).is_ok());
+        check(rt, !device.uid.is_broadcast());
+        check(rt, set.insert(*device).is_ok());
     }
     set
 }

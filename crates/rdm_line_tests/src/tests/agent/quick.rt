@@ -1,5 +1,6 @@
 //! Searches over a line in memory, which loses a reply or has a device that misbehaves.
 use super::line::{Fault, TestLine, ended, plain, set_of};
+use crate::tests::checks::check;
 use rdm_agent::{Agent, AgentFault, DEFAULT_BUDGET, Kind, Op, Search};
 use rdm_wire::{Device, Uid, UidSet};
 use std::process::Abort;
@@ -33,7 +34,7 @@ fn a_lost_reply(rt: HostRuntime) {
         let mut agent = full(Search::Quick, DEFAULT_BUDGET);
         line.run(&rt, &mut agent);
         let both = set_of(&rt, &[plain(near()), plain(far())]);
-        assert_eq!(rt; ended(&rt, agent), Ok(both));
+        check(&rt, ended(&rt, agent) == Ok(both));
     }
 }
 
@@ -66,12 +67,12 @@ fn good_found(
     line.bad = Some((bad, fault));
     let mut agent = full(search, DEFAULT_BUDGET);
     line.run(rt, &mut agent);
-    assert_eq!(rt; agent.next(), Op::End);
+    check(rt, agent.next() == Op::End);
     let Err((why, found)) = ended(rt, agent) else {
         panic!(rt; "it has no fault")
     };
-    assert_eq!(rt; why, AgentFault::Corrupt(bad));
-    assert_eq!(rt; found.contains(bad), fault == Fault::GoesOn);
+    check(rt, why == AgentFault::Corrupt(bad));
+    check(rt, found.contains(bad) == (fault == Fault::GoesOn));
     if found.contains(bad) {
         found.len().saturating_sub(1)
     } else {
@@ -87,9 +88,9 @@ fn one_bad_device_hides_none_of_these(rt: HostRuntime) {
         for fault in [Fault::NeverMutes, Fault::AnswersShort, Fault::GoesOn] {
             for (bad, below) in [(0, 0), (5, 5), (10, 10)] {
                 let quick = good_found(&rt, Search::Quick, &devices, bad, fault);
-                assert_eq!(rt; quick, 10);
+                check(&rt, quick == 10);
                 let steady = good_found(&rt, Search::Steady, &devices, bad, fault);
-                assert_eq!(rt; steady, below);
+                check(&rt, steady == below);
             }
         }
     }

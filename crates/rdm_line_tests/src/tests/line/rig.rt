@@ -1,4 +1,5 @@
 //! Scenes, lines that are made of them, and what these answer.
+use crate::tests::checks::{bytes_of, check};
 use rdm_join::LineReply;
 use rdm_line::{
     AddFault, Collision, CollisionBytes, Line, LineFault, Parameter, ParameterPart, Parameters,
@@ -53,8 +54,8 @@ pub fn add(
     params: Parameters,
     placing: Placing,
 ) -> Result<(), AddFault> {
-    assert!(rt; !device.uid.is_broadcast());
-    assert!(rt; placing.preamble <= 7 && placing.from <= 1_000_000_000);
+    check(rt, !device.uid.is_broadcast());
+    check(rt, placing.preamble <= 7 && placing.from <= 1_000_000_000);
     devices.add(SceneDevice {
         device,
         preamble: placing.preamble,
@@ -73,7 +74,7 @@ pub fn put(
     placing: Placing,
 ) {
     let added = add(rt, devices, device, no_params(alloc), placing);
-    assert!(rt; added.is_ok());
+    check(rt, added.is_ok());
 }
 
 pub fn no_params(alloc: Global) -> Parameters {
@@ -109,30 +110,33 @@ pub fn two_devices(
 /// The part of a parameter with these bytes.
 pub fn part(rt: &impl Abort, bytes: &[u8]) -> ParameterPart {
     let mut part = ParameterPart::new();
-    assert!(rt; part.try_extend_from_slice(bytes).is_ok());
+    check(rt, part.try_extend_from_slice(bytes).is_ok());
     part
 }
 
 /// The parameter `0060` in these parts.
 pub fn params_of(rt: &impl Abort, alloc: Global, parts: Vec<ParameterPart>) -> Parameters {
-    assert!(rt; !parts.is_empty());
+    check(rt, !parts.is_empty());
     let mut params = Vec::new(alloc);
-    assert!(rt; params.push(Parameter::new(0x0060, parts)).is_ok());
+    check(rt, params.push(Parameter::new(0x0060, parts)).is_ok());
     Parameters::new(params)
 }
 
 /// The devices of a scene with the first device, which has this parameter.
 pub fn device_with(rt: &impl Abort, alloc: Global, params: Parameters) -> SceneDevices {
     let mut devices = SceneDevices::new(alloc);
-    assert!(rt; add(rt, &mut devices, plain(first()), params, ALWAYS).is_ok());
+    check(
+        rt,
+        add(rt, &mut devices, plain(first()), params, ALWAYS).is_ok(),
+    );
     devices
 }
 
 /// The devices of a scene with the first device, which has the parameter `0060` in two parts: `0102` and `03`.
 pub fn two_parts(rt: &impl Abort, alloc: Global) -> SceneDevices {
     let mut parts = Vec::new(alloc);
-    assert!(rt; parts.push(part(rt, &[1, 2])).is_ok());
-    assert!(rt; parts.push(part(rt, &[3])).is_ok());
+    check(rt, parts.push(part(rt, &[1, 2])).is_ok());
+    check(rt, parts.push(part(rt, &[3])).is_ok());
     device_with(rt, alloc, params_of(rt, alloc, parts))
 }
 
@@ -143,7 +147,7 @@ fn numbers(rt: &impl Abort, alloc: Global, of: &[u64]) -> Vec<u64> {
 /// A collision that is a byte of noise.
 pub fn noise(rt: &impl Abort) -> Collision {
     let mut bytes = LineReply::new();
-    assert!(rt; bytes.try_push(0xff).is_ok());
+    check(rt, bytes.try_push(0xff).is_ok());
     Collision::Bytes(CollisionBytes::new(bytes).expect(rt, "a byte"))
 }
 
@@ -155,8 +159,8 @@ pub fn collisions(
     other: Collision,
 ) -> Vec<Collision> {
     let mut collisions = Vec::new(alloc);
-    assert!(rt; collisions.push(one).is_ok());
-    assert!(rt; collisions.push(other).is_ok());
+    check(rt, collisions.push(one).is_ok());
+    check(rt, collisions.push(other).is_ok());
     collisions
 }
 
@@ -198,30 +202,12 @@ pub fn answers(rt: &impl Abort, alloc: Global, line: &mut SimLine, frame: &Frame
 
 /// The line fails after a frame.
 pub fn fails(rt: &impl Abort, line: &mut SimLine, frame: &Frame) {
-    assert!(rt; line.exchange(frame) == Err(LineFault));
+    check(rt, line.exchange(frame) == Err(LineFault));
 }
 
 /// So many exchanges have failed.
 pub fn has_failed(rt: &impl Abort, line: &SimLine, failures: u64) {
-    assert_eq!(rt; line.failures(), failures);
-}
-
-fn bytes_of(rt: &impl Abort, alloc: Global, text: &str) -> Vec<u8> {
-    match hex::decode(alloc, text) {
-        Ok(bytes) => bytes,
-        Err(_) => panic!(rt; "hex"),
-    }
-}
-
-/// The bytes that a text gives in hexadecimal, as a frame.
-pub fn frame_of(rt: &impl Abort, alloc: Global, text: &str) -> Frame {
-    let mut frame = Frame::new();
-    assert!(rt;
-        frame
-            .try_extend_from_slice(&bytes_of(rt, alloc, text))
-            .is_ok()
-    );
-    frame
+    check(rt, line.failures() == failures);
 }
 
 pub fn whole_branch(tn: u8) -> Frame {
@@ -229,7 +215,7 @@ pub fn whole_branch(tn: u8) -> Frame {
 }
 
 pub fn mute(rt: &impl Abort, uid: Uid, tn: u8) -> Frame {
-    assert!(rt; !uid.is_broadcast());
+    check(rt, !uid.is_broadcast());
     encode_mute(uid, controller(), tn)
 }
 

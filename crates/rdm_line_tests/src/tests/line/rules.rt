@@ -1,8 +1,9 @@
 //! The rules of the simulated line, each by what a line sends.
 use super::rig::{
-    answers, asks, collisions, fails, first, frame_of, get, line_of, mute, noise, quiet_line,
-    second, two_devices, two_parts, whole_branch,
+    answers, asks, collisions, fails, first, get, line_of, mute, noise, quiet_line, second,
+    two_devices, two_parts, whole_branch,
 };
+use crate::tests::checks::{check, frame_of};
 use rdm_join::LineReply;
 use rdm_line::{Collision, CollisionBytes, SimLine};
 use rdm_wire::{ReqClass, Uid};
@@ -36,7 +37,7 @@ fn collide(rt: &impl Abort, alloc: Global, preamble: u8, other: Uid, text: &str)
     // So it is also if the scene says so.
     let devices = two_devices(rt, alloc, preamble, first(), other);
     let mut collisions = Vec::new(alloc);
-    assert!(rt; collisions.push(Collision::Or).is_ok());
+    check(rt, collisions.push(Collision::Or).is_ok());
     let mut line = line_of(rt, alloc, devices, collisions, &[], &[]);
     answers(rt, alloc, &mut line, &whole_branch(0), text);
     answers(rt, alloc, &mut line, &whole_branch(1), text);
@@ -52,7 +53,7 @@ fn replies_that_collide_are_laid_over_one_another(rt: HostRuntime) {
 
 #[test]
 fn no_bytes_come_of_no_collision(rt: HostRuntime) {
-    assert!(rt; CollisionBytes::new(LineReply::new()).is_none());
+    check(&rt, CollisionBytes::new(LineReply::new()).is_none());
 }
 
 // What the first device answers to a request.

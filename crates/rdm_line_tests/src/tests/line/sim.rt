@@ -4,6 +4,7 @@ use super::rig::{
     has_failed, line_of, mute, no_params, noise, one_device, params_of, part, plain, put,
     quiet_line, second, two_devices, two_parts, whole_branch,
 };
+use crate::tests::checks::check;
 use rdm_line::{AddFault, Collision, Line, ParameterPart, SceneDevices, SimLine};
 use rdm_wire::{Device, ReqClass, Uid, encode_unmute};
 use std::alloc::Global;
@@ -102,7 +103,7 @@ fn refuses_repeated_devices(rt: HostRuntime) {
     let mut devices = one_device(&rt, rt.alloc(), plain(first()), ALWAYS);
     let params = no_params(rt.alloc());
     let again = add(&rt, &mut devices, plain(first()), params, ALWAYS);
-    assert!(rt; again == Err(AddFault::Repeated));
+    check(&rt, again == Err(AddFault::Repeated));
 }
 
 // As many devices as a scene may have. They come late.
@@ -129,7 +130,7 @@ fn most_devices(rt: &impl Abort, alloc: Global) -> SceneDevices {
 fn many_numbers(rt: &impl Abort, alloc: Global, greatest: u64) -> Vec<u64> {
     let mut numbers = Vec::new(alloc);
     for number in 0..2000 {
-        assert!(rt; numbers.push(greatest.wrapping_sub(number)).is_ok());
+        check(rt, numbers.push(greatest.wrapping_sub(number)).is_ok());
     }
     numbers
 }
@@ -139,7 +140,7 @@ fn makes_a_line_of_a_large_scene(rt: HostRuntime) {
     let mut devices = most_devices(&rt, rt.alloc());
     let params = no_params(rt.alloc());
     let one_more = add(&rt, &mut devices, plain(second()), params, ALWAYS);
-    assert!(rt; one_more == Err(AddFault::Full));
+    check(&rt, one_more == Err(AddFault::Full));
     let losses = many_numbers(&rt, rt.alloc(), 1999);
     let fails = many_numbers(&rt, rt.alloc(), 4000);
     let collisions = Vec::new(rt.alloc());
@@ -152,7 +153,7 @@ fn makes_a_line_of_a_large_scene(rt: HostRuntime) {
 fn most_parts(rt: &impl Abort, alloc: Global) -> Vec<ParameterPart> {
     let mut parts = Vec::new(alloc);
     for number in 0..512_u16 {
-        assert!(rt; parts.push(part(rt, &[(number % 256) as u8])).is_ok());
+        check(rt, parts.push(part(rt, &[(number % 256) as u8])).is_ok());
     }
     parts
 }
@@ -161,8 +162,8 @@ fn most_parts(rt: &impl Abort, alloc: Global) -> Vec<ParameterPart> {
 fn sends(rt: &impl Abort, line: &mut SimLine, response_type: u8, byte: u16) {
     match line.exchange(&get()) {
         Ok(reply) => {
-            assert!(rt; reply.get(16) == Some(&response_type));
-            assert!(rt; reply.get(24) == Some(&((byte % 256) as u8)));
+            check(rt, reply.get(16) == Some(&response_type));
+            check(rt, reply.get(24) == Some(&((byte % 256) as u8)));
         }
         Err(_) => panic!(rt; "it failed"),
     }

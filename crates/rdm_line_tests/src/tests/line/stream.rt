@@ -1,4 +1,5 @@
 //! A line over streams of text: which line says what, and what an exchange takes when it fails.
+use crate::tests::checks::check;
 use rdm_line::{Line, LineFault, StreamLine};
 use rdm_wire::Frame;
 use std::alloc::Global;
@@ -9,17 +10,16 @@ use std::process::Abort;
 // A frame of two bytes, whose line is `cc01`.
 fn frame() -> Frame {
     let mut frame = Frame::new();
-    frame.push(0xcc);
-    frame.push(0x01);
+    let _ = frame.try_extend_from_slice(&[0xcc, 0x01]);
     frame
 }
 
 // Adds a line of this many digits, and how it ends.
 fn add_digits(rt: &impl Abort, text: &mut Vec<u8>, count: usize, end: &str) {
     for _ in 0..count {
-        assert!(rt; text.push(b'a').is_ok());
+        check(rt, text.push(b'a').is_ok());
     }
-    assert!(rt; text.extend_from_slice(end.as_bytes()).is_ok());
+    check(rt, text.extend_from_slice(end.as_bytes()).is_ok());
 }
 
 // What comes is these bytes, or None for a failure.
@@ -43,11 +43,14 @@ fn meets_each(
         meets(rt, &mut line, *wanted);
     }
     meets(rt, &mut line, None);
-    assert!(rt; line.failures() == failures);
+    check(rt, line.failures() == failures);
     let (left, written) = line.into_parts();
-    assert!(rt; left.is_empty());
-    assert!(rt; written.len() == wanted.len().saturating_add(1).saturating_mul(5));
-    assert!(rt; written.starts_with(b"cc01\ncc01\n"));
+    check(rt, left.is_empty());
+    check(
+        rt,
+        written.len() == wanted.len().saturating_add(1).saturating_mul(5),
+    );
+    check(rt, written.starts_with(b"cc01\ncc01\n"));
 }
 
 #[test]
@@ -128,7 +131,7 @@ fn an_error_of_the_reader_fails_one_exchange(rt: HostRuntime) {
     for wanted in wanted {
         meets(&rt, &mut line, wanted);
     }
-    assert!(rt; line.failures() == 4);
+    check(&rt, line.failures() == 4);
 }
 
 #[test]
@@ -137,7 +140,7 @@ fn takes_no_line_when_its_frame_is_not_written(rt: HostRuntime) {
     let mut line = StreamLine::new(b"01\n02\n".as_slice(), room.as_mut_slice());
     meets(&rt, &mut line, Some(&[0x01]));
     meets(&rt, &mut line, None);
-    assert_eq!(rt; line.failures(), 1);
+    check(&rt, line.failures() == 1);
     let (left, _) = line.into_parts();
-    assert_eq!(rt; left, b"02\n".as_slice());
+    check(&rt, left == b"02\n".as_slice());
 }

@@ -1,0 +1,26 @@
+//! What a test expects. These calls are proved once, while an assertion is proved anew wherever it stands.
+ghost use Rattle.std.specs.Prelude.{IsTrue};
+
+use rdm_wire::Frame;
+use std::alloc::Global;
+use std::process::Abort;
+
+/// Ends the test where the fact doesn't hold.
+pub fn check(rt: &impl Abort, fact: bool)
+    ensures { IsTrue fact }
+{
+    assert!(rt; fact);
+}
+
+/// The bytes that a text gives in hexadecimal.
+pub fn bytes_of(rt: &impl Abort, alloc: Global, text: &str) -> Vec<u8> {
+    hex::decode(alloc, text).ok().expect(rt, "hexadecimal")
+}
+
+/// Those bytes as a frame.
+pub fn frame_of(rt: &impl Abort, alloc: Global, text: &str) -> Frame {
+    let mut frame = Frame::new();
+    let bytes = bytes_of(rt, alloc, text);
+    check(rt, frame.try_extend_from_slice(&bytes).is_ok());
+    frame
+}
