@@ -194,10 +194,7 @@ impl<J: ViewHistory, W: Wait + Drop, X: Line> Served for Rings<J, Shown<J>, W, X
     }
 
     fn collect(&mut self, client: usize) -> Option<Told> {
-        match self.lanes.clients.get_mut(client)?.collect() {
-            Some(Collected::Request(told)) => Some(told),
-            _ => None,
-        }
+        self.lanes.clients.get_mut(client)?.collect_request()
     }
 
     fn pause(&mut self, pauses: bool) -> Option<()> {

@@ -1,17 +1,24 @@
 -- How a client counts what it sends and gets.
-use Rattle.std.proofs.Common.{◌≡◌, ℕ, ◌+◌, Bool, true, false, List, [], ◌∷◌, ◌++◌, length, refl, sym, ap, ◌∙◌, length-append, append-nil, arith}
+use Rattle.std.proofs.Common.{◌≡◌, ℕ, ◌+◌, ◌<◌, Bool, true, false, List, [], ◌∷◌, ◌++◌, length, drop, refl, sym, ap, ◌∙◌, length-append, append-nil, arith}
 use Rattle.std.specs.Prelude.{filter}
 use Rattle.std.proofs.lemmas.List.Elements.{filter-append}
-use Rattle.std.proofs.lemmas.List.{length-map}
+use Rattle.std.proofs.lemmas.List.{length-map, map-append}
 use Rattle.std.specs.declared.alloc.Global.{Global}
 use Rattle.rtrb.specs.declared.producer.Producer.{Producer}
 use Rattle.rtrb.specs.declared.consumer.Consumer.{Consumer}
 use Rattle.rtrb.specs.Ring.{sent as pushed}
 use Rattle.rdm_lanes.specs.declared.call.ClientCall.{ClientCall}
-use Rattle.rdm_lanes.specs.declared.call.ClientCall.TheVariants.{Leave}
+use Rattle.rdm_wire.specs.declared.request.Request.{Request}
+use Rattle.rdm_agent.specs.declared.kind.Kind.{Kind}
+use Rattle.rdm_log.specs.promises.Outcomes.{OutcomeValue}
+use Rattle.rdm_client.specs.Desks.{Held, without_oldest}
+use Rattle.rdm_lanes.specs.declared.call.ClientCall.TheVariants.{Submit, Discover, Leave}
 use Rattle.rdm_lanes.specs.declared.ring_outcome.RingOutcome.{RingOutcome}
+use Rattle.rdm_lanes.specs.declared.ring_outcome.RingOutcome.TheVariants.{Request as RequestDone, Discovery}
+use Rattle.rdm_lanes.specs.Callbacks.{is_submit, is_discover, is_of_request, is_of_discovery, HoldsItsOwn}
+use Rattle.rdm_lanes.specs.body.Holding.{HoldsForRequest, HoldsForDiscovery}
 use Rattle.rdm_lanes.specs.Calls.{is_work, work_in}
-use Rattle.rdm_lanes.specs.Told.{value_in, values_in}
+use Rattle.rdm_lanes.specs.Told.{value_in, values_in, outcome_in}
 use Rattle.rdm_lanes.specs.body.Counts.{IsCounted}
 
 -- an item more in a ring
@@ -26,6 +33,69 @@ leave_more xs = filter-append is_work xs (Leave ∷ []) ∙ append-nil (filter i
 pub values_long : (xs : List RingOutcome) → length (values_in xs) ≡ length xs
 unfolding values_in
 values_long xs = length-map xs value_in
+
+-- an outcome more
+without_one : {X : Type 0} (xs : List X) → 0 < length xs → length (drop 1 xs) + 1 ≡ length xs
+without_one [] some = absurd (omega (arith, some))
+without_one (x ∷ xs) some = omega arith
+
+value_more : (items : List RingOutcome) (item : RingOutcome) → values_in (items ++ item ∷ []) ≡ values_in items ++ value_in item ∷ []
+unfolding values_in
+value_more items item = map-append value_in items (item ∷ [])
+
+-- the callbacks that are held, after a call more
+module _ {C A : Type 0} where
+  pub own_submitted : (old new : List ClientCall) (got : List OutcomeValue) (requests : List C) (asks : List A) (callback : C) (request : Request) → new ≡ old ++ Submit request ∷ []
+      → HoldsItsOwn (work_in old) got requests asks → HoldsItsOwn (work_in new) got (requests ++ callback ∷ []) asks
+  own_submitted old new got requests asks callback request is own =
+      let grown : work_in new ≡ work_in old ++ Submit request ∷ [] = ap work_in is ∙ work_more old (Submit request) refl in
+      let mine = ap length (ap (filter is_submit) grown ∙ filter-append is_submit (work_in old) (Submit request ∷ [])) ∙ length-append (filter is_submit (work_in old)) (Submit request ∷ []) in
+      let other = ap length (ap (filter is_discover) grown ∙ filter-append is_discover (work_in old) (Submit request ∷ []) ∙ append-nil (filter is_discover (work_in old))) in
+      record {
+        requests_are = omega (arith, mine, own.requests_are, length-append requests (callback ∷ []));
+        asks_are = other ∙ own.asks_are;
+      }
+
+  pub own_asked : (old new : List ClientCall) (got : List OutcomeValue) (requests : List C) (asks : List A) (callback : A) (kind : Kind) → new ≡ old ++ Discover kind ∷ []
+      → HoldsItsOwn (work_in old) got requests asks → HoldsItsOwn (work_in new) got requests (asks ++ callback ∷ [])
+  own_asked old new got requests asks callback kind is own =
+      let grown : work_in new ≡ work_in old ++ Discover kind ∷ [] = ap work_in is ∙ work_more old (Discover kind) refl in
+      let mine = ap length (ap (filter is_discover) grown ∙ filter-append is_discover (work_in old) (Discover kind ∷ [])) ∙ length-append (filter is_discover (work_in old)) (Discover kind ∷ []) in
+      let other = ap length (ap (filter is_submit) grown ∙ filter-append is_submit (work_in old) (Discover kind ∷ []) ∙ append-nil (filter is_submit (work_in old))) in
+      record {
+        requests_are = other ∙ own.requests_are;
+        asks_are = omega (arith, mine, own.asks_are, length-append asks (callback ∷ []));
+      }
+
+  -- and after an outcome more
+  pub own_request : (calls : List ClientCall) (items : List RingOutcome) (item : RingOutcome) (desk : Held C A) → HoldsForRequest desk item → HoldsItsOwn calls (values_in items) desk.requests desk.asks
+      → HoldsItsOwn calls (values_in (items ++ item ∷ [])) (without_oldest desk (outcome_in item)).requests (without_oldest desk (outcome_in item)).asks
+  own_request calls items (Discovery number run fault set) desk held own = absurd held
+  own_request calls items (RequestDone number done) desk held own =
+      let item : RingOutcome = RequestDone number done in
+      let mine = ap length (ap (filter is_of_request) (value_more items item) ∙ filter-append is_of_request (values_in items) (value_in item ∷ [])) ∙ length-append (filter is_of_request (values_in items)) (value_in item ∷ []) in
+      let other = ap length (ap (filter is_of_discovery) (value_more items item) ∙ filter-append is_of_discovery (values_in items) (value_in item ∷ []) ∙ append-nil (filter is_of_discovery (values_in items))) in
+      record {
+        requests_are = omega (arith, mine, own.requests_are, without_one desk.requests held);
+        asks_are = omega (arith, other, own.asks_are);
+      }
+
+  pub own_discovery : (calls : List ClientCall) (items : List RingOutcome) (item : RingOutcome) (desk : Held C A) → HoldsForDiscovery desk item → HoldsItsOwn calls (values_in items) desk.requests desk.asks
+      → HoldsItsOwn calls (values_in (items ++ item ∷ [])) (without_oldest desk (outcome_in item)).requests (without_oldest desk (outcome_in item)).asks
+  own_discovery calls items (RequestDone number done) desk held own = absurd held
+  own_discovery calls items (Discovery number run fault set) desk held own =
+      let item : RingOutcome = Discovery number run fault set in
+      let mine = ap length (ap (filter is_of_discovery) (value_more items item) ∙ filter-append is_of_discovery (values_in items) (value_in item ∷ [])) ∙ length-append (filter is_of_discovery (values_in items)) (value_in item ∷ []) in
+      let other = ap length (ap (filter is_of_request) (value_more items item) ∙ filter-append is_of_request (values_in items) (value_in item ∷ []) ∙ append-nil (filter is_of_request (values_in items))) in
+      record {
+        requests_are = omega (arith, other, own.requests_are);
+        asks_are = omega (arith, mine, own.asks_are, without_one desk.asks held);
+      }
+
+  -- at first
+  pub own_nothing : (calls : List ClientCall) (items : List RingOutcome) (requests : List C) (asks : List A) → calls ≡ [] → items ≡ [] → requests ≡ [] → asks ≡ [] → HoldsItsOwn (work_in calls) (values_in items) requests asks
+  unfolding work_in values_in
+  own_nothing calls items requests asks none nothing no_requests no_asks = rw (none, nothing, no_requests, no_asks) (record { requests_are = refl; asks_are = refl })
 
 module _ {P Q : Type 0} where
   pub counted_sent : (old new : Producer ClientCall Global P) (replies : Consumer RingOutcome Global Q) (sent collected : ℕ) (left : Bool) (x : ClientCall)

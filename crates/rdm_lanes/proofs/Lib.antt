@@ -15,6 +15,7 @@ pub mod FoundLemmas
 pub mod ShowingLemmas
 pub mod CollectLemmas
 pub mod StepLemmas
+pub mod OperatorLemmas
 pub mod FitLemmas
 pub mod CollectedLemmas
 pub mod RefusalLemmas

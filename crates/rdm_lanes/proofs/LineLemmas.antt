@@ -18,6 +18,7 @@ use Rattle.rdm_log.specs.promises.Blocks.{is_result, AllResults}
 use Rattle.rdm_log.proofs.LogLemmas.PushLemmas.{awaited-push, is_closed-push, is_paused-push}
 use Rattle.rdm_log.proofs.LogLemmas.Places.{zip_both_more}
 use Rattle.rdm_lanes.specs.Lines.{exchange_of, exchanges, SameSwitches, IsBetweenTurns, NoCallLost, may_refuse}
+use Rattle.rdm_lanes.specs.Operators.{switch_of, switches}
 use Rattle.rdm_lanes.specs.body.Quiet.{NoExchange}
 use Rattle.rdm_lanes.specs.Views.{views_found}
 use Rattle.rdm_lanes.proofs.ListLemmas.{filter_map_nothing, all_follow}
@@ -116,14 +117,24 @@ pub paused_stays : (o : Opening) (h block : List Entry) → NoSwitch block → i
 paused_stays o h [] all = ap (is_paused o) (append-nil h)
 paused_stays o h (e ∷ block) all = ap (is_paused o) (sym (append_assoc h (e ∷ []) block)) ∙ paused_stays o (h ++ e ∷ []) block all.1 ∙ is_paused-push o h e ∙ not_pausing (is_paused o h) e all.0
 
+no_switch_of : (e : Entry) → is_switch e ≡ false → switch_of e ≡ None
+no_switch_of Pause is = absurd (true≢false is)
+no_switch_of Resume is = absurd (true≢false is)
+no_switch_of Close is = absurd (true≢false is)
+no_switch_of _ is = refl
+
+pub switches_off : (h block : List Entry) → NoSwitch block → switches (h ++ block) ≡ switches h
+unfolding switches
+switches_off h block all = filter_map-append switch_of h block ∙ rw (filter_map_nothing switch_of block (all_follow _ _ no_switch_of block all)) (append-nil (filter_map switch_of h))
+
 pub switches_stay : (old new : LogState) (block : List Entry) → new ≡ grown old block → NoSwitch block → SameSwitches old new
-switches_stay old new block is all = rw is (record { paused = paused_stays old.opening old.entries block all; closed = closed_stays old.opening old.entries block all })
+switches_stay old new block is all = rw is (record { switches_are = switches_off old.entries block all; paused = paused_stays old.opening old.entries block all; closed = closed_stays old.opening old.entries block all })
 
 pub switches_join : (a b d : LogState) → SameSwitches a b → SameSwitches b d → SameSwitches a d
-switches_join a b d p q = record { paused = q.paused ∙ p.paused; closed = q.closed ∙ p.closed }
+switches_join a b d p q = record { switches_are = q.switches_are ∙ p.switches_are; paused = q.paused ∙ p.paused; closed = q.closed ∙ p.closed }
 
 pub switches_same : (a : LogState) → SameSwitches a a
-switches_same a = record { paused = refl; closed = refl }
+switches_same a = record { switches_are = refl; paused = refl; closed = refl }
 
 -- who has joined stays without a Join
 abbrev pub NobodyJoins : List Entry → Type 0

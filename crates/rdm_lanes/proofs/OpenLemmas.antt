@@ -33,6 +33,9 @@ use Rattle.rdm_lanes.specs.declared.lane.Lane.{Lane}
 use Rattle.rdm_lanes.specs.Calls.{work_in, calls_by}
 use Rattle.rdm_lanes.specs.body.Counts.{IsCounted}
 use Rattle.rdm_lanes.specs.Told.{told_values, uncollected_values, values_in}
+use Rattle.rdm_lanes.specs.declared.call.OperatorCall.{OperatorCall}
+use Rattle.rdm_lanes.specs.Operators.{switches, effective}
+use Rattle.rdm_lanes.specs.body.Operated.{IsOperated}
 use Rattle.rdm_lanes.specs.Lines.{exchanges, IsBetweenTurns}
 use Rattle.rdm_lanes.specs.Lanes.{Fits, AllFit, lane_places}
 use Rattle.rdm_lanes.specs.Pairs.{Rings, ArePair, client_rings, ClientsPair}
@@ -40,7 +43,7 @@ use Rattle.rdm_lanes.specs.declared.fault.OpenFault.TheVariants.{TooManyClients,
 use Rattle.rdm_lanes.specs.Opened.{places_fault, IsFullFor, join_entries, opened_with, AreNew}
 use Rattle.rdm_lanes.specs.body.Opening.{IsNewWith, AreNewWith, HoldNothing}
 use Rattle.rdm_lanes.proofs.LaneLemmas.{waits, fits_waits}
-use Rattle.rdm_lanes.proofs.LineLemmas.{AllQuiet, NoSwitch, quiet_all_off, served_quiet, exchanges_off, awaited_off, closed_stays, paused_stays, is_refusal, rightly_without}
+use Rattle.rdm_lanes.proofs.LineLemmas.{AllQuiet, NoSwitch, quiet_all_off, served_quiet, exchanges_off, awaited_off, closed_stays, paused_stays, switches_off, is_refusal, rightly_without}
 use Rattle.rdm_lanes.proofs.GrowthLemmas.{Untouched, calls_untouched}
 use Rattle.rdm_log.specs.log.Entries.{answered_of}
 use Rattle.rdm_lanes.specs.Views.{opening_view, runs_found, views_found, all_views}
@@ -228,6 +231,21 @@ paused_nothing config = refl
 
 pub not_paused_opened : (setup : Setup) (room : ℕ) (ps : List ℕ) → is_paused (opened_with setup room ps).opening (opened_with setup room ps).entries ≡ false
 not_paused_opened setup room ps = paused_stays (opened setup.config) [] (join_entries 0 ps) (joins_no_switch 0 ps) ∙ paused_nothing setup.config
+
+no_switches : switches [] ≡ []
+unfolding switches
+no_switches = refl
+
+pub no_switches_opened : (setup : Setup) (room : ℕ) (ps : List ℕ) → switches (opened_with setup room ps).entries ≡ []
+no_switches_opened setup room ps = switches_off [] (join_entries 0 ps) (joins_no_switch 0 ps) ∙ no_switches
+
+-- the operator's calls at first
+no_effects : effective [] ≡ []
+unfolding effective
+no_effects = refl
+
+pub operated_opened : (setup : Setup) (room : ℕ) (ps : List ℕ) (calls : List OperatorCall) → calls ≡ [] → IsOperated (opened_with setup room ps) calls
+operated_opened setup room ps calls none = record { not_paused = refl; not_closed = refl; switched = no_switches_opened setup room ps ∙ sym (ap effective none ∙ no_effects) }
 
 pub no_exchanges_opened : (setup : Setup) (room : ℕ) (ps : List ℕ) → exchanges (opened_with setup room ps).entries ≡ []
 no_exchanges_opened setup room ps = exchanges_off [] (join_entries 0 ps) (quiet_all_off (join_entries 0 ps) (joins_quiet 0 ps)) ∙ exchanges_nothing

@@ -10,7 +10,10 @@ use Rattle.rdm_client.specs.declared.view.DeviceView.{DeviceView}
 use Rattle.rdm_log.specs.log.LogState.{LogState}
 use Rattle.rdm_log.specs.promises.Outcomes.{OutcomeValue}
 use Rattle.rdm_lanes.specs.declared.history.ViewHistory.{Ghosts}
+use Rattle.rdm_client.specs.Desks.{Held}
 use Rattle.rdm_lanes.specs.declared.ring_outcome.RingOutcome.{RingOutcome}
+use Rattle.rdm_lanes.specs.declared.ring_outcome.RingOutcome.TheVariants.{Request, Discovery}
+use Rattle.rdm_lanes.specs.body.Holding.{HoldsForRequest}
 use Rattle.rdm_lanes.specs.declared.ends.ClientEnd.{ClientEnd}
 use Rattle.rdm_lanes.specs.Told.{value_in, values_in}
 use Rattle.rdm_lanes.specs.Views.{opening_view, last_view, last_view_run, RisesAbove, AreViews, all_views, found_after, last_found}
@@ -27,6 +30,11 @@ nothing_found = refl
 pub found_more : (items : List RingOutcome) (item : RingOutcome) → last_found (values_in (items ++ item ∷ [])) ≡ found_after (last_found (values_in items)) (value_in item)
 unfolding last_found values_in
 found_more items item = ap (λ (vs : List OutcomeValue). fold found_after opening_view vs) (map-append value_in items (item ∷ [])) ∙ fold-append found_after opening_view (map value_in items) (value_in item ∷ [])
+
+-- a request's outcome says nothing of devices
+pub request_finds_nothing : {C A : Type 0} (v : DeviceView) (desk : Held C A) (item : RingOutcome) → HoldsForRequest desk item → found_after v (value_in item) ≡ v
+request_finds_nothing v desk (Request number done) held = refl
+request_finds_nothing v desk (Discovery number run fault set) held = absurd held
 
 -- the last of views whose runs rise
 abbrev last_of : DeviceView → List DeviceView → DeviceView

@@ -1,7 +1,10 @@
 -- How a call comes out of a client's ring.
-use Rattle.std.proofs.Common.{◌≡◌, ℕ, Bool, true, false, List, [], ◌∷◌, ◌++◌, Some, None, refl, sym, ap, ◌∙◌, slice_get, MatchOption, append-nil, option_and_then, length, ◌+◌}
+use Rattle.std.proofs.Common.{◌≡◌, ℕ, Bool, true, false, List, [], ◌∷◌, ◌++◌, Some, None, refl, sym, ap, ◌∙◌, slice_get, MatchOption, append-nil, option_and_then, length, ◌+◌, length-append, arith}
 use Rattle.std.specs.Prelude.{⊤, ◌||◌}
 use Rattle.std.specs.List.{list_any}
+use Rattle.std.specs.declared.alloc.Global.{Global}
+use Rattle.rtrb.specs.declared.AnyItems.{AnyItems}
+use Rattle.rtrb.specs.declared.consumer.Consumer.{Consumer}
 use Rattle.rtrb.specs.Ring.{sent as pushed, received as popped}
 use Rattle.rdm_log.specs.declared.entry.Opening.{Opening}
 use Rattle.rdm_log.specs.declared.entry.Entry.{Entry}
@@ -19,8 +22,16 @@ use Rattle.rdm_lanes.specs.Lanes.{FitsBut, Fits, is_leave}
 use Rattle.rdm_lanes.specs.body.Serving.{LooksForSlot}
 use Rattle.rdm_lanes.proofs.Counting.{work_more, leave_more}
 
+-- the worker's end of a client's ring of calls
+abbrev pub Calls : Type 0
+Calls = Consumer ClientCall Global AnyItems
+
+-- an item that was popped shows
+pub popped_more : (xs ys : List ClientCall) (x : ClientCall) → ys ≡ xs ++ x ∷ [] → ys ≡ xs → ⊥
+popped_more xs ys x more same = omega (arith, ap length more ∙ length-append xs (x ∷ []), ap length same)
+
 -- the front item, once it is popped
-pub front_of : (P : ClientCall → Type 0) (known rest : List ClientCall) (x : ClientCall) → known ≡ x ∷ rest → MatchOption (slice_get known 0) ⊤ P → P x
+pub front_of : {X : Type 0} (P : X → Type 0) (known rest : List X) (x : X) → known ≡ x ∷ rest → MatchOption (slice_get known 0) ⊤ P → P x
 front_of P known rest x is may = rw is at may
 
 -- the client's leave among what was received

@@ -12,7 +12,8 @@ use Rattle.rdm_lanes.specs.Lines.{exchanges, exchange_count, Exchanged, SameSwit
 use Rattle.rdm_lanes.specs.Lanes.{AllFit}
 use Rattle.rdm_lanes.specs.Opened.{opened_with}
 use Rattle.rdm_lanes.specs.Sessions.{SessionOver}
-use Rattle.rdm_lanes.proofs.OpenLemmas.{open_opened, not_paused_opened, no_exchanges_opened, joins_of}
+use Rattle.rdm_lanes.specs.Operators.{switches as switches_in}
+use Rattle.rdm_lanes.proofs.OpenLemmas.{open_opened, no_switches_opened, not_paused_opened, no_exchanges_opened, joins_of}
 
 pub session_over : {L : Type 0} (step : L → Exchange → L → Type 0) (setup : Setup) (room : ℕ) (places : List ℕ) (before after : L) (first k : LogState) (lanes : List Lane) → first ≡ opened_with setup room places → Exchanged step before first after k
     → IsBetweenTurns k → Legal k.opening k.entries → Promised k → SameSwitches first k → length lanes ≡ length places → AllFit k lanes → SessionOver step setup room places before after k
@@ -24,6 +25,7 @@ session_over {L} step setup room places before after first k lanes is x served l
   nobody_else = λ c out. fits.nobody_else c (omega (arith, out, long));
   legal = legal;
   answered = served.answered;
+  nothing_switched = switches.switches_are ∙ ap (λ (s : LogState). switches_in s.entries) is ∙ no_switches_opened setup room places;
   not_paused = switches.paused ∙ ap (λ (s : LogState). is_paused s.opening s.entries) is ∙ not_paused_opened setup room places;
   not_closed = switches.closed ∙ ap (λ (s : LogState). is_closed s.opening s.entries) is ∙ open_opened setup room places;
   no_call_lost = served.no_call_lost;

@@ -1,6 +1,11 @@
 -- What the steps of a worker leave.
 use Rattle.std.proofs.Common.{◌≡◌, ◌≤◌, ◌+◌, ℕ, true, List, refl, ◌∙◌}
 use mathlib.Core.List.{IsPrefix}
+use Rattle.std.specs.declared.alloc.Global.{Global}
+use Rattle.rtrb.specs.declared.AnyItems.{AnyItems}
+use Rattle.rtrb.specs.declared.consumer.Consumer.{Consumer}
+use Rattle.rdm_lanes.specs.declared.call.OperatorCall.{OperatorCall}
+use Rattle.rtrb.specs.Ring.{SameConsumer}
 use Rattle.rdm_client.specs.declared.view.DeviceView.{DeviceView}
 use Rattle.rdm_line.specs.Events.{Exchange}
 use Rattle.rdm_lanes.specs.declared.worker.Worker.{Worker}
@@ -17,9 +22,10 @@ pub record Serves (old new : Worker) : Type 0 where
   pub switches : SameSwitches old.session new.session
   pub lanes : SameLanes old.lanes.items new.lanes.items
   pub operator : new.operator_left ≡ old.operator_left
+  pub ring : new.operator ≡ old.operator
 
 pub serves_none : (w : Worker) → Serves w w
-serves_none w = record { line = line_same w.session; switches = switches_same w.session; lanes = same_lanes w.lanes.items; operator = refl }
+serves_none w = record { line = line_same w.session; switches = switches_same w.session; lanes = same_lanes w.lanes.items; operator = refl; ring = refl }
 
 pub serves_more : (a b d : Worker) → Serves a b → Serves b d → Serves a d
 serves_more a b d p q = record {
@@ -27,6 +33,7 @@ serves_more a b d p q = record {
   switches = switches_join a.session b.session d.session p.switches q.switches;
   lanes = same_lanes_join a.lanes.items b.lanes.items d.lanes.items p.lanes q.lanes;
   operator = q.operator ∙ p.operator;
+  ring = q.ring ∙ p.ring;
 }
 
 -- the worker moved the outcomes of some clients
@@ -34,15 +41,17 @@ pub record Moves (old new : Worker) : Type 0 where
   pub collects : OnlyCollects old.session new.session
   pub lanes : SameLanes old.lanes.items new.lanes.items
   pub operator : new.operator_left ≡ old.operator_left
+  pub ring : new.operator ≡ old.operator
 
 pub moves_nothing : (w : Worker) → Moves w w
-moves_nothing w = record { collects = collects_none w.session; lanes = same_lanes w.lanes.items; operator = refl }
+moves_nothing w = record { collects = collects_none w.session; lanes = same_lanes w.lanes.items; operator = refl; ring = refl }
 
 pub moves_on : (a b d : Worker) → Moves a b → Moves b d → Moves a d
 moves_on a b d p q = record {
   collects = collects_join a.session b.session d.session p.collects q.collects;
   lanes = same_lanes_join a.lanes.items b.lanes.items d.lanes.items p.lanes q.lanes;
   operator = q.operator ∙ p.operator;
+  ring = q.ring ∙ p.ring;
 }
 
 -- the worker made this many turns, and these views were published before and after them
@@ -52,3 +61,15 @@ pub record Worked {L : Type 0} (step : L → Exchange → L → Type 0) (turns :
   pub lanes : SameLanes old.lanes.items new.lanes.items
   pub operator : old.operator_left ≡ true → (new.operator_left ≡ true) × SameSwitches old.session new.session
   pub views : IsPrefix shown_before shown_after
+  pub ring : SameConsumer old.operator new.operator
+
+-- the worker's end of the operator's ring
+abbrev pub OperatorEnd : Type 0
+OperatorEnd = Consumer OperatorCall Global AnyItems
+
+-- the operator's ring is the same one
+pub ring_same : {T A P : Type 0} (a : Consumer T A P) → SameConsumer a a
+ring_same a = ((refl, refl, refl, refl), refl)
+
+pub ring_join : {T A P : Type 0} (a b c : Consumer T A P) → SameConsumer a b → SameConsumer b c → SameConsumer a c
+ring_join a b c s t = ((t.0.0 ∙ s.0.0, t.0.1 ∙ s.0.1, t.0.2 ∙ s.0.2, t.0.3 ∙ s.0.3), t.1 ∙ s.1)

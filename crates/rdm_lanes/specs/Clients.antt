@@ -1,14 +1,23 @@
 -- A client of the rings: what it sent, what it got, and its rings.
-use Rattle.std.specs.Prelude.{ℕ, Bool, ◌||◌, List, length, Option, Some, None, nat_le, if◌then◌else◌}
+use Rattle.std.specs.Prelude.{◌≡◌, ℕ, Bool, ◌||◌, List, [], ◌∷◌, ◌++◌, length, Option, Some, None, nat_le}
+use Rattle.std.specs.Prelude.{if◌then◌else◌}
+use mathlib.Core.List.{IsPrefix}
 use Rattle.rtrb.specs.Ring.{sent as pushed, received as popped, SameProducer, SameConsumer}
+use Rattle.rdm_log.specs.declared.outcome.Completion.{Completion}
+use Rattle.rdm_log.specs.declared.outcome.AskCompletion.{AskCompletion}
 use Rattle.rdm_log.specs.promises.Outcomes.{OutcomeValue}
+use Rattle.rdm_client.specs.declared.told.Told.{Told}
+use Rattle.rdm_client.specs.declared.told.AskTold.{AskTold}
+use Rattle.rdm_client.specs.declared.told.Collected.{Collected}
+use Rattle.rdm_client.specs.Desks.{settled, without_oldest, Called}
 use Rattle.rdm_lanes.specs.declared.history.ViewHistory.{Ghosts}
 use Rattle.rdm_lanes.specs.declared.call.ClientCall.{ClientCall}
 use Rattle.rdm_lanes.specs.declared.fault.RingFault.{RingFault}
 use Rattle.rdm_lanes.specs.declared.fault.RingFault.TheVariants.{Full, Left}
 use Rattle.rdm_lanes.specs.declared.client.RingClient.{RingClient}
+use Rattle.rdm_lanes.specs.declared.ring_outcome.RingOutcome.{RingOutcome}
 use Rattle.rdm_lanes.specs.Calls.{work_in}
-use Rattle.rdm_lanes.specs.Told.{values_in}
+use Rattle.rdm_lanes.specs.Told.{values_in, outcome_in}
 
 -- the fault of a submit or a discover that a client shows: Left if it has left, or else Full if as many are held as it
 -- may have or it has sent as many calls as can be counted. A full ring isn't shown here
@@ -32,11 +41,26 @@ module _ {J : Type 0} {h : Ghosts J} {C A : Type 0} where
   submit_fault client =
       call_fault client.left client.desk.places (length client.desk.requests) client.sent
 
-  -- the fault of a discover that a client shows: Left, or else Full if four discoveries are outstanding or the calls have
-  -- run out. A full ring isn't shown here
+  -- the fault of a discover that a client shows: Left, or else Full if four discoveries are outstanding or the calls
+  -- have run out. A full ring isn't shown here
   abbrev pub discover_fault : RingClient J C A h → Option RingFault
   discover_fault client = call_fault client.left 4 (length client.desk.asks) client.sent
+
+  -- The client collected an outcome, and was told this. The outcome is the next one of its ring. The oldest callback of
+  -- the outcome's kind was called with it, and is held no longer.
+  abbrev pub Collects : (C → Completion → Told → Type 0) → (C → ℕ) → (A → AskCompletion → AskTold → Type 0) → (A → ℕ)
+      → RingClient J C A h → Collected → RingClient J C A h → Type 0
+  Collects calls tag_of ask_calls ask_tag_of old told new = (item : RingOutcome)
+      × (popped new.replies ≡ popped old.replies ++ item ∷ []) × Called calls ask_calls old.desk (outcome_in item) told
+      × (settled tag_of ask_tag_of old.desk (outcome_in item) ≡ Some told)
+      × (new.desk ≡ without_oldest old.desk (outcome_in item))
 
   -- the same client, by its rings
   abbrev pub SameClient : RingClient J C A h → RingClient J C A h → Type 0
   SameClient old new = SameProducer old.calls new.calls × SameConsumer old.replies new.replies
+
+  -- The client read what was published, and did nothing else. What it had read before is a prefix of what it has read
+  -- now.
+  abbrev pub HasRead : RingClient J C A h → RingClient J C A h → Type 0
+  HasRead old new = SameClient old new × IsPrefix old.views new.views × (sent_by new ≡ sent_by old)
+      × (got_by new ≡ got_by old) × (new.left ≡ old.left) × (new.desk ≡ old.desk)

@@ -11,6 +11,7 @@ use Rattle.rdm_lanes.specs.declared.call.ClientCall.{ClientCall}
 use Rattle.rdm_lanes.specs.declared.lane.Lane.{Lane}
 use Rattle.rdm_lanes.specs.declared.ends.ClientEnd.{ClientEnd}
 use Rattle.rdm_lanes.specs.Calls.{work_in, calls_by}
+use Rattle.rdm_lanes.specs.Callbacks.{HoldsItsOwn}
 use Rattle.rdm_lanes.specs.Told.{values_in, TellsAll}
 use Rattle.rdm_lanes.specs.Pairs.{Rings, RingsPair}
 
@@ -50,6 +51,11 @@ module _ {J : Type 0} {h : Ghosts J} {C A : Type 0} where
   -- the rings of calls are empty
   pub record AllRead (ends : List (ClientEnd J C A h)) : Type 0 where
     pub each : (i : ℕ) (e : ClientEnd J C A h) → slice_get ends i ≡ Some e → left_in e.calls ≡ []
+
+  -- the callbacks that each client left over are those of its own calls without an outcome
+  pub record AllHoldTheirOwn (ends : List (ClientEnd J C A h)) : Type 0 where
+    pub each : (i : ℕ) (e : ClientEnd J C A h) → slice_get ends i ≡ Some e
+        → HoldsItsOwn (end_sent e) (end_got e) e.unspent.requests e.unspent.asks
 
   -- what an end tells is the same
   pub record SameTold (a b : ClientEnd J C A h) : Type 0 where

@@ -2,8 +2,10 @@ pub mod Views
 pub mod Publishing
 pub mod Calls
 pub mod Told
+pub mod Callbacks
 pub mod Clients
 pub mod Pairs
+pub mod Operators
 pub mod Lines
 pub mod Lanes
 pub mod Workers

@@ -10,6 +10,7 @@ use Rattle.rdm_log.specs.declared.entry.Entry.TheVariants.{Refuse}
 use Rattle.rdm_log.specs.log.Entries.{Traded, traded, joins}
 use Rattle.rdm_log.specs.log.History.{awaited, is_closed, is_paused, next_request, next_ask}
 use Rattle.rdm_log.specs.log.LogState.{LogState, grown}
+use Rattle.rdm_lanes.specs.Operators.{switches}
 
 -- a frame and what came for it
 abbrev pub exchange_of : Traded → Exchange
@@ -36,6 +37,7 @@ pub record Exchanged {L : Type 0} (step : L → Exchange → L → Type 0) (befo
 
 -- nobody paused, resumed or closed
 pub record SameSwitches (old new : LogState) : Type 0 where
+  pub switches_are : switches new.entries ≡ switches old.entries
   pub paused : is_paused new.opening new.entries ≡ is_paused old.opening old.entries
   pub closed : is_closed new.opening new.entries ≡ is_closed old.opening old.entries
 

@@ -8,12 +8,14 @@ use Rattle.rdm_log.specs.log.Legal.{Legal}
 use Rattle.rdm_log.specs.log.LogState.{LogState, opened}
 use Rattle.rdm_log.specs.promises.Promised.{Promised}
 use Rattle.rdm_lanes.specs.Calls.{calls_by}
+use Rattle.rdm_lanes.specs.Operators.{switches}
 use Rattle.rdm_lanes.specs.Lines.{NoCallLost, exchanges}
 
 -- A session over a line, from its start to its end. The log has the opening and the search of this set-up, and this
--- room. One client joined with each of these places, in order, and nobody else called anything. At the end no reply is
--- awaited, and the session is neither paused nor closed. The log is legal and keeps all that clients are promised. No
--- call was lost. The exchanges in the log are the line's steps, from its value before to its value after: the line was
+-- room. One client joined with each of these places, in order, and nobody else called anything. Nobody paused, resumed
+-- or closed. At the end no reply is awaited, and the session is neither paused nor closed. The log is legal and keeps
+-- all that clients are promised. No call was lost.
+-- The exchanges in the log are the line's steps, from its value before to its value after: the line was
 -- asked each frame once, and its own event was delivered.
 pub record SessionOver {L : Type 0} (step : L → Exchange → L → Type 0) (setup : Setup) (room : ℕ) (places : List ℕ)
     (before after : L) (k : LogState) : Type 0 where
@@ -24,6 +26,7 @@ pub record SessionOver {L : Type 0} (step : L → Exchange → L → Type 0) (se
   pub nobody_else : (c : ℕ) → length places ≤ c → calls_by c k.entries ≡ []
   pub legal : Legal k.opening k.entries
   pub answered : awaited k.entries ≡ false
+  pub nothing_switched : switches k.entries ≡ []
   pub not_paused : is_paused k.opening k.entries ≡ false
   pub not_closed : is_closed k.opening k.entries ≡ false
   pub no_call_lost : NoCallLost k

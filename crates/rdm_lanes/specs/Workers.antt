@@ -1,7 +1,10 @@
 -- A worker, an operator and a history, as contracts speak of them.
 use Rattle.std.specs.Prelude.{◌≡◌, Bool, List}
 use Rattle.logbook.specs.Pages.{Book}
-use Rattle.rtrb.specs.Ring.{sent as pushed}
+use Rattle.std.specs.declared.alloc.Global.{Global}
+use Rattle.rtrb.specs.declared.AnyItems.{AnyItems}
+use Rattle.rtrb.specs.declared.consumer.Consumer.{Consumer}
+use Rattle.rtrb.specs.Ring.{sent as pushed, received as popped, IsPair}
 use Rattle.rdm_log.specs.log.LogState.{LogState}
 use Rattle.rdm_lanes.specs.declared.call.OperatorCall.{OperatorCall}
 use Rattle.rdm_lanes.specs.declared.lane.Lane.{Lane}
@@ -22,6 +25,18 @@ module _ {J T R : Type 0} {h : Ghosts J} {v : Absorbs T (Shown J) (List DeviceVi
   -- its ends of the clients' rings, in the clients' order
   abbrev pub lanes_of : ViewWorker J T R h v → List Lane
   lanes_of worker = worker.server.lanes.items
+
+  -- its end of the operator's ring
+  abbrev pub operator_ring : ViewWorker J T R h v → Consumer OperatorCall Global AnyItems
+  operator_ring worker = worker.server.operator
+
+  -- the operator's calls that it received, in order
+  abbrev pub received_by : ViewWorker J T R h v → List OperatorCall
+  received_by worker = popped (operator_ring worker)
+
+  -- the operator's ring is the worker's
+  abbrev pub OperatorPairs : Operator → ViewWorker J T R h v → Type 0
+  OperatorPairs operator worker = IsPair operator.calls (operator_ring worker)
 
   -- whether the operator's leave was received
   abbrev pub operator_has_left : ViewWorker J T R h v → Bool

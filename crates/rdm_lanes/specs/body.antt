@@ -1,10 +1,12 @@
 -- What only proofs and the invariants of types need. Nothing here has to be trusted: no promise speaks of it.
 pub mod Counts
+pub mod Doing
 pub mod Gains
 pub mod History
 pub mod Holding
 pub mod Leaves
 pub mod Opening
+pub mod Operated
 pub mod Quiet
 pub mod Rooms
 pub mod Seats

@@ -1,7 +1,9 @@
 //! A client of the rings.
 ghost use Rattle.std.specs.Prelude.{◌≡◌, ◌+◌, length};
-ghost use Rattle.rtrb.specs.Ring.{received as popped};
+ghost use Rattle.rtrb.specs.Ring.{sent as pushed, received as popped};
 ghost use Rattle.rdm_lanes.specs.body.Counts.{IsCounted};
+ghost use Rattle.rdm_lanes.specs.Calls.{work_in};
+ghost use Rattle.rdm_lanes.specs.Callbacks.{HoldsItsOwn};
 ghost use Rattle.rdm_lanes.specs.Told.{values_in};
 ghost use Rattle.rdm_lanes.specs.Views.{last_found};
 
@@ -32,5 +34,6 @@ pub struct RingClient<J: ViewHistory, C = Callback, A = AskCallback> {
     pub(crate) left: bool,
     ghost counted: { IsCounted calls replies sent collected left },
     ghost held: { collected + (length desk.requests + length desk.asks) ≡ sent },
+    ghost own: { HoldsItsOwn (work_in (pushed calls)) (values_in (popped replies)) desk.requests desk.asks },
     ghost last: { found.value ≡ last_found (values_in (popped replies)) },
 }

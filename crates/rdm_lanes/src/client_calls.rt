@@ -2,16 +2,18 @@
 ghost use Rattle.std.specs.Prelude.{◌≡◌, ◌+◌, [], ◌∷◌, ◌++◌, length, true, false, Ok, Err, OnOk, OnErr, IfErr};
 ghost use Rattle.std.specs.Prelude.{IfSome, IfNone, MatchOption, Some, None, slice_get, ⊤, ◌<◌};
 ghost use Rattle.rtrb.specs.Ring.{received as popped, known_items};
-ghost use Rattle.rdm_client.specs.Desks.{settled, without_oldest, Called};
-ghost use Rattle.rdm_lanes.specs.declared.ring_outcome.RingOutcome.{RingOutcome};
+ghost use Rattle.rdm_client.specs.declared.told.Collected.TheVariants.{Request as RequestTold};
 ghost use Rattle.rdm_lanes.specs.declared.call.ClientCall.TheVariants.{Submit, Discover};
 ghost use Rattle.rdm_lanes.specs.declared.fault.RingFault.TheVariants.{RingFull as NoSlot};
-ghost use Rattle.rdm_lanes.specs.Told.{outcome_in};
-ghost use Rattle.rdm_lanes.specs.body.Holding.{HoldsFor};
-ghost use Rattle.rdm_lanes.specs.Clients.{SameClient, sent_by, got_by, submit_fault, discover_fault};
+ghost use Rattle.rdm_lanes.specs.body.Holding.{HoldsForRequest, HoldsForDiscovery};
+ghost use Rattle.rdm_lanes.specs.Clients.{SameClient, Collects, HasRead, sent_by, got_by, submit_fault, discover_fault};
 ghost use Rattle.rdm_lanes.specs.Ends.{end_sent, end_got};
 ghost use mathlib.Core.List.{IsPrefix};
 ghost use Rattle.rdm_lanes.specs.Views.{last_view, last_view_run, last_found, later_view};
+ghost use Rattle.std.specs.Borrow.{sem};
+ghost use mathlib.Core.Option.{none};
+ghost use denote.Follow.{follows_so};
+ghost use Rattle.rdm_lanes.specs.contracts.client.RingClient.{the_row};
 
 use crate::call::ClientCall;
 use crate::client::RingClient;
@@ -20,9 +22,9 @@ use crate::fault::{RingFault, RingFull};
 use crate::found::{keep_found, later};
 use crate::history::ViewHistory;
 use crate::ring_outcome::RingOutcome;
-use crate::settle::settle;
+use crate::settle::{settle_discovery, settle_request};
 use rdm_agent::Kind;
-use rdm_client::{Collected, DeviceView, Tells, TellsAsk};
+use rdm_client::{Collected, DeviceView, Tells, TellsAsk, Told};
 use rdm_wire::Request;
 
 impl<J: ViewHistory, C: Tells, A: TellsAsk> RingClient<J, C, A> {
@@ -92,33 +94,84 @@ impl<J: ViewHistory, C: Tells, A: TellsAsk> RingClient<J, C, A> {
         Ok(())
     }
 
-    /// The oldest outcome that has come, with which the oldest callback of its kind is spent. None where none has come,
-    /// or where no callback of its kind is held; it then stays in the ring.
+    /// Collects the oldest outcome that has come: the oldest callback of its kind is called with it. None: no outcome
+    /// has come, or no callback of its kind is held; the outcome then stays in the ring. A discovery's outcome is moved
+    /// with its set of 32 KB, and a request's without one.
     pub fn collect(&mut self) -> Option<Collected>
-        ensures got { IfSome result (λ told. (item : RingOutcome)
-            × (popped self.new.replies ≡ popped self.old.replies ++ item ∷ [])
-            × Called C.calls A.calls self.old.desk (outcome_in item) told
-            × (settled C.tag_of A.tag_of self.old.desk (outcome_in item) ≡ Some told)
-            × (self.new.desk ≡ without_oldest self.old.desk (outcome_in item))) }
+        ensures got { IfSome result (λ told. Collects C.calls C.tag_of A.calls A.tag_of self.old told self.new) }
         ensures none { IfNone result ((got_by self.new ≡ got_by self.old) × (self.new.desk ≡ self.old.desk)) }
         ensures sent { sent_by self.new ≡ sent_by self.old }
         ensures left { self.new.left ≡ self.old.left }
         ensures client { SameClient self.old self.new }
         ensures views { self.new.views ≡ self.old.views }
     {
-        if self.replies.slots() == 0 || !self.holds_for_front() {
+        if let Some(told) = self.collect_request() {
+            return Some(Collected::Request(told));
+        }
+        if self.replies.cached_slots() == 0 {
+            return None;
+        }
+        self.collect_discovery()
+    }
+
+    /// Collects the oldest outcome that has come, if it is a request's. None: no outcome has come, it is a discovery's,
+    /// or no request's callback is held; the outcome then stays in the ring. It moves no set.
+    pub fn collect_request(&mut self) -> Option<Told>
+        ensures got { IfSome result (λ told.
+            Collects C.calls C.tag_of A.calls A.tag_of self.old (RequestTold told) self.new) }
+        ensures none { IfNone result ((popped self.new.replies ≡ popped self.old.replies)
+            × (self.new.desk ≡ self.old.desk)) }
+        ensures sent { sent_by self.new ≡ sent_by self.old }
+        ensures left { self.new.left ≡ self.old.left }
+        ensures client { SameClient self.old self.new }
+        ensures views { self.new.views ≡ self.old.views }
+    {
+        if self.replies.slots() == 0 || !self.holds_for_request() {
             return None;
         }
         let item = self.replies.pop_known();
-        keep_found(&mut self.found, &item);
-        let told = settle(&mut self.desk, item);
+        let told = settle_request(&mut self.desk, item);
         self.collected += 1;
         Some(told)
     }
 
-    /// Reads what the worker has published, for [`RingClient::devices`]. What had been read begins what is read then.
-    /// It copies no set. Where nothing can be read, as when the worker is gone or the view has as many owners as can be
-    /// counted, the last view that was read stands.
+    // Collects the outcome at the front, if it is a discovery's and a callback is held for it. It isn't inlined. So a
+    // request's outcome never has a set in its frame.
+    #[inline(never)]
+    fn collect_discovery(&mut self) -> Option<Collected>
+        requires known { 0 < length (known_items self.old.replies) }
+        ensures got { IfSome result (λ told. Collects C.calls C.tag_of A.calls A.tag_of self.old told self.new) }
+        ensures none { IfNone result ((popped self.new.replies ≡ popped self.old.replies)
+            × (self.new.desk ≡ self.old.desk)) }
+        ensures sent { sent_by self.new ≡ sent_by self.old }
+        ensures left { self.new.left ≡ self.old.left }
+        ensures client { SameClient self.old self.new }
+        ensures views { self.new.views ≡ self.old.views }
+    {
+        if !self.holds_for_discovery() {
+            return None;
+        }
+        let item = self.replies.pop_known();
+        keep_found(&mut self.found, &item);
+        let told = settle_discovery(&mut self.desk, item);
+        self.collected += 1;
+        Some(told)
+    }
+
+    /// Reads what the worker has published, and lends the devices that the client knows of then: it is
+    /// [`RingClient::read`], and then [`RingClient::known_devices`]. It copies no set.
+    pub fn devices(&mut self) -> &DeviceView
+        ensures* after { sem 𝓛 (follows_so (the_row J.row C.row A.row J.ViewHistory) (the_row J.row C.row A.row J.ViewHistory)
+            self.entry.ghost_name none (λ _ _. ⊤) (λ n. HasRead self.old n
+            × (result.now ≡ later_view (last_view n.views) (last_found (got_by n))))) }
+    {
+        self.read();
+        self.known_devices()
+    }
+
+    /// Reads what the worker has published, for [`RingClient::known_devices`]. What had been read before is a prefix of
+    /// what is read then. It copies no set. If nothing can be read, the last view that was read stays: the worker is
+    /// gone, or the view has as many owners as can be counted.
     pub fn read(&mut self)
         ensures views { IsPrefix self.old.views self.new.views }
         ensures sent { sent_by self.new ≡ sent_by self.old }
@@ -130,10 +183,10 @@ impl<J: ViewHistory, C: Tells, A: TellsAsk> RingClient<J, C, A> {
         self.views.read();
     }
 
-    /// The devices: the later, by run, of the last view that was read and of what the client found itself. It found
-    /// what its last discovery without fault tells, of those whose outcomes it collected. Before any run ended without
-    /// fault that is the view of run 0, without devices. It copies no set.
-    pub fn devices(&self) -> &DeviceView
+    /// The devices that the client knows of, without reading. They are the later, by run, of the last view that was read
+    /// and of what the client found itself, by its last discovery without fault whose outcome it collected. Before any
+    /// run ended without fault that is the view of run 0, without devices. It copies no set.
+    pub fn known_devices(&self) -> &DeviceView
         ensures { result.now ≡ later_view (last_view self.now.views) (last_found (got_by self.now)) }
     {
         later(self.views.last(), &self.found)
@@ -163,13 +216,26 @@ impl<J: ViewHistory, C: Tells, A: TellsAsk> RingClient<J, C, A> {
         Ok(())
     }
 
-    // Whether a callback of the kind of the front outcome is held.
-    fn holds_for_front(&self) -> bool
+    // Whether the front outcome is a request's, and a callback is held for it.
+    fn holds_for_request(&self) -> bool
         requires { 0 < length (known_items self.now.replies) }
-        ensures { result ≡ true → MatchOption (slice_get (known_items self.now.replies) 0) ⊤ (HoldsFor self.now.desk) }
+        ensures { result ≡ true
+            → MatchOption (slice_get (known_items self.now.replies) 0) ⊤ (HoldsForRequest self.now.desk) }
     {
         match self.replies.peek_known() {
             RingOutcome::Request { .. } => self.desk.requests_held() > 0,
+            RingOutcome::Discovery { .. } => false,
+        }
+    }
+
+    // Whether the front outcome is a discovery's, and a callback is held for it.
+    fn holds_for_discovery(&self) -> bool
+        requires { 0 < length (known_items self.now.replies) }
+        ensures { result ≡ true
+            → MatchOption (slice_get (known_items self.now.replies) 0) ⊤ (HoldsForDiscovery self.now.desk) }
+    {
+        match self.replies.peek_known() {
+            RingOutcome::Request { .. } => false,
             RingOutcome::Discovery { .. } => self.desk.asks_held() > 0,
         }
     }

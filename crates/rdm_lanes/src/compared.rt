@@ -4,14 +4,18 @@ ghost use Rattle.rdm_log.specs.log.Legal.{Legal};
 ghost use Rattle.rdm_log.specs.promises.Promised.{Promised};
 ghost use Rattle.rdm_lanes.specs.Lines.{IsBetweenTurns};
 ghost use Rattle.rdm_lanes.specs.Lanes.{AllFit, AllHaveLeft};
-ghost use Rattle.rdm_lanes.specs.Workers.{session_of, lanes_of, published_by};
-ghost use Rattle.rdm_lanes.specs.Ends.{PairUp, AllAgree, AllRead, AllTold};
+ghost use mathlib.Core.List.{IsPrefix};
+ghost use Rattle.rdm_lanes.specs.Operators.{switches, effective};
+ghost use Rattle.rdm_lanes.specs.Workers.{session_of, lanes_of, published_by, operator_has_left};
+ghost use Rattle.rdm_lanes.specs.Workers.{received_by, called_by, has_left, OperatorPairs};
+ghost use Rattle.rdm_lanes.specs.Ends.{PairUp, AllAgree, AllRead, AllTold, AllHoldTheirOwn};
 ghost use Rattle.rdm_lanes.specs.Views.{all_views};
 ghost use Rattle.rdm_lanes.specs.Publishing.{IsPublished, BeginOne};
 ghost use Rattle.rdm_lanes.specs.ViewsRead.{AllViewsRead, AllShownFirst};
 
 use crate::ends::ClientEnd;
 use crate::history::{Front, ViewHistory};
+use crate::operator::Operator;
 use crate::publishing::Shown;
 use crate::view_worker::ViewWorker;
 use rdm_client::{AskCallback, Callback, Tells, TellsAsk};
@@ -34,10 +38,15 @@ impl<J: ViewHistory, R: Wait + Drop> ViewWorker<J, Shown<J>, R> {
     /// Ends the worker, and compares both ends of each client's rings. The ends are those of the clients that were
     /// opened with this worker, in their order: the clauses of all that was lent the clients since then carry this.
     ///
+    /// The pauses, resumes and closes in the log are those of the operator's calls that had an effect, in order. The calls
+    /// are those that the worker received.
+    ///
     /// What each client sent is its calls in the log, in order, each once, and then what is left in its ring: nothing,
     /// where its leave was received. What it got, then what is left in its ring of outcomes, and then what it hasn't
     /// collected, is all that the log tells it. Nobody else has joined or called anything. The log is legal, and keeps
     /// what clients are promised.
+    ///
+    /// The callbacks that a client left over are those of its own calls without an outcome.
     ///
     /// The views that were published begin those of the log, and lack the last one at most. They and those that a
     /// client has read are beginnings of one list. A client whose run isn't later than that of the last published view
@@ -52,10 +61,12 @@ impl<J: ViewHistory, R: Wait + Drop> ViewWorker<J, Shown<J>, R> {
         ensures fits { AllFit (session_of self) (lanes_of self) }
         ensures served { IsBetweenTurns (session_of self) }
         ensures legal { Legal (session_of self).opening (session_of self).entries }
+        ensures operated { switches (session_of self).entries ≡ effective (received_by self) }
         ensures promised { Promised (session_of self) }
         ensures agree { AllAgree (session_of self) result.ends.items }
         ensures read { AllHaveLeft (lanes_of self) → AllRead result.ends.items }
         ensures told { AllTold ends.items result.ends.items }
+        ensures unspent { AllHoldTheirOwn result.ends.items }
         ensures matched { result.matched ≡ true }
         ensures shown { result.published ≡ published_by self }
         ensures published { IsPublished (all_views (session_of self).entries) result.published }
@@ -71,6 +82,26 @@ impl<J: ViewHistory, R: Wait + Drop> ViewWorker<J, Shown<J>, R> {
             matched,
             published: views.front().again(),
         }
+    }
+}
+
+impl<J: ViewHistory, R: Wait + Drop> ViewWorker<J, Shown<J>, R> {
+    /// Compares both ends of the operator's ring. What the operator sent is what the worker received, in order, and then
+    /// what is left in the ring. The operator is the one that was opened with this worker.
+    pub fn compare_operator(&mut self, operator: &mut Operator)
+        requires pair { OperatorPairs operator.old self.old }
+        ensures sent { IsPrefix (received_by self.new) (called_by operator.new) }
+        ensures received { received_by self.new ≡ received_by self.old }
+        ensures called { (called_by operator.new ≡ called_by operator.old)
+            × (has_left operator.new ≡ has_left operator.old) }
+        ensures session { session_of self.new ≡ session_of self.old }
+        ensures lanes { lanes_of self.new ≡ lanes_of self.old }
+        ensures operator { operator_has_left self.new ≡ operator_has_left self.old }
+        ensures published { published_by self.new ≡ published_by self.old }
+        ensures pairs { OperatorPairs operator.new self.new }
+    {
+        let ViewWorker { server, .. } = self;
+        server.compare_operator(operator);
     }
 }
 

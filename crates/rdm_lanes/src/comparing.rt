@@ -1,6 +1,7 @@
 //! How both ends of each client's rings are compared.
 ghost use Rattle.std.specs.Prelude.{◌≡◌, ◌++◌, true};
-ghost use Rattle.rtrb.specs.Ring.{sent as pushed, received as popped, known_items};
+ghost use mathlib.Core.List.{IsPrefix};
+ghost use Rattle.rtrb.specs.Ring.{sent as pushed, received as popped, known_items, IsPair};
 ghost use Rattle.rdm_log.specs.log.Legal.{Legal};
 ghost use Rattle.rdm_log.specs.promises.Promised.{Promised};
 ghost use Rattle.rdm_lanes.specs.Lines.{IsBetweenTurns};
@@ -11,6 +12,7 @@ ghost use Rattle.rdm_lanes.specs.Ends.{end_rings, left_in, PairUp, AllAgree, All
 use crate::ends::ClientEnd;
 use crate::history::ViewHistory;
 use crate::lane::Lane;
+use crate::operator::Operator;
 use crate::worker::Worker;
 use rdm_client::{Tells, TellsAsk};
 use rdm_queue::Session;
@@ -40,6 +42,20 @@ impl Worker {
         }
         shows_legal(&session);
         (session, ends, true)
+    }
+
+    // Compares both ends of the operator's ring.
+    pub(crate) fn compare_operator(&mut self, operator: &mut Operator)
+        requires pair { IsPair operator.old.calls self.old.operator }
+        ensures sent { IsPrefix (popped self.new.operator) (pushed operator.new.calls) }
+        ensures received { popped self.new.operator ≡ popped self.old.operator }
+        ensures called { (pushed operator.new.calls ≡ pushed operator.old.calls)
+            × (operator.new.left ≡ operator.old.left) }
+        ensures session { (self.new.session ≡ self.old.session) × (self.new.lanes ≡ self.old.lanes) }
+        ensures operator { self.new.operator_left ≡ self.old.operator_left }
+        ensures pairs { IsPair operator.new.calls self.new.operator }
+    {
+        self.operator.slots_beside(&mut operator.calls);
     }
 }
 

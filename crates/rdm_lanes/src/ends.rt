@@ -1,5 +1,9 @@
 //! What is left of a client.
 ghost use Rattle.std.specs.Prelude.{◌≡◌, ◌+◌, length};
+ghost use Rattle.rtrb.specs.Ring.{sent as pushed, received as popped};
+ghost use Rattle.rdm_lanes.specs.Calls.{work_in};
+ghost use Rattle.rdm_lanes.specs.Callbacks.{HoldsItsOwn};
+ghost use Rattle.rdm_lanes.specs.Told.{values_in};
 ghost use Rattle.rdm_lanes.specs.body.Counts.{IsCounted};
 ghost use Rattle.rdm_lanes.specs.Views.{last_view_run};
 
@@ -14,7 +18,7 @@ use std::alloc::Global;
 /// What is left of a client at its end, and how much it did (profile of this project). It isn't [`Drop`]: the
 /// callbacks that were not spent are taken out of it.
 pub struct ClientEnd<J: ViewHistory, C = Callback, A = AskCallback> {
-    /// The callbacks that were not spent.
+    /// The callbacks that were not called: those of the client's own calls without an outcome, one for each.
     pub unspent: Unspent<C, A>,
     /// How many submits and discovers it sent.
     pub sent: u64,
@@ -28,6 +32,7 @@ pub struct ClientEnd<J: ViewHistory, C = Callback, A = AskCallback> {
     pub(crate) left: bool,
     ghost counted: { IsCounted calls replies sent collected left },
     ghost held: { collected + (length unspent.requests + length unspent.asks) ≡ sent },
+    ghost own: { HoldsItsOwn (work_in (pushed calls)) (values_in (popped replies)) unspent.requests unspent.asks },
     ghost run_is: { run ≡ last_view_run views },
 }
 

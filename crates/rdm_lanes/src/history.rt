@@ -87,7 +87,7 @@ impl BlankHistory {
         }
     }
 
-    /// The right to add to the history, and what is seen of it so far, under a name.
+    /// The right to add to the history, and what is seen of it so far, under a name. [`Book::blank`] undoes this.
     pub fn named<J: ViewHistory>(self) -> (Book<J>, Front<J>)
         requires { self.seen.book ≡ J.book }
         ensures { result.1 ≡ opening_view ∷ [] }
@@ -112,6 +112,22 @@ impl BlankHistory {
 pub struct Book<J: ViewHistory> {
     head: Word<DeviceView, u64, Rising>,
     of: PhantomData<J>,
+}
+
+impl<J: ViewHistory> Book<J> {
+    /// The blank history again, if nothing was added to it.
+    pub fn blank(self, front: Front<J>) -> BlankHistory
+        requires { front ≡ opening_view ∷ [] }
+        ensures { result.seen.book ≡ J.book }
+    {
+        let Book { head, of: _ } = self;
+        let Front {
+            views: _,
+            seen,
+            of: _,
+        } = front;
+        BlankHistory { head, seen }
+    }
 }
 
 impl<J: ViewHistory> Model for Book<J> {

@@ -7,7 +7,7 @@ ghost use Rattle.rdm_log.specs.log.LogState.{blank_log};
 ghost use Rattle.rdm_lanes.specs.Pairs.{ClientsPair};
 ghost use Rattle.rdm_lanes.specs.Views.{opening_view};
 ghost use Rattle.rdm_lanes.specs.Workers.{session_of, lanes_of, operator_has_left, published_by};
-ghost use Rattle.rdm_lanes.specs.Workers.{called_by, has_left, book_of};
+ghost use Rattle.rdm_lanes.specs.Workers.{called_by, has_left, book_of, OperatorPairs};
 
 use crate::client::RingClient;
 use crate::fault::OpenFault;
@@ -53,8 +53,8 @@ pub struct Lanes<
 /// - the log has no entries;
 /// - a ring has at least one slot.
 ///
-/// Err: the first fault that stands; the log comes back without entries, as a new one with the same room. The blank
-/// history doesn't come back: a new one takes no memory.
+/// Err: the first fault that stands. The log comes back without entries, as a new one with the same room, and the blank
+/// history as it was. So the same call can be made again, with more memory or with a larger log.
 pub fn open_lanes<J: ViewHistory, C: Tells, A: TellsAsk, R: Wait + Drop>(
     rt: R,
     alloc: Global,
@@ -63,7 +63,7 @@ pub fn open_lanes<J: ViewHistory, C: Tells, A: TellsAsk, R: Wait + Drop>(
     log: Log,
     ring: u8,
     places: &[u8],
-) -> Result<Lanes<J, Shown<J>, R, C, A>, (OpenFault, Log)>
+) -> Result<Lanes<J, Shown<J>, R, C, A>, (OpenFault, Log, BlankHistory)>
     requires name { book_of history ≡ J.book }
     requires config_is { IsConfig config }
     requires empty { log.entries ≡ [] }
@@ -71,13 +71,14 @@ pub fn open_lanes<J: ViewHistory, C: Tells, A: TellsAsk, R: Wait + Drop>(
     ensures session { IfOk result (λ lanes. session_of lanes.worker ≡ opened_with (steady config) log.room places.now) }
     ensures clients { IfOk result (λ lanes. AreNew ring places.now lanes.clients.items) }
     ensures operator { IfOk result (λ lanes. (called_by lanes.operator ≡ []) × (has_left lanes.operator ≡ false)
-        × (operator_has_left lanes.worker ≡ false) × (producer_capacity lanes.operator.calls ≡ ring)) }
+        × (operator_has_left lanes.worker ≡ false) × (producer_capacity lanes.operator.calls ≡ ring)
+        × OperatorPairs lanes.operator lanes.worker) }
     ensures pairs { IfOk result (λ lanes. ClientsPair (lanes_of lanes.worker) lanes.clients.items) }
     ensures published { IfOk result (λ lanes. published_by lanes.worker ≡ opening_view ∷ []) }
     ensures fault { MatchOption (places_fault config.places places.now)
         ((IsFullFor log.room places.now → IsErr result) × IfErr result (λ e. IsLaterFault log.room places.now e.0))
         (λ fault. IsErr result × IfErr result (λ e. e.0 ≡ fault)) }
-    ensures back { IfErr result (λ e. e.1 ≡ blank_log log.room) }
+    ensures back { IfErr result (λ e. (e.1 ≡ blank_log log.room) × (book_of e.2 ≡ J.book)) }
 {
     open_lanes_with(rt, alloc, history, Setup::steady(config), log, ring, places)
 }
@@ -91,7 +92,7 @@ pub fn open_lanes_with<J: ViewHistory, C: Tells, A: TellsAsk, R: Wait + Drop>(
     log: Log,
     ring: u8,
     places: &[u8],
-) -> Result<Lanes<J, Shown<J>, R, C, A>, (OpenFault, Log)>
+) -> Result<Lanes<J, Shown<J>, R, C, A>, (OpenFault, Log, BlankHistory)>
     requires name { book_of history ≡ J.book }
     requires config_is { IsConfig setup.config }
     requires empty { log.entries ≡ [] }
@@ -99,25 +100,27 @@ pub fn open_lanes_with<J: ViewHistory, C: Tells, A: TellsAsk, R: Wait + Drop>(
     ensures session { IfOk result (λ lanes. session_of lanes.worker ≡ opened_with setup log.room places.now) }
     ensures clients { IfOk result (λ lanes. AreNew ring places.now lanes.clients.items) }
     ensures operator { IfOk result (λ lanes. (called_by lanes.operator ≡ []) × (has_left lanes.operator ≡ false)
-        × (operator_has_left lanes.worker ≡ false) × (producer_capacity lanes.operator.calls ≡ ring)) }
+        × (operator_has_left lanes.worker ≡ false) × (producer_capacity lanes.operator.calls ≡ ring)
+        × OperatorPairs lanes.operator lanes.worker) }
     ensures pairs { IfOk result (λ lanes. ClientsPair (lanes_of lanes.worker) lanes.clients.items) }
     ensures published { IfOk result (λ lanes. published_by lanes.worker ≡ opening_view ∷ []) }
     ensures fault { MatchOption (places_fault setup.config.places places.now)
         ((IsFullFor log.room places.now → IsErr result) × IfErr result (λ e. IsLaterFault log.room places.now e.0))
         (λ fault. IsErr result × IfErr result (λ e. e.0 ≡ fault)) }
-    ensures back { IfErr result (λ e. e.1 ≡ blank_log log.room) }
+    ensures back { IfErr result (λ e. (e.1 ≡ blank_log log.room) × (book_of e.2 ≡ J.book)) }
 {
     if let Some(fault) = fault_of_places(&setup.config, places) {
-        return Err((fault, log.cleared()));
+        return Err((fault, log.cleared(), history));
     }
     let Ok((calls, heard)) = RingBuffer::new(alloc, usize::from(ring)) else {
-        return Err((OpenFault::NoMemory, log.cleared()));
+        return Err((OpenFault::NoMemory, log.cleared(), history));
     };
-    let Ok(views) = Publisher::new(alloc, rt, history, places.len().max(1)) else {
-        return Err((OpenFault::NoMemory, log.cleared()));
+    let views = match Publisher::new(alloc, rt, history, places.len().max(1)) {
+        Ok(views) => views,
+        Err(history) => return Err((OpenFault::NoMemory, log.cleared(), history)),
     };
     let Some((clients, lanes)) = open_clients(alloc, &views, ring, places) else {
-        return Err((OpenFault::NoMemory, log.cleared()));
+        return Err((OpenFault::NoMemory, log.cleared(), views.into_blank()));
     };
     match joined(alloc, setup, log, places) {
         Ok(session) => Ok(Lanes {
@@ -133,9 +136,9 @@ pub fn open_lanes_with<J: ViewHistory, C: Tells, A: TellsAsk, R: Wait + Drop>(
                 views,
             },
         }),
-        Err(refused) => {
+        Err((fault, log)) => {
             discard(clients);
-            Err(refused)
+            Err((fault, log, views.into_blank()))
         }
     }
 }

@@ -1,5 +1,5 @@
 //! How the worker publishes views of the devices.
-ghost use Rattle.std.specs.Prelude.{◌≡◌, ◌<◌, ◌≤◌, ◌^◌, ◌++◌, ◌∷◌, [], length, true, MatchBool, IfOk, IfSome};
+ghost use Rattle.std.specs.Prelude.{◌≡◌, ◌<◌, ◌≤◌, ◌^◌, ◌++◌, ◌∷◌, [], length, true, MatchBool, IfOk, IfErr, IfSome};
 ghost use mathlib.Core.List.{IsPrefix};
 ghost use Rattle.left_right.specs.Handles.{published, pending};
 ghost use Rattle.rdm_lanes.specs.Views.{opening_view, last_view_run};
@@ -49,6 +49,14 @@ impl<J: ViewHistory> Shown<J> {
             view,
             front: self.front.again(),
         })
+    }
+
+    /// The views up to it.
+    pub fn into_front(self) -> Front<J>
+        ensures { result ≡ self }
+    {
+        let Shown { view: _, front } = self;
+        front
     }
 
     /// The same view, if it comes after what was read. None: it doesn't, or it has as many owners as can be counted.
@@ -111,37 +119,51 @@ impl<J: ViewHistory, T: Absorb<Shown<J>, State = [DeviceView; 0]> + Drop, R: Wai
 }
 
 impl<J: ViewHistory, R: Wait + Drop> Publisher<J, Shown<J>, R> {
-    /// A publisher that shows the opening view, with room for this many readers. Err: there was no memory.
+    /// A publisher that shows the opening view, with room for this many readers. Err: there was no memory; the history
+    /// comes back.
     #[tactic(auto, using(crate::proofs::ViewFacts::last_opening))]
     pub fn new(
         alloc: Global,
         rt: R,
         history: BlankHistory,
         readers: usize,
-    ) -> Result<Publisher<J, Shown<J>, R>, AllocError>
+    ) -> Result<Publisher<J, Shown<J>, R>, BlankHistory>
         requires name { history.seen.book ≡ J.book }
         requires readers { (0 < readers) × (readers < 2 ^ 32) }
-        ensures { IfOk result (λ p. (p.shown ≡ opening_view ∷ []) × (p.added ≡ opening_view ∷ [])) }
+        ensures opening { IfOk result (λ p. (p.shown ≡ opening_view ∷ []) × (p.added ≡ opening_view ∷ [])) }
+        ensures back { IfErr result (λ history. history.seen.book ≡ J.book) }
     {
         let (book, front) = history.named::<J>();
-        let view = Arc::new(
-            alloc,
-            DeviceView {
-                run: 0,
-                set: DeviceSet::new(),
-            },
-        )?;
+        let Some(view) = opening_shared(alloc) else {
+            return Err(book.blank(front));
+        };
         let latest = Shown { view, front };
         let (Some(first), Some(second)) = (latest.again(), latest.again()) else {
-            return Err(AllocError);
+            return Err(book.blank(latest.into_front()));
         };
-        let shown = WriteHandle::new(alloc, rt, first, second, readers)?;
+        let Ok(shown) = WriteHandle::new(alloc, rt, first, second, readers) else {
+            return Err(book.blank(latest.into_front()));
+        };
         Ok(Publisher {
             book,
             latest,
             shown,
             waiting: false,
         })
+    }
+
+    /// The blank history again, if no view was added. It waits for reads that are under way.
+    pub fn into_blank(self) -> BlankHistory
+        requires { self.added ≡ opening_view ∷ [] }
+        ensures { result.seen.book ≡ J.book }
+    {
+        let Publisher {
+            book,
+            latest,
+            shown: _,
+            waiting: _,
+        } = self;
+        book.blank(latest.into_front())
     }
 
     /// The run of the last view that was added.
@@ -154,6 +176,8 @@ impl<J: ViewHistory, R: Wait + Drop> Publisher<J, Shown<J>, R> {
     /// Adds a view of a later run, and says whether it did. It isn't published yet. If it didn't, nothing changes:
     /// there was no memory for it, the view before it isn't published, or 2^32 views were added. Nor does it if the
     /// history is longer than its views, which no other than its publisher could make it.
+    // It isn't inlined, so that a turn that publishes nothing has no set in its frame.
+    #[inline(never)]
     #[tactic(auto, using(crate::proofs::ViewFacts::last_added))]
     pub fn add(&mut self, alloc: Global, run: u64, devices: &DeviceSet) -> bool
         requires later { last_view_run self.old.added < run }
@@ -214,6 +238,20 @@ impl<J: ViewHistory, R: Wait + Drop> Publisher<J, Shown<J>, R> {
         ensures { result.now ≡ self.now.shown }
     {
         &self.shown.published().front
+    }
+}
+
+// The opening view, in memory that its owners share.
+fn opening_shared(alloc: Global) -> Option<Arc<DeviceView>>
+    ensures { IfSome result (λ view. view.value ≡ opening_view) }
+{
+    let view = DeviceView {
+        run: 0,
+        set: DeviceSet::new(),
+    };
+    match Arc::new(alloc, view) {
+        Ok(view) => Some(view),
+        Err(_) => None,
     }
 }
 

@@ -4,6 +4,7 @@ ghost use Rattle.rtrb.specs.Ring.{known_items};
 ghost use Rattle.rdm_log.specs.log.History.{places};
 ghost use Rattle.rdm_log.specs.log.LogState.{is_full_log};
 ghost use Rattle.rdm_lanes.specs.declared.call.ClientCall.TheVariants.{Submit, Discover};
+ghost use Rattle.rdm_lanes.specs.body.Doing.{IsServed, MayNotMakeNext};
 ghost use Rattle.rdm_lanes.specs.body.Quiet.{NoExchange};
 ghost use Rattle.rdm_lanes.specs.Lines.{SameSwitches, IsBetweenTurns};
 ghost use Rattle.rdm_lanes.specs.Lanes.{Fits, FitsBut, SameLane};
@@ -33,8 +34,9 @@ pub fn serve_call(alloc: Global, session: &mut Session, client: ClientId, lane: 
     ensures line { NoExchange session.old session.new }
     ensures switches { SameSwitches session.old session.new }
     ensures lane { SameLane lane.old lane.new }
+    ensures made { IsServed client.0 session.new lane.old lane.new }
 {
-    if session.free() < LEAST_FREE || lane.calls.slots() == 0 {
+    if lane.calls.slots() == 0 || session.free() < LEAST_FREE {
         return;
     }
     if !may_make(session, client, lane) {
@@ -54,6 +56,7 @@ fn may_make(session: &Session, client: ClientId, lane: &mut Lane) -> bool
     requires { 0 < length (known_items lane.old.calls) }
     ensures may { result ≡ true → MatchOption (slice_get (known_items lane.new.calls) 0) ⊤
         (MayMake client.0 session.now lane.new) }
+    ensures may_not { result ≡ false → MayNotMakeNext client.0 session.now lane.new }
     ensures lane { LooksForSlot lane.old lane.new }
 {
     let closed = session.is_closed();
@@ -77,6 +80,7 @@ fn may_make(session: &Session, client: ClientId, lane: &mut Lane) -> bool
 #[tactic(auto, using(crate::proofs::ServeLemmas::nothing_uncollected))]
 fn may_tell(session: &Session, client: ClientId, lane: &mut Lane) -> bool
     ensures may { result ≡ true → MayTell client.0 session.now lane.new }
+    ensures may_not { result ≡ false → MayTell client.0 session.now lane.new → ⊥ }
     ensures lane { LooksForSlot lane.old lane.new }
 {
     lane.replies.slots() > 0 && session.oldest(client).is_none()
@@ -101,6 +105,7 @@ fn make_submit(
     ensures line { NoExchange session.old session.new }
     ensures switches { SameSwitches session.old session.new }
     ensures lane { SameLane lane.old lane.new }
+    ensures calls { lane.new.calls ≡ lane.old.calls }
 {
     let answer = session.submit(client, request);
     take_submit(alloc, lane, answer);
@@ -111,6 +116,7 @@ fn take_submit(alloc: Global, lane: &mut Lane, answer: Result<u64, (SubmitFault,
     requires { CanTakeSubmit lane.old answer }
     ensures after { AfterSubmit lane.old answer lane.new }
     ensures lane { SameLane lane.old lane.new }
+    ensures calls { lane.new.calls ≡ lane.old.calls }
 {
     match answer {
         Ok(_) => lane.requests += 1,
@@ -139,6 +145,7 @@ fn make_discover(session: &mut Session, client: ClientId, lane: &mut Lane, kind:
     ensures line { NoExchange session.old session.new }
     ensures switches { SameSwitches session.old session.new }
     ensures lane { SameLane lane.old lane.new }
+    ensures calls { lane.new.calls ≡ lane.old.calls }
 {
     let answer = session.discover(client, kind);
     take_discover(lane, answer);
@@ -149,6 +156,7 @@ fn take_discover(lane: &mut Lane, answer: Result<u64, AskFault>)
     requires { CanTakeDiscover lane.old answer }
     ensures after { AfterDiscover lane.old answer lane.new }
     ensures lane { SameLane lane.old lane.new }
+    ensures calls { lane.new.calls ≡ lane.old.calls }
 {
     match answer {
         Ok(_) => lane.asks += 1,

@@ -8,7 +8,7 @@ ghost use Rattle.rdm_client.specs.declared.worker_end.WorkerEnd.TheVariants.{All
 ghost use Rattle.rdm_lanes.specs.Opened.{places_fault, IsFullFor, IsLaterFault};
 ghost use Rattle.rdm_log.specs.log.LogState.{blank_log};
 ghost use Rattle.rdm_lanes.specs.Lines.{exchange_count};
-ghost use Rattle.rdm_lanes.specs.Ends.{AllAgree, AllRead};
+ghost use Rattle.rdm_lanes.specs.Ends.{AllAgree, AllRead, AllHoldTheirOwn};
 ghost use Rattle.rdm_lanes.specs.Sessions.{SessionOver};
 ghost use Rattle.rdm_lanes.specs.Workers.{book_of};
 ghost use Rattle.rdm_lanes.specs.Views.{all_views};
@@ -28,19 +28,19 @@ use std::alloc::Global;
 use std::sync::Wait;
 use std::thread::Threads;
 
-/// Why a session can't be run (profile of this project): as lanes can't be opened.
-pub type RunFault = OpenFault;
-
 /// Runs a session (profile of this project): opens a client for each of these places, and runs its body in a thread of
 /// its own, beside the worker with this many turns. There is no operator, so nobody pauses or closes. Where a thread
 /// can't be made its work is done in one that there is, after the other work there. `J` is the history of the views
-/// that the worker publishes. What was published, and what each client has read of it, is compared at the end too.
+/// that the worker publishes. What was published, and what each client has read of it, is compared at the end too. The
+/// callbacks that a client left over are those of its own calls without an outcome.
 ///
 /// The conditions are those of [`open_lanes`](crate::open_lanes), and there are as many bodies as places. Once the
 /// worker has stopped its clients' ends are compared, as at a [`ViewWorker::end`](crate::ViewWorker::end).
-/// Err: the first of the faults of `open_lanes` that stands, before any body ran; the log comes back as a new one with
-/// the same room, and the bodies and the line as they were. The blank history doesn't come back: a new one takes no
-/// memory. It waits for its threads.
+/// It waits for its threads.
+///
+/// Err: the first of the faults of `open_lanes` that stands, before any body ran. The log comes back as a new one with
+/// the same room, and the bodies, the line and the blank history as they were. So the same call can be made again, with
+/// more memory or with a larger log.
 pub fn run_session<
     J: ViewHistory + Send + Sync,
     B: Body<C, A> + Send,
@@ -61,7 +61,7 @@ pub fn run_session<
     gate: &G,
     line: X,
     turns: u64,
-) -> Result<LanesEnd<J, B, X, C, A>, (RunFault, Log, Vec<B>, X)>
+) -> Result<LanesEnd<J, B, X, C, A>, (OpenFault, Log, Vec<B>, X, BlankHistory)>
     requires name { book_of history ≡ J.book }
     requires config_is { IsConfig config }
     requires empty { log.entries ≡ [] }
@@ -77,6 +77,7 @@ pub fn run_session<
     ensures turns { IfOk result (λ end. (exchange_count end.session ≤ turns) × (turns ≡ 0 → end.worker ≡ Turns)) }
     ensures one_each { IfOk result (λ end. (length end.ends.items ≡ length places.now)
         × (length end.bodies.items ≡ length places.now)) }
+    ensures unspent { IfOk result (λ end. AllHoldTheirOwn end.ends.items) }
     ensures matched { IfOk result (λ end. end.matched ≡ true) }
     ensures published { IfOk result (λ end. IsPublished (all_views end.session.entries) end.published) }
     ensures all_published { IfOk result (λ end. end.worker ≢ Turns → end.published ≡ all_views end.session.entries) }
@@ -85,7 +86,8 @@ pub fn run_session<
     ensures fault { MatchOption (places_fault config.places places.now)
         ((IsFullFor log.room places.now → IsErr result) × IfErr result (λ e. IsLaterFault log.room places.now e.0))
         (λ fault. IsErr result × IfErr result (λ e. e.0 ≡ fault)) }
-    ensures back { IfErr result (λ e. (e.1 ≡ blank_log log.room) × (e.2 ≡ bodies) × (e.3 ≡ line)) }
+    ensures back { IfErr result (λ e. (e.1 ≡ blank_log log.room) × (e.2 ≡ bodies) × (e.3 ≡ line)
+        × (book_of e.4 ≡ J.book)) }
 {
     run_session_with(
         rt,
@@ -123,7 +125,7 @@ pub fn run_session_with<
     gate: &G,
     line: X,
     turns: u64,
-) -> Result<LanesEnd<J, B, X, C, A>, (RunFault, Log, Vec<B>, X)>
+) -> Result<LanesEnd<J, B, X, C, A>, (OpenFault, Log, Vec<B>, X, BlankHistory)>
     requires name { book_of history ≡ J.book }
     requires config_is { IsConfig setup.config }
     requires empty { log.entries ≡ [] }
@@ -139,6 +141,7 @@ pub fn run_session_with<
     ensures turns { IfOk result (λ end. (exchange_count end.session ≤ turns) × (turns ≡ 0 → end.worker ≡ Turns)) }
     ensures one_each { IfOk result (λ end. (length end.ends.items ≡ length places.now)
         × (length end.bodies.items ≡ length places.now)) }
+    ensures unspent { IfOk result (λ end. AllHoldTheirOwn end.ends.items) }
     ensures matched { IfOk result (λ end. end.matched ≡ true) }
     ensures published { IfOk result (λ end. IsPublished (all_views end.session.entries) end.published) }
     ensures all_published { IfOk result (λ end. end.worker ≢ Turns → end.published ≡ all_views end.session.entries) }
@@ -147,19 +150,20 @@ pub fn run_session_with<
     ensures fault { MatchOption (places_fault setup.config.places places.now)
         ((IsFullFor log.room places.now → IsErr result) × IfErr result (λ e. IsLaterFault log.room places.now e.0))
         (λ fault. IsErr result × IfErr result (λ e. e.0 ≡ fault)) }
-    ensures back { IfErr result (λ e. (e.1 ≡ blank_log log.room) × (e.2 ≡ bodies) × (e.3 ≡ line)) }
+    ensures back { IfErr result (λ e. (e.1 ≡ blank_log log.room) × (e.2 ≡ bodies) × (e.3 ≡ line)
+        × (book_of e.4 ≡ J.book)) }
 {
     if let Some(fault) = fault_of_places(&setup.config, places) {
-        return Err((fault, log.cleared(), bodies, line));
+        return Err((fault, log.cleared(), bodies, line, history));
     }
     let Some(rooms) = rooms_for(alloc, bodies.len()) else {
-        return Err((OpenFault::NoMemory, log.cleared(), bodies, line));
+        return Err((OpenFault::NoMemory, log.cleared(), bodies, line, history));
     };
     match open_lanes_with(rt, alloc, history, setup, log, ring, places) {
         Ok(lanes) => Ok(run_lanes(rt, alloc, lanes, rooms, bodies, gate, line, turns)),
-        Err((fault, log)) => {
+        Err((fault, log, history)) => {
             rooms.give_up();
-            Err((fault, log, bodies, line))
+            Err((fault, log, bodies, line, history))
         }
     }
 }

@@ -8,7 +8,7 @@ ghost use Rattle.rdm_client.specs.declared.worker_end.WorkerEnd.TheVariants.{All
 ghost use Rattle.rdm_lanes.specs.declared.lane.Lane.{Lane};
 ghost use Rattle.rdm_lanes.specs.Lines.{Exchanged, SameSwitches, IsBetweenTurns, exchange_count};
 ghost use Rattle.rdm_lanes.specs.Lanes.{AllFit};
-ghost use Rattle.rdm_lanes.specs.Ends.{AllAgree, AllRead};
+ghost use Rattle.rdm_lanes.specs.Ends.{AllAgree, AllRead, AllHoldTheirOwn};
 ghost use Rattle.rdm_lanes.specs.Pairs.{ClientsPair};
 ghost use Rattle.rdm_lanes.specs.body.Rooms.{HasRoomFor};
 ghost use Rattle.rdm_lanes.specs.Workers.{session_of, lanes_of};
@@ -87,6 +87,7 @@ pub fn run_lanes<
         × (turns ≡ 0 → result.worker ≡ Turns) }
     ensures one_each { (length result.ends.items ≡ length bodies.items)
         × (length result.bodies.items ≡ length bodies.items) }
+    ensures unspent { AllHoldTheirOwn result.ends.items }
     ensures matched { result.matched ≡ true }
     ensures published { IsPublished (all_views result.session.entries) result.published }
     ensures all_published { result.worker ≢ Turns → result.published ≡ all_views result.session.entries }

@@ -2,6 +2,7 @@
 //! fault, and before it moves that run's answers out.
 ghost use Rattle.std.specs.Prelude.{◌≡◌, ◌≢◌, ◌≤◌, ◌+◌, true, false, Some, None, IfSome};
 ghost use mathlib.Core.List.{IsPrefix};
+ghost use Rattle.rtrb.specs.Ring.{SameConsumer};
 ghost use Rattle.rdm_log.specs.log.LogState.{is_full_log};
 ghost use Rattle.rdm_log.specs.log.MaySend.{NoSend};
 ghost use Rattle.rdm_lanes.specs.Lines.{Exchanged, SameSwitches, exchange_count};
@@ -9,7 +10,9 @@ ghost use Rattle.rdm_lanes.specs.body.Quiet.{NoExchange, OnlyCollects};
 ghost use Rattle.rdm_lanes.specs.Lanes.{SameLanes, AllHaveLeft};
 ghost use Rattle.rdm_lanes.specs.Views.{all_views};
 ghost use Rattle.rdm_lanes.specs.body.Showing.{Publishes, AllPublished};
+ghost use Rattle.rdm_lanes.specs.Operators.{switches, effective};
 ghost use Rattle.rdm_lanes.specs.Workers.{session_of, lanes_of, operator_has_left, published_by, HasPublishedAll};
+ghost use Rattle.rdm_lanes.specs.Workers.{operator_ring, received_by};
 ghost use Rattle.rdm_client.specs.declared.worker_end.WorkerEnd.TheVariants.{AllLeft, Turns, LogFull as FullLog};
 ghost use Rattle.rdm_lanes.specs.declared.working.Attempt.TheVariants.{NothingToSend, LogFull as NoRoom};
 
@@ -59,6 +62,8 @@ impl<J: ViewHistory, R: Wait + Drop> ViewWorker<J, Shown<J>, R> {
         ensures full { result ≡ FullLog → is_full_log (session_of self.new) ≡ true }
         ensures operator { operator_has_left self.old ≡ true → (operator_has_left self.new ≡ true)
             × SameSwitches (session_of self.old) (session_of self.new) }
+        ensures operated { switches (session_of self.new).entries ≡ effective (received_by self.new) }
+        ensures ring { SameConsumer (operator_ring self.old) (operator_ring self.new) }
     {
         for _turn in 0..turns {
             if let Some(end) = self.turn(alloc, line) {
@@ -81,6 +86,7 @@ impl<J: ViewHistory, R: Wait + Drop> ViewWorker<J, Shown<J>, R> {
         ensures full { result ≡ Some FullLog → is_full_log self.new.server.session ≡ true }
         ensures operator { self.old.server.operator_left ≡ true → (self.new.server.operator_left ≡ true)
             × SameSwitches self.old.server.session self.new.server.session }
+        ensures ring { SameConsumer self.old.server.operator self.new.server.operator }
     {
         match self.serve_all(alloc, line) {
             None => None,
@@ -105,6 +111,7 @@ impl<J: ViewHistory, R: Wait + Drop> ViewWorker<J, Shown<J>, R> {
         ensures full { result ≡ Some NoRoom → is_full_log self.new.server.session ≡ true }
         ensures operator { self.old.server.operator_left ≡ true → (self.new.server.operator_left ≡ true)
             × SameSwitches self.old.server.session self.new.server.session }
+        ensures ring { SameConsumer self.old.server.operator self.new.server.operator }
     {
         if !self.publish(alloc) {
             return None;
@@ -128,6 +135,7 @@ impl<J: ViewHistory, R: Wait + Drop> ViewWorker<J, Shown<J>, R> {
         ensures lanes { SameLanes self.old.server.lanes.items self.new.server.lanes.items }
         ensures operator { self.old.server.operator_left ≡ true → (self.new.server.operator_left ≡ true)
             × SameSwitches self.old.server.session self.new.server.session }
+        ensures ring { SameConsumer self.old.server.operator self.new.server.operator }
     {
         self.server.serve_clients(alloc);
         self.server.serve_operator();
@@ -154,6 +162,7 @@ impl<J: ViewHistory, R: Wait + Drop> ViewWorker<J, Shown<J>, R> {
         ensures full { result ≡ NoRoom → is_full_log self.new.server.session ≡ true }
         ensures lanes { self.new.server.lanes ≡ self.old.server.lanes }
         ensures operator { self.new.server.operator_left ≡ self.old.server.operator_left }
+        ensures ring { self.new.server.operator ≡ self.old.server.operator }
         ensures views { self.new.views ≡ self.old.views }
     {
         self.server.exchange(alloc, line)
@@ -165,6 +174,7 @@ impl<J: ViewHistory, R: Wait + Drop> ViewWorker<J, Shown<J>, R> {
         ensures collects { OnlyCollects self.old.server.session self.new.server.session }
         ensures lanes { SameLanes self.old.server.lanes.items self.new.server.lanes.items }
         ensures operator { self.new.server.operator_left ≡ self.old.server.operator_left }
+        ensures ring { self.new.server.operator ≡ self.old.server.operator }
         ensures published { AllPublished self.new.server.session self.new.views }
         ensures views { self.new.views ≡ self.old.views }
     {

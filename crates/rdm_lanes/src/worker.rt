@@ -1,6 +1,8 @@
 //! The worker, which has the session and one end of each ring.
 ghost use Rattle.std.specs.Prelude.{◌≤◌, vec_len};
+ghost use Rattle.rtrb.specs.Ring.{received as popped};
 ghost use Rattle.rdm_lanes.specs.Lines.{IsBetweenTurns};
+ghost use Rattle.rdm_lanes.specs.body.Operated.{IsOperated};
 ghost use Rattle.rdm_lanes.specs.Lanes.{AllFit};
 
 use crate::call::OperatorCall;
@@ -12,7 +14,8 @@ use std::alloc::Global;
 /// What makes the calls of the clients and of the operator and the exchanges with the line, and moves outcomes.
 /// [`ViewWorker`](crate::ViewWorker) has it, and publishes views. It has the session. What it has received of each
 /// client is that client's calls in the session's log. What it has sent each is what the log tells that client. Nobody
-/// else has joined or called anything.
+/// else has joined or called anything. The pauses, resumes and closes in the log are those of the operator's calls that
+/// had an effect.
 #[derive(Drop)]
 pub struct Worker {
     pub(crate) session: Session,
@@ -22,4 +25,5 @@ pub struct Worker {
     ghost few: { vec_len lanes ≤ 16 },
     ghost served: { IsBetweenTurns session },
     ghost fits: { AllFit session lanes.items },
+    ghost operated: { IsOperated session (popped operator) },
 }

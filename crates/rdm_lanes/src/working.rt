@@ -1,5 +1,6 @@
 //! What is done in the worker's turns.
 ghost use Rattle.std.specs.Prelude.{◌≡◌, ◌<◌, ◌≤◌, ◌+◌, true, vec_len};
+ghost use Rattle.rtrb.specs.Ring.{SameConsumer};
 ghost use Rattle.rdm_log.specs.log.LogState.{is_full_log};
 ghost use Rattle.rdm_log.specs.log.MaySend.{NoSend};
 ghost use Rattle.rdm_line.specs.Events.{event_of};
@@ -12,6 +13,7 @@ ghost use Rattle.rdm_lanes.specs.declared.working.Attempt.TheVariants.{NothingTo
 
 use crate::call::OperatorCall;
 use crate::moving::move_outcomes;
+use crate::operating::operate;
 use crate::serve::serve_call;
 use crate::worker::Worker;
 use rdm_join::{LineEvent, LineReply};
@@ -37,6 +39,7 @@ impl Worker {
         ensures switches { SameSwitches self.old.session self.new.session }
         ensures lanes { SameLanes self.old.lanes.items self.new.lanes.items }
         ensures operator { self.new.operator_left ≡ self.old.operator_left }
+        ensures ring { self.new.operator ≡ self.old.operator }
     {
         for at in 0..self.lanes.len() {
             self.serve_client(alloc, at);
@@ -50,6 +53,7 @@ impl Worker {
         ensures switches { SameSwitches self.old.session self.new.session }
         ensures lanes { SameLanes self.old.lanes.items self.new.lanes.items }
         ensures operator { self.new.operator_left ≡ self.old.operator_left }
+        ensures ring { self.new.operator ≡ self.old.operator }
     {
         let Worker { session, lanes, .. } = self;
         serve_call(alloc, session, ClientId(at as u8), &mut lanes[at]);
@@ -60,6 +64,7 @@ impl Worker {
         ensures collects { OnlyCollects self.old.session self.new.session }
         ensures lanes { SameLanes self.old.lanes.items self.new.lanes.items }
         ensures operator { self.new.operator_left ≡ self.old.operator_left }
+        ensures ring { self.new.operator ≡ self.old.operator }
     {
         for at in 0..self.lanes.len() {
             self.move_for(alloc, at);
@@ -72,6 +77,7 @@ impl Worker {
         ensures collects { OnlyCollects self.old.session self.new.session }
         ensures lanes { SameLanes self.old.lanes.items self.new.lanes.items }
         ensures operator { self.new.operator_left ≡ self.old.operator_left }
+        ensures ring { self.new.operator ≡ self.old.operator }
     {
         let Worker { session, lanes, .. } = self;
         move_outcomes(alloc, session, ClientId(at as u8), &mut lanes[at]);
@@ -84,43 +90,20 @@ impl Worker {
         ensures lanes { self.new.lanes ≡ self.old.lanes }
         ensures operator { self.old.operator_left ≡ true → (self.new.operator_left ≡ true)
             × SameSwitches self.old.session self.new.session }
+        ensures ring { SameConsumer self.old.operator self.new.operator }
     {
         if self.operator_left || self.session.free() < LEAST_FREE || self.operator.slots() == 0 {
             return;
         }
-        match self.operator.pop_known() {
-            OperatorCall::Pause => self.pause(),
-            OperatorCall::Resume => self.resume(),
-            OperatorCall::Close => self.close(),
-            OperatorCall::Leave => self.operator_left = true,
-        }
-    }
-
-    // Pauses the session, whose log isn't full.
-    fn pause(&mut self)
-        ensures line { NoExchange self.old.session self.new.session }
-        ensures lanes { self.new.lanes ≡ self.old.lanes }
-        ensures operator { self.new.operator_left ≡ self.old.operator_left }
-    {
-        let _ = self.session.pause();
-    }
-
-    // Resumes the session, whose log isn't full.
-    fn resume(&mut self)
-        ensures line { NoExchange self.old.session self.new.session }
-        ensures lanes { self.new.lanes ≡ self.old.lanes }
-        ensures operator { self.new.operator_left ≡ self.old.operator_left }
-    {
-        let _ = self.session.resume();
-    }
-
-    // Closes the session.
-    fn close(&mut self)
-        ensures line { NoExchange self.old.session self.new.session }
-        ensures lanes { self.new.lanes ≡ self.old.lanes }
-        ensures operator { self.new.operator_left ≡ self.old.operator_left }
-    {
-        self.session.close();
+        let Worker {
+            session,
+            operator,
+            operator_left,
+            ..
+        } = self;
+        let call = operator.pop_known();
+        operate(session, call);
+        *operator_left = call == OperatorCall::Leave;
     }
 
     // Makes an exchange with the line, if there is a frame to send.
@@ -133,6 +116,7 @@ impl Worker {
         ensures full { result ≡ NoRoom → is_full_log self.new.session ≡ true }
         ensures lanes { self.new.lanes ≡ self.old.lanes }
         ensures operator { self.new.operator_left ≡ self.old.operator_left }
+        ensures ring { self.new.operator ≡ self.old.operator }
     {
         match self.session.take() {
             Err(LogFull) => Attempt::LogFull,

@@ -73,7 +73,7 @@ pub struct LanesStage<
 }
 
 // What opening lanes answers.
-type Opened<J, R> = Result<Lanes<J, Shown<J>, R, Note, AskNote>, (OpenFault, Log)>;
+type Opened<J, R> = Result<Lanes<J, Shown<J>, R, Note, AskNote>, (OpenFault, Log, BlankHistory)>;
 
 /// Opens lanes that are set up like this, over this line.
 #[inline(never)]
@@ -112,7 +112,7 @@ pub(crate) fn opened<'a, J: ViewHistory, R: Wait, X: Drop>(
             worker,
             line,
         }),
-        Err((fault, log)) if log.entries().is_empty() => Err(Failed::Open(fault)),
+        Err((fault, log, _)) if log.entries().is_empty() => Err(Failed::Open(fault)),
         Err(_) => Err(Failed::Rig(Wrong::NoMemory)),
     }
 }
@@ -170,12 +170,12 @@ fn collects<J: ViewHistory>(client: &mut Client<J>) -> Heard
 fn looks<J: ViewHistory>(client: &mut Client<J>) -> Heard
     ensures { SameClient client.old client.new }
 {
-    client.read();
-    knows(client)
+    let view = client.devices();
+    Heard::Sees(view.run, found_in(&view.set))
 }
 
 fn knows<J: ViewHistory>(client: &Client<J>) -> Heard {
-    let view = client.devices();
+    let view = client.known_devices();
     Heard::Sees(view.run, found_in(&view.set))
 }
 

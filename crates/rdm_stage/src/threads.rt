@@ -9,8 +9,8 @@ use crate::lanes::{LanesOver, LanesStage, Left, all_left, opened, stop_of};
 use crate::player::{Play, Player, Points, TRIES, waits};
 use crate::setup::Setup;
 use rdm_lanes::{
-    BlankHistory, Body, Gate, LanesEnd, OpenFault, Operator, RingClient, RunFault, Shown,
-    ViewHistory, ViewWorker, run_session, run_session_with,
+    BlankHistory, Body, Gate, LanesEnd, OpenFault, Operator, RingClient, Shown, ViewHistory,
+    ViewWorker, run_session, run_session_with,
 };
 use rdm_line::Line;
 use rdm_queue::{Log, Setup as SessionSetup};
@@ -59,7 +59,10 @@ pub enum NotRun {
 }
 
 // How a session ends, or why it wasn't run and what came back.
-type Ended<J, X> = Result<LanesEnd<J, Player, X, Note, AskNote>, (RunFault, Log, Vec<Player>, X)>;
+type Ended<J, X> = Result<
+    LanesEnd<J, Player, X, Note, AskNote>,
+    (OpenFault, Log, Vec<Player>, X, BlankHistory),
+>;
 
 /// Runs a session that is set up like this over this line, with a player for each script: each in a thread of its own,
 /// beside the worker.
@@ -154,7 +157,7 @@ fn runs<J: ViewHistory + Send + Sync, X: Line + Send + Drop, R: Threads + Wait +
     };
     match run::<J, X, R>(rt, alloc, history, setup, log, players, line) {
         Ok(end) => over_of(alloc, end),
-        Err((fault, log, players, _)) => {
+        Err((fault, log, players, _, _)) => {
             if log.entries().is_empty() {
                 Err(NotRun::Refused(fault, players))
             } else {

@@ -5,7 +5,12 @@ use Rattle.rdm_lanes.specs.declared.ring_outcome.RingOutcome.{RingOutcome}
 use Rattle.rdm_lanes.specs.declared.ring_outcome.RingOutcome.TheVariants.{Request, Discovery}
 
 module _ {C A : Type 0} where
-  -- a callback of the outcome's kind is held
-  abbrev pub HoldsFor : Held C A → RingOutcome → Type 0
-  HoldsFor desk (Request number done) = 0 < length desk.requests
-  HoldsFor desk (Discovery number run fault set) = 0 < length desk.asks
+  -- the outcome is a request's, and a callback for it is held
+  abbrev pub HoldsForRequest : Held C A → RingOutcome → Type 0
+  HoldsForRequest desk (Request number done) = 0 < length desk.requests
+  HoldsForRequest desk (Discovery number run fault set) = ⊥
+
+  -- the outcome is a discovery's, and a callback for it is held
+  abbrev pub HoldsForDiscovery : Held C A → RingOutcome → Type 0
+  HoldsForDiscovery desk (Request number done) = ⊥
+  HoldsForDiscovery desk (Discovery number run fault set) = 0 < length desk.asks

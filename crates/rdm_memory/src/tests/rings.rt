@@ -47,7 +47,11 @@ impl Play {
     }
 }
 
-// Opens lanes over rings of one slot, and plays. Err: memory for them is refused; the log comes back as a new one.
+// What comes back where lanes can't be opened.
+type Back = (Log, BlankHistory);
+
+// Opens lanes over rings of one slot, and plays. Err: memory for them is refused; the log comes back as a new one, and
+// the history.
 fn plays<J: ViewHistory, R: Abort + Wait>(
     rt: &R,
     memory: &mut Memory,
@@ -55,20 +59,20 @@ fn plays<J: ViewHistory, R: Abort + Wait>(
     history: BlankHistory,
     log: Log,
     play: Play,
-) -> Result<(), Log>
+) -> Result<(), Back>
     requires name { book_of history ≡ J.book }
     requires empty { log.entries ≡ [] }
-    ensures back { IfErr result (λ log. log.entries ≡ []) }
+    ensures back { IfErr result (λ back. back.0.entries ≡ []) }
 {
     match open_lanes::<J, Note, AskNote, &R>(rt, alloc, history, config(4), log, 1, play.places()) {
         Ok(lanes) => {
             play_with(rt, memory, alloc, lanes, play);
             Ok(())
         }
-        Err((fault, log)) => {
+        Err((fault, log, history)) => {
             assert_eq!(rt; fault, OpenFault::NoMemory);
             assert!(rt; is_blank(&log));
-            Err(log)
+            Err((log, history))
         }
     }
 }
@@ -89,14 +93,13 @@ fn play_with<J: ViewHistory, R: Abort + Wait>(
     }
 }
 
-// Plays, and once more with the log that came back if there is no memory for the lanes.
+// Plays, and once more with the log and the history that came back if there is no memory for the lanes.
 fn plays_again<R: Abort + Wait>(rt: &R, alloc: Global, play: Play) {
     let mut memory = Memory::new();
     let log = log(rt, &mut memory, alloc, 100);
     let history = BlankHistory::new();
-    if let Err(log) = plays::<Brand, R>(rt, &mut memory, alloc, history, log, play) {
+    if let Err((log, history)) = plays::<Brand, R>(rt, &mut memory, alloc, history, log, play) {
         memory.refuses(rt);
-        let history = BlankHistory::new();
         let again = plays::<Brand, R>(rt, &mut memory, alloc, history, log, play);
         assert!(rt; again.is_ok());
     }

@@ -7,7 +7,9 @@ use super::notes::{AskNote, Note, cancels};
 use super::players::{Player, Points};
 use super::rig::{config, is_blank, log, room_for, silence, tape};
 use rdm_join::Status;
-use rdm_lanes::{BlankHistory, ClientEnd, LanesEnd, RunFault, ViewHistory, WorkerEnd, run_session};
+use rdm_lanes::{
+    BlankHistory, ClientEnd, LanesEnd, OpenFault, ViewHistory, WorkerEnd, run_session,
+};
 use rdm_line::TapeLine;
 use rdm_queue::Log;
 use std::alloc::Global;
@@ -20,7 +22,7 @@ use std::thread::Threads;
 const TURNS: u64 = 100_000_000;
 
 // Why a session wasn't run, and what came back.
-type Refused = (Log, Vec<Player>, TapeLine);
+type Refused = (Log, Vec<Player>, TapeLine, BlankHistory);
 
 // Runs two bodies over a line that keeps silent, and says whether they met. Err: memory is refused; the log comes back
 // as a new one, and the bodies without having run.
@@ -55,11 +57,11 @@ fn runs<J: ViewHistory + Send + Sync, R: Threads + Wait + Abort + Sync>(
     );
     match ended {
         Ok(end) => Ok(have_met(rt, alloc, end)),
-        Err((fault, log, bodies, line)) => {
-            assert_eq!(rt; fault, RunFault::NoMemory);
+        Err((fault, log, bodies, line, history)) => {
+            assert_eq!(rt; fault, OpenFault::NoMemory);
             assert!(rt; is_blank(&log));
             assert!(rt; bodies.iter().all(|body| body.runs == 0));
-            Err((log, bodies, line))
+            Err((log, bodies, line, history))
         }
     }
 }
@@ -124,9 +126,9 @@ fn meet<R: Threads + Wait + Abort + Sync>(rt: &R, memory: &mut Memory, alloc: Gl
     let log = log(rt, memory, alloc, 100);
     match runs::<Brand, R>(rt, alloc, BlankHistory::new(), log, bodies, line) {
         Ok(met) => met,
-        Err((log, bodies, line)) => {
+        Err((log, bodies, line, history)) => {
             memory.refuses(rt);
-            match runs::<Brand, R>(rt, alloc, BlankHistory::new(), log, bodies, line) {
+            match runs::<Brand, R>(rt, alloc, history, log, bodies, line) {
                 Ok(met) => met,
                 Err(_) => panic!(rt; "memory for a session in threads"),
             }

@@ -75,7 +75,7 @@ fn serve_views<J: ViewHistory + Send + Sync, X: Line + Send + Drop, R: Threads +
     );
     match ended {
         Ok(end) => served(alloc, end),
-        Err((OpenFault::LogFull, _, _, _)) => Err(ServeFault::Log),
+        Err((OpenFault::LogFull, _, _, _, _)) => Err(ServeFault::Log),
         Err(_) => Err(ServeFault::Memory),
     }
 }

@@ -2,16 +2,18 @@ use Rattle.std.proofs.Common.{◌≡◌, ◌∙◌, sym, subst, arith}
 use Rattle.rdm_log.specs.log.LogState.{LogState}
 use Rattle.rdm_log.specs.log.Legal.{Legal}
 use Rattle.rdm_lanes.specs.Lines.{IsBetweenTurns}
+use Rattle.rtrb.specs.Ring.{received as popped}
 use Rattle.rdm_lanes.specs.Lanes.{AllFit}
+use Rattle.rdm_lanes.specs.body.Operated.{IsOperated}
 use Rattle.rdm_lanes.specs.body.Showing.{Publishes}
 use Rattle.rdm_lanes.specs.Opened.{opened_with}
-use Rattle.rdm_lanes.proofs.OpenLemmas.{few_places, served_opened, fits_opened, new_hold_nothing, new_clients, new_pairs, publishes_opened}
+use Rattle.rdm_lanes.proofs.OpenLemmas.{few_places, served_opened, fits_opened, operated_opened, new_hold_nothing, new_clients, new_pairs, publishes_opened}
 use Rattle.rdm_lanes.proofs.FirstLemmas.{new_shown_first}
 use Rattle.rdm_lanes.proofs.open.open_lanes_with.Goals as goal
 
 pub invariant_of-result-in-Ok-joined : goal.invariant_of-result-in-Ok-joined
 invariant_of-result-in-Ok-joined g c = record {
-  publishes = subst (λ (k : LogState). Publishes k c.in-Ok-new.views) (sym c.in-Ok-joined.ensures.session) (publishes_opened c.args.setup c.args.log.room c.args.places.now c.in-Ok-new.views c.in-Ok-new.ensures.0 c.in-Ok-new.ensures.1);
+  publishes = subst (λ (k : LogState). Publishes k c.in-Ok-new.views) (sym c.in-Ok-joined.ensures.session) (publishes_opened c.args.setup c.args.log.room c.args.places.now c.in-Ok-new.views c.in-Ok-new.ensures.opening.0 c.in-Ok-new.ensures.opening.1);
   shown_first = new_shown_first c.in-Ok-new.views.shown c.args.ring c.args.places.now c.in-Some-open_clients.clients.items c.in-Some-open_clients.lanes.items c.in-Some-open_clients.ensures;
 }
 
@@ -25,6 +27,7 @@ invariant_of-result g c =
       few = omega (arith, all.lanes_long, c.in-Some-open_clients.lanes.ok.0, few_places c.args.setup.config.places places (sym c.fault_of_places.ensures ∙ c.in_default.is));
       served = subst IsBetweenTurns (sym is) (served_opened c.args.setup c.args.log.room places);
       fits = subst (λ (k : LogState). AllFit k c.in-Some-open_clients.lanes.items) (sym is) (fits_opened c.args.setup c.args.log.room c.args.ring places c.in-Some-open_clients.clients.items c.in-Some-open_clients.lanes.items legal all);
+      operated = subst (λ (k : LogState). IsOperated k (popped c.in-Ok.heard)) (sym is) (operated_opened c.args.setup c.args.log.room places (popped c.in-Ok.heard) c.in-Ok.ensures.consumer.0);
     }
 
 pub discard-requires : goal.discard-requires

@@ -1,9 +1,10 @@
-use Rattle.std.proofs.Common.{Some, refl, sym, ap, ◌∙◌}
+use Rattle.std.proofs.Common.{Some, List, [], ◌∷◌, ◌++◌, refl, sym, ap, ◌∙◌}
 use Rattle.rdm_lanes.specs.declared.lane.Lane.{Lane}
 use Rattle.rdm_lanes.specs.declared.call.ClientCall.TheVariants.{Submit, Discover}
 use Rattle.rdm_lanes.specs.body.Serving.{MayMake}
-use Rattle.rtrb.specs.Ring.{known_items}
-use Rattle.rdm_lanes.proofs.ServeLemmas.{front_of, fits_looked, fits_slot, fits_popped, fits_left}
+use Rattle.rtrb.specs.Ring.{received as popped, known_items}
+use Rattle.rdm_lanes.specs.declared.call.ClientCall.{ClientCall}
+use Rattle.rdm_lanes.proofs.ServeLemmas.{Calls, popped_more, front_of, fits_looked, fits_slot, fits_popped, fits_left}
 use Rattle.rdm_lanes.proofs.serve.serve_call.Goals as goal
 
 pub make_submit-requires-clause-fits : goal.make_submit-requires-clause-fits
@@ -45,3 +46,17 @@ make_submit-requires-clause-known c = c.requires.known ∙ ap (λ (l : Lane). So
 
 pub make_discover-requires-clause-known : goal.make_discover-requires-clause-known
 make_discover-requires-clause-known c = c.requires.known ∙ ap (λ (l : Lane). Some l.places) (sym c.may_make.ensures.lane.rest)
+
+pub returns-in-Submit-clause-made : goal.returns-in-Submit-clause-made
+returns-in-Submit-clause-made c same =
+    absurd (popped_more (popped c.args.lane.now.calls) (popped c.make_submit.new.lane.calls) c.pop_known.result
+    (ap (λ (q : Calls). popped q) c.make_submit.ensures.calls
+    ∙ c.pop_known.ensures.received.0
+    ∙ ap (λ (xs : List ClientCall). xs ++ c.pop_known.result ∷ []) (ap (λ (l : Lane). popped l.calls) c.may_make.ensures.lane.rest ∙ c.slots.ensures.looked.1)) same)
+
+pub returns-in-Discover-clause-made : goal.returns-in-Discover-clause-made
+returns-in-Discover-clause-made c same =
+    absurd (popped_more (popped c.args.lane.now.calls) (popped c.make_discover.new.lane.calls) c.pop_known.result
+    (ap (λ (q : Calls). popped q) c.make_discover.ensures.calls
+    ∙ c.pop_known.ensures.received.0
+    ∙ ap (λ (xs : List ClientCall). xs ++ c.pop_known.result ∷ []) (ap (λ (l : Lane). popped l.calls) c.may_make.ensures.lane.rest ∙ c.slots.ensures.looked.1)) same)

@@ -1,7 +1,8 @@
 use Rattle.std.proofs.Common.{◌∙◌, ◌++◌, ◌∷◌, [], List, length-append, ap, refl, arith}
+use Rattle.rtrb.specs.Ring.{sent as pushed}
 use Rattle.rdm_lanes.specs.declared.call.ClientCall.{ClientCall}
 use Rattle.rdm_lanes.specs.declared.call.ClientCall.TheVariants.{Submit}
-use Rattle.rdm_lanes.proofs.Counting.{counted_sent}
+use Rattle.rdm_lanes.proofs.Counting.{counted_sent, own_submitted}
 use Rattle.rdm_lanes.proofs.client.RingClient.submit.Goals as goal
 
 pub invariant_of-self-2-clause-counted : goal.invariant_of-self-2-clause-counted
@@ -14,3 +15,10 @@ pub invariant_of-self-2-clause-held : goal.invariant_of-self-2-clause-held
 invariant_of-self-2-clause-held g c =
     let me = c.args.self.now in
     rw c.in_default.ensures.held (omega (arith, me.held, length-append me.desk.requests (c.args.callback ∷ [])))
+
+pub invariant_of-self-2-clause-own : goal.invariant_of-self-2-clause-own
+invariant_of-self-2-clause-own g c =
+    let me = c.args.self.now in
+    rw c.in_default.ensures.held
+    (own_submitted (pushed me.calls) (pushed c.push_reserved.new.self) _ me.desk.requests me.desk.asks c.args.callback c.args.request
+    (c.push_reserved.ensures.sent.0 ∙ ap (λ (xs : List ClientCall). xs ++ (Submit c.args.request) ∷ []) c.slots.ensures.looked.1) me.own)

@@ -1,5 +1,7 @@
 use Rattle.std.proofs.Common.{◌∙◌, ◌≡◌, true, ap, sym, subst, arith}
 use Rattle.std.proofs.lemmas.Option.{same_Some}
+use Rattle.rtrb.specs.Ring.{SameConsumer}
+use Rattle.rdm_lanes.proofs.WorkLemmas.{OperatorEnd, ring_same}
 use Rattle.rdm_lanes.specs.declared.worker.Worker.{Worker}
 use Rattle.rdm_lanes.specs.Lines.{Exchanged, SameSwitches}
 use Rattle.rdm_lanes.specs.body.Quiet.{NoExchange, OnlyCollects}
@@ -82,3 +84,20 @@ returns-clause-views g c =
     subst (λ (p : Publishing). IsPrefix c.args.self.now.views.shown p.shown) (sym c.move_all.ensures.views)
     (prefix_trans c.args.self.now.views.shown c.publish.new.self.views.shown c.publish-2.new.self.views.shown c.publish.ensures.views
     (subst (λ (p : Publishing). IsPrefix p.shown c.publish-2.new.self.views.shown) between c.publish-2.ensures.views))
+
+pub returns-then-not-publish-clause-ring : goal.returns-then-not-publish-clause-ring
+returns-then-not-publish-clause-ring g c =
+    let a = c.args.self.now.server.operator in
+    subst (λ (w : Worker). SameConsumer a w.operator) (sym c.publish.ensures.server) (ring_same a)
+
+pub returns-then-not-publish-2-clause-ring : goal.returns-then-not-publish-2-clause-ring
+returns-then-not-publish-2-clause-ring g c =
+    let a = c.args.self.now.server.operator in
+    subst (λ (q : OperatorEnd). SameConsumer a q) (sym (ap (λ (w : Worker). w.operator) c.publish-2.ensures.server ∙ c.exchange-attempt.ensures.ring))
+    (subst (λ (w : Worker). SameConsumer w.operator c.serve_calls.new.self.server.operator) c.publish.ensures.server c.serve_calls.ensures.ring)
+
+pub returns-clause-ring : goal.returns-clause-ring
+returns-clause-ring g c =
+    let a = c.args.self.now.server.operator in
+    subst (λ (q : OperatorEnd). SameConsumer a q) (sym (c.move_all.ensures.ring ∙ ap (λ (w : Worker). w.operator) c.publish-2.ensures.server ∙ c.exchange-attempt.ensures.ring))
+    (subst (λ (w : Worker). SameConsumer w.operator c.serve_calls.new.self.server.operator) c.publish.ensures.server c.serve_calls.ensures.ring)

@@ -1,4 +1,6 @@
-use Rattle.std.proofs.Common.{◌∙◌}
+use Rattle.std.proofs.Common.{◌∙◌, subst}
+use Rattle.rtrb.specs.Ring.{SameConsumer}
+use Rattle.rdm_lanes.proofs.WorkLemmas.{OperatorEnd}
 use Rattle.rdm_lanes.proofs.LineLemmas.{line_join, switches_join}
 use Rattle.rdm_lanes.proofs.ShowingLemmas.{publishes_same, all_published_same}
 use Rattle.rdm_lanes.proofs.FirstLemmas.{first_shown}
@@ -27,3 +29,6 @@ pub returns-clause-operator : goal.returns-clause-operator
 returns-clause-operator g c left =
     let operator = c.serve_operator.ensures.operator (c.serve_clients.ensures.operator ∙ left) in
     (operator.0, switches_join c.args.self.now.server.session c.serve_clients.new.self.session c.serve_operator.new.self.session c.serve_clients.ensures.switches operator.1)
+
+pub returns-clause-ring : goal.returns-clause-ring
+returns-clause-ring g c = subst (λ (q : OperatorEnd). SameConsumer q c.serve_operator.new.self.operator) c.serve_clients.ensures.ring c.serve_operator.ensures.ring

@@ -3,6 +3,7 @@ use Rattle.rdm_lanes.proofs.LaneLemmas.{same_lanes, same_lanes_join}
 use Rattle.rdm_lanes.proofs.LineLemmas.{line_same, switches_same, switches_join}
 use Rattle.rdm_lanes.proofs.ExchangeLemmas.{exchanged_none, exchanged_join}
 use Rattle.rdm_lanes.proofs.Fronts.{prefix_self, prefix_trans}
+use Rattle.rdm_lanes.proofs.WorkLemmas.{ring_same, ring_join}
 use Rattle.rdm_lanes.proofs.view_turns.ViewWorker+J+Shown+J+R.work.Goals as goal
 
 pub returns-in-Some-clause-exchanged : goal.returns-in-Some-clause-exchanged
@@ -23,6 +24,7 @@ loop-turn-preserved g c = record {
       let turn = c.turn.ensures.operator before.0 in
       (turn.0, switches_join c.args.self.now.server.session c.loop-turn.self.server.session c.turn.new.self.server.session before.1 turn.1);
   views = prefix_trans c.args.self.now.views.shown c.loop-turn.self.views.shown c.turn.new.self.views.shown c.loop-turn.invariant.views c.turn.ensures.views;
+  ring = ring_join c.args.self.now.server.operator c.loop-turn.self.server.operator c.turn.new.self.server.operator c.loop-turn.invariant.ring c.turn.ensures.ring;
 }
 
 pub returns-in-Some-clause-turns : goal.returns-in-Some-clause-turns
@@ -47,6 +49,7 @@ loop-turn-init g c = record {
   lanes = same_lanes c.args.self.now.server.lanes.items;
   operator = λ left. (left, switches_same c.args.self.now.server.session);
   views = prefix_self c.args.self.now.views.shown;
+  ring = ring_same c.args.self.now.server.operator;
 }
 
 pub returns-in-Some-clause-published : goal.returns-in-Some-clause-published
@@ -54,3 +57,6 @@ returns-in-Some-clause-published g c apart = (rw c.in-Some.is at c.turn.ensures.
 
 pub returns-in-Some-clause-views : goal.returns-in-Some-clause-views
 returns-in-Some-clause-views g c = prefix_trans c.args.self.now.views.shown c.loop-turn.self.views.shown c.turn.new.self.views.shown c.loop-turn.invariant.views c.turn.ensures.views
+
+pub returns-in-Some-clause-ring : goal.returns-in-Some-clause-ring
+returns-in-Some-clause-ring g c = ring_join c.args.self.now.server.operator c.loop-turn.self.server.operator c.turn.new.self.server.operator c.loop-turn.invariant.ring c.turn.ensures.ring

@@ -1,7 +1,9 @@
 use Rattle.std.proofs.Common.{refl, length, arith}
 use Rattle.std.proofs.lemmas.Option.{slice_get_read}
 use Rattle.rdm_lanes.proofs.LaneLemmas.{all_set, places_stay, same_lanes_set}
-use Rattle.rdm_lanes.proofs.CollectLemmas.{collects_line}
+use Rattle.rdm_lanes.proofs.CollectLemmas.{collects_line, collects_switches}
+use Rattle.rdm_lanes.proofs.OperatorLemmas.{operated_quiet}
+use Rattle.rtrb.specs.Ring.{received as popped}
 use Rattle.rdm_lanes.proofs.worker.Worker.move_for.Goals as goal
 
 pub move_outcomes-requires-clause-fits : goal.move_outcomes-requires-clause-fits
@@ -22,3 +24,9 @@ returns-clause-lanes c =
     let lane = c.index_mut.result.now in
     same_lanes_set me.lanes.items c.args.at lane c.move_outcomes.new.lane
     (slice_get_read me.lanes.items (length me.lanes.items) c.args.at lane refl (omega (arith, c.requires, me.lanes.ok.0)) c.index_mut.ensures.value) c.move_outcomes.ensures.lane
+
+pub invariant_of-self-clause-operated : goal.invariant_of-self-clause-operated
+invariant_of-self-clause-operated c =
+    let me = c.args.self.now in
+    let next = c.move_outcomes.new.session in
+    operated_quiet me.session next (popped me.operator) (collects_line me.session next c.move_outcomes.ensures.collects) (collects_switches me.session next c.move_outcomes.ensures.collects) me.operated

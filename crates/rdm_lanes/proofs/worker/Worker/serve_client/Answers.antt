@@ -3,6 +3,8 @@ use Rattle.rdm_lanes.specs.Lanes.{lane_places}
 use Rattle.rdm_lanes.proofs.EndLemmas.{get_map}
 use Rattle.std.proofs.lemmas.Option.{slice_get_read}
 use Rattle.rdm_lanes.proofs.LaneLemmas.{all_set, places_stay, same_lanes_set}
+use Rattle.rtrb.specs.Ring.{received as popped}
+use Rattle.rdm_lanes.proofs.OperatorLemmas.{operated_quiet}
 use Rattle.rdm_lanes.proofs.worker.Worker.serve_client.Goals as goal
 
 pub serve_call-requires-clause-fits : goal.serve_call-requires-clause-fits
@@ -30,3 +32,8 @@ serve_call-requires-clause-known c =
     let lane = c.index_mut.result.now in
     let here = slice_get_read me.lanes.items (length me.lanes.items) c.args.at lane refl (omega (arith, c.requires, me.lanes.ok.0)) c.index_mut.ensures.value in
     ap (λ (ps : List ℕ). slice_get ps c.args.at) me.fits.clients_are ∙ get_map lane_places me.lanes.items c.args.at lane here
+
+pub invariant_of-self-clause-operated : goal.invariant_of-self-clause-operated
+invariant_of-self-clause-operated c =
+    let me = c.args.self.now in
+    operated_quiet me.session c.serve_call.new.session (popped me.operator) c.serve_call.ensures.line c.serve_call.ensures.switches me.operated
