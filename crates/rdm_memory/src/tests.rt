@@ -1,13 +1,12 @@
 //! One allocation at most fails in a test, whichever it is.
+mod careful;
+mod controllers;
 mod desks;
 mod events;
-mod locked;
-mod memory;
-mod notes;
-mod players;
-mod queues;
+mod inside;
+mod lines;
+mod ports;
 mod replies;
-mod rig;
 mod rings;
 mod scenes;
 mod sessions;

@@ -1,5 +1,5 @@
 //! Clients over rings, their operator and their worker in one thread.
-ghost use Rattle.std.specs.Prelude.{◌≡◌, ◌≤◌, [], length, map, vec_capacity};
+ghost use Rattle.std.specs.Prelude.{◌≡◌, ◌≤◌, [], length, map, vec_capacity, IfErr};
 ghost use Rattle.rdm_lanes.specs.Clients.{SameClient};
 ghost use Rattle.rdm_lanes.specs.Ends.{end_rings};
 ghost use Rattle.rdm_lanes.specs.Workers.{lanes_of, book_of};
@@ -17,8 +17,9 @@ use rdm_lanes::{
 use rdm_line::{Line, TapeLine};
 use rdm_queue::{Log, Setup as SessionSetup};
 use rdm_rig::{
-    Act, AskNote, Came, Heard, Move, Note, Refusal, Said, Stage, State, Step, Stop, Wrong, cancels,
-    config, found_in, log, log_of, moved, request, state_of, tape_of, told,
+    Act, AskNote, Came, Driver, Heard, Move, Mover, Note, Refusal, Said, Stage, State, Step, Stop,
+    Wrong, cancels, config, found_in, is_blank, log, log_of, moved, request, state_of, tape_of,
+    told,
 };
 use std::alloc::Global;
 use std::marker::Brand;
@@ -46,7 +47,7 @@ impl Left {
 }
 
 /// What is left of clients over rings and their worker once they were ended.
-#[derive(Debug, Drop)]
+#[derive(Drop)]
 pub struct LanesOver {
     /// What is left of each client, in order.
     pub left: Vec<Left>,
@@ -75,18 +76,23 @@ pub struct LanesStage<
 // What opening lanes answers.
 type Opened<J, R> = Result<Lanes<J, Shown<J>, R, Note, AskNote>, (OpenFault, Log, BlankHistory)>;
 
-/// Opens lanes that are set up like this, over this line.
+// Why lanes weren't opened, and what came back.
+pub(crate) type NotOpened<X> = (OpenFault, Log, X);
+
+/// Opens lanes that are set up like this, with this log and over this line.
 #[inline(never)]
 pub(crate) fn opened<'a, J: ViewHistory, R: Wait, X: Drop>(
     rt: &'a R,
     alloc: Global,
     history: BlankHistory,
-    setup: Setup,
+    setup: &Setup,
+    log: Log,
     line: X,
-) -> Result<LanesStage<J, Shown<J>, &'a R, X>, Failed>
-    requires { book_of history ≡ J.book }
+) -> Result<LanesStage<J, Shown<J>, &'a R, X>, NotOpened<X>>
+    requires name { book_of history ≡ J.book }
+    requires empty { log.entries ≡ [] }
+    ensures { IfErr result (λ back. back.1.entries ≡ []) }
 {
-    let log = log(alloc, setup.free)?;
     let set = config(setup.greatest);
     let ring = setup.ring.max(1);
     let opened: Opened<J, &'a R> = match setup.search {
@@ -112,8 +118,7 @@ pub(crate) fn opened<'a, J: ViewHistory, R: Wait, X: Drop>(
             worker,
             line,
         }),
-        Err((fault, log, _)) if log.entries().is_empty() => Err(Failed::Open(fault)),
-        Err(_) => Err(Failed::Rig(Wrong::NoMemory)),
+        Err((fault, log, _)) => Err((fault, log, line)),
     }
 }
 
@@ -324,24 +329,61 @@ pub fn play_lanes<X: Line + Drop, R: Wait>(
     line: X,
     moves: &[Move],
 ) -> Result<LanesOver, Failed> {
-    plays::<Brand, X, R>(rt, alloc, BlankHistory::new(), setup, line, moves)
+    let mut mover = Mover::new(moves);
+    let over = drive_lanes(rt, alloc, setup, line, &mut mover)?;
+    mover.made?;
+    Ok(over)
 }
 
-fn plays<J: ViewHistory, X: Line + Drop, R: Wait>(
+/// The same with this driver. If there is no memory for the lanes, they are opened with the log that came back.
+#[inline(never)]
+pub fn drive_lanes<X: Line + Drop, R: Wait, D: Driver>(
+    rt: &R,
+    alloc: Global,
+    setup: Setup,
+    line: X,
+    driver: &mut D,
+) -> Result<LanesOver, Failed> {
+    let log = log(alloc, setup.free)?;
+    let first = driven::<Brand, X, R, D>(rt, alloc, BlankHistory::new(), &setup, log, line, driver);
+    let (fault, log, line) = match first {
+        Ok(over) => return over,
+        Err(back) => back,
+    };
+    if fault != OpenFault::NoMemory || !is_blank(&log) {
+        return Err(not_opened(fault, &log));
+    }
+    match driven::<Brand, X, R, D>(rt, alloc, BlankHistory::new(), &setup, log, line, driver) {
+        Ok(over) => over,
+        Err(_) => Err(Failed::Rig(Wrong::NotAgain)),
+    }
+}
+
+/// Why lanes couldn't be opened, if the log came back as a new one.
+pub(crate) fn not_opened(fault: OpenFault, log: &Log) -> Failed {
+    if is_blank(log) {
+        Failed::Open(fault)
+    } else {
+        Failed::Rig(Wrong::NotAgain)
+    }
+}
+
+fn driven<J: ViewHistory, X: Line + Drop, R: Wait, D: Driver>(
     rt: &R,
     alloc: Global,
     history: BlankHistory,
-    setup: Setup,
+    setup: &Setup,
+    log: Log,
     line: X,
-    moves: &[Move],
-) -> Result<LanesOver, Failed>
-    requires { book_of history ≡ J.book }
+    driver: &mut D,
+) -> Result<Result<LanesOver, Failed>, NotOpened<X>>
+    requires name { book_of history ≡ J.book }
+    requires empty { log.entries ≡ [] }
+    ensures { IfErr result (λ back. back.1.entries ≡ []) }
 {
-    let mut stage = opened::<J, R, X>(rt, alloc, history, setup, line)?;
-    let made = moved(alloc, &mut stage, moves);
-    let over = stage.end(alloc);
-    made?;
-    over
+    let mut stage = opened::<J, R, X>(rt, alloc, history, setup, log, line)?;
+    driver.drive(alloc, &mut stage);
+    Ok(stage.end(alloc))
 }
 
 /// The same over a line that answers this, and fails after that. What is left of the clients has to count like this.
@@ -393,7 +435,11 @@ fn reads_alone<J: ViewHistory, X: Line + Drop, R: Wait>(
 ) -> Result<Heard, Failed>
     requires { book_of history ≡ J.book }
 {
-    let mut stage = opened::<J, R, X>(rt, alloc, history, setup, line)?;
+    let log = log(alloc, setup.free)?;
+    let mut stage = match opened::<J, R, X>(rt, alloc, history, &setup, log, line) {
+        Ok(stage) => stage,
+        Err((fault, log, _)) => return Err(not_opened(fault, &log)),
+    };
     let made = moved(alloc, &mut stage, moves);
     let seen = seen_last(alloc, stage.clients_alone());
     made?;

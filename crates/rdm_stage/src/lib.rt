@@ -15,12 +15,15 @@ mod threads;
 
 pub use failed::Failed;
 pub use lanes::{
-    LanesOver, LanesStage, Left, counts_are, open_fault, play_lanes, play_taped, read_alone,
+    LanesOver, LanesStage, Left, counts_are, drive_lanes, open_fault, play_lanes, play_taped,
+    read_alone,
 };
 pub use player::{MOST_NOTED, Play, Player, Points, TRIES, waits};
-pub use port::{PortOver, PortSetup, PortStage, play_port};
+pub use port::{PortOver, PortSetup, PortStage, drive_port, play_port};
 pub use port_job::{PortClient, PortJob, on_port, play_port_again};
 pub use port_line::{ClosingLine, PortNote};
 pub use port_threads::run_port;
 pub use setup::Setup;
-pub use threads::{NotRun, PlayersOver, play_threads, player_heard, run_beside, run_players};
+pub use threads::{
+    NotRun, PlayersOver, play_threads, player_heard, run_beside, run_bodies, run_players,
+};

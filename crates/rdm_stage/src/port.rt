@@ -1,5 +1,5 @@
 //! A session behind a lock, with its clients and its worker in one thread.
-ghost use Rattle.std.specs.Prelude.{◌≡◌, IfOk};
+ghost use Rattle.std.specs.Prelude.{◌≡◌, [], IfErr};
 
 use crate::failed::Failed;
 use crate::port_line::{ClosingLine, PortNote};
@@ -8,10 +8,10 @@ use rdm_line::Line;
 use rdm_locked::{
     CallShare, Exchange, FinishFault, Left, LockedClient, Port, SessionEnd, WorkerEnd,
 };
-use rdm_queue::Setup as SessionSetup;
+use rdm_queue::{Log, NoMemory, Setup as SessionSetup};
 use rdm_rig::{
-    Act, Heard, Move, Refusal, Said, Stage, State, Step, Stop, Wrong, cancels, config, found_in,
-    log, log_of, moved, request, state_of, switched, told,
+    Act, Driver, Heard, Move, Mover, Refusal, Said, Stage, State, Step, Stop, Wrong, cancels,
+    config, found_in, is_blank, log, log_of, request, state_of, switched, told,
 };
 use std::alloc::Global;
 use std::marker::Brand;
@@ -19,7 +19,7 @@ use std::sync::Wait;
 use std::sync::ledger::{Blank, Ledger};
 
 /// How a port is set up.
-#[derive(Clone, Copy, Debug)]
+#[derive(Clone, Copy)]
 pub struct PortSetup {
     /// How many places all clients may have together.
     pub places: u8,
@@ -47,7 +47,7 @@ impl PortSetup {
 }
 
 /// What is left of a port once its clients have left and it was ended.
-#[derive(Debug, Drop)]
+#[derive(Drop)]
 pub struct PortOver {
     /// How many calls of clients the session's end counts.
     pub calls: u64,
@@ -201,6 +201,10 @@ impl<'a, L: Ledger, R: Wait, X: Line + Drop> PortStage<'a, L, R, X> {
             mut shares,
             mut held,
         } = self;
+        // There is memory for all shares, unless two allocations fail.
+        if shares.reserve(clients.len()).is_err() {
+            let _ = shares.reserve(clients.len());
+        }
         while let Some(client) = clients.pop() {
             let Left { unspent, calls } = client.leave(rt);
             held = held.saturating_add(cancels(alloc, unspent));
@@ -306,6 +310,47 @@ fn plays<L: Ledger, X: Line + Drop, R: Wait>(
     over_of(alloc, port, gone)
 }
 
+/// The same with this driver in place of the moves. If there is no memory for the port, it is opened with what came back.
+pub fn drive_port<X: Line + Drop, R: Wait, D: Driver>(
+    rt: &R,
+    alloc: Global,
+    setup: PortSetup,
+    line: X,
+    driver: &mut D,
+) -> Result<PortOver, Failed> {
+    driven::<Brand, X, R, D>(rt, alloc, Blank::new(17), setup, line, driver)
+}
+
+fn driven<L: Ledger, X: Line + Drop, R: Wait, D: Driver>(
+    rt: &R,
+    alloc: Global,
+    blank: Blank,
+    setup: PortSetup,
+    line: X,
+    driver: &mut D,
+) -> Result<PortOver, Failed>
+    requires name { blank.name ≡ L.name }
+    requires parts { (blank.parts ≡ L.parts) × (L.parts ≡ 17) }
+{
+    let port = port_of::<L>(alloc, blank, setup)?;
+    let gone = driven_on(rt, alloc, &port, setup, line, driver);
+    over_of(alloc, port, gone)
+}
+
+// Lets the driver drive the port, and all clients leave.
+fn driven_on<L: Ledger, X: Line + Drop, R: Wait, D: Driver>(
+    rt: &R,
+    alloc: Global,
+    port: &Port<L>,
+    setup: PortSetup,
+    line: X,
+    driver: &mut D,
+) -> Gone<L> {
+    let mut stage = PortStage::new(rt, alloc, port, setup, line);
+    driver.drive(alloc, &mut stage);
+    stage.leaves(alloc)
+}
+
 /// Ends the port.
 pub(crate) fn over_of<L: Ledger>(
     alloc: Global,
@@ -326,7 +371,7 @@ pub(crate) fn over_of<L: Ledger>(
     })
 }
 
-/// A port that is set up like this.
+/// A port that is set up like this. If there is no memory for it, it is made with what came back.
 #[inline(never)]
 pub(crate) fn port_of<L: Ledger>(
     alloc: Global,
@@ -337,6 +382,29 @@ pub(crate) fn port_of<L: Ledger>(
     requires parts { (blank.parts ≡ L.parts) × (L.parts ≡ 17) }
 {
     let log = log(alloc, setup.free)?;
+    match new_port(alloc, blank, setup, log) {
+        Ok(port) => Ok(port),
+        Err((blank, log)) if is_blank(&log) => match new_port(alloc, blank, setup, log) {
+            Ok(port) => Ok(port),
+            Err(_) => Err(Failed::Rig(Wrong::NotAgain)),
+        },
+        Err(_) => Err(Failed::Rig(Wrong::NotAgain)),
+    }
+}
+
+// A port that is set up like this. Err: out of memory, and what came back.
+fn new_port<L: Ledger>(
+    alloc: Global,
+    blank: Blank,
+    setup: PortSetup,
+    log: Log,
+) -> Result<Port<L>, (Blank, Log)>
+    requires name { blank.name ≡ L.name }
+    requires parts { (blank.parts ≡ L.parts) × (L.parts ≡ 17) }
+    requires empty { log.entries ≡ [] }
+    ensures blank { IfErr result (λ back. back.0 ≡ blank) }
+    ensures log { IfErr result (λ back. back.1.entries ≡ []) }
+{
     let config = config(setup.places);
     let port = match setup.search {
         None => Port::new(alloc, blank, config, log),
@@ -344,7 +412,7 @@ pub(crate) fn port_of<L: Ledger>(
     };
     match port {
         Ok(port) => Ok(port),
-        Err(_) => Err(Failed::Rig(Wrong::NoMemory)),
+        Err((NoMemory, blank, log)) => Err((blank, log)),
     }
 }
 
@@ -357,10 +425,9 @@ pub(crate) fn plays_on<L: Ledger, X: Line + Drop, R: Wait>(
     line: X,
     moves: &[Move],
 ) -> Result<Gone<L>, Failed> {
-    let mut stage = PortStage::new(rt, alloc, port, setup, line);
-    let made = moved(alloc, &mut stage, moves);
-    let gone = stage.leaves(alloc);
-    made?;
+    let mut mover = Mover::new(moves);
+    let gone = driven_on(rt, alloc, port, setup, line, &mut mover);
+    mover.made?;
     Ok(gone)
 }
 

@@ -2,7 +2,7 @@
 use rdm_agent::Search;
 
 /// How lanes are opened.
-#[derive(Clone, Copy, Debug)]
+#[derive(Clone, Copy)]
 pub struct Setup<'a> {
     /// How many free entries the log has.
     pub free: usize,

@@ -1,11 +1,11 @@
 //! Sessions over rings in threads.
-ghost use Rattle.std.specs.Prelude.{◌≡◌, [], length};
+ghost use Rattle.std.specs.Prelude.{◌≡◌, [], length, IfErr};
 ghost use Rattle.rdm_lanes.specs.Clients.{SameClient};
 ghost use Rattle.rdm_lanes.specs.Lanes.{SameLanes};
 ghost use Rattle.rdm_lanes.specs.Workers.{lanes_of, book_of};
 
 use crate::failed::Failed;
-use crate::lanes::{LanesOver, LanesStage, Left, all_left, opened, stop_of};
+use crate::lanes::{LanesOver, LanesStage, Left, all_left, not_opened, opened, stop_of};
 use crate::player::{Play, Player, Points, TRIES, waits};
 use crate::setup::Setup;
 use rdm_lanes::{
@@ -14,7 +14,9 @@ use rdm_lanes::{
 };
 use rdm_line::Line;
 use rdm_queue::{Log, Setup as SessionSetup};
-use rdm_rig::{AskNote, Heard, Note, Said, State, Stop, Wrong, config, log, log_of, state_of};
+use rdm_rig::{
+    AskNote, Heard, Note, Said, State, Stop, Wrong, config, is_blank, log, log_of, state_of,
+};
 use std::alloc::Global;
 use std::marker::Brand;
 use std::sync::Wait;
@@ -33,7 +35,7 @@ const CLOSED: u8 = 1;
 const BEGIN: u8 = 2;
 
 /// How a session of players ended.
-#[derive(Debug, Drop)]
+#[derive(Drop)]
 pub struct PlayersOver {
     /// The players, in order.
     pub players: Vec<Player>,
@@ -58,11 +60,11 @@ pub enum NotRun {
     Failed(Failed),
 }
 
-// How a session ends, or why it wasn't run and what came back.
-type Ended<J, X> = Result<
-    LanesEnd<J, Player, X, Note, AskNote>,
-    (OpenFault, Log, Vec<Player>, X, BlankHistory),
->;
+// Why a session wasn't run, and what came back.
+type Back<X> = (OpenFault, Log, Vec<Player>, X, BlankHistory);
+
+// How a session ends, or why it wasn't run.
+type Ended<J, X> = Result<LanesEnd<J, Player, X, Note, AskNote>, Back<X>>;
 
 /// Runs a session that is set up like this over this line, with a player for each script: each in a thread of its own,
 /// beside the worker.
@@ -74,11 +76,46 @@ pub fn run_players<X: Line + Send + Drop, R: Threads + Wait + Sync>(
     scripts: &[&'static [Play]],
     line: X,
 ) -> Result<PlayersOver, NotRun> {
-    let players = match players_of(alloc, scripts) {
-        Ok(players) => players,
-        Err(wrong) => return Err(NotRun::Failed(wrong)),
+    match players_of(alloc, scripts) {
+        Ok(players) => run_bodies(rt, alloc, setup, players, TURNS, line),
+        Err(wrong) => Err(NotRun::Failed(wrong)),
+    }
+}
+
+/// The same with these players, and this many turns of the worker. If there is no memory for the session, it is run with
+/// what came back.
+pub fn run_bodies<X: Line + Send + Drop, R: Threads + Wait + Sync>(
+    rt: &R,
+    alloc: Global,
+    setup: Setup,
+    players: Vec<Player>,
+    turns: u64,
+    line: X,
+) -> Result<PlayersOver, NotRun> {
+    if players.len() != setup.places.len() {
+        return Err(NotRun::Failed(Failed::Players));
+    }
+    let log = match log(alloc, setup.free) {
+        Ok(log) => log,
+        Err(wrong) => return Err(NotRun::Failed(Failed::Rig(wrong))),
     };
-    runs::<Brand, X, R>(rt, alloc, BlankHistory::new(), setup, players, line)
+    let new = BlankHistory::new();
+    let first = runs::<Brand, X, R>(rt, alloc, new, &setup, log, players, turns, line);
+    let (fault, log, players, line, _) = match first {
+        Ok(over) => return over,
+        Err(back) => back,
+    };
+    if !is_blank(&log) {
+        return Err(NotRun::Failed(Failed::Rig(Wrong::NotAgain)));
+    }
+    if fault != OpenFault::NoMemory {
+        return Err(NotRun::Refused(fault, players));
+    }
+    let again = BlankHistory::new();
+    match runs::<Brand, X, R>(rt, alloc, again, &setup, log, players, turns, line) {
+        Ok(over) => over,
+        Err(_) => Err(NotRun::Failed(Failed::Rig(Wrong::NotAgain))),
+    }
 }
 
 /// The same, where all leave, and each player hears this. Err: what differs.
@@ -142,29 +179,20 @@ fn runs<J: ViewHistory + Send + Sync, X: Line + Send + Drop, R: Threads + Wait +
     rt: &R,
     alloc: Global,
     history: BlankHistory,
-    setup: Setup,
+    setup: &Setup,
+    log: Log,
     players: Vec<Player>,
+    turns: u64,
     line: X,
-) -> Result<PlayersOver, NotRun>
-    requires { book_of history ≡ J.book }
+) -> Result<Result<PlayersOver, NotRun>, Back<X>>
+    requires name { book_of history ≡ J.book }
+    requires empty { log.entries ≡ [] }
+    requires one_each { length players.items ≡ length setup.now.places.now }
+    ensures empty { IfErr result (λ back. back.1.entries ≡ []) }
+    ensures one_each { IfErr result (λ back. length back.2.items ≡ length setup.now.places.now) }
 {
-    if players.len() != setup.places.len() {
-        return Err(NotRun::Failed(Failed::Players));
-    }
-    let log = match log(alloc, setup.free) {
-        Ok(log) => log,
-        Err(wrong) => return Err(NotRun::Failed(Failed::Rig(wrong))),
-    };
-    match run::<J, X, R>(rt, alloc, history, setup, log, players, line) {
-        Ok(end) => over_of(alloc, end),
-        Err((fault, log, players, _, _)) => {
-            if log.entries().is_empty() {
-                Err(NotRun::Refused(fault, players))
-            } else {
-                Err(NotRun::Failed(Failed::Unmatched))
-            }
-        }
-    }
+    let end = run::<J, X, R>(rt, alloc, history, setup, log, players, turns, line)?;
+    Ok(over_of(alloc, end))
 }
 
 #[inline(never)]
@@ -172,14 +200,17 @@ fn run<J: ViewHistory + Send + Sync, X: Line + Send, R: Threads + Wait + Sync>(
     rt: &R,
     alloc: Global,
     history: BlankHistory,
-    setup: Setup,
+    setup: &Setup,
     log: Log,
     players: Vec<Player>,
+    turns: u64,
     line: X,
 ) -> Ended<J, X>
     requires name { book_of history ≡ J.book }
     requires empty { log.entries ≡ [] }
-    requires one_each { length players.items ≡ length setup.places.now }
+    requires one_each { length players.items ≡ length setup.now.places.now }
+    ensures empty { IfErr result (λ back. back.1.entries ≡ []) }
+    ensures one_each { IfErr result (λ back. length back.2.items ≡ length setup.now.places.now) }
 {
     let gate = Points::new();
     let places = setup.places;
@@ -187,7 +218,7 @@ fn run<J: ViewHistory + Send + Sync, X: Line + Send, R: Threads + Wait + Sync>(
     let ring = setup.ring.max(1);
     match setup.search {
         None => run_session(
-            rt, alloc, history, set, log, ring, places, players, &gate, line, TURNS,
+            rt, alloc, history, set, log, ring, places, players, &gate, line, turns,
         ),
         Some(search) => {
             let set = SessionSetup {
@@ -195,7 +226,7 @@ fn run<J: ViewHistory + Send + Sync, X: Line + Send, R: Threads + Wait + Sync>(
                 search,
             };
             run_session_with(
-                rt, alloc, history, set, log, ring, places, players, &gate, line, TURNS,
+                rt, alloc, history, set, log, ring, places, players, &gate, line, turns,
             )
         }
     }
@@ -216,10 +247,12 @@ fn over_of<J: ViewHistory, X: Drop>(
         matched,
         published,
     } = end;
-    let (left, log) = match (all_left(alloc, ends), log_of(alloc, &session)) {
-        (Ok(left), Ok(log)) if matched => (left, log),
-        _ => return Err(NotRun::Failed(Failed::Unmatched)),
+    let (Ok(left), Ok(log)) = (all_left(alloc, ends), log_of(alloc, &session)) else {
+        return Err(NotRun::Failed(Failed::Rig(Wrong::NoMemory)));
     };
+    if !matched {
+        return Err(NotRun::Failed(Failed::Unmatched));
+    }
     Ok(PlayersOver {
         players: bodies,
         stop: stop_of(worker),
@@ -254,7 +287,11 @@ fn runs_beside<J: ViewHistory + Send + Sync, X: Line + Send + Drop, R: Threads +
 ) -> Result<(Stop, LanesOver), Failed>
     requires { book_of history ≡ J.book }
 {
-    let mut stage = opened::<J, R, X>(rt, alloc, history, setup, line)?;
+    let log = log(alloc, setup.free)?;
+    let mut stage = match opened::<J, R, X>(rt, alloc, history, &setup, log, line) {
+        Ok(stage) => stage,
+        Err((fault, log, _)) => return Err(not_opened(fault, &log)),
+    };
     let stop = stage.beside(rt, alloc, 0, player);
     let over = stage.end(alloc)?;
     match stop {

@@ -1,23 +1,19 @@
 //! Desks.
-use super::memory::Memory;
-use super::notes::{AskNote, Note, cancels};
 use rdm_client::{Collected, Desk, Full, Misdelivered};
 use rdm_join::Status;
 use rdm_queue::{Completion, NoMemory, Outcome};
+use rdm_rig::{AskNote, Note, cancels, check};
 use std::alloc::Global;
 use std::process::Abort;
 
 // A desk with this many places, made again if an allocation fails.
-fn desk(rt: &impl Abort, memory: &mut Memory, alloc: Global, places: u8) -> Desk<Note, AskNote> {
+fn desk(rt: &impl Abort, alloc: Global, places: u8) -> Desk<Note, AskNote> {
     match Desk::new(alloc, places) {
         Ok(desk) => desk,
-        Err(NoMemory) => {
-            memory.refuses(rt);
-            match Desk::new(alloc, places) {
-                Ok(desk) => desk,
-                Err(NoMemory) => panic!(rt; "memory for a desk"),
-            }
-        }
+        Err(NoMemory) => match Desk::new(alloc, places) {
+            Ok(desk) => desk,
+            Err(NoMemory) => panic!(rt; "memory for a desk"),
+        },
     }
 }
 
@@ -54,29 +50,31 @@ fn is_back(settled: &Settled, wanted: u64) -> bool {
 
 #[test]
 fn desk_new_of_one_place(rt: HostRuntime) {
-    let mut memory = Memory::new();
-    let mut desk = desk(&rt, &mut memory, rt.alloc(), 1);
+    let mut desk = desk(&rt, rt.alloc(), 1);
     let held = desk.hold(Note(1)).is_ok();
     let refused = desk.hold(Note(2)).err();
     let told = desk.settle(outcome(rt.alloc(), 0));
     let again = desk.settle(outcome(rt.alloc(), 1));
     let left = cancels(rt.alloc(), desk.end());
-    assert!(rt; held);
-    assert_eq!(rt; refused, Some((Full, Note(2))));
-    assert!(rt; is_told(&told, 1) && is_back(&again, 1));
-    assert_eq!(rt; left, 0);
+    check(&rt, held && refused == Some((Full, Note(2))));
+    check(&rt, is_told(&told, 1) && is_back(&again, 1) && left == 0);
 }
 
 // A desk holds as many callbacks of requests as it has places, and four of discoveries.
 fn holds(rt: &impl Abort, alloc: Global, places: u8) {
-    let mut memory = Memory::new();
-    let mut desk = desk(rt, &mut memory, alloc, places);
-    let held = (0..u64::from(places)).all(|tag| desk.hold(Note(tag)).is_ok());
-    let asks_held = (0..4).all(|tag| desk.hold_ask(AskNote(tag)).is_ok());
-    let was_full = desk.is_full() && desk.is_full_of_asks();
+    let mut desk = desk(rt, alloc, places);
+    let mut held = 0u64;
+    for tag in 0..=u64::from(places) {
+        held = held.saturating_add(u64::from(desk.hold(Note(tag)).is_ok()));
+    }
+    for tag in 0..=4 {
+        held = held.saturating_add(u64::from(desk.hold_ask(AskNote(tag)).is_ok()));
+    }
     let left = cancels(alloc, desk.end());
-    assert!(rt; held && asks_held && was_full);
-    assert_eq!(rt; left, u64::from(places).saturating_add(4));
+    check(
+        rt,
+        held == u64::from(places).saturating_add(4) && left == held,
+    );
 }
 
 #[test]

@@ -1,23 +1,22 @@
 //! The data of joined replies.
 ghost use Rattle.rdm_join.specs.JoinerStanding.{IsOpen};
 
-use super::memory::Memory;
-use super::rig::is_data;
 use arrayvec::ArrayVec;
 use rdm_join::{Joiner, Judged, Status, Step};
-use rdm_wire::{AckType, RespClass, Response, Uid};
+use rdm_rig::{check, controller, get};
+use rdm_wire::{AckType, RespClass, Response};
 use std::alloc::Global;
 use std::process::Abort;
 
 // A response to a GET of the parameter `0060`, with this many bytes `5a` of data.
 fn response(rt: &impl Abort, ack: AckType, length: usize) -> Response {
+    let all = [0x5a; 231];
     let mut param = ArrayVec::new();
-    for _ in 0..length {
-        assert!(rt; param.try_push(0x5a).is_ok());
-    }
+    check(rt, length <= 231);
+    check(rt, param.try_extend_from_slice(&all[..length]).is_ok());
     Response {
-        source: Uid::new(0x1234, 1),
-        dest: Uid::new(0x7a70, 0x100),
+        source: get().target,
+        dest: controller(),
         tn: 0,
         ack,
         count: 0,
@@ -35,26 +34,27 @@ fn with_parts(rt: &impl Abort, parts: usize) -> Joiner
     let mut joiner = Joiner::new();
     for _part in 0..parts {
         let step = joiner.add(Judged::Part(response(rt, AckType::Overflow, 231)));
-        assert_eq!(rt; step, Step::More);
+        check(rt, step == Step::More);
     }
     joiner
 }
 
-// The data of this many parts and of a last reply with this many bytes; where memory is refused they are taken again.
+// The data of this many parts and of a last reply with this many bytes. They are taken again if an allocation fails.
 fn takes(rt: &impl Abort, alloc: Global, parts: usize, last: usize, length: usize) {
-    let mut memory = Memory::new();
     let mut joiner = with_parts(rt, parts);
     let step = joiner.add(Judged::Whole(response(rt, AckType::Ack, last)));
-    assert_eq!(rt; step, Step::Done(Status::Completed));
+    check(rt, step == Step::Done(Status::Completed));
     let data = match joiner.take_data(alloc) {
         Ok(data) => data,
         Err(_) => {
-            memory.refuses(rt);
-            assert!(rt; joiner.head().is_some_and(|head| head.ack == AckType::Ack));
+            check(rt, joiner.head().is_some());
             joiner.take_data(alloc).expect(rt, "the data")
         }
     };
-    assert!(rt; is_data(&data, length));
+    check(rt, data.len() == length);
+    for byte in &data {
+        check(rt, *byte == 0x5a);
+    }
 }
 
 #[test]

@@ -1,38 +1,65 @@
 //! Sessions and their logs: how they are made, joins, and replies that are delivered.
-use super::memory::Memory;
-use super::rig::{
-    ACK, ACK_OVERFLOW, CLIENT, completion, get, is_blank, is_data, is_get, is_silence, joins, log,
-    reply, session, session_in, silence,
-};
+use super::careful::Careful;
+use super::lines::{first_device, line};
+use rdm_agent::{DEFAULT_BUDGET, Kind};
 use rdm_join::Status;
-use rdm_queue::{ClientId, Completion, JoinFault, NotAsked, Session, SubmitFault};
+use rdm_line::SimLine;
+use rdm_queue::{JoinFault, SubmitFault};
+use rdm_rig::{
+    Act, Driver, Ending, Found, Heard, LineOf, Meeting, Move, Refusal, SessionStage, Stage, Step,
+    Stop, check, open_session,
+};
 use std::alloc::Global;
 use std::process::Abort;
 
-#[test]
-fn join_client_of_one_place(rt: HostRuntime) {
-    let mut memory = Memory::new();
-    let mut session = session(&rt, &mut memory, rt.alloc(), 2, 100);
-    joins(&rt, &mut memory, rt.alloc(), &mut session, CLIENT, 1);
-    let refused = session.join_client(rt.alloc(), 2);
-    assert_eq!(rt; refused, Err(JoinFault::NoPlaces));
-    joins(&rt, &mut memory, rt.alloc(), &mut session, ClientId(1), 1);
-    assert_eq!(rt; session.submit(CLIENT, get()).ok(), Some(0));
-    assert_eq!(rt; session.submit(ClientId(1), get()).ok(), Some(1));
-    let full = session.submit(CLIENT, get()).err();
-    assert!(rt; full.is_some_and(|(fault, back)| fault == SubmitFault::Full && is_get(&back)));
+// A session with this many places over this line, and a log with this many free entries.
+fn session(rt: &impl Abort, alloc: Global, places: u8, free: usize) -> SessionStage<SimLine> {
+    let line = first_device(rt, alloc, &[], &[]);
+    open_session(alloc, places, DEFAULT_BUDGET, free, line).expect(rt, "memory for a session")
 }
 
-// A client with this many places, which are then taken one after the other.
+// Makes these moves.
+fn moves(rt: &impl Abort, alloc: Global, stage: &mut SessionStage<SimLine>, moves: &[Move]) {
+    let mut careful = Careful::new(moves);
+    careful.drive(alloc, stage);
+    careful.is_right(rt);
+}
+
+const FULL: Heard = Heard::Refused(Refusal::Submit(SubmitFault::Full, 0));
+
+#[test]
+fn join_client_of_one_place(rt: HostRuntime) {
+    let mut stage = session(&rt, rt.alloc(), 2, 100);
+    let all = [
+        (Act::Join(1), Heard::Number(0)),
+        (
+            Act::Join(2),
+            Heard::Refused(Refusal::Join(JoinFault::NoPlaces)),
+        ),
+        (Act::Join(1), Heard::Number(1)),
+        (Act::Client(0, Step::Submit(0)), Heard::Number(0)),
+        (Act::Client(1, Step::Submit(0)), Heard::Number(1)),
+        (Act::Client(0, Step::Submit(0)), FULL),
+    ];
+    moves(&rt, rt.alloc(), &mut stage, &all);
+}
+
+// A client with this many places, which are then taken one after the other. A join without memory changes the log alone.
 fn takes_all_places(rt: &impl Abort, alloc: Global, places: u8) {
-    let mut memory = Memory::new();
-    let mut session = session(rt, &mut memory, alloc, places, 2000);
-    joins(rt, &mut memory, alloc, &mut session, CLIENT, places);
+    let mut stage = session(rt, alloc, places, 2000);
+    let join = [(Act::Join(places), Heard::Number(0))];
+    moves(rt, alloc, &mut stage, &join);
+    let state = stage.state();
+    check(rt, state.is_idle && !state.is_closed && !state.is_paused);
+    check(rt, state.counts.entries == state.counts.calls + 1);
     for number in 0..u64::from(places) {
-        assert_eq!(rt; session.submit(CLIENT, get()).ok(), Some(number));
+        let submitted = stage.act(alloc, Act::Client(0, Step::Submit(0)));
+        check(rt, submitted == Heard::Number(number));
     }
-    let full = session.submit(CLIENT, get()).err();
-    assert!(rt; full.is_some_and(|(fault, back)| fault == SubmitFault::Full && is_get(&back)));
+    check(
+        rt,
+        stage.act(alloc, Act::Client(0, Step::Submit(0))) == FULL,
+    );
 }
 
 #[test]
@@ -52,91 +79,103 @@ fn join_client_of_the_most_places(rt: HostRuntime) {
 
 // In a log with three free entries a client joins; then a submit is refused, its request comes back, and the close is
 // done. Says whether the join found memory.
-fn fills_the_log(rt: &impl Abort, alloc: Global, session: &mut Session) -> bool {
-    assert_eq!(rt; session.free(), 3);
-    let joined = session.join_client(alloc, 1);
-    if joined == Err(JoinFault::NoMemory) {
+fn fills_the_log(rt: &impl Abort, alloc: Global) -> bool {
+    let mut stage = session(rt, alloc, 2, 3);
+    check(rt, stage.state().free == 3);
+    let joined = stage.act(alloc, Act::Join(1));
+    if joined == Heard::Refused(Refusal::Join(JoinFault::NoMemory)) {
         return false;
     }
-    assert_eq!(rt; joined, Ok(CLIENT));
-    assert_eq!(rt; session.free(), 2);
-    let full = session.submit(CLIENT, get()).err();
-    assert!(rt; full.is_some_and(|(fault, back)| fault == SubmitFault::LogFull && is_get(&back)));
-    session.close();
-    assert!(rt; session.is_closed());
-    assert_eq!(rt; session.log().entries().len(), 2);
+    let submitted = stage.act(alloc, Act::Client(0, Step::Submit(1)));
+    let full = Heard::Refused(Refusal::Submit(SubmitFault::LogFull, 1));
+    check(rt, joined == Heard::Number(0) && submitted == full);
+    check(rt, stage.state().free == 2);
+    let closed = stage.act(alloc, Act::Close);
+    let state = stage.state();
+    check(
+        rt,
+        closed == Heard::Done && state.is_closed && state.counts.entries == 2,
+    );
     true
 }
 
 #[test]
 fn log_new_and_session_new(rt: HostRuntime) {
-    let mut memory = Memory::new();
-    let mut first = session(&rt, &mut memory, rt.alloc(), 2, 3);
-    if !fills_the_log(&rt, rt.alloc(), &mut first) {
-        memory.refuses(&rt);
-        let mut second = session(&rt, &mut memory, rt.alloc(), 2, 3);
-        assert!(rt; fills_the_log(&rt, rt.alloc(), &mut second));
-    }
+    let is_filled = fills_the_log(&rt, rt.alloc());
+    check(&rt, is_filled || fills_the_log(&rt, rt.alloc()));
 }
 
 #[test]
 fn log_new_of_no_free_entries(rt: HostRuntime) {
-    let mut memory = Memory::new();
-    let made = session(&rt, &mut memory, rt.alloc(), 2, 0);
-    assert_eq!(rt; made.free(), 0);
+    let made = session(&rt, rt.alloc(), 2, 0);
+    check(&rt, made.state().free == 0);
 }
 
 #[test]
 fn log_new_of_the_most_entries(rt: HostRuntime) {
-    let mut memory = Memory::new();
-    let log = log(&rt, &mut memory, rt.alloc(), 1_000_000);
-    assert!(rt; is_blank(&log));
-    let made = session_in(&rt, &mut memory, rt.alloc(), 255, log);
-    assert_eq!(rt; made.free(), 1_000_000);
+    let made = session(&rt, rt.alloc(), 255, 1_000_000);
+    check(&rt, made.state().free == 1_000_000);
 }
 
-// Submits a request, which is accepted with this number, and answers it in parts of 231, 231 and 3 bytes. Its first
-// frame has this transaction number. Then no reply is awaited.
-fn asks_in_parts(
+// Whether the request with this number is answered by two bytes. If there is no memory for them, it ends with status 18.
+fn is_answered(
     rt: &impl Abort,
     alloc: Global,
-    session: &mut Session,
+    stage: &mut SessionStage<SimLine>,
     number: u64,
-    first: u8,
-) -> Completion {
-    assert_eq!(rt; session.submit(CLIENT, get()).ok(), Some(number));
-    let mut tn = first;
-    for (response_type, length) in [(ACK_OVERFLOW, 231), (ACK_OVERFLOW, 231), (ACK, 3)] {
-        let taken = session.take();
-        assert!(rt; matches!(&taken, Ok(Some(frame)) if frame.get(15) == Some(&tn)));
-        let part = reply(rt, tn, response_type, length);
-        assert!(rt; session.deliver(alloc, part).is_ok());
-        tn = tn.wrapping_add(1);
-    }
-    let again = session.deliver(alloc, silence()).err();
-    assert!(rt; again.is_some_and(|(NotAsked, event)| is_silence(&event)));
-    let (own, done) = completion(session.next_outcome(CLIENT)).expect(rt, "a request's outcome");
-    assert_eq!(rt; own, Some(number));
-    done
-}
-
-// Whether the request was answered by 465 bytes.
-fn is_whole(done: &Completion) -> bool {
-    done.status == Status::Completed && done.reply.is_some() && is_data(&done.bytes, 465)
+) -> bool {
+    let submitted = stage.act(alloc, Act::Client(0, Step::Submit(number)));
+    check(rt, submitted == Heard::Number(number));
+    let worked = stage.act(alloc, Act::Work(2));
+    check(rt, worked == Heard::Worked(Stop::AllLeft));
+    check(rt, stage.act(alloc, Act::Deliver) == Heard::Nothing);
+    let collected = stage.act(alloc, Act::Client(0, Step::Collect));
+    check(
+        rt,
+        collected == Heard::Answered(number, 1, 2)
+            || collected == Heard::Request(number, Status::NoMemory),
+    );
+    collected == Heard::Answered(number, 1, 2)
 }
 
 #[test]
 fn deliver(rt: HostRuntime) {
-    let mut memory = Memory::new();
-    let mut session = session(&rt, &mut memory, rt.alloc(), 1, 100);
-    joins(&rt, &mut memory, rt.alloc(), &mut session, CLIENT, 1);
-    let done = asks_in_parts(&rt, rt.alloc(), &mut session, 0, 0);
-    if done.status.number() == 18 {
-        memory.refuses(&rt);
-        assert!(rt; done.reply.is_none() && done.bytes.is_empty());
-        let again = asks_in_parts(&rt, rt.alloc(), &mut session, 1, 3);
-        assert!(rt; is_whole(&again));
-    } else {
-        assert!(rt; is_whole(&done));
-    }
+    let mut stage = session(&rt, rt.alloc(), 1, 100);
+    moves(
+        &rt,
+        rt.alloc(),
+        &mut stage,
+        &[(Act::Join(1), Heard::Number(0))],
+    );
+    let is_first = is_answered(&rt, rt.alloc(), &mut stage, 0);
+    check(&rt, is_first || is_answered(&rt, rt.alloc(), &mut stage, 1));
+}
+
+// Full discovery on a line without devices takes three unmutes and five silent branches.
+#[test]
+fn sim_line_new_without_devices(rt: HostRuntime) {
+    let alloc = rt.alloc();
+    let of = LineOf {
+        devices: &[],
+        meeting: Meeting::Noise,
+        losses: &[],
+        fails: &[],
+    };
+    let line = line(&rt, alloc, of);
+    let opened = open_session(alloc, 1, DEFAULT_BUDGET, 100, line);
+    let mut stage = opened.expect(&rt, "memory for a session");
+    let all = [
+        (Act::Join(1), Heard::Number(0)),
+        (
+            Act::Client(0, Step::Discover(Kind::Full, 0)),
+            Heard::Number(0),
+        ),
+        (Act::Work(9), Heard::Worked(Stop::AllLeft)),
+        (
+            Act::Client(0, Step::Collect),
+            Heard::Discovery(0, 1, Ending::Faultless, Found::Nobody),
+        ),
+    ];
+    moves(&rt, alloc, &mut stage, &all);
+    check(&rt, stage.state().counts.frames == (8, 0));
 }

@@ -1,6 +1,6 @@
 -- the history of the session's views
 use Rattle.rdm_lanes.specs.Workers.{book_of}
-use Rattle.rdm_stage.proofs.threads.run_players.Given as goal
+use Rattle.rdm_stage.proofs.threads.run_bodies.Given as goal
 
 abbrev pub ghosts-runs : goal.ghosts-runs
 ghosts-runs g a = record { book = book_of a.history }

@@ -1,0 +1,69 @@
+//! A session with a mutex, with its client and its worker, in one thread.
+use super::careful::{Careful, is_again};
+use super::lines::first_device;
+use rdm_rig::{Act, Heard, LONG, Move, Step, Stop, Wrong, check};
+use rdm_stage::{Failed, PortOver, PortSetup, drive_port};
+use std::alloc::Global;
+use std::process::Abort;
+use std::sync::Wait;
+
+// A client submits a request, which is answered by two bytes, and collects.
+static SHORT: [Move; 4] = [
+    (Act::Join(2), Heard::Number(0)),
+    (Act::Client(0, Step::Submit(1)), Heard::Number(0)),
+    (Act::Work(1), Heard::Worked(Stop::Turns)),
+    (Act::Client(0, Step::Collect), Heard::Answered(1, 1, 2)),
+];
+
+// The same, but it is answered in three parts of 231 bytes.
+static IN_PARTS: [Move; 4] = [
+    (Act::Join(2), Heard::Number(0)),
+    (Act::Client(0, Step::Submit(LONG)), Heard::Number(0)),
+    (Act::Work(3), Heard::Worked(Stop::Turns)),
+    (Act::Client(0, Step::Collect), Heard::Data(LONG, 693)),
+];
+
+// Makes these moves. None: the rig itself found no memory.
+fn plays<R: Wait + Abort>(rt: &R, alloc: Global, moves: &[Move]) -> Option<PortOver> {
+    let line = first_device(rt, alloc, &[], &[]);
+    let mut careful = Careful::new(moves);
+    match drive_port(rt, alloc, PortSetup::new(2, 100), line, &mut careful) {
+        Ok(over) => {
+            careful.is_right(rt);
+            Some(over)
+        }
+        Err(Failed::Rig(Wrong::NoMemory)) => None,
+        Err(failed) => panic!(rt; "{failed:?}"),
+    }
+}
+
+// Makes these moves, again if the rig finds no memory. A request has this many parts.
+fn plays_again<R: Wait + Abort>(rt: &R, alloc: Global, moves: &[Move], parts: usize) {
+    let over = match plays(rt, alloc, moves) {
+        Some(over) => over,
+        None => plays(rt, alloc, moves).expect(rt, "memory for the rig"),
+    };
+    // The accept, a frame and a reply for each part, the end and the collect; before them the join.
+    let request = parts.saturating_mul(2).saturating_add(3);
+    let is_again = is_again(rt, &over.log, request.saturating_add(1), request);
+    let (calls, recorded) = if is_again {
+        (4, parts.saturating_mul(2))
+    } else {
+        (2, parts)
+    };
+    check(rt, over.calls == calls && over.recorded == recorded);
+    check(
+        rt,
+        over.held == 0 && over.state.is_idle && !over.state.is_closed,
+    );
+}
+
+#[test]
+fn port_new_and_client_and_work(rt: HostRuntime) {
+    plays_again(&rt, rt.alloc(), &SHORT, 1);
+}
+
+#[test]
+fn port_work_of_parts(rt: HostRuntime) {
+    plays_again(&rt, rt.alloc(), &IN_PARTS, 3);
+}
