@@ -32,7 +32,9 @@ pub struct LineSessionFile {
     pub turns: u64,
 }
 
-const KEYS: &[&str] = &["source", "budget", "clients", "ring", "search", "log", "turns"];
+const KEYS: &[&str] = &[
+    "source", "budget", "clients", "ring", "search", "log", "turns",
+];
 
 const NO_SCENE: &str = "with --line a session file has the key source and no scene";
 
