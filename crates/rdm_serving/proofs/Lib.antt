@@ -4,3 +4,4 @@ pub mod NumberedLemmas
 pub mod SettledLemmas
 pub mod PlaceLemmas
 pub mod LoggedLemmas
+pub mod WritingLemmas

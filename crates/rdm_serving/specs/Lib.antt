@@ -3,4 +3,6 @@ pub mod SceneDiscovery
 pub mod Report
 pub mod SessionReport
 pub mod LoggedOutcomes
+pub mod Writing
+pub mod LogText
 pub mod body

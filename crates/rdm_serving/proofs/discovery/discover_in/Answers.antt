@@ -21,3 +21,19 @@ returns-in-Ok-clause-honest g c few =
     honest_report c.args.scene c.args.search c.args.kind c.args.known.now c.args.budget c.discover.result.found
     c.discover.result.frames run (loses_few c.args.scene c.args.search c.args.kind c.args.known.now c.args.budget
     c.discover.result.frames c.discover.result.found run few)
+
+pub returns-in-Ok-clause-logged : goal.returns-in-Ok-clause-logged
+returns-in-Ok-clause-logged g c = (
+  on_scene c.args.scene c.args.search c.args.kind c.args.known.now c.args.budget c.discover.result.frames c.discover.result.found c.in-Ok.line c.discover.new.line
+      (record {
+        devices = c.in-Ok.ensures.devices;
+        unmuted = c.in-Ok.ensures.unmuted;
+        collisions = c.in-Ok.ensures.collisions;
+        losses = c.in-Ok.ensures.losses;
+        fails = c.in-Ok.ensures.fails;
+        exchanges = c.in-Ok.ensures.counts.0;
+        failures = c.in-Ok.ensures.counts.1;
+      })
+      c.discover.ensures.logged.0 c.discover.ensures.countable,
+  c.discover.ensures.logged.1,
+)

@@ -1,23 +1,17 @@
-use Rattle.std.proofs.Common.{◌≡◌, ◌≤◌, ◌-◌, ◌+◌, ◌==◌, Bool, true, false, refl, sym, ap, arith, ℕ, List, Option, Some, None, length, take, drop, length-drop}
+use Rattle.std.proofs.Common.{◌≡◌, ◌≤◌, ◌-◌, ◌+◌, ◌==◌, Bool, true, false, refl, sym, ap, arith, ℕ, List, Option, length, take, drop, length-drop}
 use Rattle.std.specs.Bool.{OnFalse}
-use Rattle.std.specs.Io.KnownBytes.{Appends, Keeps}
+use Rattle.std.specs.Io.KnownBytes.{Appends}
 use Rattle.std.proofs.KnownBytes.{Appends-trans}
 use Rattle.std.proofs.Math.Seq.{take-add}
 use Rattle.std.proofs.lemmas.Bool.{eqb-false}
 use Rattle.std.proofs.lemmas.List.{take-append-drop, take_rest}
-use Rattle.rdm_port.specs.Outcome.{IsCutShort}
-use Rattle.rdm_port.proofs.performing.write_all.Goals as goal
-use Rattle.rdm_port.proofs.performing.write_all.Goals.{in-Ok, in-Err}
-use Rattle.rdm_port.proofs.performing.write_all.Goals.{else-writing-test, then-writing-test+then-written-bytes}
-use Rattle.rdm_port.proofs.performing.write_all.Goals.{then-writing-test+else-written-bytes+in-Ok-eq0}
-use Rattle.rdm_port.proofs.performing.write_all.Goals.{then-writing-test+else-written-bytes+in-Err-2}
-
--- what is kept after an append is what was appended
-kept : (a b c : Option (List ℕ)) (bytes : List ℕ) → Appends a b bytes → Keeps b c → Appends a c bytes
-kept None b c bytes p q = tt
-kept (Some x) None c bytes p q = absurd p
-kept (Some x) (Some y) None bytes p q = absurd q
-kept (Some x) (Some y) (Some z) bytes p q = rw q p
+use Rattle.rdm_serving.specs.Writing.{IsCutShort}
+use Rattle.rdm_serving.proofs.WritingLemmas.{appends_kept}
+use Rattle.rdm_serving.proofs.log_output.write_all.Goals as goal
+use Rattle.rdm_serving.proofs.log_output.write_all.Goals.{in-Ok, in-Err}
+use Rattle.rdm_serving.proofs.log_output.write_all.Goals.{else-writing-test, then-writing-test+then-written-bytes}
+use Rattle.rdm_serving.proofs.log_output.write_all.Goals.{then-writing-test+else-written-bytes+in-Ok-eq0}
+use Rattle.rdm_serving.proofs.log_output.write_all.Goals.{then-writing-test+else-written-bytes+in-Err-2}
 
 -- the first n bytes, and then k of the rest
 one_more : (a b c : Option (List ℕ)) (bytes : List ℕ) (n k m : ℕ) → m ≡ n + k
@@ -43,7 +37,7 @@ writing-preserved g c = elim c.match-write.branch [
   }
   | in-Err w ↦ record {
     within = omega arith;
-    front = rw w.written-is (kept _ _ _ _ c.writing.invariant.front w.in-Err.ensures.bytes);
+    front = rw w.written-is (appends_kept _ _ _ _ c.writing.invariant.front w.in-Err.ensures.bytes);
   }
 ]
 
@@ -54,5 +48,5 @@ returns-else-written-bytes-2-clause-some g c = cut_short _ _ c.args.bytes.now c.
   | then-writing-test+else-written-bytes+in-Ok-eq0 w ↦
       let took = rw w.in-Ok-eq0.is at w.write.ensures.bytes in
       rw w.writer-is (one_more _ _ _ c.args.bytes.now c.writing.written w.in-Ok-eq0.field-0 _ (omega arith) c.writing.invariant.front took)
-  | then-writing-test+else-written-bytes+in-Err-2 w ↦ rw w.writer-is (kept _ _ _ _ c.writing.invariant.front w.in-Err.ensures.bytes)
+  | then-writing-test+else-written-bytes+in-Err-2 w ↦ rw w.writer-is (appends_kept _ _ _ _ c.writing.invariant.front w.in-Err.ensures.bytes)
 ]) c.writing.invariant.within c.if-written-bytes-2.false
