@@ -2,7 +2,7 @@ use Rattle.std.proofs.Common.{arith}
 use Rattle.std.proofs.lemmas.List.Elements.{Contains-get_or}
 use Rattle.rdm_port.specs.body.Texts.{command_name}
 use Rattle.rdm_port.proofs.ComplaintLemmas.{among}
-use Rattle.rdm_port.proofs.complaint.complaint_after.Goals as goal
+use Rattle.rdm_port.proofs.arguments.complaint_after.Goals as goal
 
 pub returns-in-Some : goal.returns-in-Some
 returns-in-Some c =

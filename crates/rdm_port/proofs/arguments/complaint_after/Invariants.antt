@@ -1,5 +1,5 @@
 use Rattle.std.proofs.Common.{◌≡◌}
-use Rattle.rdm_port.proofs.complaint.complaint_after.Given as goal
+use Rattle.rdm_port.proofs.arguments.complaint_after.Given as goal
 
 -- the command stays
 abbrev pub invariant-words : goal.invariant-words
