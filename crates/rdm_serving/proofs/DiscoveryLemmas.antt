@@ -15,7 +15,7 @@ use Rattle.rdm_serving.specs.Discovery.{GoesOn, Drives, HasDriven, IsDiscovery}
 use Rattle.rdm_serving.specs.LogText.{exchange_line, exchanges_text}
 use Rattle.rdm_serving.specs.Writing.{LogState, Logs}
 use Rattle.rdm_serving.proofs.NumberedLemmas.{numbered_more}
-use Rattle.rdm_serving.proofs.WritingLemmas.{logs_more}
+use Rattle.rdm_serving.proofs.WritingLemmas.{logs_more, logs_none}
 
 drives_more : (L : Type 0) (step : L → Exchange → L → Type 0) (source n k : ℕ) (a b c : AgentState) (old line new : L) (xs : List Exchange) → n + length xs ≡ k → Drives L step source n a old xs b line
     → (e : GoesOn L step source (k % 256) b line c new) → Drives L step source n a old (xs ++ e.exchange ∷ []) c new
@@ -78,12 +78,21 @@ reported L step source search kind known budget n frames old line a found d ende
     same : frames ≡ n
     same = (counts run d.run).0 ∙ seen_many d.exchanges ∙ d.many
 
--- the same with the exchanges that a log has got: after one more
+-- the same with the exchanges that a log has got: before the first
+pub none_logged : (L : Type 0) (step : L → Exchange → L → Type 0) (source : ℕ) (search : Search) (kind : Kind)
+    (known : List ℕ) (budget : ℕ) (old : L) (a : AgentState) (log : LogState) → a ≡ start_by search kind known budget
+    → HasRunBy search kind known budget false [] a
+    → (d : HasDriven L step source search kind known budget old 0 a old) × Logs log log (exchanges_text d.exchanges)
+none_logged L step source search kind known budget old a log is run =
+    (record { exchanges = []; many = refl; drives = (is, refl); run = run }, logs_none log)
+
+-- after one more
 pub one_logged : (L : Type 0) (step : L → Exchange → L → Type 0) (source : ℕ) (search : Search) (kind : Kind)
     (known : List ℕ) (budget n : ℕ) (old line new : L) (a b : AgentState) (was now later : LogState)
     → (d : HasDriven L step source search kind known budget old n a line) × Logs was now (exchanges_text d.exchanges)
     → (e : GoesOn L step source (n % 256) a line b new) × Logs now later (exchange_line n e.exchange)
     → (d : HasDriven L step source search kind known budget old (n + 1) b new) × Logs was later (exchanges_text d.exchanges)
+unfolding one_driven
 one_logged L step source search kind known budget n old line new a b was now later (before, logged) (e, more) = (
   one_driven L step source search kind known budget n old line new a b before e,
   subst (λ text. Logs was later text) (sym text) (logs_more was now later (exchanges_text before.exchanges) (exchange_line n e.exchange) logged more),

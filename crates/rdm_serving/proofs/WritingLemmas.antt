@@ -1,7 +1,12 @@
 -- What is written to a log, one text after another.
-use Rattle.std.proofs.Common.{◌≡◌, ◌≢◌, ℕ, Bool, true, false, List, [], ◌∷◌, ◌++◌, Option, Some, None, refl, sym, ap, ◌∙◌, append_assoc, subst}
+use Rattle.std.proofs.Common.{◌≡◌, ◌≢◌, ℕ, suc, ◌+◌, ◌<◌, Bool, true, false, List, [], ◌∷◌, ◌++◌, length, take, get_or, Option, Some, None, Result, Ok, Err, refl, sym, ap, ◌∙◌, append_assoc, append-nil, subst, arith}
+use Rattle.std.specs.Prelude.{OnOk}
 use Rattle.std.specs.Io.KnownBytes.{Appends, Keeps}
 use Rattle.std.proofs.KnownBytes.{Appends-trans, Appends-nil, Keeps-refl, Keeps-trans}
+use Rattle.std.proofs.Math.Seq.{take-suc}
+use Rattle.std.proofs.lemmas.Grind.{flat_map-append}
+use Rattle.rdm_log.specs.declared.entry.Entry.{Entry}
+use Rattle.rdm_serving.specs.LogText.{entry_line, log_text}
 use Rattle.rdm_serving.specs.Writing.{IsCutShort, IsWritten, LogState, LogsFrom, Logs}
 
 -- what is kept after an append is what was appended
@@ -80,3 +85,25 @@ none_from true false a = Appends-nil a
 
 pub logs_none : (log : LogState) → Logs log log []
 logs_none log = (refl, none_from log.is_open log.is_failed log.contents)
+
+-- one more entry of a log
+pub entries_next : (entries : List Entry) (i : ℕ) (e : Entry) (was now later : LogState) → i < length entries → e ≡ get_or entries i e
+    → Logs was now (log_text (take i entries)) → Logs now later (entry_line e) → Logs was later (log_text (take (i + 1) entries))
+entries_next entries i e was now later lt at before more =
+    subst (λ text. Logs was later text) (sym grows) (logs_more was now later (log_text (take i entries)) (entry_line e) before more)
+  where
+    next : (n : ℕ) → n + 1 ≡ suc n
+    next n = omega arith
+
+    grows : log_text (take (i + 1) entries) ≡ log_text (take i entries) ++ entry_line e
+    grows = ap log_text (ap (λ k. take k entries) (next i) ∙ take-suc entries i e lt ∙ ap (λ w. take i entries ++ w ∷ []) (sym at))
+        ∙ flat_map-append entry_line (take i entries) (e ∷ []) ∙ ap (λ l. log_text (take i entries) ++ l) (append-nil (entry_line e))
+
+-- four texts, one after another
+pub four_written : {A E : Type 0} (r : Result A E) (t0 t1 t2 t3 t4 a b c d : List ℕ) → t1 ≡ t0 ++ a → t2 ≡ t1 ++ b → t3 ≡ t2 ++ c → OnOk r (t4 ≡ t3 ++ d)
+    → OnOk r (t4 ≡ t0 ++ (((a ++ b) ++ c) ++ d))
+four_written (Err e) t0 t1 t2 t3 t4 a b c d p q s u = tt
+four_written (Ok x) t0 t1 t2 t3 t4 a b c d p q s u = u ∙ ap (λ l. l ++ d) (s ∙ ap (λ l. l ++ c) (q ∙ ap (λ l. l ++ b) p)) ∙ shift
+  where
+    shift : (((t0 ++ a) ++ b) ++ c) ++ d ≡ t0 ++ (((a ++ b) ++ c) ++ d)
+    shift = ap (λ l. (l ++ c) ++ d) (append_assoc t0 a b) ∙ ap (λ l. l ++ d) (append_assoc t0 (a ++ b) c) ∙ append_assoc t0 ((a ++ b) ++ c) d

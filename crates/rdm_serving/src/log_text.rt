@@ -1,12 +1,14 @@
 //! What is written to a log: each entry of a session's log, and each exchange of a discovery, as a JSON object on a
 //! line of its own.
 ghost use Rattle.std.specs.Prelude.{◌≡◌, ◌++◌, Some, IfOk, OnOk, codes};
+ghost use Rattle.rdm_wire.specs.Bytes.{two_bytes};
+ghost use Rattle.rdm_wire.specs.UidText.{uid_text};
 ghost use Rattle.rdm_join.specs.Statuses.{number_of_status};
 ghost use Rattle.rdm_line.specs.Events.{event_of};
 ghost use Rattle.rdm_serving.specs.Writing.{Logs};
 ghost use Rattle.rdm_serving.specs.LogText.{number_member, text_member, bytes_member, request_members, kind_member};
 ghost use Rattle.rdm_serving.specs.LogText.{call_members, caller_member, asked_members, owner_member, event_member};
-ghost use Rattle.rdm_serving.specs.LogText.{fault_members, entry_name, entry_members, entry_line, log_text};
+ghost use Rattle.rdm_serving.specs.LogText.{class_key, fault_members, entry_name, entry_members, entry_line, log_text};
 ghost use Rattle.rdm_serving.specs.LogText.{operation_text, exchange_line};
 
 use crate::log_output::LogOutput;
@@ -289,14 +291,32 @@ fn write_asked(text: &mut Vec<u8>, client: ClientId, number: u64) -> Result<(), 
 fn write_request(alloc: Global, text: &mut Vec<u8>, request: &Request) -> Result<(), AllocError>
     ensures { OnOk result (text.new.items ≡ text.old.items ++ request_members request.now) }
 {
-    let key = match request.class {
-        ReqClass::Get => "get",
-        ReqClass::Set => "set",
-    };
-    write_text(text, key, &request.target.to_text())?;
-    write_bytes(alloc, text, "pid", &request.pid.to_be_bytes())?;
+    write_target(text, request)?;
+    write_pid(alloc, text, request.pid)?;
     write_number(text, "sub", u64::from(request.sub_device))?;
     write_bytes(alloc, text, "param", request.param.as_slice())
+}
+
+fn write_target(text: &mut Vec<u8>, request: &Request) -> Result<(), AllocError>
+    ensures { OnOk result (text.new.items
+        ≡ text.old.items ++ text_member (class_key request.now.class) (uid_text request.now.target)) }
+{
+    write_text(text, class_key(request.class), &request.target.to_text())
+}
+
+fn write_pid(alloc: Global, text: &mut Vec<u8>, pid: u16) -> Result<(), AllocError>
+    ensures { OnOk result (text.new.items ≡ text.old.items ++ bytes_member (codes "pid") (two_bytes pid)) }
+{
+    write_bytes(alloc, text, "pid", &pid.to_be_bytes())
+}
+
+fn class_key(class: ReqClass) -> &'static str
+    ensures { result.now ≡ class_key class }
+{
+    match class {
+        ReqClass::Get => "get",
+        ReqClass::Set => "set",
+    }
 }
 
 fn write_kind(text: &mut Vec<u8>, kind: Kind) -> Result<(), AllocError>

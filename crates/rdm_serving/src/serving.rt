@@ -5,9 +5,11 @@ ghost use Rattle.rdm_wire.specs.Uid.{IsDevice};
 ghost use Rattle.rdm_log.specs.log.Config.{IsConfig};
 ghost use Rattle.rdm_client.specs.declared.told.Told.{Told};
 ghost use Rattle.rdm_serving.specs.LoggedOutcomes.{IsLogOf};
+ghost use Rattle.rdm_serving.specs.LoggedCalls.{HasCalls};
 ghost use Rattle.rdm_serving.specs.SessionReport.{AllSettled, IsSettled, is_request, is_ask, places_of};
 ghost use Rattle.rdm_serving.specs.declared.outcomes.Discovered.{Discovered};
 
+mod called;
 mod calls;
 mod locked;
 mod logged;
@@ -19,6 +21,7 @@ mod told_line;
 use crate::outcomes::{Discovered, Outcomes};
 use crate::port_kind::PortKind;
 use crate::progress::Progress;
+use crate::serving::called::has_calls;
 use crate::serving::locked::serve_locked;
 pub use crate::serving::logged::are_logged;
 use crate::serving::rings::serve_rings;
@@ -68,7 +71,9 @@ pub struct Served {
 }
 
 /// Serves a session on the line of its scene, and returns what came of each client's calls, with the session and its
-/// log. Each outcome has its call's tag, and ended as that log says: its status and how many bytes it has, or its fault.
+/// log. The log has exactly the file's clients and calls. Each outcome has its call's tag, and ended as that log says:
+/// its status and how many bytes it has, or its fault.
+///
 /// Err: memory ran out; or else the log is full; or else a client or the worker has made all its turns.
 pub fn serve<L: Ledger + Send + Sync, P: Progress + Send, R: Threads + Wait + Sync>(
     rt: &R,
@@ -86,6 +91,7 @@ pub fn serve<L: Ledger + Send + Sync, P: Progress + Send, R: Threads + Wait + Sy
     requires log { file.log ≤ 1000000 }
     ensures settled { IfOk result (λ s. AllSettled file.clients.items s.outcomes.items) }
     ensures logged { IfOk result (λ s. IsLogOf s.session.opening s.session.entries s.outcomes.items) }
+    ensures called { IfOk result (λ s. HasCalls s.session.entries file.clients.items) }
 {
     let SessionFile {
         scene,
@@ -134,6 +140,7 @@ pub fn serve_on_line<
     requires log { file.log ≤ 1000000 }
     ensures settled { IfOk result (λ s. AllSettled file.clients.items s.outcomes.items) }
     ensures logged { IfOk result (λ s. IsLogOf s.session.opening s.session.entries s.outcomes.items) }
+    ensures called { IfOk result (λ s. HasCalls s.session.entries file.clients.items) }
 {
     let LineSessionFile {
         source,
@@ -167,10 +174,11 @@ pub fn serve_on_line<
 
 // What is left of the session, if each call has an outcome. A log with fewer than three free entries would have
 // refused the worker's next frame, so it is full, even if no frame was left. Outcomes that the log doesn't have never
-// come.
+// come, and it has no other calls than the file's.
 fn settled(alloc: Global, clients: &[ClientFile], served: Served) -> Result<Served, ServeFault>
     ensures settled { IfOk result (λ s. AllSettled clients.now s.outcomes.items) }
     ensures logged { IfOk result (λ s. IsLogOf s.session.opening s.session.entries s.outcomes.items) }
+    ensures called { IfOk result (λ s. HasCalls s.session.entries clients.now) }
 {
     if served.session.free() < LEAST_FREE {
         return Err(ServeFault::Log);
@@ -179,7 +187,8 @@ fn settled(alloc: Global, clients: &[ClientFile], served: Served) -> Result<Serv
     let Ok(is_logged) = are_logged(alloc, served.session.log(), &served.outcomes) else {
         return Err(ServeFault::Memory);
     };
-    if is_logged && all_settled(clients, &served.outcomes) {
+    let is_called = has_calls(served.session.log().entries(), clients);
+    if is_logged && is_called && all_settled(clients, &served.outcomes) {
         Ok(served)
     } else {
         Err(ServeFault::Turns)

@@ -4,10 +4,15 @@ use Rattle.rdm_agent.specs.declared.op.Op.TheVariants.{End}
 use Rattle.rdm_serving.specs.Discovery.{HasDriven, IsDiscovery}
 use Rattle.rdm_serving.specs.LogText.{exchanges_text}
 use Rattle.rdm_serving.specs.Writing.{Logs}
-use Rattle.rdm_serving.proofs.DiscoveryLemmas.{none_driven, one_logged, all_driven, reported_logged}
+use Rattle.rdm_serving.proofs.DiscoveryLemmas.{none_logged, one_logged, all_driven, reported_logged}
 use Rattle.rdm_serving.proofs.WritingLemmas.{logs_none}
 use Rattle.rdm_serving.proofs.discovery.discover.Goals as goal
 use Rattle.rdm_serving.proofs.discovery.discover.Goals.{else-exchanges-test, then-exchanges-test+then-eq}
+
+pub exchanges-init : goal.exchanges-init
+exchanges-init g c =
+    none_logged _ g.L.Line.step c.args.source c.args.search c.args.kind c.args.known.now c.args.budget c.args.line.now
+    c.start_by-agent.result c.args.log.now c.start_by-agent.ensures.state c.start_by-agent.ensures.has_run
 
 pub exchanges-preserved : goal.exchanges-preserved
 exchanges-preserved g c =
