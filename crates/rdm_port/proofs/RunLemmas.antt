@@ -7,6 +7,7 @@ use Rattle.rdm_log.specs.declared.entry.Entry.{Entry}
 use Rattle.rdm_files.specs.declared.session.client.ClientFile.{ClientFile}
 use Rattle.rdm_serving.specs.LogText.{log_text}
 use Rattle.rdm_serving.specs.LoggedOutcomes.{IsLogOf}
+use Rattle.rdm_serving.specs.LoggedCalls.{HasCalls}
 use Rattle.rdm_serving.specs.SessionReport.{AllSettled, session_text}
 use Rattle.rdm_serving.specs.Writing.{LogState, Logs}
 use Rattle.rdm_serving.specs.declared.outcomes.Outcomes.{Outcomes}
@@ -53,13 +54,13 @@ no_value F P bytes Memory none = none
 
 -- a session that was served, whose text is printed and whose log is written
 pub served_then : {E : Type 0} (r : Result Answered (Fault × E)) (clients : List ClientFile) (outcomes : List Outcomes) (opening : Opening) (entries : List Entry)
-    (wanted : Bool) (old mid new : LogState) → IsOpened wanted old mid → AllSettled clients outcomes → IsLogOf opening entries outcomes
+    (wanted : Bool) (old mid new : LogState) → IsOpened wanted old mid → AllSettled clients outcomes → IsLogOf opening entries outcomes → HasCalls entries clients
     → IfOk r (λ a. answer_bytes a.text ≡ session_text outcomes) → IfOk r (λ a. a.status ≡ 0) → OnOk r (Logs mid new (log_text entries))
     → IfOk r (λ a. (logged : List ℕ) × HasServed clients (answer_bytes a.text) logged a.status × HasLogged wanted old new logged)
-served_then (Err e) clients outcomes opening entries wanted old mid new opened settled log text status logs = tt
-served_then (Ok a) clients outcomes opening entries wanted old mid new opened settled log text status logs = (
+served_then (Err e) clients outcomes opening entries wanted old mid new opened settled log called text status logs = tt
+served_then (Ok a) clients outcomes opening entries wanted old mid new opened settled log called text status logs = (
   log_text entries,
-  record { outcomes = outcomes; settled = settled; opening = opening; entries = entries; log = log; prints = text; logs = refl; ends = status },
+  record { outcomes = outcomes; settled = settled; opening = opening; entries = entries; log = log; called = called; prints = text; logs = refl; ends = status },
   opened_then wanted old mid new (log_text entries) opened logs,
 )
 

@@ -29,6 +29,7 @@ use Rattle.rdm_port.specs.Fault.{ReadsScene, ReadsSession, IsFaultOf, fault_line
 use Rattle.rdm_serving.specs.Report.{line_of, report_text, report_status}
 use Rattle.rdm_serving.specs.SessionReport.{AllSettled, session_text}
 use Rattle.rdm_serving.specs.LoggedOutcomes.{IsLogOf}
+use Rattle.rdm_serving.specs.LoggedCalls.{HasCalls}
 use Rattle.rdm_serving.specs.LogText.{exchanges_text, log_text}
 use Rattle.rdm_serving.specs.Writing.{IsCutShort}
 use Rattle.rdm_serving.specs.declared.outcomes.Outcomes.{Outcomes}
@@ -75,14 +76,15 @@ pub record Discovers (incremental quick : Bool) (known : Option (List ℕ)) (tex
   pub logs : logged ≡ exchanges_text run.discovery.driven.exchanges
   pub ends : status ≡ report_status found
 
--- The text has the outcomes of all calls of these clients, and they ended as a legal log says, whose text is the other
--- one. Which log the threads arrive at isn't said.
+-- The text has the outcomes of all calls of these clients, and they ended as a legal log says, which has exactly these
+-- clients and calls. The other text is that log's. In which order the threads made the calls isn't said.
 pub record HasServed (clients : List ClientFile) (text logged : List ℕ) (status : ℕ) : Type 0 where
   pub outcomes : List Outcomes
   pub settled : AllSettled clients outcomes
   pub opening : Opening
   pub entries : List Entry
   pub log : IsLogOf opening entries outcomes
+  pub called : HasCalls entries clients
   pub prints : text ≡ session_text outcomes
   pub logs : logged ≡ log_text entries
   pub ends : status ≡ 0

@@ -1,5 +1,5 @@
 //! What a command line prints, its status, and the reason of what isn't done.
-ghost use Rattle.std.specs.Prelude.{◌≡◌, ◌×◌, ℕ, List, None, Ok, IfOk, IfErr, false};
+ghost use Rattle.std.specs.Prelude.{◌≡◌, ℕ, List, None, Ok, IfOk, IfErr, false};
 ghost use Rattle.rdm_port.specs.Fault.{IsFaultOf, fault_line, fault_status};
 ghost use Rattle.rdm_serving.specs.Report.{line_of};
 ghost use Rattle.rdm_port.specs.Outcome.{Answers, IsLogged, IsLoggedWith, IsOutcome, IsPrinted, has_log};
