@@ -13,6 +13,7 @@ Arguments = Tuple[bytes, ...]
 Form = Callable[[bytes, int], bool]
 
 FILE_NAME = "file.json"
+LOG_NAME = "log"
 PROGRAM_NAME = "wurstlinen"
 OTHER_PROGRAM_NAME = "rdm_port"
 
@@ -56,6 +57,13 @@ class FarEnd:
 
 
 @dataclass(frozen=True)
+class Log:
+    """What the file of a log holds; None if there is no such file."""
+
+    contents: Optional[bytes]
+
+
+@dataclass(frozen=True)
 class Expected:
     """What the program has to print, and its status. What is None isn't compared."""
 
@@ -69,6 +77,8 @@ class Expected:
     form: Optional[Form] = None
     # The lines that go to a line's far end.
     sent: Optional[Tuple[bytes, ...]] = None
+    # The log, which is in the file LOG_NAME.
+    log: Optional[Log] = None
 
 
 @dataclass(frozen=True)
@@ -95,6 +105,7 @@ class Answer:
     out: bytes
     err: bytes
     sent: Tuple[bytes, ...] = ()
+    log: Log = Log(None)
 
 
 @dataclass(frozen=True)

@@ -17,6 +17,7 @@ def differences(expected: Expected, answer: Answer, first: Optional[Answer]) -> 
         *differences_of_output(expected, answer),
         *differences_of_error(expected, answer),
         *differences_of_sent(expected, answer),
+        *differences_of_log(expected, answer),
         *differences_of_two(first, answer),
     ]
 
@@ -52,6 +53,12 @@ def differences_of_sent(expected: Expected, answer: Answer) -> Iterator[str]:
         yield from wanted_and_got("sent", b"\n".join(expected.sent or ()), b"\n".join(answer.sent))
 
 
+def differences_of_log(expected: Expected, answer: Answer) -> Iterator[str]:
+    """The log is the one that is expected, or there is none."""
+    if expected.log not in (None, answer.log):
+        yield from wanted_and_got("log", expected.log and expected.log.contents, answer.log.contents)
+
+
 def differences_of_two(first: Optional[Answer], answer: Answer) -> Iterator[str]:
     """All commands of a case print the same."""
     if first is not None and (first.out, first.status) != (answer.out, answer.status):
@@ -64,10 +71,15 @@ def is_line(front: bytes, text: bytes) -> bool:
     return text.startswith(front) and ONE_LINE.fullmatch(text) is not None
 
 
-def wanted_and_got(stream: str, wanted: Optional[bytes], got: bytes) -> Iterator[str]:
+def wanted_and_got(stream: str, wanted: Optional[bytes], got: Optional[bytes]) -> Iterator[str]:
     """Both texts, one under the other."""
-    yield f"{stream}: wanted {shown(wanted or b'')}"
-    yield f"{' ' * len(stream)}  got    {shown(got)}"
+    yield f"{stream}: wanted {shown_or_nothing(wanted)}"
+    yield f"{' ' * len(stream)}  got    {shown_or_nothing(got)}"
+
+
+def shown_or_nothing(text: Optional[bytes]) -> str:
+    """A text in quotes, if there is one."""
+    return "nothing" if text is None else shown(text)
 
 
 def shown(text: bytes) -> str:

@@ -9,7 +9,7 @@ from dataclasses import dataclass, field, replace
 from pathlib import Path
 from typing import IO, Any, Dict, List, Tuple, Union
 
-from .case import Answer, Arguments, Case, File, Output
+from .case import LOG_NAME, Answer, Arguments, Case, File, Log, Output
 from .comparing import differences
 from .far_end import attached
 
@@ -52,7 +52,7 @@ class Runner:
         first = None
         for arguments in case.commands:
             try:
-                answer = self._answer_on_line(case, arguments)
+                answer = self._answer_with_log(case, arguments)
             except subprocess.TimeoutExpired:
                 return (shown_command(case, arguments), f"it didn't end within {SECONDS} seconds")
             problems = differences(case.expected, answer, first)
@@ -60,6 +60,13 @@ class Runner:
                 return (shown_command(case, arguments), *problems)
             first = answer
         return ()
+
+    def _answer_with_log(self, case: Case, arguments: Arguments) -> Answer:
+        log = (case.folder or self.folder) / LOG_NAME
+        if all(file.path != LOG_NAME for file in case.files):
+            log.unlink(missing_ok=True)
+        answer = self._answer_on_line(case, arguments)
+        return replace(answer, log=Log(log.read_bytes() if log.is_file() else None))
 
     def _answer_on_line(self, case: Case, arguments: Arguments) -> Answer:
         if case.far_end is None:

@@ -7,8 +7,8 @@ from dataclasses import dataclass
 from pathlib import Path
 from typing import Dict, Iterator, List, Optional, Tuple
 
-from .case import FILE_NAME, OTHER_PROGRAM_NAME, PROGRAM_NAME, Arguments, Case, Expected, FarEnd, File, Output
-from .case import Streams, Subject
+from .case import FILE_NAME, OTHER_PROGRAM_NAME, PROGRAM_NAME, Arguments, Case, Expected, FarEnd, File, Log
+from .case import Output, Streams, Subject
 
 FIELD = re.compile(r"([a-z-]+)(?: (.*))?")
 INDENT = "    "
@@ -24,7 +24,7 @@ PORTS = (b"locked", b"rings")
 NOTHING = "nothing"
 FIELDS = frozenset(
     "case args file bytes path length unreadable ports program stdout out err err-has status"
-    " line replies fixtures answers sent".split()
+    " line replies fixtures answers sent log no-log".split()
 )
 
 Fields = Dict[str, str]
@@ -228,7 +228,15 @@ def expected_of(fields: Fields) -> Expected:
         err=lines_of(fields, "err"),
         err_has=fields["err-has"].encode() if "err-has" in fields else None,
         sent=tuple(fields["sent"].encode().split()) if "sent" in fields else None,
+        log=log_of(fields),
     )
+
+
+def log_of(fields: Fields) -> Optional[Log]:
+    """What the log has to hold, if that is compared."""
+    if "no-log" in fields:
+        return Log(None)
+    return Log(lines_of(fields, "log")) if "log" in fields else None
 
 
 def number_of(fields: Fields, name: str, otherwise: int) -> int:

@@ -1,5 +1,5 @@
 //! Reads a file as a whole.
-ghost use Rattle.std.specs.Prelude.{IfOk};
+ghost use Rattle.std.specs.Prelude.{◌≡◌, ◌<◌, Err, IfOk, IfSome, length};
 ghost use Rattle.rdm_files.specs.Input.{IsContent};
 
 use std::alloc::Global;
@@ -21,7 +21,9 @@ pub enum FileFault {
 
 /// The bytes that a reader has, [`MOST_BYTES`] at most. Err: the first fault that is met.
 pub fn read_file<R: Read>(alloc: Global, reader: &mut R) -> Result<Vec<u8>, FileFault>
-    ensures { IfOk result (λ bytes. IsContent (R.remaining reader.old) bytes.items) }
+    ensures content { IfOk result (λ bytes. IsContent (R.remaining reader.old) bytes.items) }
+    ensures too_long { result ≡ Err FileFault.TooLong
+        → IfSome (R.remaining reader.old) (λ bytes. MOST_BYTES < length bytes) }
 {
     let mut bytes = Vec::new(alloc);
     let mut limited = (&mut *reader).take(MOST_BYTES as u64 + 1);

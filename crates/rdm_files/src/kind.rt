@@ -1,4 +1,4 @@
-//! Scene files and session files differ by their keys.
+//! Scene files and the two kinds of session files differ by their keys.
 ghost use Rattle.std.specs.Prelude.{◌≡◌};
 ghost use Rattle.serde_json.specs.View.{view};
 ghost use Rattle.rdm_files.specs.FileKinds.{looks_like};
@@ -11,23 +11,28 @@ use std::fmt;
 pub enum FileKind {
     /// A scene, which `discover` reads.
     Scene,
-    /// A session, which `run` reads.
+    /// A session on a scene, which `run` reads.
     Session,
+    /// A session on a line of the caller's own, which `run` reads with `--line`.
+    LineSession,
 }
 
-/// What a file looks like, by its keys alone: a scene if it has a source and no scene; a session if it has no source,
-/// but a scene or clients. None: it has none of the three, or both a source and a scene.
+/// What a file looks like, by its keys alone. One with clients is a session; it is on a line of the caller's own if it
+/// has a source and no scene. Without clients it is a scene if it has a source and no scene, and a session if it has a
+/// scene and no source. None: it has no clients, and none of the two or both.
 pub fn looks_like(file: &Value) -> Option<FileKind>
     ensures { result ≡ looks_like (view file.now) }
 {
     let has_source = file.get("source").is_some();
     let has_scene = file.get("scene").is_some();
     let has_clients = file.get("clients").is_some();
-    match (has_source, has_scene, has_clients) {
-        (true, false, _) => Some(FileKind::Scene),
-        (false, true, _) => Some(FileKind::Session),
+    match (has_clients, has_source, has_scene) {
+        (true, true, false) => Some(FileKind::LineSession),
+        (true, true, true) => Some(FileKind::Session),
+        (true, false, _) => Some(FileKind::Session),
+        (false, true, false) => Some(FileKind::Scene),
         (false, false, true) => Some(FileKind::Session),
-        (true, true, _) => None,
+        (false, true, true) => None,
         (false, false, false) => None,
     }
 }
@@ -37,6 +42,12 @@ impl fmt::Display for FileKind {
         match self {
             FileKind::Scene => write!(f, "a scene file; try ./wurstlinen discover FILE"),
             FileKind::Session => write!(f, "a session file; try ./wurstlinen run FILE"),
+            FileKind::LineSession => {
+                write!(
+                    f,
+                    "a session file without a scene; try ./wurstlinen run FILE --line OUT"
+                )
+            }
         }
     }
 }

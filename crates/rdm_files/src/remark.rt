@@ -24,7 +24,8 @@ impl fmt::Display for Remark {
                 let last = first.saturating_add(4);
                 write!(
                     f,
-                    "{path}: exchanges {first} to {last} are all lost; with five lost in succession a device may be missed"
+                    "{path}: exchanges {first} to {last} are all lost; \
+                     with five lost in succession a device may be missed"
                 )
             }
         }

@@ -11,9 +11,10 @@ mod path;
 mod values;
 
 pub use fault::{Found, Mismatch, SceneFault};
+pub(crate) use file::BUDGET;
 pub use file::{SceneFile, read_scene, unknown_in_scene};
 pub(crate) use form::{Form, ListOf, optional, required};
 pub use key::UnknownKey;
 pub(crate) use key::{Keyed, unknown_in_list, unknown_of, unknown_under};
 pub use path::{Path, Step};
-pub(crate) use values::{AnyUid, Bytes, FourDigits, Whole};
+pub(crate) use values::{AnyUid, Bytes, FourDigits, OwnUid, Whole};

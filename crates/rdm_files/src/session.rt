@@ -1,12 +1,14 @@
-//! Session files: a line to be simulated and the calls of the clients on it, as JSON. Unknown
-//! keys are left out, and the first one is reported to people.
+//! Session files: the calls of clients as JSON, with a line to be simulated, or the controller's UID on the caller's
+//! own line. Unknown keys are left out, and the first one is reported to people.
 
 mod call;
 mod client;
 mod command;
 mod file;
+mod line_file;
 
 pub use call::ClientCall;
 pub use client::ClientFile;
 pub use command::discovery_command;
 pub use file::{SessionFile, read_session, unknown_in_session};
+pub use line_file::{LineSessionFile, read_line_session, unknown_in_line_session};

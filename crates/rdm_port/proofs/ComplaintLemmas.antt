@@ -8,7 +8,8 @@ use Rattle.rdm_port.specs.declared.complaint.Complaint.{Complaint}
 use Rattle.rdm_port.specs.declared.complaint.Complaint.TheVariants.{Help, Version, NoCommand, UnknownCommand}
 use Rattle.rdm_port.specs.declared.complaint.Complaint.TheVariants.{UnknownOption, Repeated, HasValue, NoPort}
 use Rattle.rdm_port.specs.declared.complaint.Complaint.TheVariants.{UnknownPort, NoArgument, OneTooMany, NoText, Words}
-use Rattle.rdm_port.specs.declared.complaint.Complaint.TheVariants.{NoValue, NoOption, UnknownBudget}
+use Rattle.rdm_port.specs.declared.complaint.Complaint.TheVariants.{NoValue, NoOption, NeedsLine, TooManyKnown}
+use Rattle.rdm_port.specs.declared.complaint.Complaint.TheVariants.{UnknownBudget}
 
 -- a list of one word has no other
 only : (word other : Bor Text) → Contains (word ∷ []) other → word ≡ other
@@ -31,4 +32,6 @@ among name word words (UnknownCommand other) has told = told
 among name word words NoText has told = told
 among name word words (NoValue option) has told = tt
 among name word words (NoOption command option) has told = told
+among name word words (NeedsLine option) has told = tt
+among name word words TooManyKnown has told = tt
 among name word words (UnknownBudget text) has told = told

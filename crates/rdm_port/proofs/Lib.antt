@@ -2,3 +2,5 @@ pub mod WordsLemmas
 mod ComplaintLemmas
 mod LineLemmas
 mod LineWordLemmas
+mod LoggedLemmas
+mod RunLemmas

@@ -7,7 +7,8 @@ use Rattle.rdm_port.specs.declared.complaint.Complaint.{Complaint}
 use Rattle.rdm_port.specs.declared.complaint.Complaint.TheVariants.{Help, Version, NoCommand, UnknownCommand}
 use Rattle.rdm_port.specs.declared.complaint.Complaint.TheVariants.{UnknownOption, Repeated, HasValue, NoPort}
 use Rattle.rdm_port.specs.declared.complaint.Complaint.TheVariants.{UnknownPort, NoArgument, OneTooMany, Words}
-use Rattle.rdm_port.specs.declared.complaint.Complaint.TheVariants.{NoValue, NoOption, UnknownBudget}
+use Rattle.rdm_port.specs.declared.complaint.Complaint.TheVariants.{NoValue, NoOption, NeedsLine, TooManyKnown}
+use Rattle.rdm_port.specs.declared.complaint.Complaint.TheVariants.{UnknownBudget}
 use Rattle.rdm_port.specs.LineWords.{IsBudget}
 
 -- the text is no command's name
@@ -39,6 +40,8 @@ IsTrueAfter name words (OneTooMany word) = Contains words word
 IsTrueAfter name words Words = ⊤
 IsTrueAfter name words (NoValue option) = ⊤
 IsTrueAfter name words (NoOption command option) = command.now ≡ name
+IsTrueAfter name words (NeedsLine option) = ⊤
+IsTrueAfter name words TooManyKnown = ⊤
 IsTrueAfter name words (UnknownBudget text) = (budget : ℕ) → IsBudget (Some text.now) budget → ⊥
 IsTrueAfter name words _ = ⊥
 

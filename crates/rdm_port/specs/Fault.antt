@@ -86,23 +86,23 @@ IsTextFault bytes Scene = IsNoScene bytes
 IsTextFault bytes Memory = ⊤
 IsTextFault bytes _ = ⊥
 
--- a file that says none; each may be unreadable
+-- a file that says none; each may be unreadable, and so may the log that is opened after it
 abbrev pub IsFileFault : Option (List ℕ) → Fault → Type 0
 IsFileFault known File = ⊤
 IsFileFault known fault = (bytes : List ℕ) × IsContent known bytes × IsTextFault bytes fault
 
--- the bytes say this session, without a discovery command
-pub record SaysSession (bytes : List ℕ) (file : SessionFile) : Type 0 where
+-- the bytes say this session, without a discovery command; P is what JSON says of a session
+pub record SaysSession (F : Type 0) (P : Data → F → Type 0) (bytes : List ℕ) (file : F) : Type 0 where
   pub value : Data
   pub json : read bytes ≡ Some value
   pub no_command : has_discovery_command value ≡ false
-  pub session : IsSessionFile value file
+  pub session : P value file
 
 -- the reader's file says it
-pub record ReadsSession (known : Option (List ℕ)) (file : SessionFile) : Type 0 where
+pub record ReadsSession (F : Type 0) (P : Data → F → Type 0) (known : Option (List ℕ)) (file : F) : Type 0 where
   pub bytes : List ℕ
   pub content : IsContent known bytes
-  pub says : SaysSession bytes file
+  pub says : SaysSession F P bytes file
 
 -- bytes that are JSON, with a discovery command
 pub record IsCommandText (bytes : List ℕ) : Type 0 where
@@ -111,38 +111,42 @@ pub record IsCommandText (bytes : List ℕ) : Type 0 where
   pub command : has_discovery_command value ≡ true
 
 -- bytes that are JSON, without a discovery command, but no session's
-pub record IsNoSession (bytes : List ℕ) : Type 0 where
+pub record IsNoSession (F : Type 0) (P : Data → F → Type 0) (bytes : List ℕ) : Type 0 where
   pub value : Data
   pub json : read bytes ≡ Some value
   pub no_command : has_discovery_command value ≡ false
-  pub none : (file : SessionFile) → IsSessionFile value file → ⊥
+  pub none : (file : F) → P value file → ⊥
 
 -- bytes that say no session: they are no JSON, or else have a discovery command, or else are no session's
-abbrev pub IsSessionTextFault : List ℕ → Fault → Type 0
-IsSessionTextFault bytes Json = IsUtf8 bytes → read bytes ≡ None
-IsSessionTextFault bytes DiscoveryCommand = IsCommandText bytes
-IsSessionTextFault bytes Scene = IsNoSession bytes
-IsSessionTextFault bytes Memory = ⊤
-IsSessionTextFault bytes _ = ⊥
+abbrev pub IsSessionTextFault : (F : Type 0) → (Data → F → Type 0) → List ℕ → Fault → Type 0
+IsSessionTextFault F P bytes Json = IsUtf8 bytes → read bytes ≡ None
+IsSessionTextFault F P bytes DiscoveryCommand = IsCommandText bytes
+IsSessionTextFault F P bytes Scene = IsNoSession F P bytes
+IsSessionTextFault F P bytes Memory = ⊤
+IsSessionTextFault F P bytes _ = ⊥
 
--- a file that says none; each may be unreadable
-abbrev pub IsSessionFileFault : Option (List ℕ) → Fault → Type 0
-IsSessionFileFault known File = ⊤
-IsSessionFileFault known fault = (bytes : List ℕ) × IsContent known bytes × IsSessionTextFault bytes fault
+-- a file that says none; each may be unreadable, and so may each stream and each log that is opened after it
+abbrev pub IsSessionFileFault : (F : Type 0) → (Data → F → Type 0) → Option (List ℕ) → Fault → Type 0
+IsSessionFileFault F P known File = ⊤
+IsSessionFileFault F P known fault = (bytes : List ℕ) × IsContent known bytes × IsSessionTextFault F P bytes fault
 
 -- what may happen while the session of a file is served
-abbrev pub IsServeFault : Option (List ℕ) → Fault → Type 0
-IsServeFault known Log = (file : SessionFile) × ReadsSession known file
-IsServeFault known Turns = (file : SessionFile) × ReadsSession known file
-IsServeFault known Memory = ⊤
-IsServeFault known _ = ⊥
+abbrev pub IsServeFault : (F : Type 0) → (Data → F → Type 0) → Option (List ℕ) → Fault → Type 0
+IsServeFault F P known Log = (file : F) × ReadsSession F P known file
+IsServeFault F P known Turns = (file : F) × ReadsSession F P known file
+IsServeFault F P known Memory = ⊤
+IsServeFault F P known _ = ⊥
+
+-- the faults of a session, from its file to its end
+abbrev pub IsRunFault : (F : Type 0) → (Data → F → Type 0) → Option (List ℕ) → Fault → Type 0
+IsRunFault F P known fault = IsServeFault F P known fault ⊎ IsSessionFileFault F P known fault
 
 -- the faults of a job, whose file has these bytes, where they are known
 abbrev pub HasFault : Job → Option (List ℕ) → Fault → Type 0
 HasFault (Decode digits) known fault = IsDecodeFault digits.now fault
 HasFault (Encode uid) known fault = IsEncodeFault uid.now fault
-HasFault (Discover file incremental quick) known fault = (fault ≡ Memory) ⊎ IsFileFault known fault
-HasFault (Run file port) known fault = IsServeFault known fault ⊎ IsSessionFileFault known fault
+HasFault (Discover file incremental quick log) known fault = (fault ≡ Memory) ⊎ IsFileFault known fault
+HasFault (Run file port log) known fault = IsRunFault SessionFile IsSessionFile known fault
 
 -- the faults of a command line
 abbrev pub IsFaultOf : Result Job WordsFault → Option (List ℕ) → Fault → Type 0

@@ -1,11 +1,14 @@
 -- What arguments ask for on a line of the caller's own, as `clap` reads them.
-use Rattle.std.specs.Prelude.{◌≡◌, ◌≤◌, ℕ, List, [], Option, Some, None, codes, length, option_map, unwrap_or, true}
+use Rattle.std.specs.Prelude.{◌≡◌, ◌≤◌, ℕ, List, [], Option, Some, None, codes, length, unwrap_or, true}
 use Rattle.std.specs.Str.Parse.{IsNumeral, digits_value, without_leading_plus}
 use Rattle.clap.specs.Words.{App, Row, Text, new_app, new_rule, with_rule, with_subcommand, subcommand_of, first_of}
 use Rattle.clap.specs.Words.{all_of, fault_of}
 use Rattle.clap.specs.declared.builder.action.ArgAction.TheVariants.{Append, SetTrue}
-use Rattle.rdm_port.specs.Words.{bare, is_set, texts_of}
+use Rattle.rdm_port.specs.Words.{bare, is_set, path_text, port_in, texts_of, with_log}
 use Rattle.rdm_port.specs.declared.line_job.LineDiscovery.{LineDiscovery}
+use Rattle.rdm_port.specs.declared.line_job.LineRun.{LineRun}
+use Rattle.rdm_port.specs.declared.line_job.LineJob.{LineJob}
+use Rattle.rdm_port.specs.declared.line_job.LineJob.TheVariants.{Discover, Run}
 
 -- a command with the streams of a line, of which the one for replies may be left out
 abbrev pub line_streams : Text → App
@@ -32,15 +35,26 @@ line_budget = with_rule line_devices (record (new_rule (codes "budget")) { long 
 -- the whole command
 abbrev pub line_discover : App
 line_discover =
-    with_rule
+    with_log
+    (with_rule
     (with_rule
     line_budget
     (record (new_rule (codes "incremental")) { long = Some (codes "incremental"); action = Some SetTrue }))
-    (record (new_rule (codes "quick")) { long = Some (codes "quick"); action = Some SetTrue })
+    (record (new_rule (codes "quick")) { long = Some (codes "quick"); action = Some SetTrue }))
+
+-- the command that runs a session: a file, a port and a log
+abbrev pub line_run : App
+line_run =
+    with_log
+    (with_rule
+    (with_rule
+    (line_streams (codes "run"))
+    (record (new_rule (codes "file")) { required = true }))
+    (record (new_rule (codes "port")) { long = Some (codes "port") }))
 
 -- the commands on a line
 abbrev pub line_commands : App
-line_commands = with_subcommand bare line_discover.top
+line_commands = with_subcommand (with_subcommand bare line_discover.top) line_run.top
 
 -- the values of an option that may be given often, in order
 abbrev pub texts_given : Text → List Row → List Text
@@ -59,24 +73,39 @@ IsBudget (Some text) budget = IsNumber text budget × (1 ≤ budget) × (budget 
 -- the arguments say this discovery
 pub record IsDiscoveryOf (given : List Row) (job : LineDiscovery) : Type 0 where
   pub out : first_of (codes "line") given ≡ Some job.out.now
-  pub replies : first_of (codes "replies") given ≡ option_map (λ r. r.now) job.replies
+  pub replies : first_of (codes "replies") given ≡ path_text job.replies
   pub source : first_of (codes "source") given ≡ Some job.source.now
   pub known : texts_given (codes "known") given ≡ texts_of job.known.items
   pub few : length job.known.items ≤ 1024
   pub incremental : job.incremental ≡ is_set (codes "incremental") given
   pub quick : job.quick ≡ is_set (codes "quick") given
   pub budget : IsBudget (first_of (codes "budget") given) job.budget
+  pub log : first_of (codes "log") given ≡ path_text job.log
 
--- the command with its arguments is this discovery
-abbrev pub IsGivenOnLine : Option (Text × List Row) → LineDiscovery → Type 0
+-- the arguments say this session
+pub record IsRunOf (given : List Row) (job : LineRun) : Type 0 where
+  pub file : first_of (codes "file") given ≡ Some job.file.now
+  pub out : first_of (codes "line") given ≡ Some job.out.now
+  pub replies : first_of (codes "replies") given ≡ path_text job.replies
+  pub port : port_in given ≡ Some job.port
+  pub log : first_of (codes "log") given ≡ path_text job.log
+
+-- the command with its arguments is this job
+abbrev pub IsGivenOnLine : Option (Text × List Row) → LineJob → Type 0
 IsGivenOnLine None job = ⊥
-IsGivenOnLine (Some command) job = (command.0 ≡ codes "discover") × IsDiscoveryOf command.1 job
+IsGivenOnLine (Some command) (Discover job) = (command.0 ≡ codes "discover") × IsDiscoveryOf command.1 job
+IsGivenOnLine (Some command) (Run job) = (command.0 ≡ codes "run") × IsRunOf command.1 job
 
--- the words ask for the discovery
-abbrev pub AsksOnLine : List Text → LineDiscovery → Type 0
+-- the words ask for the job
+abbrev pub AsksOnLine : List Text → LineJob → Type 0
 AsksOnLine words job =
     (fault_of line_commands words ≡ []) × IsGivenOnLine (subcommand_of line_commands words) job
 
 -- the words ask for none
 abbrev pub AsksNothingOnLine : List Text → Type 0
-AsksNothingOnLine words = (job : LineDiscovery) → AsksOnLine words job → ⊥
+AsksNothingOnLine words = (job : LineJob) → AsksOnLine words job → ⊥
+
+-- the path of the file that a job reads
+abbrev pub file_on_line : LineJob → Option Text
+file_on_line (Discover job) = None
+file_on_line (Run job) = Some job.file.now

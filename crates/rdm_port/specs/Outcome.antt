@@ -1,6 +1,6 @@
 -- What is printed for a command line, and the status.
-use Rattle.std.specs.Prelude.{◌≡◌, ◌≢◌, ◌⊎◌, ◌++◌, [], ℕ, Bool, true, false, List, Option, codes, Result, Ok}
-use Rattle.std.specs.Io.KnownBytes.{Appends}
+use Rattle.std.specs.Prelude.{◌≡◌, ◌⊎◌, [], ℕ, Bool, true, false, List, Option, codes, Result, Ok, Err}
+use Rattle.std.specs.Io.KnownBytes.{Appends, Keeps}
 use Rattle.hex.specs.Hex.{decode_of, encode_lower}
 use Rattle.rdm_wire.specs.UidText.{UidText, uid_text}
 use Rattle.rdm_wire.specs.BranchText.{ReadsAs, branch_text}
@@ -17,12 +17,21 @@ use Rattle.rdm_port.specs.declared.job.Job.{Job}
 use Rattle.rdm_port.specs.declared.job.Job.TheVariants.{Decode, Encode, Discover, Run}
 use Rattle.rdm_port.specs.declared.job.WordsFault.{WordsFault}
 use Rattle.rdm_files.specs.declared.scene.file.SceneFile.{SceneFile}
+use Rattle.rdm_files.specs.SessionFiles.{IsSessionFile}
 use Rattle.rdm_files.specs.declared.session.file.SessionFile.{SessionFile}
+use Rattle.rdm_files.specs.declared.session.client.ClientFile.{ClientFile}
+use Rattle.rdm_log.specs.declared.entry.Opening.{Opening}
+use Rattle.rdm_log.specs.declared.entry.Entry.{Entry}
 use Rattle.rdm_port.specs.declared.fault.Fault.{Fault}
+use Rattle.rdm_port.specs.declared.fault.Fault.TheVariants.{Memory}
+use Rattle.rdm_port.specs.Words.{keeps_log}
 use Rattle.rdm_port.specs.Fault.{ReadsScene, ReadsSession, IsFaultOf, fault_line, fault_status}
 use Rattle.rdm_serving.specs.Report.{line_of, report_text, report_status}
 use Rattle.rdm_serving.specs.SessionReport.{AllSettled, session_text}
-use Rattle.rdm_serving.specs.LoggedOutcomes.{HasLog}
+use Rattle.rdm_serving.specs.LoggedOutcomes.{IsLogOf}
+use Rattle.rdm_serving.specs.LoggedCalls.{HasCalls}
+use Rattle.rdm_serving.specs.LogText.{exchanges_text, log_text}
+use Rattle.rdm_serving.specs.Writing.{IsCutShort}
 use Rattle.rdm_serving.specs.declared.outcomes.Outcomes.{Outcomes}
 use Rattle.rdm_serving.specs.SceneDiscovery.{IsSceneDiscovery, IsHonestReport}
 
@@ -52,8 +61,9 @@ abbrev pub search_of : Bool → Search
 search_of false = Steady
 search_of true = Quick
 
--- the text reports a run on the line of the scene that the file's bytes say
-pub record Discovers (incremental quick : Bool) (known : Option (List ℕ)) (text : List ℕ) (status : ℕ) : Type 0 where
+-- the texts report a run on the line of the scene that the file's bytes say, and the run's exchanges
+pub record Discovers (incremental quick : Bool) (known : Option (List ℕ)) (text logged : List ℕ) (status : ℕ)
+    : Type 0 where
   pub file : SceneFile
   pub reads : ReadsScene known file
   pub found : Result (List Device) (AgentFault × List Device)
@@ -63,38 +73,59 @@ pub record Discovers (incremental quick : Bool) (known : Option (List ℕ)) (tex
   pub honest : NoFiveSuccessive file.scene.losses.items
       → IsHonestReport file.scene (search_of quick) (kind_of incremental) file.known file.budget found frames
   pub prints : text ≡ report_text found frames
+  pub logs : logged ≡ exchanges_text run.discovery.driven.exchanges
   pub ends : status ≡ report_status found
 
--- The text has the outcomes of all calls of the session that the file's bytes say, and they ended as a legal log says.
--- Which log the threads arrive at isn't said.
-pub record Runs (known : Option (List ℕ)) (text : List ℕ) (status : ℕ) : Type 0 where
-  pub file : SessionFile
-  pub reads : ReadsSession known file
+-- The text has the outcomes of all calls of these clients, and they ended as a legal log says, which has exactly these
+-- clients and calls. The other text is that log's. In which order the threads made the calls isn't said.
+pub record HasServed (clients : List ClientFile) (text logged : List ℕ) (status : ℕ) : Type 0 where
   pub outcomes : List Outcomes
-  pub settled : AllSettled file.clients.items outcomes
-  pub logged : HasLog outcomes
+  pub settled : AllSettled clients outcomes
+  pub opening : Opening
+  pub entries : List Entry
+  pub log : IsLogOf opening entries outcomes
+  pub called : HasCalls entries clients
   pub prints : text ≡ session_text outcomes
+  pub logs : logged ≡ log_text entries
   pub ends : status ≡ 0
 
--- the text and the status answer the job, whose file has these bytes, where they are known
-abbrev pub Answers : Job → Option (List ℕ) → List ℕ → ℕ → Type 0
-Answers (Decode digits) known text status = Decodes digits.now text × (status ≡ 0)
-Answers (Encode uid) known text status = Encodes uid.now text × (status ≡ 0)
-Answers (Discover file incremental quick) known text status = Discovers incremental quick known text status
-Answers (Run file port) known text status = Runs known text status
+-- the texts have the outcomes and the log of the session that the file's bytes say
+pub record Runs (known : Option (List ℕ)) (text logged : List ℕ) (status : ℕ) : Type 0 where
+  pub file : SessionFile
+  pub reads : ReadsSession SessionFile IsSessionFile known file
+  pub served : HasServed file.clients.items text logged status
 
--- the text and the status that a command line is answered with
-abbrev pub IsOutcome : Result Job WordsFault → Option (List ℕ) → List ℕ → ℕ → Type 0
-IsOutcome command known text status =
-    ((job : Job) × (command ≡ Ok job) × Answers job known text status)
+-- the texts and the status answer the job, whose file has these bytes, where they are known; the second text is for the
+-- log, if the job has one
+abbrev pub Answers : Job → Option (List ℕ) → List ℕ → List ℕ → ℕ → Type 0
+Answers (Decode digits) known text logged status = Decodes digits.now text × (status ≡ 0)
+Answers (Encode uid) known text logged status = Encodes uid.now text × (status ≡ 0)
+Answers (Discover file incremental quick log) known text logged status =
+    Discovers incremental quick known text logged status
+Answers (Run file port log) known text logged status = Runs known text logged status
+
+-- with a fault nothing is logged; but a discovery has logged its exchanges before its report finds no memory
+abbrev pub IsLoggedWith : Fault → List ℕ → Type 0
+IsLoggedWith fault logged = (logged ≡ []) ⊎ (fault ≡ Memory)
+
+-- the texts and the status that a command line is answered with
+abbrev pub IsOutcome : Result Job WordsFault → Option (List ℕ) → List ℕ → List ℕ → ℕ → Type 0
+IsOutcome command known text logged status =
+    ((job : Job) × (command ≡ Ok job) × Answers job known text logged status)
     ⊎ ((fault : Fault) × IsFaultOf command known fault × (text ≡ line_of (fault_line fault))
-    × (status ≡ fault_status fault))
+    × IsLoggedWith fault logged × (status ≡ fault_status fault))
 
--- a writer that had old has new, which is old and a prefix of the text, but not all of it
-abbrev pub IsCutShort : Option (List ℕ) → Option (List ℕ) → List ℕ → Type 0
-IsCutShort old new text = (front rest : List ℕ) × (text ≡ front ++ rest) × (rest ≢ []) × Appends old new front
+-- whether a job has a log
+abbrev pub has_log : Result Job WordsFault → Bool
+has_log (Ok job) = keeps_log job
+has_log (Err refusal) = false
 
 -- the text is written, and the result is its status; or the writer failed before the text's end, and the result is 1
 abbrev pub IsPrinted : Option (List ℕ) → Option (List ℕ) → List ℕ → ℕ → ℕ → Type 0
 IsPrinted old new text status result =
     ((result ≡ status) × Appends old new text) ⊎ ((result ≡ 1) × IsCutShort old new text)
+
+-- the same for a log, if there is one; if there is none, nothing is written
+abbrev pub IsLogged : Bool → Option (List ℕ) → Option (List ℕ) → List ℕ → ℕ → ℕ → Type 0
+IsLogged false old new text status result = (result ≡ status) × Keeps old new
+IsLogged true old new text status result = IsPrinted old new text status result

@@ -1,6 +1,6 @@
 -- What the words of a command line ask for, as `clap` reads them.
 use Rattle.std.specs.Prelude.{◌≡◌, ◌==◌, Bool, not, List, [], ◌∷◌, Option, Some, None, bytes_eq, codes, map}
-use Rattle.std.specs.Prelude.{option_and_then, if◌then◌else◌, true, false}
+use Rattle.std.specs.Prelude.{is_some, option_map, option_and_then, if◌then◌else◌, true, false}
 use Rattle.std.specs.Borrow.{Bor}
 use Rattle.std.specs.Option.{option_map_or}
 use Rattle.clap.specs.Words.{App, Row, Text, new_app, new_rule, with_rule, with_subcommand, subcommand_of, first_of}
@@ -29,21 +29,27 @@ bare = record (new_app (codes "wurstlinen")) {
   };
 }
 
--- the command with a file and two flags
+-- a command that may also have a log
+abbrev pub with_log : App → App
+with_log command = with_rule command (record (new_rule (codes "log")) { long = Some (codes "log") })
+
+-- the command with a file, two flags and a log
 abbrev pub discover_words : App
 discover_words =
-    with_rule
+    with_log
+    (with_rule
     (with_rule
     (one_argument (codes "discover") (codes "file"))
     (record (new_rule (codes "incremental")) { long = Some (codes "incremental"); action = Some SetTrue }))
-    (record (new_rule (codes "quick")) { long = Some (codes "quick"); action = Some SetTrue })
+    (record (new_rule (codes "quick")) { long = Some (codes "quick"); action = Some SetTrue }))
 
--- the command with a file and a port
+-- the command with a file, a port and a log
 abbrev pub run_words : App
 run_words =
-    with_rule
+    with_log
+    (with_rule
     (one_argument (codes "run") (codes "file"))
-    (record (new_rule (codes "port")) { long = Some (codes "port") })
+    (record (new_rule (codes "port")) { long = Some (codes "port") }))
 
 -- the commands on one reply
 abbrev pub reply_commands : App
@@ -59,6 +65,10 @@ commands = with_subcommand (with_subcommand reply_commands discover_words.top) r
 -- the argument of the command of this name, if that was given
 abbrev pub value_of : Text → Text → Text × List Row → Option Text
 value_of name argument given = if bytes_eq given.0 name then first_of argument given.1 else None
+
+-- the option of the command of this name, which may be absent, if that command was given
+abbrev pub option_of : Text → Text → Text × List Row → Option (Option Text)
+option_of name option given = if bytes_eq given.0 name then Some (first_of option given.1) else None
 
 -- whether a flag is among the arguments: its text is then "true"
 abbrev pub is_set : Text → List Row → Bool
@@ -82,24 +92,44 @@ port_in given = option_map_or port_named (first_of (codes "port") given) (Some L
 abbrev pub port_of : Text → Text × List Row → Option PortKind
 port_of name given = if bytes_eq given.0 name then port_in given.1 else None
 
+-- the text of a path that may be absent
+abbrev pub path_text : Option (Bor Text) → Option Text
+path_text path = option_map (λ p. p.now) path
+
 -- the job of a command with its arguments
 abbrev pub IsGiven : Option (Text × List Row) → Job → Type 0
 IsGiven given (Decode digits) = option_and_then (value_of (codes "decode") (codes "hex")) given ≡ Some digits.now
 IsGiven given (Encode uid) = option_and_then (value_of (codes "encode") (codes "uid")) given ≡ Some uid.now
-IsGiven given (Discover file incremental quick) =
+IsGiven given (Discover file incremental quick log) =
     (option_and_then (value_of (codes "discover") (codes "file")) given ≡ Some file.now)
     × (option_and_then (flag_of (codes "discover") (codes "incremental")) given ≡ Some incremental)
     × (option_and_then (flag_of (codes "discover") (codes "quick")) given ≡ Some quick)
-IsGiven given (Run file port) =
+    × (option_and_then (option_of (codes "discover") (codes "log")) given ≡ Some (path_text log))
+IsGiven given (Run file port log) =
     (option_and_then (value_of (codes "run") (codes "file")) given ≡ Some file.now)
     × (option_and_then (port_of (codes "run")) given ≡ Some port)
+    × (option_and_then (option_of (codes "run") (codes "log")) given ≡ Some (path_text log))
 
 -- the path of the file that a job reads
 abbrev pub file_of : Job → Option Text
 file_of (Decode digits) = None
 file_of (Encode uid) = None
-file_of (Discover file incremental quick) = Some file.now
-file_of (Run file port) = Some file.now
+file_of (Discover file incremental quick log) = Some file.now
+file_of (Run file port log) = Some file.now
+
+-- whether a job keeps a log
+abbrev pub keeps_log : Job → Bool
+keeps_log (Decode digits) = false
+keeps_log (Encode uid) = false
+keeps_log (Discover file incremental quick log) = is_some log
+keeps_log (Run file port log) = is_some log
+
+-- the path of the log that a job keeps
+abbrev pub log_of : Job → Option Text
+log_of (Decode digits) = None
+log_of (Encode uid) = None
+log_of (Discover file incremental quick log) = path_text log
+log_of (Run file port log) = path_text log
 
 -- the texts of the arguments
 abbrev pub texts_of : List (Bor Text) → List Text

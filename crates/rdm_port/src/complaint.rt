@@ -1,14 +1,11 @@
 //! What is wrong with words that fit no command, for people.
-ghost use Rattle.std.specs.Prelude.{◌≡◌, ◌∷◌, [], List, IfSome, IfNone, IsTrue, false};
-ghost use Rattle.std.specs.Borrow.{Bor};
-ghost use Rattle.clap.specs.Words.{Text};
-ghost use Rattle.rdm_port.specs.Words.{is_plain};
-ghost use Rattle.rdm_port.specs.Complaints.{IsTrueOf, IsTrueAfter, IsNoCommand};
-ghost use Rattle.rdm_port.specs.body.Texts.{command_name};
+ghost use Rattle.std.specs.Prelude.{IfSome};
+ghost use Rattle.rdm_port.specs.Complaints.{IsTrueOf};
 
-use crate::line_complaint::{complaint_on_line, has_line};
+use crate::arguments::{Command, complaint_after};
 use crate::usage::{USAGE, VERSION};
-use std::{fmt, mem};
+use rdm_wire::MOST_DEVICES;
+use std::fmt;
 
 /// What is wrong with words that fit no command, or what they ask for instead. What it prints has how the program is
 /// used.
@@ -55,6 +52,10 @@ pub enum Complaint<'a> {
         /// The option.
         option: &'static str,
     },
+    /// This option needs `--line`.
+    NeedsLine(&'static str),
+    /// `--known` is given more than 1,024 times.
+    TooManyKnown,
     /// `--budget` has this value.
     UnknownBudget(&'a str),
     /// One of them is no text.
@@ -74,8 +75,7 @@ pub fn complaint_of<'a>(words: &[&'a str]) -> Complaint<'a>
     let Some((name, rest)) = words.split_first() else {
         return Complaint::NoCommand;
     };
-    match Command::named(name) {
-        Some(Command::Discover) if has_line(rest) => complaint_on_line(rest),
+    match Command::named(name, rest) {
         Some(command) => complaint_after(command, rest),
         None => Complaint::UnknownCommand(name),
     }
@@ -97,235 +97,6 @@ fn asked<'a>(words: &[&'a str]) -> Option<Complaint<'a>>
         }
     }
     None
-}
-
-// What is wrong with the words after a command's name.
-fn complaint_after<'a>(command: Command, words: &[&'a str]) -> Complaint<'a>
-    ensures { IsTrueAfter (command_name command) words.now result }
-{
-    let mut given = Given::new(command);
-    'words: for word in words {
-        if let Some(complaint) = given.take(word) {
-            return complaint;
-        }
-    }
-    given.end()
-}
-
-// The program's commands.
-#[derive(Clone, Copy)]
-enum Command {
-    Decode,
-    Encode,
-    Discover,
-    Run,
-}
-
-// Their options.
-#[derive(Clone, Copy)]
-enum Choice {
-    Incremental,
-    Quick,
-    Port,
-}
-
-impl Command {
-    fn named(name: &str) -> Option<Command>
-        ensures some { IfSome result (λ command. command_name command ≡ name.now) }
-        ensures none { IfNone result (IsNoCommand name.now) }
-    {
-        match name {
-            "decode" => Some(Command::Decode),
-            "encode" => Some(Command::Encode),
-            "discover" => Some(Command::Discover),
-            "run" => Some(Command::Run),
-            _ => None,
-        }
-    }
-
-    fn name(self) -> &'static str
-        ensures { result.now ≡ command_name self }
-    {
-        match self {
-            Command::Decode => "decode",
-            Command::Encode => "encode",
-            Command::Discover => "discover",
-            Command::Run => "run",
-        }
-    }
-
-    // What its argument is called.
-    fn argument(self) -> &'static str {
-        match self {
-            Command::Decode => "HEX",
-            Command::Encode => "UID",
-            Command::Discover | Command::Run => "FILE",
-        }
-    }
-
-    // Its option of this name.
-    fn option(self, name: &str) -> Option<Choice> {
-        match (self, name) {
-            (Command::Discover, "--incremental") => Some(Choice::Incremental),
-            (Command::Discover, "--quick") => Some(Choice::Quick),
-            (Command::Run, "--port") => Some(Choice::Port),
-            _ => None,
-        }
-    }
-}
-
-impl Choice {
-    fn name(self) -> &'static str {
-        match self {
-            Choice::Incremental => "--incremental",
-            Choice::Quick => "--quick",
-            Choice::Port => "--port",
-        }
-    }
-}
-
-// What was given to a command until now.
-#[derive(Drop)]
-struct Given {
-    command: Command,
-    has_argument: bool,
-    has_incremental: bool,
-    has_quick: bool,
-    has_port: bool,
-    // The next word is the port's name.
-    wants_port: bool,
-    // A word `--` has ended the options.
-    is_past_options: bool,
-}
-
-impl Given {
-    fn new(command: Command) -> Given
-        ensures { result.command ≡ command }
-    {
-        Given {
-            command,
-            has_argument: false,
-            has_incremental: false,
-            has_quick: false,
-            has_port: false,
-            wants_port: false,
-            is_past_options: false,
-        }
-    }
-
-    // Takes the next word, or says what is wrong with it.
-    fn take<'a>(&mut self, word: &'a str) -> Option<Complaint<'a>>
-        ensures told { IfSome result (IsTrueAfter (command_name self.old.command) (word.entry ∷ [])) }
-        ensures kept { self.new.command ≡ self.old.command }
-    {
-        if self.wants_port {
-            self.wants_port = false;
-            return port_after(word);
-        }
-        if self.is_past_options || !is_option(word) {
-            return self.take_argument(word);
-        }
-        if word == "--" {
-            self.is_past_options = true;
-            return None;
-        }
-        self.take_option(word)
-    }
-
-    fn take_argument<'a>(&mut self, word: &'a str) -> Option<Complaint<'a>>
-        ensures told { IfSome result (λ c. c ≡ Complaint.OneTooMany word.entry) }
-        ensures kept { self.new.command ≡ self.old.command }
-    {
-        if self.has_argument {
-            return Some(Complaint::OneTooMany(word));
-        }
-        self.has_argument = true;
-        None
-    }
-
-    fn take_option<'a>(&mut self, word: &'a str) -> Option<Complaint<'a>>
-        requires { is_plain word.now ≡ false }
-        ensures told { IfSome result (IsTrueAfter (command_name self.old.command) (word.entry ∷ [])) }
-        ensures kept { self.new.command ≡ self.old.command }
-    {
-        let (name, value) = match word.split_once('=') {
-            Some((name, value)) => (name, Some(value)),
-            None => (word, None),
-        };
-        let Some(choice) = self.command.option(name) else {
-            return Some(Complaint::UnknownOption {
-                command: self.command.name(),
-                option: word,
-            });
-        };
-        if self.has_noted(choice) {
-            return Some(Complaint::Repeated(choice.name()));
-        }
-        match (choice, value) {
-            (Choice::Port, Some(value)) => port_complaint(value),
-            (Choice::Port, None) => {
-                self.wants_port = true;
-                None
-            }
-            (_, Some(_)) => Some(Complaint::HasValue(choice.name())),
-            (_, None) => None,
-        }
-    }
-
-    // Notes an option. True: it was noted before.
-    fn has_noted(&mut self, choice: Choice) -> bool
-        ensures { self.new.command ≡ self.old.command }
-    {
-        match choice {
-            Choice::Incremental => mem::replace(&mut self.has_incremental, true),
-            Choice::Quick => mem::replace(&mut self.has_quick, true),
-            Choice::Port => mem::replace(&mut self.has_port, true),
-        }
-    }
-
-    // What is wrong if no words are left.
-    fn end<'a>(&self) -> Complaint<'a>
-        ensures { IsTrueAfter (command_name self.now.command) [] result }
-    {
-        if self.wants_port {
-            return Complaint::NoPort;
-        }
-        if self.has_argument {
-            return Complaint::Words;
-        }
-        Complaint::NoArgument {
-            command: self.command.name(),
-            argument: self.command.argument(),
-        }
-    }
-}
-
-/// Whether a word is no argument. A hyphen alone is one.
-pub(crate) fn is_option(word: &str) -> bool
-    ensures { IsTrue result → is_plain word.now ≡ false }
-{
-    word.starts_with('-') && word != "-"
-}
-
-// What is wrong with the word after `--port`.
-fn port_after<'a>(word: &'a str) -> Option<Complaint<'a>>
-    ensures { (command : Text) (words : List (Bor Text)) → IfSome result (IsTrueAfter command words) }
-{
-    if is_option(word) {
-        Some(Complaint::NoPort)
-    } else {
-        port_complaint(word)
-    }
-}
-
-// What is wrong with a port's name.
-fn port_complaint<'a>(name: &'a str) -> Option<Complaint<'a>>
-    ensures { (command : Text) (words : List (Bor Text)) → IfSome result (IsTrueAfter command words) }
-{
-    match name {
-        "locked" | "rings" => None,
-        _ => Some(Complaint::UnknownPort(name)),
-    }
 }
 
 impl fmt::Display for Complaint<'_> {
@@ -365,6 +136,13 @@ fn write_complaint<W: fmt::Write>(
         Complaint::NoValue(option) => write!(f, "the value of {option} is missing"),
         Complaint::NoOption { command, option } => {
             write!(f, "the option {option} of {command} is missing")
+        }
+        Complaint::NeedsLine(option) => write!(f, "the option {option} needs --line"),
+        Complaint::TooManyKnown => {
+            write!(
+                f,
+                "the option --known is given more than {MOST_DEVICES} times"
+            )
         }
         Complaint::UnknownBudget(text) => {
             write!(

@@ -1,13 +1,15 @@
 //! Answers the command that discovers the devices of a scene.
-ghost use Rattle.std.specs.Prelude.{◌≡◌, ◌⊎◌, IfOk, IfErr};
+ghost use Rattle.std.specs.Prelude.{◌≡◌, ◌⊎◌, ℕ, List, IfOk, IfErr, false, is_some};
 ghost use Rattle.serde_json.specs.Errors.{IsMemory};
 ghost use Rattle.rdm_port.specs.Fault.{ReadsScene, SaysScene, IsFileFault, IsTextFault};
-ghost use Rattle.rdm_port.specs.Outcome.{Discovers, kind_of, search_of};
+ghost use Rattle.rdm_port.specs.Outcome.{Discovers, IsLoggedWith, kind_of, search_of};
+ghost use Rattle.rdm_port.specs.body.Logged.{HasLogged};
 ghost use Rattle.rdm_port.specs.body.Texts.{answer_bytes};
 ghost use Rattle.rdm_serving.specs.Report.{report_text, report_status};
 
 use crate::answer::{Answer, Answered, Refused};
 use crate::fault::Fault;
+use crate::logging::open_log;
 use crate::place::Place;
 use crate::reason::Reason;
 use crate::remark::remark_on;
@@ -15,31 +17,41 @@ use rdm_agent::{Kind, Search};
 use rdm_files::{
     FileFault, FileKind, SceneFault, SceneFile, read_file, read_scene, unknown_in_scene,
 };
-use rdm_serving::{Discovery, Progress, discover_in, report};
+use rdm_serving::{Discovery, LogOutput, OpensLog, Progress, discover_in, report};
 use serde_json::{Category, Value};
 use std::alloc::Global;
 use std::io::Read;
 
-/// What a run reports of the scene in the reader's file, which is the one at the path. The progress hears what people
-/// should know of the scene, and then how far it is.
+/// What a run reports of the scene in the reader's file, which is the one at the path. The run's exchanges go to the
+/// log, if its path is given. The progress hears what people should know of the scene, and then how far it is.
 // It isn't inlined: a run's values are large, and no other answer is to have stack for them.
 #[inline(never)]
-pub fn answer_discover<'a, R: Read, P: Progress>(
+pub fn answer_discover<'a, R: Read, G: OpensLog, P: Progress>(
     alloc: Global,
     path: &'a str,
     incremental: bool,
     quick: bool,
+    log_path: Option<&'a str>,
     reader: &mut R,
+    log: &mut LogOutput<G>,
     progress: &mut P,
 ) -> Result<Answered<'a>, Refused<'a>>
-    ensures ok { IfOk result (λ a.
-        Discovers incremental quick (R.remaining reader.old) (answer_bytes a.text) a.status) }
+    requires closed { log.old.is_open ≡ false }
+    requires sound { log.old.is_failed ≡ false }
+    ensures ok { IfOk result (λ a. (logged : List ℕ)
+        × Discovers incremental quick (R.remaining reader.old) (answer_bytes a.text) logged a.status
+        × HasLogged (is_some log_path) log.old log.new logged) }
     ensures fault { IfErr result (λ e. (e.0 ≡ Fault.Memory) ⊎ IsFileFault (R.remaining reader.old) e.0) }
+    ensures logged { IfErr result (λ e. (logged : List ℕ) × IsLoggedWith e.0 logged
+        × HasLogged (is_some log_path) log.old log.new logged) }
 {
     let file = match scene_file(alloc, path, reader, progress) {
         Ok(file) => file,
         Err(refused) => return Err(refused),
     };
+    if let Err(refused) = open_log(log, log_path) {
+        return Err(refused);
+    }
     let kind = kind_of(incremental);
     let search = search_of(quick);
     let SceneFile {
@@ -47,7 +59,7 @@ pub fn answer_discover<'a, R: Read, P: Progress>(
         known,
         budget,
     } = file;
-    let Ok(run) = discover_in(alloc, scene, search, kind, &known, budget, progress) else {
+    let Ok(run) = discover_in(alloc, scene, search, kind, &known, budget, progress, log) else {
         return Err((Fault::Memory, None));
     };
     answered(alloc, &run)

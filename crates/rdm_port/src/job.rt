@@ -4,7 +4,7 @@ ghost use Rattle.clap.specs.Words.{app_of, with_subcommand, found_of, rows_of, s
 ghost use Rattle.clap.specs.declared.builder.command.Command.TheViews.{out-Command as fields_of};
 ghost use Rattle.rdm_port.specs.Words.{Asks, AsksNothing, IsGiven, bare, commands, one_argument, discover_words};
 ghost use Rattle.rdm_port.specs.Words.{reply_commands, run_words, port_in, port_named};
-ghost use Rattle.rdm_port.specs.Words.{is_set, file_of, texts_of};
+ghost use Rattle.rdm_port.specs.Words.{is_set, file_of, log_of, path_text, with_log, texts_of};
 
 use clap::error::ErrorKind;
 use clap::{Arg, ArgAction, ArgMatches, Command, Error};
@@ -26,6 +26,8 @@ pub enum Job<'a> {
         incremental: bool,
         /// Whether the run sweeps first.
         quick: bool,
+        /// The path of the log of its exchanges, if one is kept.
+        log: Option<&'a str>,
     },
     /// Run the session of a file.
     Run {
@@ -33,6 +35,8 @@ pub enum Job<'a> {
         file: &'a str,
         /// What stands between its clients and its worker.
         port: PortKind,
+        /// The path of the session's log, if one is kept.
+        log: Option<&'a str>,
     },
 }
 
@@ -45,6 +49,17 @@ impl<'a> Job<'a> {
             Job::Decode(_) | Job::Encode(_) => None,
             Job::Discover { file, .. } => Some(*file),
             Job::Run { file, .. } => Some(*file),
+        }
+    }
+
+    /// The path of the log that it keeps, if it keeps one.
+    pub fn log(&self) -> Option<&'a str>
+        ensures { path_text result ≡ log_of self.now }
+    {
+        match self {
+            Job::Decode(_) | Job::Encode(_) => None,
+            Job::Discover { log, .. } => *log,
+            Job::Run { log, .. } => *log,
         }
     }
 }
@@ -133,7 +148,7 @@ fn subcommand<'a>(
         .arg(Arg::new(alloc, argument).required(true))
 }
 
-// The command that discovers devices: a file, and the flags of an incremental run and of a quick one.
+// The command that discovers devices: a file, the flags of an incremental run and of a quick one, and a log.
 fn discover<'a>(alloc: Global) -> Result<Command<'a>, AllocError>
     ensures app { IfOk result (λ command. app_of command ≡ discover_words) }
     ensures local { IfOk result (λ command. (fields_of command).has_globals ≡ false) }
@@ -144,18 +159,28 @@ fn discover<'a>(alloc: Global) -> Result<Command<'a>, AllocError>
     let quick = Arg::new(alloc, "quick")
         .long("quick")
         .action(ArgAction::SetTrue);
-    subcommand(alloc, "discover", "file")?
+    let discover = subcommand(alloc, "discover", "file")?
         .arg(incremental)?
-        .arg(quick)
+        .arg(quick)?;
+    with_log(alloc, discover)
 }
 
-// The command that runs a session: a file, and which port its clients have.
+// The command that runs a session: a file, which port its clients have, and a log.
 fn run<'a>(alloc: Global) -> Result<Command<'a>, AllocError>
     ensures app { IfOk result (λ command. app_of command ≡ run_words) }
     ensures local { IfOk result (λ command. (fields_of command).has_globals ≡ false) }
 {
     let port = Arg::new(alloc, "port").long("port");
-    subcommand(alloc, "run", "file")?.arg(port)
+    let run = subcommand(alloc, "run", "file")?.arg(port)?;
+    with_log(alloc, run)
+}
+
+/// A command with the option of a log.
+pub(crate) fn with_log<'a>(alloc: Global, command: Command<'a>) -> Result<Command<'a>, AllocError>
+    ensures app { IfOk result (λ r. app_of r ≡ with_log (app_of command.entry)) }
+    ensures local { IfOk result (λ r. (fields_of r).has_globals ≡ (fields_of command.entry).has_globals) }
+{
+    command.arg(Arg::new(alloc, "log").long("log"))
 }
 
 // The job of the command that was given.
@@ -171,10 +196,12 @@ fn given<'a>(matches: &ArgMatches<'a>) -> Option<Job<'a>>
             file: given.get_str("file")?,
             incremental: has_flag(given, "incremental"),
             quick: has_flag(given, "quick"),
+            log: given.get_str("log"),
         }),
         "run" => Some(Job::Run {
             file: given.get_str("file")?,
             port: port_of(given)?,
+            log: given.get_str("log"),
         }),
         _ => None,
     }
@@ -190,8 +217,8 @@ pub(crate) fn has_flag(given: &ArgMatches<'_>, flag: &str) -> bool
     }
 }
 
-// The port that was given, or the locked one where none was. None: there is no such port.
-fn port_of(given: &ArgMatches<'_>) -> Option<PortKind>
+/// The port that was given, or the locked one where none was. None: there is no such port.
+pub(crate) fn port_of(given: &ArgMatches<'_>) -> Option<PortKind>
     ensures { result ≡ port_in (rows_of (found_of given.now)) }
 {
     match given.get_str("port") {

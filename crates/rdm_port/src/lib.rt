@@ -1,25 +1,29 @@
 //! What the program `wurstlinen` does. It reads and writes the replies of RDM devices to a branch of the discovery
-//! tree. It discovers simulated devices, and runs sessions of clients on a simulated line.
+//! tree. It discovers devices, and runs sessions of clients, on a simulated line or on one that another program serves.
+//! What is marked as the profile of this project is a rule or a limit of this program, and none of E1.20.
 //!
-//! [`parse_words`] finds the [`Job`] that a command line asks for, and [`perform`] prints its answer. A session file is
-//! read by [`read_session`] and served by [`serve`]; [`session_text`] says what is printed of it. For people there are
-//! these:
+//! [`parse_words`] finds the [`Job`] that a command line asks for, and [`perform`] prints its answer; [`carry_out`]
+//! also keeps its log. [`parse_line_words`] finds a [`LineJob`], which [`carry_out_on_line`] or [`run_on_line`] does. A
+//! session file is read by [`read_session`] and served by [`serve`]; [`session_text`] says what is printed of it. For
+//! people there are these:
 //! - a [`Reason`] says why something isn't done;
 //! - a [`Remark`] says what they should know of a file before its work begins;
 //! - a [`Complaint`] says what is wrong with words that ask for nothing.
 #![tactic(auto)]
 
 mod answer;
+mod arguments;
 mod branch;
 mod complaint;
 mod discovering;
 mod fault;
 mod job;
 pub mod laws;
-mod line_complaint;
 mod line_job;
 mod line_performing;
+mod line_run;
 mod line_values;
+mod logging;
 mod performing;
 mod place;
 mod reason;
@@ -31,19 +35,19 @@ mod usage;
 pub use complaint::{Complaint, complaint_of};
 pub use fault::Fault;
 pub use job::{Job, WordsFault, parse_words};
-pub use line_job::{LineDiscovery, parse_line_words};
-pub use line_performing::{Opens, Unopened, carry_out_on_line};
+pub use line_job::{LineDiscovery, LineJob, LineRun, parse_line_words};
+pub use line_performing::{Opens, Unopened, carry_out_on_line, run_on_line};
 pub use line_values::LineValues;
 pub use performing::{Silent, carry_out, perform};
 pub use place::Place;
 pub use rdm_files::{
-    ClientCall, ClientFile, FileFault, FileKind, Found, MOST_BYTES, Mismatch, Path, Remark,
-    SceneFault, SceneFile, SessionFile, Step, UnknownKey, discovery_command, five_losses,
-    looks_like, read_file, read_scene, read_session,
+    ClientCall, ClientFile, FileFault, FileKind, Found, LineSessionFile, MOST_BYTES, Mismatch,
+    Path, Remark, SceneFault, SceneFile, SessionFile, Step, UnknownKey, discovery_command,
+    five_losses, looks_like, read_file, read_line_session, read_scene, read_session,
 };
 pub use rdm_serving::{
-    Discovered, Discovery, Outcomes, PortKind, Progress, ServeFault, discover, discover_in, report,
-    serve, session_text,
+    Discovered, Discovery, LogOutput, OpensLog, Outcomes, PortKind, Progress, ServeFault, Served,
+    discover, discover_in, report, serve, serve_on_line, session_text,
 };
 pub use reason::Reason;
 pub use telling::{Progressing, tell, tell_usage};

@@ -1,22 +1,48 @@
 //! What arguments ask for on a line of the caller's own.
-ghost use Rattle.std.specs.Prelude.{◌≡◌, ◌≤◌, ◌<◌, ℕ, IfOk, IfErr, IfSome, IfNone, Some, None, Err, false, codes, length};
+ghost use Rattle.std.specs.Prelude.{◌≡◌, ◌≤◌, ◌<◌, ℕ, IfOk, IfErr, IfSome, IfNone, Some, None, Err, false, codes};
+ghost use Rattle.std.specs.Prelude.{length, option_map};
 ghost use Rattle.clap.specs.Words.{app_of, found_of, rows_of, subcommand_rows_of, first_of};
 ghost use Rattle.clap.specs.declared.builder.command.Command.TheViews.{out-Command as fields_of};
 ghost use Rattle.rdm_port.specs.Words.{texts_of};
-ghost use Rattle.rdm_port.specs.LineWords.{AsksOnLine, AsksNothingOnLine, IsGivenOnLine, IsDiscoveryOf};
-ghost use Rattle.rdm_port.specs.LineWords.{IsBudget, line_commands, line_discover, line_budget, line_devices};
-ghost use Rattle.rdm_port.specs.LineWords.{line_streams, texts_given};
+ghost use Rattle.rdm_port.specs.LineWords.{AsksOnLine, AsksNothingOnLine, IsGivenOnLine, IsDiscoveryOf, IsRunOf};
+ghost use Rattle.rdm_port.specs.LineWords.{IsBudget, line_commands, line_discover, line_run, line_budget, line_devices};
+ghost use Rattle.rdm_port.specs.LineWords.{line_streams, texts_given, file_on_line};
 
-use crate::job::{WordsFault, bare, fault_of, has_flag, with_command};
+use crate::job::{WordsFault, bare, fault_of, has_flag, port_of, with_command, with_log};
 use clap::{Arg, ArgAction, ArgMatches, Command};
 use rdm_agent::DEFAULT_BUDGET;
+use rdm_serving::PortKind;
 use rdm_wire::MOST_DEVICES;
 use std::alloc::{AllocError, Global};
 
 /// The greatest budget that arguments may give.
 const MOST_BUDGET: u64 = 1_000_000_000;
 
-/// A discovery on a line that is reached by streams of text, as the arguments say it. The UIDs aren't read yet.
+/// What arguments ask for on a line that is reached by streams of text.
+#[derive(Debug, Drop, PartialEq, Eq)]
+pub enum LineJob<'a> {
+    /// Tell which devices a run finds.
+    Discover(LineDiscovery<'a>),
+    /// Run the session of a file.
+    Run(LineRun<'a>),
+}
+
+/// A session on such a line, as the arguments say it.
+#[derive(Clone, Copy, Debug, PartialEq, Eq)]
+pub struct LineRun<'a> {
+    /// The path of the session file.
+    pub file: &'a str,
+    /// The path of the stream that frames go to.
+    pub out: &'a str,
+    /// The path of the stream that replies come from; `None` if it is the same.
+    pub replies: Option<&'a str>,
+    /// What stands between the clients and the worker.
+    pub port: PortKind,
+    /// The path of the session's log, if one is kept.
+    pub log: Option<&'a str>,
+}
+
+/// A discovery on such a line, as the arguments say it. The UIDs aren't read yet.
 #[derive(Debug, Drop, PartialEq, Eq)]
 pub struct LineDiscovery<'a> {
     /// The path of the stream that frames go to.
@@ -33,14 +59,25 @@ pub struct LineDiscovery<'a> {
     pub quick: bool,
     /// How many frames the run may send: 1 to 1,000,000,000.
     pub budget: u64,
+    /// The path of the log of its exchanges, if one is kept.
+    pub log: Option<&'a str>,
 }
 
-/// The discovery on a line that the arguments after the program's name ask for, as `clap` reads them. Err: they ask for
-/// none, or there was no memory, whichever is met first.
-pub fn parse_line_words<'a>(
-    alloc: Global,
-    words: &'a [&'a str],
-) -> Result<LineDiscovery<'a>, WordsFault>
+impl<'a> LineJob<'a> {
+    /// The path of the file that it reads, if it reads one.
+    pub fn file(&self) -> Option<&'a str>
+        ensures { option_map (λ f. f.now) result ≡ file_on_line self.now }
+    {
+        match self {
+            LineJob::Discover(_) => None,
+            LineJob::Run(job) => Some(job.file),
+        }
+    }
+}
+
+/// What the arguments after the program's name ask for on a line, as `clap` reads them. Err: they ask for nothing
+/// there, or there was no memory, whichever is met first.
+pub fn parse_line_words<'a>(alloc: Global, words: &'a [&'a str]) -> Result<LineJob<'a>, WordsFault>
     ensures job { IfOk result (AsksOnLine (texts_of words.now)) }
     ensures words { result ≡ Err WordsFault.Words → AsksNothingOnLine (texts_of words.now) }
 {
@@ -58,7 +95,9 @@ fn line_command<'a>(alloc: Global) -> Result<Command<'a>, AllocError>
     ensures { IfOk result (λ command. app_of command ≡ line_commands) }
 {
     let discover = line_discover(alloc)?;
-    with_command(bare(alloc), discover)
+    let run = line_run(alloc)?;
+    let command = with_command(bare(alloc), discover)?;
+    with_command(command, run)
 }
 
 // The command that discovers the devices of a line.
@@ -72,7 +111,19 @@ fn line_discover<'a>(alloc: Global) -> Result<Command<'a>, AllocError>
     let quick = Arg::new(alloc, "quick")
         .long("quick")
         .action(ArgAction::SetTrue);
-    line_budget(alloc)?.arg(incremental)?.arg(quick)
+    let discover = line_budget(alloc)?.arg(incremental)?.arg(quick)?;
+    with_log(alloc, discover)
+}
+
+// The command that runs a session on a line.
+fn line_run<'a>(alloc: Global) -> Result<Command<'a>, AllocError>
+    ensures app { IfOk result (λ command. app_of command ≡ line_run) }
+    ensures local { IfOk result (λ command. (fields_of command).has_globals ≡ false) }
+{
+    let file = Arg::new(alloc, "file").required(true);
+    let port = Arg::new(alloc, "port").long("port");
+    let run = line_streams(alloc, "run")?.arg(file)?.arg(port)?;
+    with_log(alloc, run)
 }
 
 // The command with its budget.
@@ -109,19 +160,44 @@ fn line_streams<'a>(alloc: Global, name: &'a str) -> Result<Command<'a>, AllocEr
         .arg(replies)
 }
 
-// The discovery of the command that was given. Err: there is none, or there was no memory.
-fn given_on_line<'a>(
-    alloc: Global,
-    matches: &ArgMatches<'a>,
-) -> Result<LineDiscovery<'a>, WordsFault>
+// The job of the command that was given. Err: there is none, or there was no memory.
+fn given_on_line<'a>(alloc: Global, matches: &ArgMatches<'a>) -> Result<LineJob<'a>, WordsFault>
     ensures ok { IfOk result (IsGivenOnLine (subcommand_rows_of matches.now)) }
     ensures words { result ≡ Err WordsFault.Words
-        → (job : LineDiscovery) → IsGivenOnLine (subcommand_rows_of matches.now) job → ⊥ }
+        → (job : LineJob) → IsGivenOnLine (subcommand_rows_of matches.now) job → ⊥ }
 {
     match matches.subcommand() {
-        Some(("discover", given)) => discovery_of(alloc, given),
+        Some(("discover", given)) => match discovery_of(alloc, given) {
+            Ok(job) => Ok(LineJob::Discover(job)),
+            Err(fault) => Err(fault),
+        },
+        Some(("run", given)) => match run_of(given) {
+            Some(job) => Ok(LineJob::Run(job)),
+            None => Err(WordsFault::Words),
+        },
         _ => Err(WordsFault::Words),
     }
+}
+
+// The session that these arguments say. None: they say none.
+fn run_of<'a>(given: &ArgMatches<'a>) -> Option<LineRun<'a>>
+    ensures some { IfSome result (IsRunOf (rows_of (found_of given.now))) }
+    ensures none { IfNone result ((job : LineRun) → IsRunOf (rows_of (found_of given.now)) job → ⊥) }
+{
+    let Ok(file) = text_of(given, "file") else {
+        return None;
+    };
+    let Ok(out) = text_of(given, "line") else {
+        return None;
+    };
+    let port = port_of(given)?;
+    Some(LineRun {
+        file,
+        out,
+        replies: given.get_str("replies"),
+        port,
+        log: given.get_str("log"),
+    })
 }
 
 // The discovery that these arguments say. Err: they say none, or there was no memory.
@@ -150,6 +226,7 @@ fn discovery_of<'a>(alloc: Global, given: &ArgMatches<'a>) -> Result<LineDiscove
             incremental: has_flag(given, "incremental"),
             quick: has_flag(given, "quick"),
             budget,
+            log: given.get_str("log"),
         }),
         Err(fault) => Err(fault),
     }
@@ -193,7 +270,8 @@ pub(crate) fn budget_named(text: &str) -> Option<u64>
 
 // The known UIDs that were given, as they stand. Err: there are more than 1,024, or there was no memory.
 fn known_of<'a>(alloc: Global, given: &ArgMatches<'a>) -> Result<Vec<&'a str>, WordsFault>
-    ensures ok { IfOk result (λ known. texts_given (codes "known") (rows_of (found_of given.now)) ≡ texts_of known.items) }
+    ensures ok { IfOk result (λ known.
+        texts_given (codes "known") (rows_of (found_of given.now)) ≡ texts_of known.items) }
     ensures few { IfOk result (λ known. length known.items ≤ MOST_DEVICES) }
     ensures words { result ≡ Err WordsFault.Words
         → MOST_DEVICES < length (texts_given (codes "known") (rows_of (found_of given.now))) }

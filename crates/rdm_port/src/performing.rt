@@ -1,9 +1,9 @@
 //! What a command line prints, its status, and the reason of what isn't done.
-ghost use Rattle.std.specs.Prelude.{◌≡◌, ℕ, List, IfOk, IfErr, OnOk, OnErr};
-ghost use Rattle.std.specs.Io.KnownBytes.{Appends};
+ghost use Rattle.std.specs.Prelude.{◌≡◌, ℕ, List, None, Ok, IfOk, IfErr, false};
 ghost use Rattle.rdm_port.specs.Fault.{IsFaultOf, fault_line, fault_status};
 ghost use Rattle.rdm_serving.specs.Report.{line_of};
-ghost use Rattle.rdm_port.specs.Outcome.{Answers, IsOutcome, IsPrinted, IsCutShort};
+ghost use Rattle.rdm_port.specs.Outcome.{Answers, IsLogged, IsLoggedWith, IsOutcome, IsPrinted, has_log};
+ghost use Rattle.rdm_port.specs.body.Logged.{HasLogged, status_after};
 ghost use Rattle.rdm_port.specs.body.Texts.{answer_bytes};
 
 use crate::answer::{Answer, Answered, Refused};
@@ -11,16 +11,17 @@ use crate::branch::{decode, encode};
 use crate::discovering::answer_discover;
 use crate::fault::Fault;
 use crate::job::{Job, WordsFault};
+use crate::logging::{NoLog, after_log};
 use crate::reason::Reason;
 use crate::run::answer_run;
 use rdm_files::Remark;
-use rdm_serving::Progress;
+use rdm_serving::{LogOutput, OpensLog, Progress, write_all};
 use std::alloc::Global;
-use std::io::{ErrorKind, Read, Write};
+use std::io::{Read, Write};
 use std::sync::Wait;
 use std::thread::Threads;
 
-/// The status if the writer failed.
+/// The status if a writer failed.
 pub(crate) const NOT_WRITTEN: u8 = 1;
 
 /// Prints what answers a command line, and gives its status:
@@ -32,7 +33,8 @@ pub(crate) const NOT_WRITTEN: u8 = 1;
 /// `fault: json`; `fault: discovery command`; `fault: scene`; then those of the run, with `fault: log` before
 /// `fault: turns`. `fault: memory` is printed when it is met. If the writer fails, it has a prefix of the text.
 ///
-/// The reader is for a command that reads a file; a reader whose reads fail is a file that can't be opened.
+/// The reader is for a command that reads a file; a reader whose reads fail is a file that can't be opened. No log is
+/// kept here: a command with one is `fault: file` once its file has been read.
 pub fn perform<R: Read, W: Write, T: Threads + Wait + Sync>(
     rt: &T,
     alloc: Global,
@@ -40,31 +42,73 @@ pub fn perform<R: Read, W: Write, T: Threads + Wait + Sync>(
     reader: &mut R,
     writer: &mut W,
 ) -> u8
-    ensures { (text : List ℕ) × (status : ℕ) × IsOutcome job.entry (R.remaining reader.old) text status
-        × IsPrinted (W.contents writer.old) (W.contents writer.new) text status result }
+    ensures { (text logged : List ℕ) × (status told : ℕ)
+        × IsOutcome job.entry (R.remaining reader.old) text logged status
+        × IsLogged (has_log job.entry) None None logged status told
+        × IsPrinted (W.contents writer.old) (W.contents writer.new) text told result }
 {
-    let (status, _) = carry_out(rt, alloc, job, reader, writer, &mut Silent);
+    let mut log = LogOutput::new(NoLog);
+    let (status, _) = carry_out(rt, alloc, job, reader, &mut log, writer, &mut Silent);
     status
 }
 
-/// As [`perform`], and returns the reason too if it isn't done; a writer that fails is one. The progress first hears
-/// what people should know of a file, and then how far its session or its discovery is.
-pub fn carry_out<'a, R: Read, W: Write, P: Progress + Send, T: Threads + Wait + Sync>(
+/// As [`perform`], and keeps the log that the command line names. It returns the reason too if it isn't done; a writer
+/// that fails is one.
+///
+/// The log is opened once the file is read, and before the first frame. If it can't be opened, that is `fault: file`. A
+/// discovery's exchanges are written as they are made, and a session's log after its end. If the log's writer fails, it
+/// has a prefix of the text, and the status is 1. The progress first hears what people should know of a file, and then
+/// how far its session or its discovery is.
+pub fn carry_out<'a, R: Read, G: OpensLog, W: Write, P: Progress + Send, T: Threads + Wait + Sync>(
     rt: &T,
     alloc: Global,
     job: Result<Job<'a>, WordsFault>,
     reader: &mut R,
+    log: &mut LogOutput<G>,
     writer: &mut W,
     progress: &mut P,
 ) -> (u8, Option<Reason<'a>>)
-    ensures { (text : List ℕ) × (status : ℕ) × IsOutcome job.entry (R.remaining reader.old) text status
-        × IsPrinted (W.contents writer.old) (W.contents writer.new) text status result.0 }
+    requires closed { log.old.is_open ≡ false }
+    requires sound { log.old.is_failed ≡ false }
+    ensures { (text logged : List ℕ) × (status told : ℕ)
+        × IsOutcome job.entry (R.remaining reader.old) text logged status
+        × IsLogged (has_log job.entry) log.old.contents log.new.contents logged status told
+        × IsPrinted (W.contents writer.old) (W.contents writer.new) text told result.0 }
 {
+    let path = match &job {
+        Ok(job) => job.log(),
+        Err(_) => None,
+    };
+    let answer = answer(rt, alloc, job, reader, log, progress);
+    print(writer, log, path, answer)
+}
+
+/// Prints an answer, or the line of its fault. The status is 1 also if the log at this path has failed, or if the
+/// writer fails; then that is the reason.
+pub(crate) fn print<'a, G: Write, W: Write>(
+    writer: &mut W,
+    log: &LogOutput<G>,
+    path: Option<&'a str>,
+    answer: Result<Answered<'a>, Refused<'a>>,
+) -> (u8, Option<Reason<'a>>)
+    ensures ok { IfOk answer (λ a. IsPrinted (W.contents writer.old) (W.contents writer.new)
+        (answer_bytes a.text) (status_after log.now a.status) result.0) }
+    ensures fault { IfErr answer (λ e. IsPrinted (W.contents writer.old) (W.contents writer.new)
+        (line_of (fault_line e.0)) (status_after log.now (fault_status e.0)) result.0) }
+{
+    let answered = match answer {
+        Ok(answered) => answered,
+        Err((fault, reason)) => Answered {
+            text: Answer::line(fault.line().as_bytes()),
+            status: fault.status(),
+            reason,
+        },
+    };
     let Answered {
         text,
         status,
         reason,
-    } = outcome_of(rt, alloc, job, reader, progress);
+    } = after_log(answered, log, path);
     match write_all(writer, text.as_slice()) {
         Ok(()) => (status, reason),
         Err(kind) => (NOT_WRITTEN, Some(Reason::Unwritten(kind))),
@@ -81,37 +125,23 @@ impl Progress for Silent {
     fn tell(&mut self, _exchanges: usize) {}
 }
 
-// What is printed, the status, and the reason of what isn't done; a fault has its line and its status.
-fn outcome_of<'a, R: Read, P: Progress + Send, T: Threads + Wait + Sync>(
-    rt: &T,
-    alloc: Global,
-    job: Result<Job<'a>, WordsFault>,
-    reader: &mut R,
-    progress: &mut P,
-) -> Answered<'a>
-    ensures { IsOutcome job.entry (R.remaining reader.old) (answer_bytes result.text) result.status }
-{
-    match answer(rt, alloc, job, reader, progress) {
-        Ok(answered) => answered,
-        Err((fault, reason)) => Answered {
-            text: Answer::line(fault.line().as_bytes()),
-            status: fault.status(),
-            reason,
-        },
-    }
-}
-
 // What answers a command line.
-fn answer<'a, R: Read, P: Progress + Send, T: Threads + Wait + Sync>(
+fn answer<'a, R: Read, G: OpensLog, P: Progress + Send, T: Threads + Wait + Sync>(
     rt: &T,
     alloc: Global,
     job: Result<Job<'a>, WordsFault>,
     reader: &mut R,
+    log: &mut LogOutput<G>,
     progress: &mut P,
 ) -> Result<Answered<'a>, Refused<'a>>
-    ensures ok { IfOk result (λ a. (j : Job) × (job.entry ≡ Ok j)
-        × Answers j (R.remaining reader.old) (answer_bytes a.text) a.status) }
+    requires closed { log.old.is_open ≡ false }
+    requires sound { log.old.is_failed ≡ false }
+    ensures ok { IfOk result (λ a. (logged : List ℕ)
+        × ((j : Job) × (job.entry ≡ Ok j) × Answers j (R.remaining reader.old) (answer_bytes a.text) logged a.status)
+        × HasLogged (has_log job.entry) log.old log.new logged) }
     ensures fault { IfErr result (λ e. IsFaultOf job.entry (R.remaining reader.old) e.0) }
+    ensures logged { IfErr result (λ e. (logged : List ℕ) × IsLoggedWith e.0 logged
+        × HasLogged (has_log job.entry) log.old log.new logged) }
 {
     match job {
         Ok(Job::Decode(digits)) => decode(alloc, digits),
@@ -121,40 +151,17 @@ fn answer<'a, R: Read, P: Progress + Send, T: Threads + Wait + Sync>(
                 file,
                 incremental,
                 quick,
+                log: path,
             },
-        ) => answer_discover(alloc, file, incremental, quick, reader, progress),
-        Ok(Job::Run { file, port }) => answer_run(rt, alloc, file, port, reader, progress),
+        ) => answer_discover(alloc, file, incremental, quick, path, reader, log, progress),
+        Ok(
+            Job::Run {
+                file,
+                port,
+                log: path,
+            },
+        ) => answer_run(rt, alloc, file, port, path, reader, log, progress),
         Err(WordsFault::Words) => Err((Fault::CommandLine, Some(Reason::Usage))),
         Err(WordsFault::NoMemory) => Err((Fault::Memory, None)),
-    }
-}
-
-/// Writes the bytes. Err: the writer failed with this error, or takes nothing more. The writer's own `write_all` doesn't
-/// say what it wrote if it fails.
-pub(crate) fn write_all<W: Write>(writer: &mut W, bytes: &[u8]) -> Result<(), ErrorKind>
-    ensures all { OnOk result (Appends (W.contents writer.old) (W.contents writer.new) bytes.now) }
-    ensures some { OnErr result (IsCutShort (W.contents writer.old) (W.contents writer.new) bytes.now) }
-{
-    let mut written = 0;
-    let mut failure = ErrorKind::WriteZero;
-    // A loop has to end: this bound is one that no writer reaches. A write that was interrupted is tried again.
-    'writing: for _ in 0..u64::MAX {
-        if written == bytes.len() {
-            break;
-        }
-        match writer.write(&bytes[written..]) {
-            Ok(0) => break,
-            Ok(count) => written += count,
-            Err(error) if error.kind() == ErrorKind::Interrupted => {}
-            Err(error) => {
-                failure = error.kind();
-                break;
-            }
-        }
-    }
-    if written == bytes.len() {
-        Ok(())
-    } else {
-        Err(failure)
     }
 }

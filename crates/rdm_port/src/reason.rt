@@ -60,8 +60,10 @@ pub enum Reason<'a> {
     Unwritten(ErrorKind),
     /// The text of this option spells no device's UID.
     NoDevice(&'static str, &'a str),
-    /// The stream at this path can't be opened.
+    /// The stream or the log at this path can't be opened.
     Unopened(&'a str, ErrorKind),
+    /// The log at this path couldn't be written.
+    Unlogged(&'a str, ErrorKind),
 }
 
 impl<'a> Reason<'a> {
@@ -146,6 +148,9 @@ impl fmt::Display for Reason<'_> {
                 write_no_device(f, text)
             }
             Reason::Unopened(path, kind) => write_unopened(f, path, *kind),
+            Reason::Unlogged(path, kind) => {
+                write!(f, "the log {path:?} can't be written: {kind}")
+            }
         }
     }
 }

@@ -12,10 +12,15 @@ pub(crate) fn remark_on<P: Progress>(
     losses: &[u64],
     progress: &mut P,
 ) {
-    if let Some(key) = unknown {
-        progress.remark(&Remark::UnknownKey(key));
-    }
+    remark_on_key(unknown, progress);
     if let Ok(Some(first)) = five_losses(alloc, losses) {
         progress.remark(&Remark::FiveLosses { path, first });
+    }
+}
+
+/// Reports the first unknown key, if there is one.
+pub(crate) fn remark_on_key<P: Progress>(unknown: Option<UnknownKey>, progress: &mut P) {
+    if let Some(key) = unknown {
+        progress.remark(&Remark::UnknownKey(key));
     }
 }

@@ -1,58 +1,94 @@
 //! Answers the command that runs a session of clients on a simulated line.
-ghost use Rattle.std.specs.Prelude.{◌≡◌, ◌⊎◌, ◌≤◌, IfOk, IfErr};
+ghost use Rattle.std.specs.Prelude.{◌≡◌, ◌⊎◌, ◌≤◌, ℕ, List, [], IfOk, IfErr, OnOk, OnErr, false, is_some};
+ghost use Rattle.serde_json.specs.View.{view};
 ghost use Rattle.rdm_wire.specs.Uid.{IsDevice};
-ghost use Rattle.rdm_port.specs.Fault.{SaysSession, ReadsSession, IsSessionTextFault, IsSessionFileFault, IsServeFault};
+ghost use Rattle.rdm_files.specs.SessionFiles.{IsSessionFile};
+ghost use Rattle.rdm_files.specs.declared.session.file.SessionFile.{SessionFile as SessionState};
+ghost use Rattle.rdm_port.specs.Fault.{SaysSession, ReadsSession, IsSessionTextFault, IsRunFault};
 ghost use Rattle.rdm_port.specs.Outcome.{Runs};
+ghost use Rattle.rdm_port.specs.body.Logged.{HasLogged};
+ghost use Rattle.rdm_port.specs.body.Sessions.{IsSessionValue, IsNoValue};
 ghost use Rattle.rdm_port.specs.body.Texts.{answer_bytes};
+ghost use Rattle.rdm_serving.specs.Writing.{Logs};
+ghost use Rattle.rdm_serving.specs.LogText.{log_text};
+ghost use Rattle.rdm_serving.specs.SessionReport.{session_text};
 
 use crate::answer::{Answer, Answered, Refused};
 use crate::discovering::no_json;
 use crate::fault::Fault;
+use crate::logging::open_log;
 use crate::reason::Reason;
 use crate::remark::remark_on;
 use rdm_files::{
     FileFault, FileKind, SceneFault, SessionFile, discovery_command, read_file, read_session,
     unknown_in_session,
 };
-use rdm_serving::{PortKind, Progress, ServeFault, serve, session_text};
+use rdm_serving::{
+    LogOutput, OpensLog, PortKind, Progress, ServeFault, Served, serve, session_text, write_entries,
+};
 use serde_json::Value;
 use std::alloc::Global;
-use std::io::Read;
+use std::io::{Read, Write};
 use std::marker::Brand;
 use std::sync::Wait;
 use std::sync::ledger::Blank;
 use std::thread::Threads;
 
 /// What is printed of the session in the reader's file, which is the one at the path: of each client its requests in
-/// order, and then its discoveries in order. Each client has a thread, and the worker another. The progress hears
-/// what people should know of the session, and then how far it is.
+/// order, and then its discoveries in order. Each client has a thread, and the worker another. The session's log goes
+/// to the log, if its path is given. The progress hears what people should know of the session, and then how far it is.
 // It isn't inlined, as `answer_discover`.
 #[inline(never)]
-pub fn answer_run<'a, R: Read, P: Progress + Send, T: Threads + Wait + Sync>(
+pub fn answer_run<'a, R: Read, G: OpensLog, P: Progress + Send, T: Threads + Wait + Sync>(
     rt: &T,
     alloc: Global,
     path: &'a str,
     port: PortKind,
+    log_path: Option<&'a str>,
     reader: &mut R,
+    log: &mut LogOutput<G>,
     progress: &mut P,
 ) -> Result<Answered<'a>, Refused<'a>>
-    ensures ok { IfOk result (λ a. Runs (R.remaining reader.old) (answer_bytes a.text) a.status) }
-    ensures fault { IfErr result (λ e. IsServeFault (R.remaining reader.old) e.0
-        ⊎ IsSessionFileFault (R.remaining reader.old) e.0) }
+    requires closed { log.old.is_open ≡ false }
+    requires sound { log.old.is_failed ≡ false }
+    ensures ok { IfOk result (λ a. (logged : List ℕ)
+        × Runs (R.remaining reader.old) (answer_bytes a.text) logged a.status
+        × HasLogged (is_some log_path) log.old log.new logged) }
+    ensures fault { IfErr result (λ e. IsRunFault SessionState IsSessionFile (R.remaining reader.old) e.0) }
+    ensures logged { OnErr result (HasLogged (is_some log_path) log.old log.new []) }
 {
     let file = match session_file(alloc, path, reader, progress) {
         Ok(file) => file,
         Err(refused) => return Err(refused),
     };
-    let (log, turns) = (file.log, file.turns);
+    if let Err(refused) = open_log(log, log_path) {
+        return Err(refused);
+    }
+    let (entries, turns) = (file.log, file.turns);
     let blank = Blank::new(17);
-    let outcomes = match serve::<Brand, P, T>(rt, alloc, blank, port, file, progress) {
-        Ok(outcomes) => outcomes,
-        Err(fault) => return Err(refused(fault, log, turns)),
-    };
+    match serve::<Brand, P, T>(rt, alloc, blank, port, file, progress) {
+        Ok(served) => answer_served(alloc, served, log),
+        Err(fault) => Err(refused(fault, entries, turns)),
+    }
+}
+
+/// What is printed of a session that was served. Its log is written. Err: memory ran out, and nothing is written.
+pub(crate) fn answer_served<'a, G: Write>(
+    alloc: Global,
+    served: Served,
+    log: &mut LogOutput<G>,
+) -> Result<Answered<'a>, Refused<'a>>
+    ensures text { IfOk result (λ a. answer_bytes a.text ≡ session_text served.outcomes.items) }
+    ensures status { IfOk result (λ a. a.status ≡ 0) }
+    ensures logged { OnOk result (Logs log.old log.new (log_text served.session.entries)) }
+    ensures memory { IfErr result (λ e. e.0 ≡ Fault.Memory) }
+    ensures unlogged { OnErr result (log.new ≡ log.old) }
+{
+    let Served { outcomes, session } = served;
     let Ok(text) = session_text(alloc, &outcomes) else {
         return Err((Fault::Memory, None));
     };
+    write_entries(alloc, log, session.log().entries());
     Ok(Answered {
         text: Answer::Lines(text),
         status: 0,
@@ -60,8 +96,8 @@ pub fn answer_run<'a, R: Read, P: Progress + Send, T: Threads + Wait + Sync>(
     })
 }
 
-// Why a session with this log and these turns isn't answered.
-fn refused<'a>(fault: ServeFault, log: u64, turns: u64) -> Refused<'a>
+/// Why a session with this log and these turns isn't answered.
+pub(crate) fn refused<'a>(fault: ServeFault, log: u64, turns: u64) -> Refused<'a>
     ensures { (result.0 ≡ Fault.Memory) ⊎ (result.0 ≡ Fault.Log) ⊎ (result.0 ≡ Fault.Turns) }
 {
     match fault {
@@ -86,13 +122,12 @@ fn session_file<'a, R: Read, P: Progress>(
     reader: &mut R,
     progress: &mut P,
 ) -> Result<SessionFile, Refused<'a>>
-    ensures ok { IfOk result (λ f. ReadsSession (R.remaining reader.old) f) }
+    ensures ok { IfOk result (λ f. ReadsSession SessionState IsSessionFile (R.remaining reader.old) f) }
     ensures source { IfOk result (λ f. IsDevice f.scene.scene.source) }
     ensures budget { IfOk result (λ f. 1 ≤ f.scene.budget) }
     ensures ring { IfOk result (λ f. 1 ≤ f.ring) }
     ensures log { IfOk result (λ f. f.log ≤ 1000000) }
-    ensures fault { IfErr result (λ e. IsServeFault (R.remaining reader.old) e.0
-        ⊎ IsSessionFileFault (R.remaining reader.old) e.0) }
+    ensures fault { IfErr result (λ e. IsRunFault SessionState IsSessionFile (R.remaining reader.old) e.0) }
 {
     let bytes = match read_file(alloc, reader) {
         Ok(bytes) => bytes,
@@ -108,16 +143,13 @@ fn session_of<'a, P: Progress>(
     bytes: &[u8],
     progress: &mut P,
 ) -> Result<SessionFile, Refused<'a>>
-    ensures ok { IfOk result (λ f. SaysSession bytes.now f) }
-    ensures fault { IfErr result (λ e. IsSessionTextFault bytes.now e.0) }
+    ensures ok { IfOk result (λ f. SaysSession SessionState IsSessionFile bytes.now f) }
+    ensures fault { IfErr result (λ e. IsSessionTextFault SessionState IsSessionFile bytes.now e.0) }
 {
-    let value = match Value::from_slice(alloc, bytes) {
+    let value = match session_value(alloc, bytes) {
         Ok(value) => value,
-        Err(error) => return Err(no_json(bytes, &error)),
+        Err(refused) => return Err(refused),
     };
-    if let Some(command) = discovery_command(&value) {
-        return Err((Fault::DiscoveryCommand, Reason::of_scene(command)));
-    }
     match read_session(alloc, &value) {
         Ok(file) => {
             let unknown = unknown_in_session(&value);
@@ -130,5 +162,20 @@ fn session_of<'a, P: Progress>(
             Err((Fault::Scene, Some(reason)))
         }
         Err(SceneFault::NoMemory) => Err((Fault::Memory, None)),
+    }
+}
+
+/// The JSON that the bytes of a session file are, without a discovery command.
+pub(crate) fn session_value<'a>(alloc: Global, bytes: &[u8]) -> Result<Value, Refused<'a>>
+    ensures ok { IfOk result (λ v. IsSessionValue bytes.now (view v)) }
+    ensures fault { IfErr result (λ e. IsNoValue bytes.now e.0) }
+{
+    let value = match Value::from_slice(alloc, bytes) {
+        Ok(value) => value,
+        Err(error) => return Err(no_json(bytes, &error)),
+    };
+    match discovery_command(&value) {
+        Some(command) => Err((Fault::DiscoveryCommand, Reason::of_scene(command))),
+        None => Ok(value),
     }
 }

@@ -28,10 +28,18 @@ pub fn tell_usage(rt: &impl Eprint, complaint: &Complaint<'_>) -> io::Result<()>
 // How often it is reported how far a session or a discovery is.
 const SECONDS: u64 = 2;
 
+// How many exchanges are made before the clock is looked at: a simulated line makes thousands of them in a second, and
+// a real one a few tens.
+const SIMULATED: usize = 1000;
+
+const REAL: usize = 100;
+
 /// Tells each remark at once, and every two seconds how far a session or a discovery is.
 #[derive(Drop)]
 pub struct Progressing<'a, R: Clock + Eprint> {
     rt: &'a R,
+    // It may report at each multiple of this.
+    every: usize,
     // When it began; none if there is no clock.
     began: Option<Instant>,
     // The seconds at which it reports next.
@@ -39,10 +47,20 @@ pub struct Progressing<'a, R: Clock + Eprint> {
 }
 
 impl<'a, R: Clock + Eprint> Progressing<'a, R> {
-    /// From now on. Without a clock nothing is reported.
+    /// On a simulated line, from now on. Without a clock nothing is reported.
     pub fn new(rt: &'a R) -> Progressing<'a, R> {
+        Progressing::each(rt, SIMULATED)
+    }
+
+    /// On a line of the caller's own, from now on. Without a clock nothing is reported.
+    pub fn on_line(rt: &'a R) -> Progressing<'a, R> {
+        Progressing::each(rt, REAL)
+    }
+
+    fn each(rt: &'a R, every: usize) -> Progressing<'a, R> {
         Progressing {
             rt,
+            every,
             began: Instant::now(rt).ok(),
             next: SECONDS,
         }
@@ -60,6 +78,9 @@ impl<'a, R: Clock + Eprint> Progress for Progressing<'a, R> {
     }
 
     fn tell(&mut self, exchanges: usize) {
+        if !exchanges.is_multiple_of(self.every) {
+            return;
+        }
         let Some(seconds) = self.seconds() else {
             return;
         };

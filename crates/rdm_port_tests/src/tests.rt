@@ -1,6 +1,8 @@
-//! What lies outside the proofs: readers and writers that fail, runs on a tape, and values that nothing else shows.
+//! What lies outside the proofs: readers, writers and logs that fail, runs on a tape, and values that nothing else
+//! shows.
 mod arguments;
 mod logged;
+mod logs;
 mod program;
 mod readers;
 mod tapes;

@@ -12,6 +12,10 @@ use Rattle.rdm_agent.specs.declared.op.Op.TheVariants.{End}
 use Rattle.rdm_agent.proofs.CallLemmas.{next_asked, hears-has_run, next-in_budget}
 use Rattle.rdm_line.specs.Events.{Exchange}
 use Rattle.rdm_serving.specs.Discovery.{GoesOn, Drives, HasDriven, IsDiscovery}
+use Rattle.rdm_serving.specs.LogText.{exchange_line, exchanges_text}
+use Rattle.rdm_serving.specs.Writing.{LogState, Logs}
+use Rattle.rdm_serving.proofs.NumberedLemmas.{numbered_more}
+use Rattle.rdm_serving.proofs.WritingLemmas.{logs_more, logs_none}
 
 drives_more : (L : Type 0) (step : L → Exchange → L → Type 0) (source n k : ℕ) (a b c : AgentState) (old line new : L) (xs : List Exchange) → n + length xs ≡ k → Drives L step source n a old xs b line
     → (e : GoesOn L step source (k % 256) b line c new) → Drives L step source n a old (xs ++ e.exchange ∷ []) c new
@@ -67,6 +71,52 @@ reported L step source search kind known budget n frames old line a found d ende
   ended = ended;
   report = report;
 }
+  where
+    run : RunSoFar
+    run = record { search = search; kind = kind; known = known; budget = budget; aborted = false; exchanges = map seen_event d.exchanges }
+
+    same : frames ≡ n
+    same = (counts run d.run).0 ∙ seen_many d.exchanges ∙ d.many
+
+-- the same with the exchanges that a log has got: before the first
+pub none_logged : (L : Type 0) (step : L → Exchange → L → Type 0) (source : ℕ) (search : Search) (kind : Kind)
+    (known : List ℕ) (budget : ℕ) (old : L) (a : AgentState) (log : LogState) → a ≡ start_by search kind known budget
+    → HasRunBy search kind known budget false [] a
+    → (d : HasDriven L step source search kind known budget old 0 a old) × Logs log log (exchanges_text d.exchanges)
+none_logged L step source search kind known budget old a log is run =
+    (record { exchanges = []; many = refl; drives = (is, refl); run = run }, logs_none log)
+
+-- after one more
+pub one_logged : (L : Type 0) (step : L → Exchange → L → Type 0) (source : ℕ) (search : Search) (kind : Kind)
+    (known : List ℕ) (budget n : ℕ) (old line new : L) (a b : AgentState) (was now later : LogState)
+    → (d : HasDriven L step source search kind known budget old n a line) × Logs was now (exchanges_text d.exchanges)
+    → (e : GoesOn L step source (n % 256) a line b new) × Logs now later (exchange_line n e.exchange)
+    → (d : HasDriven L step source search kind known budget old (n + 1) b new) × Logs was later (exchanges_text d.exchanges)
+unfolding one_driven
+one_logged L step source search kind known budget n old line new a b was now later (before, logged) (e, more) = (
+  one_driven L step source search kind known budget n old line new a b before e,
+  subst (λ text. Logs was later text) (sym text) (logs_more was now later (exchanges_text before.exchanges) (exchange_line n e.exchange) logged more),
+)
+  where
+    many : (k m : ℕ) → m ≡ k → 0 + m ≡ k
+    many k m is = omega (arith, is)
+
+    text : exchanges_text (before.exchanges ++ e.exchange ∷ []) ≡ exchanges_text before.exchanges ++ exchange_line n e.exchange
+    text = numbered_more exchange_line 0 before.exchanges e.exchange
+        ∙ ap (λ k. exchanges_text before.exchanges ++ exchange_line k e.exchange) (many n (length before.exchanges) before.many)
+
+-- and at the end
+pub reported_logged : (L : Type 0) (step : L → Exchange → L → Type 0) (source : ℕ) (search : Search) (kind : Kind)
+    (known : List ℕ) (budget n frames : ℕ) (old line : L) (a : AgentState)
+    (found : Result (List Device) (AgentFault × List Device)) (was now : LogState)
+    → (d : HasDriven L step source search kind known budget old n a line) × Logs was now (exchanges_text d.exchanges)
+    → next_op a ≡ End → found ≡ run_result (fault_of a.phase) a.found
+    → AfterEach a (λ run. (frames ≡ length run.exchanges) × (frames ≤ run.budget))
+    → (r : IsDiscovery L step source search kind known budget old line found frames) × Logs was now (exchanges_text r.driven.exchanges)
+reported_logged L step source search kind known budget n frames old line a found was now (d, logged) ended report counts =
+    let moved : (e : HasDriven L step source search kind known budget old frames a line) × Logs was now (exchanges_text e.exchanges) =
+    subst (λ k. (e : HasDriven L step source search kind known budget old k a line) × Logs was now (exchanges_text e.exchanges)) (sym same) (d, logged) in
+    (record { last = a; driven = moved.0; ended = ended; report = report }, moved.1)
   where
     run : RunSoFar
     run = record { search = search; kind = kind; known = known; budget = budget; aborted = false; exchanges = map seen_event d.exchanges }

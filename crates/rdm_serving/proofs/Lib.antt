@@ -4,3 +4,5 @@ pub mod NumberedLemmas
 pub mod SettledLemmas
 pub mod PlaceLemmas
 pub mod LoggedLemmas
+pub mod CalledLemmas
+pub mod WritingLemmas

@@ -311,6 +311,15 @@ on_scene scene search kind known budget n found before after begins discovery co
       exchanges = steps.same;
     }
 
+-- the same with what holds of the discovery's exchanges
+pub on_scene_with : (scene : Scene) (search : Search) (kind : Kind) (known : List ℕ) (budget n : ℕ)
+    (found : Result (List Device) (AgentFault × List Device)) (before after : SimState) (P : List Exchange → Type 0) → IsStartOf scene before
+    → (discovery : IsDiscovery SimState SimStep scene.source search kind known budget before after found n) × P discovery.driven.exchanges → n < 2 ^ 64
+    → (run : IsSceneDiscovery scene search kind known budget found n) × P run.discovery.driven.exchanges
+unfolding on_scene
+on_scene_with scene search kind known budget n found before after P begins (discovery, holds) countable =
+    (on_scene scene search kind known budget n found before after begins discovery countable, holds)
+
 -- losses without five successive numbers are few
 pub loses_few : (scene : Scene) (search : Search) (kind : Kind) (known : List ℕ) (budget n : ℕ)
     (found : Result (List Device) (AgentFault × List Device))

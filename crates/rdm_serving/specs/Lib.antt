@@ -3,4 +3,7 @@ pub mod SceneDiscovery
 pub mod Report
 pub mod SessionReport
 pub mod LoggedOutcomes
+pub mod LoggedCalls
+pub mod Writing
+pub mod LogText
 pub mod body

@@ -44,11 +44,9 @@ abbrev pub AllLogged : Opening → List Entry → ℕ → List Outcomes → Type
 AllLogged o h c [] = Unit {0}
 AllLogged o h c (told ∷ later) = AreLogged o h c told × AllLogged o h (c + 1) later
 
--- there is a legal log, which keeps all that clients are promised of one, and each of these clients, numbered from 0, was
--- told of all its requests and discoveries that ended in it
-pub record HasLog (told : List Outcomes) : Type 0 where
-  pub opening : Opening
-  pub entries : List Entry
+-- the log is legal, it keeps all that clients are promised of one, and each of these clients, numbered from 0, was told
+-- of all its requests and discoveries that ended in it
+pub record IsLogOf (opening : Opening) (entries : List Entry) (told : List Outcomes) : Type 0 where
   pub legal : Legal opening entries
   pub promised : LegalPromised opening entries
   pub logged : AllLogged opening entries 0 told

@@ -1,12 +1,16 @@
-//! Discovery runs and sessions of clients on a simulated line, and the texts that report them.
+//! Discovery runs and sessions of clients on a line, and the texts that report them.
 //!
 //! [`discover_in`] makes a run on the line of a scene, and [`report`] returns what is printed of it. [`serve`] serves
-//! the clients of a session file, each in a thread of its own, and [`session_text`] returns what is printed of them. A
-//! [`Progress`] hears how far they are. All of it is the profile of this project.
+//! the clients of a session file, each in a thread of its own, and [`session_text`] returns what is printed of them.
+//! [`discover`] and [`serve_on_line`] do the same on any line. A [`Progress`] hears how far they are. A [`LogOutput`]
+//! gets each exchange of a discovery, or, by [`write_entries`], the log of a session. All of it is the profile of this
+//! project.
 #![tactic(auto)]
 
 mod discovery;
 pub mod laws;
+mod log_output;
+mod log_text;
 mod outcomes;
 mod port_kind;
 mod progress;
@@ -14,8 +18,10 @@ mod reporting;
 mod serving;
 
 pub use discovery::{Discovery, discover, discover_in};
+pub use log_output::{LogOutput, OpensLog, write_all};
+pub use log_text::write_entries;
 pub use outcomes::{Discovered, Outcomes, session_text};
 pub use port_kind::PortKind;
 pub use progress::Progress;
 pub use reporting::{device_lines, report};
-pub use serving::{ServeFault, are_logged, serve};
+pub use serving::{ServeFault, Served, are_logged, serve, serve_on_line};

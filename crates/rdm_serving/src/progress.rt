@@ -2,7 +2,7 @@
 use rdm_files::Remark;
 
 // How many exchanges are made before the next report.
-const OFTEN: usize = 1000;
+const OFTEN: usize = 100;
 
 /// Hears what people should know of a file, and how far its session or its discovery is.
 pub trait Progress {
@@ -13,7 +13,7 @@ pub trait Progress {
     fn tell(&mut self, exchanges: usize);
 }
 
-/// Reports every thousandth exchange.
+/// Reports every hundredth exchange.
 pub(crate) fn write_often<P: Progress>(progress: &mut P, made: usize) {
     if made > 0 && made % OFTEN == 0 {
         progress.tell(made);

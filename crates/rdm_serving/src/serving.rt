@@ -1,13 +1,15 @@
-//! Serves the clients of a session file on its simulated line: each in a thread of its own, and a worker in another.
+//! Serves the clients of a session file on a line: each in a thread of its own, and a worker in another.
 ghost use Rattle.std.specs.Prelude.{◌≡◌, ◌≤◌, [], IfOk, map};
 ghost use Rattle.std.specs.Bool.{OnTrue};
 ghost use Rattle.rdm_wire.specs.Uid.{IsDevice};
 ghost use Rattle.rdm_log.specs.log.Config.{IsConfig};
 ghost use Rattle.rdm_client.specs.declared.told.Told.{Told};
-ghost use Rattle.rdm_serving.specs.LoggedOutcomes.{HasLog};
+ghost use Rattle.rdm_serving.specs.LoggedOutcomes.{IsLogOf};
+ghost use Rattle.rdm_serving.specs.LoggedCalls.{HasCalls};
 ghost use Rattle.rdm_serving.specs.SessionReport.{AllSettled, IsSettled, is_request, is_ask, places_of};
 ghost use Rattle.rdm_serving.specs.declared.outcomes.Discovered.{Discovered};
 
+mod called;
 mod calls;
 mod locked;
 mod logged;
@@ -19,14 +21,15 @@ mod told_line;
 use crate::outcomes::{Discovered, Outcomes};
 use crate::port_kind::PortKind;
 use crate::progress::Progress;
+use crate::serving::called::has_calls;
 use crate::serving::locked::serve_locked;
 pub use crate::serving::logged::are_logged;
 use crate::serving::rings::serve_rings;
 use crate::serving::told_line::ToldLine;
 use rdm_agent::Search;
 use rdm_client::Told;
-use rdm_files::{ClientCall, ClientFile, SceneFile, SessionFile};
-use rdm_line::SimLine;
+use rdm_files::{ClientCall, ClientFile, LineSessionFile, SceneFile, SessionFile};
+use rdm_line::{Line, SimLine};
 use rdm_queue::{Config, LEAST_FREE, Log, MOST_PLACES, Session, laws};
 use rdm_wire::Uid;
 use std::alloc::Global;
@@ -67,8 +70,10 @@ pub struct Served {
     pub session: Session,
 }
 
-/// Serves a session, and returns what came of each client's calls, in the order of the clients. Each outcome has its
-/// call's tag, and ended as a legal log says: its status and how many bytes it has, or its fault.
+/// Serves a session on the line of its scene, and returns what came of each client's calls, with the session and its
+/// log. The log has exactly the file's clients and calls. Each outcome has its call's tag, and ended as that log says:
+/// its status and how many bytes it has, or its fault.
+///
 /// Err: memory ran out; or else the log is full; or else a client or the worker has made all its turns.
 pub fn serve<L: Ledger + Send + Sync, P: Progress + Send, R: Threads + Wait + Sync>(
     rt: &R,
@@ -77,15 +82,16 @@ pub fn serve<L: Ledger + Send + Sync, P: Progress + Send, R: Threads + Wait + Sy
     port: PortKind,
     file: SessionFile,
     progress: &mut P,
-) -> Result<Vec<Outcomes>, ServeFault>
+) -> Result<Served, ServeFault>
     requires name { blank.name ≡ L.name }
     requires parts { (blank.parts ≡ L.parts) × (L.parts ≡ 17) }
     requires source { IsDevice file.scene.scene.source }
     requires budget { 1 ≤ file.scene.budget }
     requires ring { 1 ≤ file.ring }
     requires log { file.log ≤ 1000000 }
-    ensures settled { IfOk result (λ outcomes. AllSettled file.clients.items outcomes.items) }
-    ensures logged { IfOk result (λ outcomes. HasLog outcomes.items) }
+    ensures settled { IfOk result (λ s. AllSettled file.clients.items s.outcomes.items) }
+    ensures logged { IfOk result (λ s. IsLogOf s.session.opening s.session.entries s.outcomes.items) }
+    ensures called { IfOk result (λ s. HasCalls s.session.entries file.clients.items) }
 {
     let SessionFile {
         scene,
@@ -96,14 +102,60 @@ pub fn serve<L: Ledger + Send + Sync, P: Progress + Send, R: Threads + Wait + Sy
         turns,
     } = file;
     let SceneFile { scene, budget, .. } = scene;
-    let config = config_of(scene.source, budget, &clients);
+    let file = LineSessionFile {
+        source: scene.source,
+        budget,
+        clients,
+        ring,
+        search,
+        log,
+        turns,
+    };
+    match SimLine::new(alloc, scene) {
+        Ok(line) => serve_on_line::<L, _, P, R>(rt, alloc, blank, port, file, line, progress),
+        Err(_) => Err(ServeFault::Memory),
+    }
+}
+
+/// The same on any line, which is dropped at the end.
+pub fn serve_on_line<
+    L: Ledger + Send + Sync,
+    X: Line + Send + Drop,
+    P: Progress + Send,
+    R: Threads + Wait + Sync,
+>(
+    rt: &R,
+    alloc: Global,
+    blank: Blank,
+    port: PortKind,
+    file: LineSessionFile,
+    line: X,
+    progress: &mut P,
+) -> Result<Served, ServeFault>
+    requires name { blank.name ≡ L.name }
+    requires parts { (blank.parts ≡ L.parts) × (L.parts ≡ 17) }
+    requires source { IsDevice file.source }
+    requires budget { 1 ≤ file.budget }
+    requires ring { 1 ≤ file.ring }
+    requires log { file.log ≤ 1000000 }
+    ensures settled { IfOk result (λ s. AllSettled file.clients.items s.outcomes.items) }
+    ensures logged { IfOk result (λ s. IsLogOf s.session.opening s.session.entries s.outcomes.items) }
+    ensures called { IfOk result (λ s. HasCalls s.session.entries file.clients.items) }
+{
+    let LineSessionFile {
+        source,
+        budget,
+        clients,
+        ring,
+        search,
+        log,
+        turns,
+    } = file;
+    let config = config_of(source, budget, &clients);
     let Ok(log) = Log::new(alloc, log as usize) else {
         return Err(ServeFault::Memory);
     };
-    let line = match SimLine::new(alloc, scene) {
-        Ok(line) => ToldLine::new(line, progress),
-        Err(_) => return Err(ServeFault::Memory),
-    };
+    let line = ToldLine::new(line, progress);
     let set_up = SetUp {
         search,
         config,
@@ -120,15 +172,13 @@ pub fn serve<L: Ledger + Send + Sync, P: Progress + Send, R: Threads + Wait + Sy
     }
 }
 
-// The outcomes, if each call has one. A log with fewer than three free entries would have refused the worker's next
-// frame, so it is full, even if no frame was left. Outcomes that the log doesn't have never come.
-fn settled(
-    alloc: Global,
-    clients: &[ClientFile],
-    served: Served,
-) -> Result<Vec<Outcomes>, ServeFault>
-    ensures settled { IfOk result (λ outcomes. AllSettled clients.now outcomes.items) }
-    ensures logged { IfOk result (λ outcomes. HasLog outcomes.items) }
+// What is left of the session, if each call has an outcome. A log with fewer than three free entries would have
+// refused the worker's next frame, so it is full, even if no frame was left. Outcomes that the log doesn't have never
+// come, and it has no other calls than the file's.
+fn settled(alloc: Global, clients: &[ClientFile], served: Served) -> Result<Served, ServeFault>
+    ensures settled { IfOk result (λ s. AllSettled clients.now s.outcomes.items) }
+    ensures logged { IfOk result (λ s. IsLogOf s.session.opening s.session.entries s.outcomes.items) }
+    ensures called { IfOk result (λ s. HasCalls s.session.entries clients.now) }
 {
     if served.session.free() < LEAST_FREE {
         return Err(ServeFault::Log);
@@ -137,8 +187,9 @@ fn settled(
     let Ok(is_logged) = are_logged(alloc, served.session.log(), &served.outcomes) else {
         return Err(ServeFault::Memory);
     };
-    if is_logged && all_settled(clients, &served.outcomes) {
-        Ok(served.outcomes)
+    let is_called = has_calls(served.session.log().entries(), clients);
+    if is_logged && is_called && all_settled(clients, &served.outcomes) {
+        Ok(served)
     } else {
         Err(ServeFault::Turns)
     }

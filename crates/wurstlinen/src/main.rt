@@ -1,17 +1,20 @@
-//! Reads and writes the replies of RDM devices to a branch of the discovery tree. Discovers simulated devices, and runs
-//! sessions of clients on a simulated line. What it prints is the work of `rdm_port`; here are the words of the
-//! process, its files and its streams.
+//! Reads and writes the replies of RDM devices to a branch of the discovery tree. Discovers devices, and runs sessions
+//! of clients, on a simulated line or on streams of text. What it prints is the work of `rdm_port`; here are the words
+//! of the process, its files and its streams.
 #![tactic(auto)]
 
 ghost use Rattle.std.specs.Prelude.{◌≡◌, ◌≤◌, IfOk, length, map, string_bytes};
 ghost use Rattle.rdm_port.specs.Words.{texts_of};
 
+mod log_file;
 mod opening;
 
+use crate::log_file::LogFile;
 use crate::opening::{FileOpener, TextLine};
 use rdm_port::{
-    Complaint, Job, LineDiscovery, Progressing, Reason, WordsFault, carry_out, carry_out_on_line,
-    complaint_of, parse_line_words, parse_words, tell, tell_usage,
+    Complaint, Job, LineDiscovery, LineJob, LineRun, LogOutput, Progressing, Reason, WordsFault,
+    carry_out, carry_out_on_line, complaint_of, parse_line_words, parse_words, run_on_line, tell,
+    tell_usage,
 };
 use std::alloc::{AllocError, Global};
 use std::fs::File;
@@ -49,7 +52,8 @@ fn obey_words<T: Runtime + Threads + Wait + Sync + Files<File = File>>(
 ) -> u8 {
     match parse_words(alloc, words) {
         Err(WordsFault::Words) => match parse_line_words(alloc, words) {
-            Ok(job) => print_on_line(rt, alloc, &job),
+            Ok(LineJob::Discover(job)) => discover_on_line(rt, alloc, &job),
+            Ok(LineJob::Run(job)) => open_and_run_on_line(rt, alloc, &job),
             Err(fault) => print(rt, alloc, Err(fault), &complaint_of(words)),
         },
         job => print(rt, alloc, job, &complaint_of(words)),
@@ -57,33 +61,74 @@ fn obey_words<T: Runtime + Threads + Wait + Sync + Files<File = File>>(
 }
 
 // Prints the answer of a discovery on a line on standard output, and the reason of what isn't done on standard error.
-fn print_on_line<T: Runtime + Files<File = File>>(
+fn discover_on_line<T: Runtime + Files<File = File>>(
     rt: &T,
     alloc: Global,
     job: &LineDiscovery<'_>,
 ) -> u8
     requires few { length job.now.known.items ≤ 1024 }
 {
-    let mut progress = Progressing::new(rt);
+    let mut progress = Progressing::on_line(rt);
     let mut opener = FileOpener::new(rt, alloc);
-    let (status, reason) = carry_out_on_line::<TextLine, _, _, _>(
+    let mut log = LogOutput::new(LogFile::new(rt));
+    let (status, reason) = carry_out_on_line::<TextLine, _, _, _, _>(
         alloc,
         job,
         &mut opener,
+        &mut log,
         &mut io::writer(rt),
         &mut progress,
     );
-    // Where standard error fails too, the status tells of it.
+    tell_if_any(rt, reason);
+    status
+}
+
+// The same of a session on a line, whose file is opened first.
+fn open_and_run_on_line<T: Runtime + Threads + Wait + Sync + Files<File = File>>(
+    rt: &T,
+    alloc: Global,
+    job: &LineRun<'_>,
+) -> u8 {
+    match fs::open(rt, job.file) {
+        Ok(mut file) => run_from(rt, alloc, job, &mut file),
+        Err(error) => run_from(rt, alloc, job, &mut Unopened(error.kind())),
+    }
+}
+
+fn run_from<R: Read, T: Runtime + Threads + Wait + Sync + Files<File = File>>(
+    rt: &T,
+    alloc: Global,
+    job: &LineRun<'_>,
+    reader: &mut R,
+) -> u8 {
+    let mut progress = Progressing::on_line(rt);
+    let mut opener = FileOpener::new(rt, alloc);
+    let mut log = LogOutput::new(LogFile::new(rt));
+    let (status, reason) = run_on_line::<TextLine, _, _, _, _, _, _>(
+        rt,
+        alloc,
+        job,
+        reader,
+        &mut opener,
+        &mut log,
+        &mut io::writer(rt),
+        &mut progress,
+    );
+    tell_if_any(rt, reason);
+    status
+}
+
+// If standard error fails too, the status shows it.
+fn tell_if_any(rt: &impl Eprint, reason: Option<Reason<'_>>) {
     let _ = match reason {
         Some(reason) => tell(rt, &reason),
         None => Ok(()),
     };
-    status
 }
 
 // Prints the answer on standard output, and the reason of what isn't done on standard error: the complaint, if the
 // words fit no command.
-fn print<T: Runtime + Threads + Wait + Sync>(
+fn print<T: Runtime + Threads + Wait + Sync + Files<File = File>>(
     rt: &T,
     alloc: Global,
     job: Result<Job<'_>, WordsFault>,
@@ -102,7 +147,7 @@ fn print<T: Runtime + Threads + Wait + Sync>(
     }
 }
 
-fn print_from<R: Read, T: Runtime + Threads + Wait + Sync>(
+fn print_from<R: Read, T: Runtime + Threads + Wait + Sync + Files<File = File>>(
     rt: &T,
     alloc: Global,
     job: Result<Job<'_>, WordsFault>,
@@ -110,7 +155,9 @@ fn print_from<R: Read, T: Runtime + Threads + Wait + Sync>(
     reader: &mut R,
 ) -> u8 {
     let mut progress = Progressing::new(rt);
-    let (status, reason) = carry_out(rt, alloc, job, reader, &mut io::writer(rt), &mut progress);
+    let mut log = LogOutput::new(LogFile::new(rt));
+    let mut writer = io::writer(rt);
+    let (status, reason) = carry_out(rt, alloc, job, reader, &mut log, &mut writer, &mut progress);
     // If standard error fails too, the status shows it.
     let _ = match reason {
         Some(Reason::Usage) => tell_usage(rt, complaint),

@@ -1,4 +1,6 @@
 //! Opens lines by the paths of their streams.
+ghost use Rattle.std.specs.Prelude.{◌≡◌};
+
 use rdm_line::StreamLine;
 use rdm_port::{Opens, Unopened};
 use std::alloc::Global;
@@ -25,6 +27,9 @@ impl<'r, R> FileOpener<'r, R> {
 }
 
 impl<R: Files<File = File>> Opens<TextLine> for FileOpener<'_, R> {
+    // What a file gives or takes isn't known.
+    ghost opens = { λ opener out replies line. line.failures ≡ 0 };
+
     // The streams are looked at first: to open a FIFO to read it takes until its other end is opened, and that may never
     // be, if the other stream is missing.
     fn open<'a>(&mut self, out: &'a str, replies: &'a str) -> Result<TextLine, Unopened<'a>> {

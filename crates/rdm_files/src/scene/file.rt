@@ -54,7 +54,8 @@ const EXCHANGES: ListOf<Whole> = ListOf {
     expected: "a list of exchanges' numbers",
 };
 
-const BUDGET: Whole = Whole {
+/// How many frames a run may send.
+pub(crate) const BUDGET: Whole = Whole {
     least: 1,
     most: 1_000_000_000,
     expected: "a whole number from 1 to 1000000000",

@@ -33,26 +33,26 @@ pub struct SessionFile {
 
 const KEYS: &[&str] = &["scene", "clients", "ring", "search", "log", "turns"];
 
-const CLIENTS: ListOf<ClientForm> = ListOf {
+pub(super) const CLIENTS: ListOf<ClientForm> = ListOf {
     form: ClientForm,
     least: 1,
     most: MOST_CLIENTS,
     expected: "a list of 1 to 16 clients",
 };
 
-const RING: Whole = Whole {
+pub(super) const RING: Whole = Whole {
     least: 1,
     most: 255,
     expected: "a whole number from 1 to 255",
 };
 
-const LOG: Whole = Whole {
+pub(super) const LOG: Whole = Whole {
     least: 0,
     most: 1_000_000,
     expected: "a whole number from 0 to 1000000",
 };
 
-const TURNS: Whole = Whole {
+pub(super) const TURNS: Whole = Whole {
     least: 1,
     most: 1_000_000_000,
     expected: "a whole number from 1 to 1000000000",
@@ -116,9 +116,9 @@ impl Keyed for SceneForm {
 
 const EXPECTED_SEARCH: &str = "\"steady\" or \"quick\"";
 
-// A search.
+/// A search.
 #[derive(Clone, Copy, Drop)]
-struct SearchForm;
+pub(super) struct SearchForm;
 
 impl Form for SearchForm {
     type Out = Search;

@@ -10,7 +10,11 @@ use std::thread::Threads;
 
 // The arguments ask for a session of the file `file` over this port.
 fn names(rt: &impl Abort, alloc: Global, words: &[&str], port: PortKind) {
-    let job = Job::Run { file: "file", port };
+    let job = Job::Run {
+        file: "file",
+        port,
+        log: None,
+    };
     assert!(rt; parse_words(alloc, words) == Ok(job));
 }
 

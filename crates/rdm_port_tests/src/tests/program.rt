@@ -17,7 +17,10 @@ pub const RINGS: [&str; 4] = ["run", "--port", "rings", "session.json"];
 
 /// A scene of one device, with each key that there is.
 pub const SCENE_FILE: &str =
-    "{\"source\":\"7a70:00000100\",\"devices\":[{\"uid\":\"1234:00000001\",\"preamble\":3,\"params\":[{\"pid\":\"0060\",\"parts\":[\"01\",\"02\"]}],\"control\":\"0002\",\"binding\":\"1234:00000005\",\"from\":0,\"until\":1000}],\"collisions\":[\"or\"],\"losses\":[3],\"fails\":[900],\"known\":[\"1234:00000001\"],\"budget\":400}";
+    "{\"source\":\"7a70:00000100\",\"devices\":[{\"uid\":\"1234:00000001\",\"preamble\":3,\
+    \"params\":[{\"pid\":\"0060\",\"parts\":[\"01\",\"02\"]}],\"control\":\"0002\",\
+    \"binding\":\"1234:00000005\",\"from\":0,\"until\":1000}],\"collisions\":[\"or\"],\"losses\":[3],\
+    \"fails\":[900],\"known\":[\"1234:00000001\"],\"budget\":400}";
 
 /// What an incremental run prints of the scene: three unmutes, a mute that is lost and one that is acknowledged, and
 /// five branches without reply.
@@ -25,7 +28,13 @@ pub const SCENE: Due<'static> = ("1234:00000001 0002 1234:00000005\nframes 10\n"
 
 /// A session over that scene, with each key that there is: one client asks for a discovery, and makes a GET and a SET.
 pub const SESSION_FILE: &str =
-    "{\"scene\":{\"source\":\"7a70:00000100\",\"devices\":[{\"uid\":\"1234:00000001\",\"preamble\":3,\"params\":[{\"pid\":\"0060\",\"parts\":[\"01\",\"02\"]}],\"control\":\"0002\",\"binding\":\"1234:00000005\",\"from\":0,\"until\":1000}],\"collisions\":[\"or\"],\"losses\":[3],\"fails\":[900],\"known\":[\"1234:00000001\"],\"budget\":400},\"clients\":[{\"places\":2,\"calls\":[{\"discover\":\"full\"},{\"get\":\"1234:00000001\",\"pid\":\"0060\",\"sub\":1,\"param\":\"07\"},{\"set\":\"1234:00000001\",\"pid\":\"0060\",\"sub\":1,\"param\":\"07\"}]}],\"ring\":2,\"search\":\"quick\",\"log\":1000,\"turns\":100000000}";
+    "{\"scene\":{\"source\":\"7a70:00000100\",\"devices\":[{\"uid\":\"1234:00000001\",\"preamble\":3,\
+    \"params\":[{\"pid\":\"0060\",\"parts\":[\"01\",\"02\"]}],\"control\":\"0002\",\
+    \"binding\":\"1234:00000005\",\"from\":0,\"until\":1000}],\"collisions\":[\"or\"],\"losses\":[3],\
+    \"fails\":[900],\"known\":[\"1234:00000001\"],\"budget\":400},\"clients\":[{\"places\":2,\
+    \"calls\":[{\"discover\":\"full\"},{\"get\":\"1234:00000001\",\"pid\":\"0060\",\"sub\":1,\
+    \"param\":\"07\"},{\"set\":\"1234:00000001\",\"pid\":\"0060\",\"sub\":1,\"param\":\"07\"}]}],\
+    \"ring\":2,\"search\":\"quick\",\"log\":1000,\"turns\":100000000}";
 
 /// What is printed of the session: the GET's two parts, the SET's answer without data, and the device.
 pub const SESSION: Due<'static> = (

@@ -1,8 +1,9 @@
 //! Readers that fail at each read.
+use super::logs::MemoryLog;
 use super::program::{
     Due, INCREMENTAL, LOCKED, RINGS, SCENE, SCENE_FILE, SESSION, SESSION_FILE, status_of,
 };
-use rdm_port::{Reason, Silent, carry_out, parse_words};
+use rdm_port::{LogOutput, Reason, Silent, carry_out, parse_words};
 use std::alloc::Global;
 use std::io;
 use std::io::{ErrorKind, Read};
@@ -110,7 +111,16 @@ fn tells_the_file<T: Threads + Wait + Abort + Sync>(rt: &T, alloc: Global, comma
     let job = parse_words(alloc, &words);
     let mut written = Vec::new(alloc);
     let mut reader = FailingReader::new(SCENE_FILE.as_bytes(), 20, 1);
-    let (_, reason) = carry_out(rt, alloc, job, &mut reader, &mut written, &mut Silent);
+    let mut log = LogOutput::new(MemoryLog::new(alloc));
+    let (_, reason) = carry_out(
+        rt,
+        alloc,
+        job,
+        &mut reader,
+        &mut log,
+        &mut written,
+        &mut Silent,
+    );
     match reason {
         Some(reason) => tells(rt, alloc, &reason),
         None => panic!(rt; "a reason"),

@@ -2,7 +2,7 @@
 use rdm_agent::{DEFAULT_BUDGET, Kind, Search};
 use rdm_join::{LineEvent, LineReply};
 use rdm_line::TapeLine;
-use rdm_port::{Discovery, Progress, Remark, Silent, discover, report};
+use rdm_port::{Discovery, LogOutput, Progress, Remark, Silent, discover, report};
 use rdm_wire::{Uid, UidSet};
 use std::alloc::Global;
 use std::process::Abort;
@@ -22,14 +22,21 @@ fn tape(rt: &impl Abort, alloc: Global, silences: usize, noises: usize) -> TapeL
 }
 
 // A run that mutes these devices first.
-fn run<P: Progress>(line: &mut TapeLine, known: &UidSet, progress: &mut P) -> Discovery {
+fn run<P: Progress>(
+    alloc: Global,
+    line: &mut TapeLine,
+    known: &UidSet,
+    progress: &mut P,
+) -> Discovery {
     let source = Uid::new(0x7a70, 0x100);
     let kind = if known.is_empty() {
         Kind::Full
     } else {
         Kind::Incremental
     };
+    let mut log = LogOutput::new(Vec::new(alloc));
     discover(
+        alloc,
         line,
         source,
         Search::Steady,
@@ -37,13 +44,14 @@ fn run<P: Progress>(line: &mut TapeLine, known: &UidSet, progress: &mut P) -> Di
         known,
         DEFAULT_BUDGET,
         progress,
+        &mut log,
     )
 }
 
 // What a run reports that finds nobody, over so many silences and noises.
 fn ends(rt: &impl Abort, alloc: Global, silences: usize, noises: usize, text: &str) {
     let mut line = tape(rt, alloc, silences, noises);
-    let run = run(&mut line, &UidSet::new(), &mut Silent);
+    let run = run(alloc, &mut line, &UidSet::new(), &mut Silent);
     let said = report(alloc, &run).expect(rt, "memory");
     assert!(rt; said.as_slice() == text.as_bytes(), "{text}");
     assert!(rt; matches!(&run.found, Err((_, found)) if found.is_empty()));
@@ -79,13 +87,13 @@ fn absent(rt: &impl Abort, count: u32) -> UidSet {
     known
 }
 
-// Three unmutes, five mutes of each of 400 known devices that aren't there, and five branches of the whole range.
+// Three unmutes, five mutes of each of 40 known devices that aren't there, and five branches of the whole range.
 #[test]
-fn every_thousandth_exchange_is_reported(rt: HostRuntime) {
-    let known = absent(&rt, 400);
-    let mut line = tape(&rt, rt.alloc(), 2008, 0);
+fn every_hundredth_exchange_is_reported(rt: HostRuntime) {
+    let known = absent(&rt, 40);
+    let mut line = tape(&rt, rt.alloc(), 208, 0);
     let mut reports = Reports(Vec::new(rt.alloc()));
-    let run = run(&mut line, &known, &mut reports);
-    assert!(rt; run.found.is_ok() && run.frames == 2008);
-    assert!(rt; reports.0.as_slice() == [1000, 2000].as_slice());
+    let run = run(rt.alloc(), &mut line, &known, &mut reports);
+    assert!(rt; run.found.is_ok() && run.frames == 208);
+    assert!(rt; reports.0.as_slice() == [100, 200].as_slice());
 }

@@ -10,7 +10,7 @@ use Rattle.clap.specs.declared.parser.matches.Found.{Found}
 use Rattle.clap.specs.declared.parser.matches.SubCommand.{SubCommand}
 use Rattle.clap.specs.Words.{subcommand_rows_of}
 use Rattle.clap.proofs.WalkLemmas.{first_value-rows}
-use Rattle.rdm_port.specs.Words.{value_of, flag_of, port_of, port_in, is_set, IsGiven}
+use Rattle.rdm_port.specs.Words.{value_of, flag_of, option_of, path_text, port_of, port_in, is_set, IsGiven}
 use Rattle.rdm_port.specs.declared.job.Job.{Job}
 use Rattle.rdm_port.specs.declared.job.Job.TheVariants.{Decode, Encode, Discover, Run}
 use Rattle.rdm_serving.specs.declared.port_kind.PortKind.{PortKind}
@@ -36,21 +36,27 @@ value_of-other given name other argument rows is differs = rw (is, differs) refl
 
 none_given : (given : Option (Text × List Row)) → option_and_then (value_of (codes "decode") (codes "hex")) given ≡ None
     → option_and_then (value_of (codes "encode") (codes "uid")) given ≡ None → option_and_then (value_of (codes "discover") (codes "file")) given ≡ None
-    → ((file : Bor Text) (port : PortKind) → IsGiven given (Run file port) → ⊥) → (job : Job) → IsGiven given job → ⊥
+    → ((file : Bor Text) (port : PortKind) (log : Option (Bor Text)) → IsGiven given (Run file port log) → ⊥) → (job : Job) → IsGiven given job → ⊥
 none_given given p q r s (Decode digits) asked = let both = sym p ∙ asked in cc
 none_given given p q r s (Encode uid) asked = let both = sym q ∙ asked in cc
-none_given given p q r s (Discover file incremental quick) asked = let both = sym r ∙ asked.0 in cc
-none_given given p q r s (Run file port) asked = s file port asked
+none_given given p q r s (Discover file incremental quick log) asked = let both = sym r ∙ asked.0 in cc
+none_given given p q r s (Run file port log) asked = s file port log asked
 
 -- a command without this file doesn't run it
-no_run : (given : Option (Text × List Row)) → option_and_then (value_of (codes "run") (codes "file")) given ≡ None → (file : Bor Text) (port : PortKind) → IsGiven given (Run file port) → ⊥
-no_run given none file port asked = let both = sym none ∙ asked.0 in cc
+no_run : (given : Option (Text × List Row)) → option_and_then (value_of (codes "run") (codes "file")) given ≡ None → (file : Bor Text) (port : PortKind) (log : Option (Bor Text)) → IsGiven given (Run file port log) → ⊥
+no_run given none file port log asked = let both = sym none ∙ asked.0 in cc
 
 -- and the flag of a command that was given
 flag_of-found : (given : Option (Text × List Row)) (name flag : Text) (found : Found) (set : Bool)
     → given ≡ Some (name, rows_of found) → bytes_eq name name ≡ true → set ≡ is_set flag (rows_of found)
     → option_and_then (flag_of name flag) given ≡ Some set
 flag_of-found given name flag found set is same read = rw (is, same) (ap Some (sym read))
+
+-- and an option of a command that was given
+option_of-found : (given : Option (Text × List Row)) (name option : Text) (found : Found) (value : Option (Bor Text))
+    → given ≡ Some (name, rows_of found) → bytes_eq name name ≡ true → path_text value ≡ first_value found option
+    → option_and_then (option_of name option) given ≡ Some (path_text value)
+option_of-found given name option found value is same read = rw (is, same) (ap Some (sym (read ∙ first_value-rows found option)))
 
 pub returns-in_ok-get_str-in-decode-clause-some : goal.returns-in_ok-get_str-in-decode-clause-some
 returns-in_ok-get_str-in-decode-clause-some c =
@@ -88,6 +94,7 @@ returns-in_ok-get_str-in-discover-clause-some c =
       value_of-found (subcommand_rows_of c.args.matches.now) (codes "discover") (codes "file") (found_of c.in_ok-name.given.now) _ parts refl c.in_ok-get_str-in-discover.ensures,
       flag_of-found (subcommand_rows_of c.args.matches.now) (codes "discover") (codes "incremental") (found_of c.in_ok-name.given.now) _ parts refl c.has_flag.ensures,
       flag_of-found (subcommand_rows_of c.args.matches.now) (codes "discover") (codes "quick") (found_of c.in_ok-name.given.now) _ parts refl c.has_flag-in-discover.ensures,
+      option_of-found (subcommand_rows_of c.args.matches.now) (codes "discover") (codes "log") (found_of c.in_ok-name.given.now) _ parts refl c.get_str.ensures,
     )
 
 pub returns-in_err-get_str-in-discover-clause-none :
@@ -111,6 +118,7 @@ returns-in_ok-port_of-in-run-clause-some c =
     let parts = rw c.in-run.is at (with_parts (out-ArgMatches c.args.matches.now).subcommand _ _ c.in_ok-name.ensures.name c.in_ok-name.ensures.rows) in (
       value_of-found (subcommand_rows_of c.args.matches.now) (codes "run") (codes "file") (found_of c.in_ok-name.given.now) _ parts refl c.in_ok-get_str-in-run.ensures,
       port_of-found (subcommand_rows_of c.args.matches.now) (codes "run") (found_of c.in_ok-name.given.now) _ parts refl c.in_ok-port_of-in-run.ensures,
+      option_of-found (subcommand_rows_of c.args.matches.now) (codes "run") (codes "log") (found_of c.in_ok-name.given.now) _ parts refl c.get_str-in-run.ensures,
     )
 
 pub returns-in_err-get_str-in-run-clause-none : goal.returns-in_err-get_str-in-run-clause-none

@@ -13,4 +13,5 @@ returns-in-Ok-known_of-clause-ok c = record {
   incremental = c.has_flag.ensures;
   quick = c.has_flag-in-Ok-known_of.ensures;
   budget = c.in-Some.ensures.some;
+  log = sym (c.get_str-in-Ok-known_of.ensures ∙ first_value-rows (found_of c.args.given.now) (codes "log"));
 }

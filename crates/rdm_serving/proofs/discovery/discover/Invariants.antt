@@ -1,5 +1,9 @@
 use Rattle.rdm_serving.specs.Discovery.{HasDriven}
+use Rattle.rdm_serving.specs.LogText.{exchanges_text}
+use Rattle.rdm_serving.specs.Writing.{Logs}
 use Rattle.rdm_serving.proofs.discovery.discover.Given as goal
 
 abbrev pub invariant-exchanges : goal.invariant-exchanges
-invariant-exchanges g l = HasDriven _ g.L.Line.step l.source l.fn.search l.fn.kind l.fn.known l.budget l.fn.line l.made l.agent l.line
+invariant-exchanges g l =
+    (driven : HasDriven _ g.L.Line.step l.source l.fn.search l.fn.kind l.fn.known l.budget l.fn.line l.made l.agent l.line)
+    × Logs l.fn.log l.log (exchanges_text driven.exchanges)

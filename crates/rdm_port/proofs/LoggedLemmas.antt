@@ -1,0 +1,116 @@
+-- What a log has got while a command was answered, and what is told of it.
+use Rattle.std.proofs.Common.{◌≡◌, ◌⊎◌, inl, inr, ℕ, Bool, true, false, List, [], Option, Result, Ok, Err, refl, sym, subst, ◌∙◌}
+use Rattle.std.specs.Prelude.{IfOk, IfErr, OnErr}
+use Rattle.std.specs.Io.KnownBytes.{Appends, Keeps}
+use Rattle.std.proofs.KnownBytes.{Appends-nil, Keeps-refl, Keeps-trans}
+use Rattle.rdm_serving.specs.Report.{line_of}
+use Rattle.rdm_serving.specs.Writing.{IsCutShort, IsWritten, LogState, LogsFrom, Logs}
+use Rattle.rdm_serving.proofs.WritingLemmas.{kept_appends}
+use Rattle.rdm_port.specs.Fault.{fault_line, fault_status}
+use Rattle.rdm_port.specs.Outcome.{Answers, IsLogged, IsLoggedWith, IsPrinted, has_log}
+use Rattle.rdm_port.specs.Words.{keeps_log}
+use Rattle.rdm_port.specs.body.Logged.{IsOpened, HasLogged, failed_or, status_after}
+use Rattle.rdm_port.specs.body.Texts.{answer_bytes}
+use Rattle.rdm_port.specs.declared.answer.Answered.{Answered}
+use Rattle.rdm_port.specs.declared.fault.Fault.{Fault}
+use Rattle.rdm_port.specs.declared.job.Job.{Job}
+use Rattle.rdm_port.specs.declared.job.WordsFault.{WordsFault}
+
+-- what is written to a writer whose bytes were kept before
+written_after : (failed : Bool) (a b c : Option (List ℕ)) (text : List ℕ) → Keeps a b → IsWritten failed b c text → IsWritten failed a c text
+written_after false a b c text kept wrote = kept_appends a b c text kept wrote
+written_after true a b c text kept (front, rest, is, some, wrote) = (front, rest, is, some, kept_appends a b c front kept wrote)
+
+-- a log that was opened, and then written
+pub opened_then : (wanted : Bool) (old mid new : LogState) (text : List ℕ) → IsOpened wanted old mid → Logs mid new text → HasLogged wanted old new text
+opened_then wanted old mid new text opened (still, wrote) =
+    by_wanted wanted (subst (λ o. LogsFrom o false new.is_failed mid.contents new.contents text) opened.is_open
+    (subst (λ f. LogsFrom mid.is_open f new.is_failed mid.contents new.contents text) opened.is_failed wrote))
+  where
+    by_wanted : (w : Bool) → LogsFrom w false new.is_failed mid.contents new.contents text → HasLogged w old new text
+    by_wanted false (same, kept) = (same, Keeps-trans old.contents mid.contents new.contents opened.bytes kept)
+    by_wanted true written = written_after new.is_failed old.contents mid.contents new.contents text opened.bytes written
+
+-- a log that hasn't failed, and whose bytes were kept
+pub nothing_logged : (wanted : Bool) (old new : LogState) → new.is_failed ≡ false → Keeps old.contents new.contents → HasLogged wanted old new []
+nothing_logged false old new sound kept = (sound, kept)
+nothing_logged true old new sound kept =
+    subst (λ f. IsWritten f old.contents new.contents []) (sym sound) (kept_appends old.contents new.contents new.contents [] kept (Appends-nil new.contents))
+
+-- an unchanged one
+pub same_logged : (wanted : Bool) (old new : LogState) → old.is_failed ≡ false → new ≡ old → HasLogged wanted old new []
+same_logged wanted old new sound same = subst (λ l. HasLogged wanted old l []) (sym same) (nothing_logged wanted old old sound (Keeps-refl old.contents))
+
+-- one that was opened only
+pub only_opened : (wanted : Bool) (old new : LogState) → IsOpened wanted old new → HasLogged wanted old new []
+only_opened wanted old new opened = nothing_logged wanted old new opened.is_failed opened.bytes
+
+-- one that was opened, and then stayed as it was
+pub opened_same : (wanted : Bool) (old mid new : LogState) → IsOpened wanted old mid → new ≡ mid → HasLogged wanted old new []
+opened_same wanted old mid new opened same = subst (λ l. HasLogged wanted old l []) (sym same) (only_opened wanted old mid opened)
+
+-- what the status says of it
+settled_log : (wanted : Bool) (old new : LogState) (text : List ℕ) (status : ℕ) → HasLogged wanted old new text
+    → IsLogged wanted old.contents new.contents text status (status_after new status)
+settled_log false old new text status (sound, kept) = (by_failed new.is_failed sound, kept)
+  where
+    by_failed : (f : Bool) → f ≡ false → failed_or f status ≡ status
+    by_failed false is = refl
+    by_failed true is = cc
+settled_log true old new text status written = by_failed new.is_failed written
+  where
+    by_failed : (f : Bool) → IsWritten f old.contents new.contents text → IsPrinted old.contents new.contents text status (failed_or f status)
+    by_failed false wrote = inl (refl, wrote)
+    by_failed true cut = inr (refl, cut)
+
+-- an answer or a fault that is printed, after its log
+pub printed_after : {E : Type 0} (r : Result Answered (Fault × E)) (Done : List ℕ → List ℕ → ℕ → Type 0) (Failed : Fault → Type 0)
+    (wanted : Bool) (old new : LogState) (was is : Option (List ℕ)) (result : ℕ)
+    → IfOk r (λ a. (logged : List ℕ) × Done (answer_bytes a.text) logged a.status × HasLogged wanted old new logged)
+    → IfErr r (λ e. Failed e.0)
+    → IfErr r (λ e. (logged : List ℕ) × IsLoggedWith e.0 logged × HasLogged wanted old new logged)
+    → IfOk r (λ a. IsPrinted was is (answer_bytes a.text) (status_after new a.status) result)
+    → IfErr r (λ e. IsPrinted was is (line_of (fault_line e.0)) (status_after new (fault_status e.0)) result)
+    → (text logged : List ℕ) × (status told : ℕ)
+    × (Done text logged status ⊎ ((fault : Fault) × Failed fault × (text ≡ line_of (fault_line fault))
+    × IsLoggedWith fault logged × (status ≡ fault_status fault)))
+    × IsLogged wanted old.contents new.contents logged status told × IsPrinted was is text told result
+printed_after (Ok a) Done Failed wanted old new was is result (logged, done, has) _ _ printed _ =
+    (answer_bytes a.text, logged, a.status, status_after new a.status, inl done, settled_log wanted old new logged a.status has, printed)
+printed_after (Err e) Done Failed wanted old new was is result _ failed (logged, with, has) _ printed = (
+  line_of (fault_line e.0),
+  logged,
+  fault_status e.0,
+  status_after new (fault_status e.0),
+  inr (e.0, failed, refl, with, refl),
+  settled_log wanted old new logged (fault_status e.0) has,
+  printed,
+)
+
+-- an answer without a log
+pub done_unlogged : {E : Type 0} (r : Result Answered (Fault × E)) (command : Result Job WordsFault) (job : Job) (known : Option (List ℕ)) (log : LogState)
+    → command ≡ Ok job → log.is_failed ≡ false → IfOk r (λ a. Answers job known (answer_bytes a.text) [] a.status)
+    → IfOk r (λ a. (logged : List ℕ) × ((j : Job) × (command ≡ Ok j) × Answers j known (answer_bytes a.text) logged a.status) × HasLogged (has_log command) log log logged)
+done_unlogged (Err e) command job known log is sound done = tt
+done_unlogged (Ok a) command job known log is sound done = ([], (job, is, done), same_logged (has_log command) log log sound refl)
+
+-- a fault without a log
+pub fault_unlogged : {E : Type 0} (r : Result Answered (Fault × E)) (wanted : Bool) (log : LogState) → log.is_failed ≡ false
+    → IfErr r (λ e. (logged : List ℕ) × IsLoggedWith e.0 logged × HasLogged wanted log log logged)
+fault_unlogged (Err e) wanted log sound = ([], inl refl, same_logged wanted log log sound refl)
+fault_unlogged (Ok a) wanted log sound = tt
+
+-- a fault after which nothing was logged
+pub fault_logged_none : {E : Type 0} (r : Result Answered (Fault × E)) (wanted : Bool) (old new : LogState) → OnErr r (HasLogged wanted old new [])
+    → IfErr r (λ e. (logged : List ℕ) × IsLoggedWith e.0 logged × HasLogged wanted old new logged)
+fault_logged_none (Err e) wanted old new has = ([], inl refl, has)
+fault_logged_none (Ok a) wanted old new has = tt
+
+-- an answer to a job, with its log
+pub done_logged : {E : Type 0} (r : Result Answered (Fault × E)) (command : Result Job WordsFault) (job : Job) (known : Option (List ℕ)) (wanted : Bool) (old new : LogState)
+    → command ≡ Ok job → wanted ≡ keeps_log job
+    → IfOk r (λ a. (logged : List ℕ) × Answers job known (answer_bytes a.text) logged a.status × HasLogged wanted old new logged)
+    → IfOk r (λ a. (logged : List ℕ) × ((j : Job) × (command ≡ Ok j) × Answers j known (answer_bytes a.text) logged a.status) × HasLogged (has_log command) old new logged)
+done_logged (Err e) command job known wanted old new is keeps done = tt
+done_logged (Ok a) command job known wanted old new is keeps (logged, done, has) =
+    (logged, (job, is, done), subst (λ c. HasLogged (has_log c) old new logged) (sym is) (subst (λ w. HasLogged w old new logged) keeps has))
