@@ -1,5 +1,6 @@
 //! One allocation at most fails in a test, whichever it is.
 mod careful;
+mod checks;
 mod controllers;
 mod desks;
 mod events;

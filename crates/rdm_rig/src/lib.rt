@@ -7,7 +7,6 @@
 #![tactic(auto)]
 
 mod act;
-mod checks;
 mod device;
 mod found;
 mod heard;
@@ -22,7 +21,6 @@ mod tape;
 mod wrong;
 
 pub use act::{Act, Driver, Move, Mover, Stage, Step, moved};
-pub use checks::check;
 pub use device::{Who, device_of};
 pub use found::{Ending, Found, ending_by, found_in};
 pub use heard::{Heard, Stop, completion_told, outcome_told, told};

@@ -1,7 +1,8 @@
 //! Moves of which one may find no memory.
+use super::checks::check;
 use rdm_join::Status;
 use rdm_queue::JoinFault;
-use rdm_rig::{Act, Driver, Heard, Move, Refusal, Said, Stage, Step, check};
+use rdm_rig::{Act, Driver, Heard, Move, Refusal, Said, Stage, Step};
 use std::alloc::Global;
 use std::process::Abort;
 

@@ -1,9 +1,10 @@
 //! Controllers without a log: how they are made, joins, and replies that are delivered.
+use super::checks::check;
 use super::lines::first_device;
 use rdm_join::{LineEvent, Status};
 use rdm_line::{Line, SimLine};
 use rdm_queue::{ClientId, Controller, JoinFault, NoMemory, NotAsked, SubmitFault};
-use rdm_rig::{Heard, check, completion_told, config, request};
+use rdm_rig::{Heard, completion_told, config, request};
 use std::alloc::Global;
 use std::process::Abort;
 

@@ -1,8 +1,9 @@
 //! Desks.
+use super::checks::check;
 use rdm_client::{Collected, Desk, Full, Misdelivered};
 use rdm_join::Status;
 use rdm_queue::{Completion, NoMemory, Outcome};
-use rdm_rig::{AskNote, Note, cancels, check};
+use rdm_rig::{AskNote, Note, cancels};
 use std::alloc::Global;
 use std::process::Abort;
 

@@ -1,10 +1,11 @@
 //! Lists of events that a session answers.
+use super::checks::check;
 use super::lines::first_device;
 use rdm_agent::DEFAULT_BUDGET;
 use rdm_join::{LineEvent, LineReply, Status};
 use rdm_line::{Line, SimLine};
 use rdm_queue::{Answer, ClientId, Event, JoinFault, NoMemory, Outcome, Session};
-use rdm_rig::{Heard, check, completion_told, request, session_of};
+use rdm_rig::{Heard, completion_told, request, session_of};
 use std::alloc::Global;
 use std::process::Abort;
 

@@ -1,12 +1,13 @@
 //! What the mutex of a port protects: how it is made, joins, and replies that are delivered.
 ghost use Rattle.std.specs.Prelude.{◌≡◌};
 
+use super::checks::check;
 use super::lines::first_device;
 use rdm_join::{LineEvent, Status};
 use rdm_line::{Line, SimLine};
 use rdm_locked::{CallShare, Inside, Turn};
 use rdm_queue::{ClientId, JoinFault, NoMemory, NotAsked};
-use rdm_rig::{Heard, check, completion_told, config, is_blank, log, request};
+use rdm_rig::{Heard, completion_told, config, is_blank, log, request};
 use std::alloc::Global;
 use std::marker::Brand;
 use std::process::Abort;

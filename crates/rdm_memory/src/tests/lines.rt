@@ -1,6 +1,7 @@
 //! Lines that are made again if their scenes find no memory.
+use super::checks::check;
 use rdm_line::SimLine;
-use rdm_rig::{LineOf, Meeting, Placed, Who, Wrong, check, line_of};
+use rdm_rig::{LineOf, Meeting, Placed, Who, Wrong, line_of};
 use std::alloc::Global;
 use std::process::Abort;
 

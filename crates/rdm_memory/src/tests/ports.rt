@@ -1,7 +1,8 @@
 //! A session with a mutex, with its client and its worker, in one thread.
 use super::careful::{Careful, is_again};
+use super::checks::check;
 use super::lines::first_device;
-use rdm_rig::{Act, Heard, LONG, Move, Step, Stop, Wrong, check};
+use rdm_rig::{Act, Heard, LONG, Move, Step, Stop, Wrong};
 use rdm_stage::{Failed, PortOver, PortSetup, drive_port};
 use std::alloc::Global;
 use std::process::Abort;

@@ -1,9 +1,10 @@
 //! The data of joined replies.
 ghost use Rattle.rdm_join.specs.JoinerStanding.{IsOpen};
 
+use super::checks::check;
 use arrayvec::ArrayVec;
 use rdm_join::{Joiner, Judged, Status, Step};
-use rdm_rig::{check, controller, get};
+use rdm_rig::{controller, get};
 use rdm_wire::{AckType, RespClass, Response};
 use std::alloc::Global;
 use std::process::Abort;

@@ -1,10 +1,11 @@
 //! Clients with ring buffers and their worker, in one thread.
 use super::careful::Careful;
+use super::checks::check;
 use super::lines::first_device;
 use rdm_agent::Kind;
 use rdm_join::Status;
 use rdm_line::{Line, TapeLine};
-use rdm_rig::{Act, Ending, Found, Heard, Move, Refusal, Step, Stop, Wrong, check, silent};
+use rdm_rig::{Act, Ending, Found, Heard, Move, Refusal, Step, Stop, Wrong, silent};
 use rdm_stage::{Failed, LanesOver, Setup, drive_lanes};
 use std::alloc::Global;
 use std::process::Abort;

@@ -1,7 +1,8 @@
 //! Scenes, and the lines that are made of them.
+use super::checks::check;
 use super::lines::first_device;
 use rdm_line::{AddFault, Line, Parameters, SceneDevice, SceneDevices, SimLine};
-use rdm_rig::{Who, check, controller, device_of};
+use rdm_rig::{Who, controller, device_of};
 use rdm_wire::{Device, Frame, Uid, encode_mute};
 use std::alloc::Global;
 use std::process::Abort;

@@ -1,5 +1,6 @@
 //! Sessions and their logs: how they are made, joins, and replies that are delivered.
 use super::careful::Careful;
+use super::checks::check;
 use super::lines::{first_device, line};
 use rdm_agent::{DEFAULT_BUDGET, Kind};
 use rdm_join::Status;
@@ -7,7 +8,7 @@ use rdm_line::SimLine;
 use rdm_queue::{JoinFault, SubmitFault};
 use rdm_rig::{
     Act, Driver, Ending, Found, Heard, LineOf, Meeting, Move, Refusal, SessionStage, Stage, Step,
-    Stop, check, open_session,
+    Stop, open_session,
 };
 use std::alloc::Global;
 use std::process::Abort;

@@ -1,6 +1,7 @@
 //! Sessions with ring buffers whose bodies and worker run in threads.
+use super::checks::check;
 use rdm_join::Status;
-use rdm_rig::{Heard, Step, Stop, Wrong, check, silent};
+use rdm_rig::{Heard, Step, Stop, Wrong, silent};
 use rdm_stage::{
     Failed, NotRun, Play, Player, PlayersOver, Setup, counts_are, player_heard, run_bodies,
 };
