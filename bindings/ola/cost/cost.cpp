@@ -1,5 +1,6 @@
 // What a request costs in OLA's controller, or under LD_PRELOAD in the stand-in: nanoseconds of processor time, with a
-// layer below that answers at once. Not part of unit.cpp, since it is to be linked to OLA's library alone.
+// layer below that answers at once.
+//   c++ -std=c++17 -O2 bindings/ola/cost/cost.cpp -o cost -lola -lolacommon
 #include <ola/Callback.h>
 #include <ola/rdm/QueueingRDMController.h>
 #include <ola/rdm/RDMCommandSerializer.h>
@@ -34,6 +35,8 @@ private:
     const std::uint8_t data_[2] = {0, 1};
 };
 
+RDMRequest *request() { return new RDMGetRequest(CLIENT, DEVICE, 0, 1, 0, PID_DMX_START_ADDRESS, nullptr, 0); }
+
 unsigned long answered = 0;
 
 void count(RDMReply *reply) { answered += reply->StatusCode() == RDM_COMPLETED_OK && reply->Response() != nullptr; }
@@ -52,12 +55,12 @@ int main() {
     const std::unique_ptr<RDMCallback> callback(ola::NewCallback(count));
     const double began = now();
     for (int round = 0; round < ROUNDS; round++) {
-        queue.SendRDMRequest(new RDMGetRequest(CLIENT, DEVICE, 0, 1, 0, PID_DMX_START_ADDRESS, nullptr, 0), callback.get());
+        queue.SendRDMRequest(request(), callback.get());
     }
     const double ended = now();
     const double below = now();
     for (int round = 0; round < ROUNDS; round++) {
-        lower.SendRDMRequest(new RDMGetRequest(CLIENT, DEVICE, 0, 1, 0, PID_DMX_START_ADDRESS, nullptr, 0), callback.get());
+        lower.SendRDMRequest(request(), callback.get());
     }
     std::printf("%.0f, of which below %.0f\n", (ended - began) / ROUNDS, (now() - below) / ROUNDS);
     return answered == 2 * ROUNDS ? 0 : 1;
