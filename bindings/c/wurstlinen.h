@@ -510,14 +510,15 @@ uint32_t wurst_response_write(const struct wurst_response *response, const uint8
 uint32_t wurst_mute_ack_read(uint64_t uid, uint64_t source, uint8_t tn, const uint8_t *bytes, size_t len,
                              struct wurst_mute_ack *ack);
 
-/* Writes the acknowledgement of the mute that `source` sent with `tn`. WURST_BAD_UID (the device's, its binding one,
- * source), WURST_BUFFER_TOO_SMALL. */
+/* Writes the acknowledgement of the mute that `source` sent with `tn`. The first of: for the device's UID,
+ * WURST_BAD_UID or WURST_BROADCAST_UID; for its binding UID, read even without has_binding, and for `source`,
+ * WURST_BAD_UID; WURST_BUFFER_TOO_SMALL. */
 uint32_t wurst_mute_ack_write(const struct wurst_device *device, uint64_t source, uint8_t tn, uint8_t *frame,
                               size_t room, size_t *len);
 
 /* Reads a controller's command: exactly the bytes that one of the four writers above writes. A request's parameter data
- * are written into `param`. WURST_NOTHING: the bytes aren't one. WURST_BUFFER_TOO_SMALL unless `room` is at least
- * WURST_MOST_PARAMETER_BYTES. */
+ * are written into `param`. The first of WURST_NOTHING, if the bytes aren't one, and WURST_BUFFER_TOO_SMALL, if
+ * `room` is less than WURST_MOST_PARAMETER_BYTES. */
 uint32_t wurst_command_read(const uint8_t *bytes, size_t len, struct wurst_command *command, uint8_t *param,
                             size_t room);
 
@@ -536,7 +537,8 @@ uint32_t wurst_agent_start(struct wurst_agent *handle, const struct wurst_start 
 void wurst_agent_dispose(struct wurst_agent *handle);
 
 /* Writes what the run asks next (enum wurst_operation) and its frame. Asking again writes the same.
- * WURST_BUFFER_TOO_SMALL unless `room` is at least WURST_MOST_FRAME_BYTES. WURST_NOTHING: the run has ended. */
+ * The first of WURST_NOTHING, if the run has ended, and WURST_BUFFER_TOO_SMALL, if `room` is less than
+ * WURST_MOST_FRAME_BYTES. */
 uint32_t wurst_agent_next(struct wurst_agent *handle, uint32_t *operation, uint8_t *frame, size_t room, size_t *len);
 
 /* Takes the bytes that the line answered; len 0 is silence. The next frame has the next transaction number.

@@ -100,6 +100,7 @@ static void writes_commands(void) {
     const uint64_t source = setup.source, uid = device_info.target, far = UINT64_C(0x1000000000000);
     CHECK(wurst_request_write(&device_info, no_bytes, 0, source, 0, frame, 257, &len) == WURST_DONE);
     CHECK(is_same(frame, len, "cc0118 123400000007 7a7000000001 00 01 00 0000 20 0060 00 029e"));
+    CHECK(wurst_request_write(&device_info, buffer, 231, source, 0, frame, 257, &len) == WURST_DONE && len == 257);
     CHECK(wurst_request_write(&device_info, no_bytes, 0, far, 0, frame, 257, &len) == WURST_BAD_UID);
     CHECK(wurst_request_write(&device_info, no_bytes, 0, source, 0, frame, 256, &len) == WURST_BUFFER_TOO_SMALL);
     CHECK(wurst_unmute_write(source, 1, frame, 257, &len) == WURST_DONE);

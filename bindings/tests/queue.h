@@ -77,8 +77,10 @@ static void TEST(serves_a_request)(void) {
     CHECK(CALL(oldest)(&queue, client, &kind) == WURST_DONE && kind == WURST_REQUEST_OUTCOME);
     CHECK(CALL(next_discovery)(&queue, client, &end, devices, 0) == WURST_OTHER_OUTCOME);
     done.len = 0;
+    done.number = 99;
+    buffer[0] = 88;
     CHECK(CALL(next_completion)(&queue, client, &done, buffer, 3) == WURST_BUFFER_TOO_SMALL);
-    CHECK(done.len == 4);
+    CHECK(done.len == 4 && done.number == 99 && buffer[0] == 88);
     CHECK(CALL(next_completion)(&queue, client, &done, buffer, 4) == WURST_DONE);
     CHECK(done.number == 0 && done.len == 4 && done.status == WURST_COMPLETED && done.has_head);
     CHECK(done.ack == WURST_ACK && done.response_class == WURST_GET_RESPONSE && done.pid == 0x0060);
@@ -102,6 +104,22 @@ static void TEST(joins_parts)(void) {
     CHECK(CALL(next_completion)(&queue, client, &done, buffer, 692) == WURST_BUFFER_TOO_SMALL);
     CHECK(done.len == 693);
     CHECK(CALL(next_completion)(&queue, client, &done, buffer, 693) == WURST_DONE && done.len == 693);
+    CALL(dispose)(&queue);
+}
+
+/* A packet of 257 bytes, the longest, fills its buffer. */
+static void TEST(fills_a_frame)(void) {
+    static const struct wurst_request label = {UINT64_C(0x123400000007), WURST_SET, 0x0203, 0x0082};
+    HANDLE queue = {0};
+    uint8_t client = 0, data[231];
+    memset(data, 7, sizeof data);
+    CHECK(OPEN(&queue, &setup) == WURST_DONE);
+    CHECK(CALL(join)(&queue, 1, &client) == WURST_DONE);
+    CHECK(CALL(submit)(&queue, client, &label, data, sizeof data, &number) == WURST_DONE);
+    CHECK(CALL(take)(&queue, frame, 257, &len) == WURST_DONE && len == 257);
+    /* E1.20, packet format: 24 bytes, the data, and the sum of them all, 0af4. */
+    CHECK(is_same(frame, 24, "cc01ff 123400000007 7a7000000001 00 01 00 0203 30 0082 e7"));
+    CHECK(memcmp(frame + 24, data, sizeof data) == 0 && frame[255] == 0x0a && frame[256] == 0xf4);
     CALL(dispose)(&queue);
 }
 
@@ -196,6 +214,7 @@ static void TEST(all)(void) {
     TEST(is_closed_handle)();
     TEST(serves_a_request)();
     TEST(joins_parts)();
+    TEST(fills_a_frame)();
     TEST(refuses)();
     TEST(pauses_and_closes)();
     TEST(discovers)();

@@ -128,6 +128,14 @@ pub extern "C" fn wurst_agent_fail(alloc: Global, handle: &mut AgentHandle) -> u
         result ≡ (if operation_status (next_op handle.old.value.agent) == 0 then DONE else HAS_ENDED) }
     ensures heard { handle.old.is_open ≡ true → result ≡ DONE →
         handle.new.value.agent ≡ heard_of handle.old.value None }
+    ensures has_run { handle.old.is_open ≡ true → result ≡ DONE → (heard : OpReply)
+        × (fits heard (next_op handle.old.value.agent) ≡ true)
+        × (handle.new.value.agent ≡ fed handle.old.value.agent (heard_by heard))
+        × AfterEach handle.old.value.agent (λ run. HasRunBy run.search run.kind run.known run.budget false
+        (run.exchanges ++ seen_op (next_op handle.old.value.agent, heard) ∷ []) handle.new.value.agent) }
+    ensures numbers { handle.old.is_open ≡ true → result ≡ DONE →
+        (handle.new.value.tn ≡ (handle.old.value.tn + 1) % 2 ^ 8)
+        × (handle.new.value.source ≡ handle.old.value.source) }
     ensures unchanged { handle.old.is_open ≡ true → result ≢ DONE → handle.new.value ≡ handle.old.value }
 {
     let Some(mut discovery) = handle.take(alloc) else {

@@ -1,7 +1,7 @@
 //! The calls of C on controllers. Each is the library's call of that name, on what the handle holds.
-ghost use Rattle.std.specs.Prelude.{◌≡◌, ◌≢◌, ◌≤◌, ◌<◌, ◌⊎◌, ℕ, length, take, map, true, false, Some};
+ghost use Rattle.std.specs.Prelude.{◌≡◌, ◌≢◌, ◌≤◌, ◌<◌, ◌↔◌, ◌⊎◌, ℕ, length, take, map, true, false, Some};
 ghost use Rattle.std.specs.Prelude.{None, Ok};
-ghost use Rattle.std.specs.Prelude.{if◌then◌else◌, nat_lt, List};
+ghost use Rattle.std.specs.Prelude.{if◌then◌else◌, nat_lt, List, option_map};
 ghost use Rattle.arrayvec.specs.ArrayVec.{ArrayVec as Bytes};
 ghost use Rattle.rdm_wire.specs.declared.device.Device.{Device};
 ghost use Rattle.rdm_join.specs.declared.event.LineEvent.TheVariants.{Reply, Failed};
@@ -19,7 +19,7 @@ ghost use Rattle.rdm_queue.specs.promises.Lengths.{oldest_length};
 ghost use Rattle.rdm_handles.specs.Forms.{setup_status, setup_of, request_status, request_of, kind_of};
 ghost use Rattle.rdm_handles.specs.Forms.{form_of_completion, form_of_end, form_of_device};
 ghost use Rattle.rdm_handles.specs.Answers.{join_answer, submit_answer, ask_answer, collect_status, oldest_status};
-ghost use Rattle.rdm_handles.specs.Answers.{outcome_kind_of};
+ghost use Rattle.rdm_handles.specs.Answers.{number_of_outcome_kind};
 
 use rdm_handles::status::{
     ALREADY_OPEN, BAD_KIND, BUFFER_TOO_SMALL, DONE, NOT_ASKED, NOT_OPEN, NOTHING, OUT_OF_MEMORY,
@@ -214,9 +214,9 @@ pub extern "C" fn wurst_controller_take(
     ensures not_open { handle.old.is_open ≡ false → (result ≡ NOT_OPEN) × (len.new ≡ len.old)
         × (frame.new ≡ frame.old) }
     ensures stays { handle.new.is_open ≡ handle.old.is_open }
-    ensures small { handle.old.is_open ≡ true → length frame.old < 257 → result ≡ BUFFER_TOO_SMALL }
+    ensures small { handle.old.is_open ≡ true → (result ≡ BUFFER_TOO_SMALL) ↔ (length frame.old < 257) }
     ensures given { handle.old.is_open ≡ true → result ≡ DONE →
-        (sent : Bytes ℕ) × (take len.new frame.new ≡ sent.items)
+        (sent : Bytes ℕ) × (len.new ≡ length sent.items) × (take len.new frame.new ≡ sent.items)
         × AddsToEach handle.old.value (λ k. TakeAdds k.opening k.entries (Some sent)) handle.new.value }
     ensures nothing { handle.old.is_open ≡ true → result ≡ NOTHING →
         AddsToEach handle.old.value (λ k. TakeAdds k.opening k.entries None) handle.new.value }
@@ -243,6 +243,8 @@ pub extern "C" fn wurst_controller_deliver(
     ensures not_open { handle.old.is_open ≡ false → (result ≡ NOT_OPEN) }
     ensures stays { handle.new.is_open ≡ handle.old.is_open }
     ensures long { handle.old.is_open ≡ true → 257 < length reply.now → result ≡ REPLY_TOO_LONG }
+    ensures statuses { handle.old.is_open ≡ true → length reply.now ≤ 257 →
+        (result ≡ DONE) ⊎ (result ≡ NOT_ASKED) }
     ensures heard { handle.old.is_open ≡ true → result ≡ DONE → AddsToEach handle.old.value (λ k.
         DeliverAdds k (Reply (record { items = reply.now })) (Ok tt)) handle.new.value }
     ensures not_asked { handle.old.is_open ≡ true → result ≡ NOT_ASKED →
@@ -262,6 +264,7 @@ pub extern "C" fn wurst_controller_deliver(
 pub extern "C" fn wurst_controller_fail(alloc: Global, handle: &mut ControllerHandle) -> u32
     ensures not_open { handle.old.is_open ≡ false → (result ≡ NOT_OPEN) }
     ensures stays { handle.new.is_open ≡ handle.old.is_open }
+    ensures statuses { handle.old.is_open ≡ true → (result ≡ DONE) ⊎ (result ≡ NOT_ASKED) }
     ensures heard { handle.old.is_open ≡ true → result ≡ DONE → AddsToEach handle.old.value (λ k.
         DeliverAdds k Failed (Ok tt)) handle.new.value }
     ensures not_asked { handle.old.is_open ≡ true → result ≡ NOT_ASKED →
@@ -290,7 +293,7 @@ pub extern "C" fn wurst_controller_oldest(
     ensures status { handle.old.is_open ≡ true →
         ForEachLog handle.old.value (λ o h. result ≡ oldest_status o h client) }
     ensures kind { handle.old.is_open ≡ true → result ≡ DONE → ForEachLog handle.old.value (λ o h.
-        oldest_kind o h client ≡ Some (outcome_kind_of kind.new)) }
+        option_map number_of_outcome_kind (oldest_kind o h client) ≡ Some kind.new) }
     ensures unchanged { handle.old.is_open ≡ true → result ≢ DONE → kind.new ≡ kind.old }
 {
     let Some(controller) = handle.take(alloc) else {
@@ -324,7 +327,12 @@ pub extern "C" fn wurst_controller_next_completion(
         CollectAdds k.opening k.entries (record { 0 = client }) (Some (request_outcome (number, done))))
         handle.new.value
         × ForEachLog handle.old.value (λ o h. take completion.new.len buffer.new ≡ done.bytes.items) }
-    ensures unchanged { handle.old.is_open ≡ true → result ≢ DONE → handle.new.value ≡ handle.old.value }
+    ensures only_len { handle.old.is_open ≡ true → result ≡ BUFFER_TOO_SMALL →
+        completion.new ≡ record completion.old { len = completion.new.len } }
+    ensures kept { handle.old.is_open ≡ true → result ≢ DONE → result ≢ BUFFER_TOO_SMALL →
+        completion.new ≡ completion.old }
+    ensures unchanged { handle.old.is_open ≡ true → result ≢ DONE →
+        (handle.new.value ≡ handle.old.value) × (buffer.new ≡ buffer.old) }
 {
     let Some(mut controller) = handle.take(alloc) else {
         return NOT_OPEN;
@@ -356,7 +364,11 @@ pub extern "C" fn wurst_controller_next_discovery(
         × AddsToEach handle.old.value (λ k.
         CollectAdds k.opening k.entries (record { 0 = client }) (Some (discovery_outcome ended set))) handle.new.value
         × ForEachLog handle.old.value (λ o h. take (length set) devices.new ≡ map form_of_device set) }
-    ensures unchanged { handle.old.is_open ≡ true → result ≢ DONE → handle.new.value ≡ handle.old.value }
+    ensures only_count { handle.old.is_open ≡ true → result ≡ BUFFER_TOO_SMALL →
+        end.new ≡ record end.old { count = end.new.count } }
+    ensures kept { handle.old.is_open ≡ true → result ≢ DONE → result ≢ BUFFER_TOO_SMALL → end.new ≡ end.old }
+    ensures unchanged { handle.old.is_open ≡ true → result ≢ DONE →
+        (handle.new.value ≡ handle.old.value) × (devices.new ≡ devices.old) }
 {
     let Some(mut controller) = handle.take(alloc) else {
         return NOT_OPEN;

@@ -1,6 +1,6 @@
 //! The calls of C that read and write UIDs and packets.
 ghost use Rattle.std.specs.Prelude.{◌≡◌, ◌≢◌, ◌≤◌, ◌↔◌, ◌^◌, ℕ, [], length, take, Some, Ok, IfOk, IfErr, nat_lt};
-ghost use Rattle.std.specs.Prelude.{if◌then◌else◌};
+ghost use Rattle.std.specs.Prelude.{if◌then◌else◌, ◌⊎◌, slice_index};
 ghost use Rattle.std.specs.Str.{IsUtf8};
 ghost use Rattle.rdm_wire.specs.BranchText.{BranchText, branch_text};
 ghost use Rattle.rdm_wire.specs.CommandFrames.{request_frame, unmute_frame, mute_frame, branch_frame};
@@ -9,7 +9,7 @@ ghost use Rattle.rdm_wire.specs.MuteResponses.{mute_response};
 ghost use Rattle.rdm_wire.specs.Packet.{packet};
 ghost use Rattle.rdm_wire.specs.Reading.{ack_read};
 ghost use Rattle.rdm_wire.specs.Responses.{decoded, fields_of};
-ghost use Rattle.rdm_wire.specs.UidText.{UidText, uid_text};
+ghost use Rattle.rdm_wire.specs.UidText.{UidText, uid_text, colon};
 ghost use Rattle.rdm_wire.specs.declared.command.Command.{Command};
 ghost use Rattle.rdm_wire.specs.declared.mute_ack.MuteAck.{MuteAck};
 ghost use Rattle.rdm_wire.specs.declared.response.Response.{Response};
@@ -26,7 +26,8 @@ use rdm_handles::packets::{
     status_of_packet, status_of_text,
 };
 use rdm_handles::status::{
-    BAD_PREAMBLE, BAD_RANGE, BUFFER_TOO_SMALL, DONE, NOT_TEXT, NOTHING, UID_LENGTH,
+    BAD_PREAMBLE, BAD_RANGE, BUFFER_TOO_SMALL, DONE, NOT_TEXT, NOTHING, UID_DIGIT, UID_LENGTH,
+    UID_SEPARATOR,
 };
 use rdm_handles::{CommandForC, DeviceForC, MuteAckForC, RequestForC, ResponseForC};
 use rdm_wire::{
@@ -41,7 +42,13 @@ pub extern "C" fn wurst_uid_read(text: &[u8], uid: &mut u64) -> u32
     ensures read { result ≡ DONE → UidText text.now uid.new }
     ensures all { (u : ℕ) → IsUtf8 text.now → UidText text.now u → (result ≡ DONE) × (uid.new ≡ u) }
     ensures length { IsUtf8 text.now → (result ≡ UID_LENGTH) ↔ (length text.now ≢ 13) }
+    ensures separator { IsUtf8 text.now →
+        (result ≡ UID_SEPARATOR) ↔ ((length text.now ≡ 13) × (slice_index text.now 4 ≢ colon)) }
     ensures text { IsUtf8 text.now → result ≢ NOT_TEXT }
+    ensures not_text { (IsUtf8 text.now → ⊥) → result ≡ NOT_TEXT }
+    // Any other fault is of the digits.
+    ensures statuses { (result ≡ DONE) ⊎ ((result ≡ NOT_TEXT) ⊎ ((result ≡ UID_LENGTH)
+        ⊎ ((result ≡ UID_SEPARATOR) ⊎ (result ≡ UID_DIGIT)))) }
     ensures unchanged { result ≢ DONE → uid.new ≡ uid.old }
 {
     let Ok(text) = str::from_utf8(text) else {
@@ -108,6 +115,7 @@ pub extern "C" fn wurst_branch_reply_write(
         (first_of (if nat_lt 7 preamble then BAD_PREAMBLE else DONE)
         (if nat_lt (length bytes.old) 24 then BUFFER_TOO_SMALL else DONE)) }
     ensures written { result ≡ DONE → take len.new bytes.new ≡ branch_text uid preamble }
+    ensures len { result ≡ DONE → len.new ≡ length (branch_text uid preamble) }
     ensures unchanged { result ≢ DONE → (len.new ≡ len.old) × (bytes.new ≡ bytes.old) }
 {
     let uid = match any_uid(uid) {
@@ -127,7 +135,8 @@ pub extern "C" fn wurst_branch_reply_write(
 // Writes a reply at the front of a buffer, and tells how many bytes it has.
 fn put_reply(bytes: &mut [u8], reply: &ArrayVec<u8, LONGEST_BRANCH_REPLY>) -> usize
     requires { 24 ≤ length bytes.old }
-    ensures { take result bytes.new ≡ reply.now.items }
+    ensures front { take result bytes.new ≡ reply.now.items }
+    ensures len { result ≡ length reply.now.items }
 {
     put_bytes(bytes, reply)
 }
@@ -146,6 +155,8 @@ pub extern "C" fn wurst_request_write(
         (first_of (number_status source) (frame_status (length frame.old))) }
     ensures written { result ≡ DONE →
         take len.new frame.new ≡ request_frame (request_of request.now param_bytes.now) source tn }
+    ensures len { result ≡ DONE →
+        len.new ≡ length (request_frame (request_of request.now param_bytes.now) source tn) }
     ensures unchanged { result ≢ DONE → (len.new ≡ len.old) × (frame.new ≡ frame.old) }
 {
     let request = match request_of(request, param_bytes) {
@@ -275,6 +286,8 @@ pub extern "C" fn wurst_response_write(
         (frame_status (length frame.old)) }
     ensures written { result ≡ DONE →
         take len.new frame.new ≡ packet (fields_of (response_of response.now param_bytes.now)) }
+    ensures len { result ≡ DONE →
+        len.new ≡ length (packet (fields_of (response_of response.now param_bytes.now))) }
     ensures unchanged { result ≢ DONE → (len.new ≡ len.old) × (frame.new ≡ frame.old) }
 {
     match response_of(response, param_bytes) {

@@ -1,6 +1,6 @@
 //! The calls of C on sessions. Each is the library's call of that name, on what the handle holds.
 ghost use Rattle.std.specs.Prelude.{◌≡◌, ◌≢◌, ◌≤◌, ◌<◌, ◌+◌, ◌⊎◌, ℕ, length, take, map, true, false, Some, None, Ok};
-ghost use Rattle.std.specs.Prelude.{if◌then◌else◌, nat_lt, List};
+ghost use Rattle.std.specs.Prelude.{if◌then◌else◌, nat_lt, List, ◌↔◌, option_map};
 ghost use Rattle.arrayvec.specs.ArrayVec.{ArrayVec as Bytes};
 ghost use Rattle.rdm_wire.specs.declared.device.Device.{Device};
 ghost use Rattle.rdm_join.specs.declared.event.LineEvent.TheVariants.{Reply, Failed};
@@ -19,7 +19,7 @@ ghost use Rattle.rdm_queue.specs.promises.Lengths.{oldest_length};
 ghost use Rattle.rdm_handles.specs.Forms.{setup_of, request_status, request_of, kind_of};
 ghost use Rattle.rdm_handles.specs.Forms.{form_of_completion, form_of_end, form_of_device};
 ghost use Rattle.rdm_handles.specs.Answers.{join_answer, submit_answer, ask_answer, collect_status, oldest_status};
-ghost use Rattle.rdm_handles.specs.Answers.{outcome_kind_of};
+ghost use Rattle.rdm_handles.specs.Answers.{number_of_outcome_kind};
 ghost use Rattle.rdm_handles.specs.Sessions.{open_status, full_status};
 
 use rdm_handles::status::{
@@ -222,9 +222,9 @@ pub extern "C" fn wurst_session_take(
     ensures not_open { handle.old.is_open ≡ false → (result ≡ NOT_OPEN) × (len.new ≡ len.old)
         × (frame.new ≡ frame.old) }
     ensures stays { handle.new.is_open ≡ handle.old.is_open }
-    ensures small { handle.old.is_open ≡ true → length frame.old < 257 → result ≡ BUFFER_TOO_SMALL }
+    ensures small { handle.old.is_open ≡ true → (result ≡ BUFFER_TOO_SMALL) ↔ (length frame.old < 257) }
     ensures given { handle.old.is_open ≡ true → result ≡ DONE →
-        (sent : Bytes ℕ) × (take len.new frame.new ≡ sent.items)
+        (sent : Bytes ℕ) × (len.new ≡ length sent.items) × (take len.new frame.new ≡ sent.items)
         × GrowsBy handle.old.value (TakeLogs handle.old.value (Ok (Some sent))) handle.new.value }
     ensures nothing { handle.old.is_open ≡ true → result ≡ NOTHING →
         GrowsBy handle.old.value (TakeLogs handle.old.value (Ok None)) handle.new.value }
@@ -254,6 +254,8 @@ pub extern "C" fn wurst_session_deliver(
     ensures not_open { handle.old.is_open ≡ false → (result ≡ NOT_OPEN) }
     ensures stays { handle.new.is_open ≡ handle.old.is_open }
     ensures long { handle.old.is_open ≡ true → 257 < length reply.now → result ≡ REPLY_TOO_LONG }
+    ensures statuses { handle.old.is_open ≡ true → length reply.now ≤ 257 →
+        (result ≡ DONE) ⊎ (result ≡ NOT_ASKED) }
     ensures heard { handle.old.is_open ≡ true → result ≡ DONE → GrowsBy handle.old.value
         (DeliverAdds handle.old.value (Reply (record { items = reply.now })) (Ok tt)) handle.new.value }
     ensures not_asked { handle.old.is_open ≡ true → result ≡ NOT_ASKED → awaited handle.old.value.entries ≡ false }
@@ -274,6 +276,7 @@ pub extern "C" fn wurst_session_deliver(
 pub extern "C" fn wurst_session_fail(alloc: Global, handle: &mut SessionHandle) -> u32
     ensures not_open { handle.old.is_open ≡ false → (result ≡ NOT_OPEN) }
     ensures stays { handle.new.is_open ≡ handle.old.is_open }
+    ensures statuses { handle.old.is_open ≡ true → (result ≡ DONE) ⊎ (result ≡ NOT_ASKED) }
     ensures heard { handle.old.is_open ≡ true → result ≡ DONE →
         GrowsBy handle.old.value (DeliverAdds handle.old.value Failed (Ok tt)) handle.new.value }
     ensures not_asked { handle.old.is_open ≡ true → result ≡ NOT_ASKED → awaited handle.old.value.entries ≡ false }
@@ -302,7 +305,8 @@ pub extern "C" fn wurst_session_oldest(
     ensures status { handle.old.is_open ≡ true →
         result ≡ oldest_status handle.old.value.opening handle.old.value.entries client }
     ensures kind { handle.old.is_open ≡ true → result ≡ DONE →
-        oldest_kind handle.old.value.opening handle.old.value.entries client ≡ Some (outcome_kind_of kind.new) }
+        option_map number_of_outcome_kind (oldest_kind handle.old.value.opening handle.old.value.entries client)
+        ≡ Some kind.new }
     ensures unchanged { handle.old.is_open ≡ true → result ≢ DONE → kind.new ≡ kind.old }
 {
     let Some(session) = handle.take(alloc) else {
@@ -334,9 +338,14 @@ pub extern "C" fn wurst_session_next_completion(
         × (completion.new ≡ form_of_completion number done) × (take completion.new.len buffer.new ≡ done.bytes.items)
         × GrowsBy handle.old.value (CollectAdds handle.old.value.opening handle.old.value.entries
         (record { 0 = client }) (Some (request_outcome (number, done)))) handle.new.value }
+    ensures only_len { handle.old.is_open ≡ true → result ≡ BUFFER_TOO_SMALL →
+        completion.new ≡ record completion.old { len = completion.new.len } }
+    ensures kept { handle.old.is_open ≡ true → result ≢ DONE → result ≢ BUFFER_TOO_SMALL →
+        completion.new ≡ completion.old }
     ensures legal { handle.old.is_open ≡ true → result ≡ DONE →
         Legal handle.new.value.opening handle.new.value.entries }
-    ensures unchanged { handle.old.is_open ≡ true → result ≢ DONE → handle.new.value ≡ handle.old.value }
+    ensures unchanged { handle.old.is_open ≡ true → result ≢ DONE →
+        (handle.new.value ≡ handle.old.value) × (buffer.new ≡ buffer.old) }
 {
     let Some(mut session) = handle.take(alloc) else {
         return NOT_OPEN;
@@ -367,9 +376,13 @@ pub extern "C" fn wurst_session_next_discovery(
         × (end.new ≡ form_of_end ended (length set)) × (take (length set) devices.new ≡ map form_of_device set)
         × GrowsBy handle.old.value (CollectAdds handle.old.value.opening handle.old.value.entries
         (record { 0 = client }) (Some (discovery_outcome ended set))) handle.new.value }
+    ensures only_count { handle.old.is_open ≡ true → result ≡ BUFFER_TOO_SMALL →
+        end.new ≡ record end.old { count = end.new.count } }
+    ensures kept { handle.old.is_open ≡ true → result ≢ DONE → result ≢ BUFFER_TOO_SMALL → end.new ≡ end.old }
     ensures legal { handle.old.is_open ≡ true → result ≡ DONE →
         Legal handle.new.value.opening handle.new.value.entries }
-    ensures unchanged { handle.old.is_open ≡ true → result ≢ DONE → handle.new.value ≡ handle.old.value }
+    ensures unchanged { handle.old.is_open ≡ true → result ≢ DONE →
+        (handle.new.value ≡ handle.old.value) × (devices.new ≡ devices.old) }
 {
     let Some(mut session) = handle.take(alloc) else {
         return NOT_OPEN;

@@ -25,6 +25,7 @@ room_status set u =
     if has set u then status.done
     else (if length set == 1024 then status.too_many_devices else status.done)
 
+-- the fault of a UID that is put into a set: its own, then that the set is full
 abbrev pub added_status : List ℕ → ℕ → ℕ
 added_status set u = first_of (uid_status u) (room_status set u)
 
@@ -43,6 +44,7 @@ abbrev pub operation_status : Op → ℕ
 operation_status ops.End = status.nothing
 operation_status _ = status.done
 
+-- the number of an operation; 3, the end, is never written
 abbrev pub operation_of : Op → ℕ
 operation_of ops.UnmuteAll = 0
 operation_of (ops.Mute u) = 1

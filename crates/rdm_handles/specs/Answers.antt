@@ -43,6 +43,7 @@ ask_fault_of s =
     else (if s == status.full then Some asks.Full
     else (if s == status.log_full then Some asks.LogFull else None)))
 
+-- the fault if there is one, else the value
 abbrev pub ok_or : {E : Type 0} {A : Type 0} → Option E → A → Result A E
 ok_or None x = Ok x
 ok_or (Some fault) x = Err fault
@@ -51,6 +52,7 @@ ok_or (Some fault) x = Err fault
 abbrev pub join_answer : ℕ → ℕ → Result ClientId JoinFault
 join_answer s client = ok_or (join_fault_of s) (record { 0 = client })
 
+-- the fault with the request, if there is a fault; else the number
 abbrev pub with_request : Request → Option SubmitFault → ℕ → Result ℕ (SubmitFault × Request)
 with_request request None number = Ok number
 with_request request (Some fault) number = Err (fault, request)
@@ -64,14 +66,16 @@ abbrev pub ask_answer : ℕ → ℕ → Result ℕ AskFault
 ask_answer s number = ok_or (ask_fault_of s) number
 
 -- 0 a request's, 1 a discovery's
-abbrev pub outcome_kind_of : ℕ → OutcomeKind
-outcome_kind_of n = if n == 0 then kinds.Request else kinds.Discovery
+abbrev pub number_of_outcome_kind : OutcomeKind → ℕ
+number_of_outcome_kind kinds.Request = 0
+number_of_outcome_kind kinds.Discovery = 1
 
 -- of a call that looks at a client's oldest outcome: no such client, no outcome, or there is one
 abbrev pub status_of_some : {A : Type 0} → Option A → ℕ
 status_of_some None = status.nothing
 status_of_some (Some x) = status.done
 
+-- of a call that asks which kind a client's oldest outcome is
 abbrev pub oldest_status : Opening → List Entry → ℕ → ℕ
 oldest_status o h c =
     if nat_le (next_client o h) c then status.unknown_client else status_of_some (oldest_kind o h c)
@@ -88,6 +92,7 @@ status_of_oldest kind None needed room = status.nothing
 status_of_oldest kind (Some oldest) needed room =
     status_of_kind kind oldest (if nat_lt room needed then status.buffer_too_small else status.done)
 
+-- of a collect for this client of this kind, with room for this many bytes or devices
 abbrev pub collect_status : Opening → List Entry → ℕ → OutcomeKind → ℕ → ℕ
 collect_status o h c kind room =
     if nat_le (next_client o h) c then status.unknown_client

@@ -55,6 +55,7 @@ setup_status s =
     else (if nat_lt 1 s.search then status.bad_search else status.done)))
     else uid_status s.source
 
+-- the setup that these numbers give, if they have no fault
 abbrev pub setup_of : SetupForC → Setup
 setup_of s = record {
   config = record { source = s.source; places = s.places; budget = s.budget };
@@ -69,6 +70,7 @@ request_status r bytes =
     else (if nat_lt 231 (length bytes) then status.data_too_long else status.done))
     else status.bad_uid
 
+-- the request that these numbers and data give, if they have no fault
 abbrev pub request_of : RequestForC → List ℕ → Request
 request_of r bytes = record {
   target = r.target;
@@ -78,12 +80,14 @@ request_of r bytes = record {
   param = record { items = bytes };
 }
 
+-- the number of a response type
 abbrev pub number_of_ack : AckType → ℕ
 number_of_ack acks.Ack = 0
 number_of_ack acks.Timer = 1
 number_of_ack acks.Nack = 2
 number_of_ack acks.Overflow = 3
 
+-- the number of a response class
 abbrev pub number_of_class : RespClass → ℕ
 number_of_class responses.Discovery = 0
 number_of_class responses.Get = 1
@@ -112,23 +116,27 @@ form_with_head number len status (Some head) = record {
   has_head = true;
 }
 
+-- how a request ended, but its data
 abbrev pub form_of_completion : ℕ → Completion → CompletionForC
 form_of_completion number done =
     form_with_head number (length done.bytes.items) (number_of_status done.status) done.reply
 
--- a fault's number, 0 for none, and the UID of a corrupt branch, else 0
+-- a fault's number; 0 for none
 abbrev pub number_of_fault : Option AgentFault → ℕ
 number_of_fault None = 0
 number_of_fault (Some fault) = fault_number fault
 
+-- the UID that a fault names: the one of a corrupt branch; else 0
 abbrev pub uid_of_fault : AgentFault → ℕ
 uid_of_fault (faults.Corrupt u) = u
 uid_of_fault _ = 0
 
+-- the UID that a run's fault names; 0 without one
 abbrev pub corrupt_uid : Option AgentFault → ℕ
 corrupt_uid None = 0
 corrupt_uid (Some fault) = uid_of_fault fault
 
+-- how a discovery ended, with this many devices, but the devices
 abbrev pub form_of_end : DiscoveryEnd → ℕ → EndForC
 form_of_end end count = record {
   number = end.number;
@@ -143,6 +151,7 @@ abbrev pub number_or_0 : Option ℕ → ℕ
 number_or_0 None = 0
 number_or_0 (Some u) = u
 
+-- a device with its control field and the UID that it is bound to
 abbrev pub form_of_device : Device → DeviceForC
 form_of_device d = record {
   uid = d.uid;

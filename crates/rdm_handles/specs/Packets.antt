@@ -32,16 +32,19 @@ first_of s t = if s == 0 then t else s
 abbrev pub number_status : ℕ → ℕ
 number_status u = if nat_lt u (2 ^ 48) then status.done else status.bad_uid
 
--- room for a frame, and for a packet's data
+-- whether there is room for any frame
 abbrev pub frame_status : ℕ → ℕ
 frame_status room = if nat_lt room 257 then status.buffer_too_small else status.done
 
+-- whether there is room for any packet's data
 abbrev pub data_status : ℕ → ℕ
 data_status room = if nat_lt room 231 then status.buffer_too_small else status.done
 
+-- whether two bounds are in order
 abbrev pub range_status : ℕ → ℕ → ℕ
 range_status lo hi = if nat_le lo hi then status.done else status.bad_range
 
+-- the status of bytes that are no response
 abbrev pub packet_status : PacketFault → ℕ
 packet_status faults.TooShort = status.too_short
 packet_status faults.WrongStart = status.wrong_start
@@ -52,6 +55,7 @@ packet_status faults.Checksum = status.wrong_checksum
 packet_status faults.InvalidClass = status.invalid_class
 packet_status faults.InvalidResponseType = status.invalid_response_type
 
+-- the status of a text that is no UID
 abbrev pub uid_fault_status : UidFault → ℕ
 uid_fault_status texts.Length = status.uid_length
 uid_fault_status texts.Separator = status.uid_separator
@@ -67,6 +71,7 @@ abbrev pub found_status : {A : Type 0} → Option A → ℕ
 found_status (Some x) = status.done
 found_status None = status.nothing
 
+-- a response but its data
 abbrev pub form_of_response : Response → ResponseForC
 form_of_response r = record {
   source = r.source;
@@ -96,6 +101,7 @@ response_status r bytes =
     else (if nat_lt 2 r.response_class then status.bad_class
     else (if nat_lt 231 (length bytes) then status.data_too_long else status.done))))
 
+-- the response that these numbers and data give, if they have no fault
 abbrev pub response_of : ResponseForC → List ℕ → Response
 response_of r bytes = record {
   source = r.source;
@@ -109,9 +115,11 @@ response_of r bytes = record {
   param = record { items = bytes };
 }
 
+-- the acknowledgement of a mute
 abbrev pub form_of_ack : MuteAck → MuteAckForC
 form_of_ack a = record { binding = number_or_0 a.binding; control = a.control; has_binding = is_some a.binding }
 
+-- the UID that a device is bound to, if there is one
 abbrev pub binding_of : Bool → ℕ → Option ℕ
 binding_of true u = Some u
 binding_of false u = None
@@ -120,9 +128,11 @@ binding_of false u = None
 abbrev pub device_status : DeviceForC → ℕ
 device_status d = first_of (uid_status d.uid) (number_status d.binding)
 
+-- the device that these numbers give, if they have no fault
 abbrev pub device_of : DeviceForC → Device
 device_of d = record { uid = d.uid; control = d.control; binding = binding_of d.has_binding d.binding }
 
+-- the number of a request's class
 abbrev pub number_of_request : ReqClass → ℕ
 number_of_request requests.Get = 0
 number_of_request requests.Set = 1

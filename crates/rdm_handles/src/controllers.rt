@@ -1,6 +1,6 @@
 //! What calls of C ask of a controller, with the statuses that they answer.
-ghost use Rattle.std.specs.Prelude.{◌≡◌, ◌≢◌, ◌≤◌, ◌<◌, List, [], length, take, map, Some, None, Ok, IfOk, IfErr};
-ghost use Rattle.std.specs.Prelude.{if◌then◌else◌, ◌==◌, ◌⊎◌, nat_lt, ℕ, false};
+ghost use Rattle.std.specs.Prelude.{◌≡◌, ◌≢◌, ◌≤◌, ◌<◌, ◌↔◌, List, [], length, take, map, Some, None, Ok, IfOk, IfErr};
+ghost use Rattle.std.specs.Prelude.{if◌then◌else◌, ◌==◌, ◌⊎◌, nat_lt, ℕ, false, option_map};
 ghost use Rattle.arrayvec.specs.ArrayVec.{ArrayVec as Bytes};
 ghost use Rattle.rdm_wire.specs.declared.device.Device.{Device};
 ghost use Rattle.rdm_join.specs.declared.event.LineEvent.TheVariants.{Reply};
@@ -16,7 +16,7 @@ ghost use Rattle.rdm_queue.specs.promises.Lengths.{oldest_length};
 ghost use Rattle.rdm_handles.specs.Forms.{setup_status, setup_of, request_status, request_of, kind_of};
 ghost use Rattle.rdm_handles.specs.Forms.{form_of_completion, form_of_end, form_of_device};
 ghost use Rattle.rdm_handles.specs.Answers.{join_answer, submit_answer, ask_answer, collect_status, oldest_status};
-ghost use Rattle.rdm_handles.specs.Answers.{outcome_kind_of};
+ghost use Rattle.rdm_handles.specs.Answers.{number_of_outcome_kind};
 
 use crate::convert::{
     completion_for_c, end_for_c, kind_of, put_bytes, put_devices, request_of, setup_of,
@@ -112,8 +112,9 @@ pub fn discover(controller: &mut Controller, client: u8, kind: u32, number: &mut
 
 /// Writes the next frame for the line at the front of a buffer of 257 bytes, and how many bytes it has.
 pub fn take(controller: &mut Controller, frame: &mut [u8], len: &mut usize) -> u32
-    ensures small { length frame.old < 257 → result ≡ BUFFER_TOO_SMALL }
-    ensures given { result ≡ DONE → (sent : Bytes ℕ) × (take len.new frame.new ≡ sent.items)
+    ensures small { (result ≡ BUFFER_TOO_SMALL) ↔ (length frame.old < 257) }
+    ensures given { result ≡ DONE → (sent : Bytes ℕ) × (len.new ≡ length sent.items)
+        × (take len.new frame.new ≡ sent.items)
         × AddsToEach controller.old (λ k. TakeAdds k.opening k.entries (Some sent)) controller.new }
     ensures nothing { result ≡ NOTHING →
         AddsToEach controller.old (λ k. TakeAdds k.opening k.entries None) controller.new }
@@ -136,6 +137,7 @@ pub fn take(controller: &mut Controller, frame: &mut [u8], len: &mut usize) -> u
 /// Takes the bytes that the line answered; none are silence.
 pub fn deliver(controller: &mut Controller, alloc: Global, reply: &[u8]) -> u32
     ensures long { 257 < length reply.now → result ≡ REPLY_TOO_LONG }
+    ensures statuses { length reply.now ≤ 257 → (result ≡ DONE) ⊎ (result ≡ NOT_ASKED) }
     ensures heard { result ≡ DONE → AddsToEach controller.old (λ k.
         DeliverAdds k (Reply (record { items = reply.now })) (Ok tt)) controller.new }
     ensures not_asked { result ≡ NOT_ASKED → ForEachLog controller.old (λ o h. awaited h ≡ false) }
@@ -154,7 +156,7 @@ pub fn hear(controller: &mut Controller, alloc: Global, event: LineEvent) -> u32
     ensures heard { result ≡ DONE → AddsToEach controller.old (λ k.
         DeliverAdds k event (Ok tt)) controller.new }
     ensures not_asked { result ≡ NOT_ASKED → ForEachLog controller.old (λ o h. awaited h ≡ false) }
-    ensures short { result ≢ REPLY_TOO_LONG }
+    ensures statuses { (result ≡ DONE) ⊎ (result ≡ NOT_ASKED) }
     ensures unchanged { result ≢ DONE → controller.new ≡ controller.old }
 {
     match controller.deliver(alloc, event) {
@@ -167,7 +169,7 @@ pub fn hear(controller: &mut Controller, alloc: Global, event: LineEvent) -> u32
 pub fn oldest(controller: &Controller, client: u8, kind: &mut u32) -> u32
     ensures status { ForEachLog controller.now (λ o h. result ≡ oldest_status o h client) }
     ensures kind { result ≡ DONE → ForEachLog controller.now (λ o h.
-        oldest_kind o h client ≡ Some (outcome_kind_of kind.new)) }
+        option_map number_of_outcome_kind (oldest_kind o h client) ≡ Some kind.new) }
     ensures unchanged { result ≢ DONE → kind.new ≡ kind.old }
 {
     if usize::from(client) >= controller.client_count() {
@@ -203,7 +205,10 @@ pub fn next_completion(
         × AddsToEach controller.old (λ k.
         CollectAdds k.opening k.entries (record { 0 = client }) (Some (request_outcome (number, done)))) controller.new
         × ForEachLog controller.old (λ o h. take completion.new.len buffer.new ≡ done.bytes.items) }
-    ensures unchanged { result ≢ DONE → controller.new ≡ controller.old }
+    ensures only_len { result ≡ BUFFER_TOO_SMALL →
+        completion.new ≡ record completion.old { len = completion.new.len } }
+    ensures kept { result ≢ DONE → result ≢ BUFFER_TOO_SMALL → completion.new ≡ completion.old }
+    ensures unchanged { result ≢ DONE → (controller.new ≡ controller.old) × (buffer.new ≡ buffer.old) }
 {
     if usize::from(client) >= controller.client_count() {
         return UNKNOWN_CLIENT;
@@ -243,7 +248,9 @@ pub fn next_discovery(
         × AddsToEach controller.old (λ k.
         CollectAdds k.opening k.entries (record { 0 = client }) (Some (discovery_outcome ended set))) controller.new
         × ForEachLog controller.old (λ o h. take (length set) devices.new ≡ map form_of_device set) }
-    ensures unchanged { result ≢ DONE → controller.new ≡ controller.old }
+    ensures only_count { result ≡ BUFFER_TOO_SMALL → end.new ≡ record end.old { count = end.new.count } }
+    ensures kept { result ≢ DONE → result ≢ BUFFER_TOO_SMALL → end.new ≡ end.old }
+    ensures unchanged { result ≢ DONE → (controller.new ≡ controller.old) × (devices.new ≡ devices.old) }
 {
     if usize::from(client) >= controller.client_count() {
         return UNKNOWN_CLIENT;

@@ -31,6 +31,7 @@ pub fn any_uid(number: u64) -> Result<Uid, u32>
 pub fn put_frame(frame: &mut [u8], packet: &Frame, len: &mut usize) -> u32
     ensures status { result ≡ frame_status (length frame.old) }
     ensures written { result ≡ DONE → take len.new frame.new ≡ packet.now.items }
+    ensures len { result ≡ DONE → len.new ≡ length packet.now.items }
     ensures unchanged { result ≢ DONE → (len.new ≡ len.old) × (frame.new ≡ frame.old) }
 {
     if frame.len() < MOST_FRAME_BYTES {

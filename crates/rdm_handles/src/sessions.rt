@@ -1,6 +1,6 @@
 //! What calls of C ask of a session, with the statuses that they answer.
-ghost use Rattle.std.specs.Prelude.{◌≡◌, ◌≢◌, ◌≤◌, ◌<◌, ◌+◌, List, [], length, take, map, Some, None, Ok, IfOk, IfErr};
-ghost use Rattle.std.specs.Prelude.{if◌then◌else◌, ◌==◌, ◌⊎◌, nat_lt, ℕ, true, false};
+ghost use Rattle.std.specs.Prelude.{◌≡◌, ◌≢◌, ◌≤◌, ◌<◌, ◌↔◌, ◌+◌, List, [], length, take, map, Some, None, Ok, IfOk};
+ghost use Rattle.std.specs.Prelude.{IfErr, if◌then◌else◌, ◌==◌, ◌⊎◌, nat_lt, ℕ, true, false, option_map};
 ghost use Rattle.arrayvec.specs.ArrayVec.{ArrayVec as Bytes};
 ghost use Rattle.rdm_wire.specs.declared.device.Device.{Device};
 ghost use Rattle.rdm_join.specs.declared.event.LineEvent.TheVariants.{Reply};
@@ -18,7 +18,7 @@ ghost use Rattle.rdm_queue.specs.promises.Lengths.{oldest_length};
 ghost use Rattle.rdm_handles.specs.Forms.{setup_of, request_status, request_of, kind_of};
 ghost use Rattle.rdm_handles.specs.Forms.{form_of_completion, form_of_end, form_of_device};
 ghost use Rattle.rdm_handles.specs.Answers.{join_answer, submit_answer, ask_answer, collect_status, oldest_status};
-ghost use Rattle.rdm_handles.specs.Answers.{outcome_kind_of};
+ghost use Rattle.rdm_handles.specs.Answers.{number_of_outcome_kind};
 ghost use Rattle.rdm_handles.specs.Sessions.{open_status, full_status, rotate_status};
 
 use crate::convert::{
@@ -151,8 +151,9 @@ pub fn resume(session: &mut Session) -> u32
 
 /// Writes the next frame for the line at the front of a buffer of 257 bytes, and how many bytes it has.
 pub fn take(session: &mut Session, frame: &mut [u8], len: &mut usize) -> u32
-    ensures small { length frame.old < 257 → result ≡ BUFFER_TOO_SMALL }
-    ensures given { result ≡ DONE → (sent : Bytes ℕ) × (take len.new frame.new ≡ sent.items)
+    ensures small { (result ≡ BUFFER_TOO_SMALL) ↔ (length frame.old < 257) }
+    ensures given { result ≡ DONE → (sent : Bytes ℕ) × (len.new ≡ length sent.items)
+        × (take len.new frame.new ≡ sent.items)
         × GrowsBy session.old (TakeLogs session.old (Ok (Some sent))) session.new }
     ensures nothing { result ≡ NOTHING → GrowsBy session.old (TakeLogs session.old (Ok None)) session.new }
     ensures full { result ≡ LOG_FULL → is_full_log session.old ≡ true }
@@ -177,6 +178,7 @@ pub fn take(session: &mut Session, frame: &mut [u8], len: &mut usize) -> u32
 /// Takes the bytes that the line answered; none are silence.
 pub fn deliver(session: &mut Session, alloc: Global, reply: &[u8]) -> u32
     ensures long { 257 < length reply.now → result ≡ REPLY_TOO_LONG }
+    ensures statuses { length reply.now ≤ 257 → (result ≡ DONE) ⊎ (result ≡ NOT_ASKED) }
     ensures heard { result ≡ DONE → GrowsBy session.old
         (DeliverAdds session.old (Reply (record { items = reply.now })) (Ok tt)) session.new }
     ensures not_asked { result ≡ NOT_ASKED → awaited session.old.entries ≡ false }
@@ -195,7 +197,7 @@ pub fn deliver(session: &mut Session, alloc: Global, reply: &[u8]) -> u32
 pub fn hear(session: &mut Session, alloc: Global, event: LineEvent) -> u32
     ensures heard { result ≡ DONE → GrowsBy session.old (DeliverAdds session.old event (Ok tt)) session.new }
     ensures not_asked { result ≡ NOT_ASKED → awaited session.old.entries ≡ false }
-    ensures short { result ≢ REPLY_TOO_LONG }
+    ensures statuses { (result ≡ DONE) ⊎ (result ≡ NOT_ASKED) }
     ensures legal { Legal session.new.opening session.new.entries }
     ensures unchanged { result ≢ DONE → session.new ≡ session.old }
 {
@@ -209,7 +211,8 @@ pub fn hear(session: &mut Session, alloc: Global, event: LineEvent) -> u32
 pub fn oldest(session: &Session, client: u8, kind: &mut u32) -> u32
     ensures status { result ≡ oldest_status session.now.opening session.now.entries client }
     ensures kind { result ≡ DONE →
-        oldest_kind session.now.opening session.now.entries client ≡ Some (outcome_kind_of kind.new) }
+        option_map number_of_outcome_kind (oldest_kind session.now.opening session.now.entries client)
+        ≡ Some kind.new }
     ensures unchanged { result ≢ DONE → kind.new ≡ kind.old }
 {
     if usize::from(client) >= session.client_count() {
@@ -244,8 +247,11 @@ pub fn next_completion(
         × (completion.new ≡ form_of_completion number done) × (take completion.new.len buffer.new ≡ done.bytes.items)
         × GrowsBy session.old (CollectAdds session.old.opening session.old.entries (record { 0 = client })
         (Some (request_outcome (number, done)))) session.new }
+    ensures only_len { result ≡ BUFFER_TOO_SMALL →
+        completion.new ≡ record completion.old { len = completion.new.len } }
+    ensures kept { result ≢ DONE → result ≢ BUFFER_TOO_SMALL → completion.new ≡ completion.old }
     ensures legal { result ≡ DONE → Legal session.new.opening session.new.entries }
-    ensures unchanged { result ≢ DONE → session.new ≡ session.old }
+    ensures unchanged { result ≢ DONE → (session.new ≡ session.old) × (buffer.new ≡ buffer.old) }
 {
     if usize::from(client) >= session.client_count() {
         return UNKNOWN_CLIENT;
@@ -284,8 +290,10 @@ pub fn next_discovery(
         × (end.new ≡ form_of_end ended (length set)) × (take (length set) devices.new ≡ map form_of_device set)
         × GrowsBy session.old (CollectAdds session.old.opening session.old.entries (record { 0 = client })
         (Some (discovery_outcome ended set))) session.new }
+    ensures only_count { result ≡ BUFFER_TOO_SMALL → end.new ≡ record end.old { count = end.new.count } }
+    ensures kept { result ≢ DONE → result ≢ BUFFER_TOO_SMALL → end.new ≡ end.old }
     ensures legal { result ≡ DONE → Legal session.new.opening session.new.entries }
-    ensures unchanged { result ≢ DONE → session.new ≡ session.old }
+    ensures unchanged { result ≢ DONE → (session.new ≡ session.old) × (devices.new ≡ devices.old) }
 {
     if usize::from(client) >= session.client_count() {
         return UNKNOWN_CLIENT;

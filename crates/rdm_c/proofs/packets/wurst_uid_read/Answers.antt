@@ -1,7 +1,10 @@
-use Rattle.std.proofs.Common.{◌≡◌, ℕ, Ok, Err, refl, ◌∙◌}
-use Rattle.std.specs.Prelude.{Result}
+use Rattle.std.proofs.Common.{◌≡◌, ℕ, Ok, Err, inl, inr, refl, ◌∙◌}
+use Rattle.std.specs.Prelude.{Result, ◌⊎◌}
+use Rattle.rdm_handles.specs.Packets.{uid_fault_status}
+use Rattle.rdm_handles.specs.Statuses as status
 use Rattle.rdm_wire.specs.UidText.{UidText}
 use Rattle.rdm_wire.specs.declared.uid.UidFault.{UidFault}
+use Rattle.rdm_wire.specs.declared.uid.UidFault.TheVariants as texts
 use Rattle.rdm_c.proofs.packets.wurst_uid_read.Goals as goal
 
 pub returns-in-Ok-parse-clause-all : goal.returns-in-Ok-parse-clause-all
@@ -16,3 +19,11 @@ returns-in-Err-clause-all c u utf8 text = absurd (no ((c.in-Err.ensures.ok u).1 
   where
     no : ◌≡◌ {A = Result ℕ UidFault} (Err c.in-Err.fault) (Ok u) → ⊥
     no is = cc
+
+pub returns-in-Err-clause-statuses : goal.returns-in-Err-clause-statuses
+returns-in-Err-clause-statuses c = named c.in-Err.fault c.status_of_text.result c.status_of_text.ensures
+  where
+    named : (f : UidFault) (s : ℕ) → s ≡ uid_fault_status f → (s ≡ status.done) ⊎ ((s ≡ status.not_text) ⊎ ((s ≡ status.uid_length) ⊎ ((s ≡ status.uid_separator) ⊎ (s ≡ status.uid_digit))))
+    named texts.Length s is = inr (inr (inl is))
+    named texts.Separator s is = inr (inr (inr (inl is)))
+    named texts.Digit s is = inr (inr (inr (inr is)))
