@@ -1,0 +1,4 @@
+pub mod NewLines
+pub mod PartLemmas
+pub mod SceneLemmas
+pub mod CalmLemmas
