@@ -53,6 +53,7 @@ plain_entry kind = record {
 abbrev pub entry_with_client : ClientId → EntryForC → EntryForC
 entry_with_client c e = record e { client = c.0; has_client = true }
 
+-- the entry with a client, if there is one
 abbrev pub entry_with_caller : Option ClientId → EntryForC → EntryForC
 entry_with_caller None e = e
 entry_with_caller (Some c) e = entry_with_client c e
@@ -67,6 +68,7 @@ entry_with_request r e = record e {
   pid = r.pid;
 }
 
+-- the number of a discovery's kind
 abbrev pub number_of_kind : Kind → ℕ
 number_of_kind kinds.Full = 0
 number_of_kind kinds.Incremental = 1
@@ -106,10 +108,12 @@ form_of_entry Pause = plain_entry 9
 form_of_entry Resume = plain_entry 10
 form_of_entry Close = plain_entry 11
 
+-- the parameter data of a submit that was refused; other calls have none
 abbrev pub bytes_of_call : Call → List ℕ
 bytes_of_call (calls.Submit r) = r.param.items
 bytes_of_call _ = []
 
+-- the reply that came; none if the line failed
 abbrev pub bytes_of_event : LineEvent → List ℕ
 bytes_of_event (events.Reply reply) = reply.items
 bytes_of_event events.Failed = []
@@ -128,13 +132,17 @@ status_of_entry None room = status.no_entry
 status_of_entry (Some e) room =
     if nat_lt room (length (bytes_of_entry e)) then status.buffer_too_small else status.done
 
+-- of a read of an entry of this log
 abbrev pub entry_status : List Entry → ℕ → ℕ → ℕ
 entry_status h i room = status_of_entry (slice_get h i) room
 
 -- Each entry is read back from its form and its bytes, so no two entries look alike.
+
+-- the client that an entry names, if it names one
 abbrev pub caller_in : EntryForC → Option ClientId
 caller_in e = if e.has_client then Some (record { 0 = e.client }) else None
 
+-- the request that an entry has, with its bytes as parameter data
 abbrev pub request_in : EntryForC → List ℕ → Request
 request_in e bytes = record {
   target = e.target;
@@ -144,14 +152,17 @@ request_in e bytes = record {
   param = record { items = bytes };
 }
 
+-- the refused call that an entry has
 abbrev pub call_in : EntryForC → List ℕ → Call
 call_in e bytes =
     if e.call == 0 then calls.Join e.places
     else (if e.call == 1 then calls.Submit (request_in e bytes) else calls.Discover (kind_of e.discovery))
 
+-- what an entry's frame was sent for: a request or a run
 abbrev pub owner_in : EntryForC → Owner
 owner_in e = if e.owner == 0 then owners.Request e.number else owners.Run e.run
 
+-- what an entry says of the line: a reply, or that it failed
 abbrev pub event_in : EntryForC → List ℕ → LineEvent
 event_in e bytes = if e.has_failed then events.Failed else events.Reply (record { items = bytes })
 
