@@ -50,7 +50,7 @@ enum Are {
     Others,
 }
 
-fn are(set: &DeviceSet) -> Are {
+fn which_of(set: &DeviceSet) -> Are {
     let devices = set.as_slice();
     if devices.is_empty() {
         Are::Nobody
@@ -93,7 +93,7 @@ impl PortJob for TwoRuns {
 
 #[inline(never)]
 fn sees(view: &DeviceView) -> (u64, Are) {
-    (view.run, are(&view.set))
+    (view.run, which_of(&view.set))
 }
 
 // Asks for a discovery, and collects what comes of it.
@@ -115,7 +115,7 @@ fn finds<L: Ledger, R: Wait>(
     }
     let told = client.collect_discovery(rt)?;
     if told.tag == 7 && told.done.fault.is_none() {
-        Some((told.done.run, are(&told.done.set)))
+        Some((told.done.run, which_of(&told.done.set)))
     } else {
         None
     }
