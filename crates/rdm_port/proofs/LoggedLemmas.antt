@@ -1,5 +1,5 @@
 -- What a log has got while a command was answered, and what is told of it.
-use Rattle.std.proofs.Common.{◌≡◌, ◌⊎◌, inl, inr, ℕ, Bool, true, false, List, [], Option, Result, Ok, Err, refl, sym, subst, ◌∙◌}
+use Rattle.std.proofs.Common.{◌≡◌, ◌⊎◌, inl, inr, ℕ, Bool, true, false, List, [], Option, Result, Ok, Err, refl, sym, ap, subst, ◌∙◌}
 use Rattle.std.specs.Prelude.{IfOk, IfErr, OnErr}
 use Rattle.std.specs.Io.KnownBytes.{Appends, Keeps}
 use Rattle.std.proofs.KnownBytes.{Appends-nil, Keeps-refl, Keeps-trans}
@@ -9,10 +9,11 @@ use Rattle.rdm_serving.proofs.WritingLemmas.{kept_appends}
 use Rattle.rdm_port.specs.Fault.{fault_line, fault_status}
 use Rattle.rdm_port.specs.Outcome.{Answers, IsLogged, IsLoggedWith, IsPrinted, has_log}
 use Rattle.rdm_port.specs.Words.{keeps_log}
-use Rattle.rdm_port.specs.body.Logged.{IsOpened, HasLogged, failed_or, status_after}
+use Rattle.rdm_port.specs.body.Logged.{IsOpened, IsTold, HasLogged, failed_or, status_after}
 use Rattle.rdm_port.specs.body.Texts.{answer_bytes}
 use Rattle.rdm_port.specs.declared.answer.Answered.{Answered}
 use Rattle.rdm_port.specs.declared.fault.Fault.{Fault}
+use Rattle.rdm_port.specs.declared.fault.Fault.TheVariants.{Memory}
 use Rattle.rdm_port.specs.declared.job.Job.{Job}
 use Rattle.rdm_port.specs.declared.job.WordsFault.{WordsFault}
 
@@ -114,3 +115,32 @@ pub done_logged : {E : Type 0} (r : Result Answered (Fault × E)) (command : Res
 done_logged (Err e) command job known wanted old new is keeps done = tt
 done_logged (Ok a) command job known wanted old new is keeps (logged, done, has) =
     (logged, (job, is, done), subst (λ c. HasLogged (has_log c) old new logged) (sym is) (subst (λ w. HasLogged w old new logged) keeps has))
+
+-- what is told of an answer, and then printed
+pub told_printed : (told after : Answered) (log : LogState) (was is : Option (List ℕ)) (text : List ℕ) (status result : ℕ) → IsTold told text status
+    → answer_bytes after.text ≡ answer_bytes told.text → after.status ≡ status_after log told.status
+    → IsPrinted was is (answer_bytes after.text) after.status result → IsPrinted was is text (status_after log status) result
+told_printed told after log was is text status result of text_kept status_kept printed =
+    subst (λ t. IsPrinted was is t (status_after log status) result) (text_kept ∙ of.text_is)
+    (subst (λ s. IsPrinted was is (answer_bytes after.text) s result) (status_kept ∙ ap (status_after log) of.status_is) printed)
+
+pub answer_printed : {E : Type 0} (r : Result Answered (Fault × E)) (told after : Answered) (log : LogState) (was is : Option (List ℕ)) (result : ℕ)
+    → IfOk r (λ a. IsTold told (answer_bytes a.text) a.status) → answer_bytes after.text ≡ answer_bytes told.text → after.status ≡ status_after log told.status
+    → IsPrinted was is (answer_bytes after.text) after.status result → IfOk r (λ a. IsPrinted was is (answer_bytes a.text) (status_after log a.status) result)
+answer_printed (Err e) told after log was is result of text_kept status_kept printed = tt
+answer_printed (Ok a) told after log was is result of text_kept status_kept printed =
+    told_printed told after log was is (answer_bytes a.text) a.status result of text_kept status_kept printed
+
+pub fault_printed : {E : Type 0} (r : Result Answered (Fault × E)) (told after : Answered) (log : LogState) (was is : Option (List ℕ)) (result : ℕ)
+    → IfErr r (λ e. IsTold told (line_of (fault_line e.0)) (fault_status e.0)) → answer_bytes after.text ≡ answer_bytes told.text → after.status ≡ status_after log told.status
+    → IsPrinted was is (answer_bytes after.text) after.status result
+    → IfErr r (λ e. IsPrinted was is (line_of (fault_line e.0)) (status_after log (fault_status e.0)) result)
+fault_printed (Ok a) told after log was is result of text_kept status_kept printed = tt
+fault_printed (Err e) told after log was is result of text_kept status_kept printed =
+    told_printed told after log was is (line_of (fault_line e.0)) (fault_status e.0) result of text_kept status_kept printed
+
+-- memory that ran out after a text was logged
+pub memory_logged : {E : Type 0} (r : Result Answered (Fault × E)) (wanted : Bool) (old mid new : LogState) (text : List ℕ) → IsOpened wanted old mid → Logs mid new text
+    → IfErr r (λ e. e.0 ≡ Memory) → IfErr r (λ e. (logged : List ℕ) × IsLoggedWith e.0 logged × HasLogged wanted old new logged)
+memory_logged (Ok a) wanted old mid new text opened logs memory = tt
+memory_logged (Err e) wanted old mid new text opened logs memory = (text, inr memory, opened_then wanted old mid new text opened logs)

@@ -40,10 +40,10 @@ pub fn answer_discover<'a, R: Read, G: OpensLog, P: Progress>(
     requires sound { log.old.is_failed ≡ false }
     ensures ok { IfOk result (λ a. (logged : List ℕ)
         × Discovers incremental quick (R.remaining reader.old) (answer_bytes a.text) logged a.status
-        × HasLogged (is_some log_path) log.old log.new logged) }
+        × HasLogged (is_some log_path.entry) log.old log.new logged) }
     ensures fault { IfErr result (λ e. (e.0 ≡ Fault.Memory) ⊎ IsFileFault (R.remaining reader.old) e.0) }
     ensures logged { IfErr result (λ e. (logged : List ℕ) × IsLoggedWith e.0 logged
-        × HasLogged (is_some log_path) log.old log.new logged) }
+        × HasLogged (is_some log_path.entry) log.old log.new logged) }
 {
     let file = match scene_file(alloc, path, reader, progress) {
         Ok(file) => file,

@@ -18,9 +18,9 @@ pub(crate) fn open_log<'a, G: OpensLog>(
 ) -> Result<(), Refused<'a>>
     requires closed { log.old.is_open ≡ false }
     requires sound { log.old.is_failed ≡ false }
-    ensures opened { OnOk result (IsOpened (is_some path) log.old log.new) }
+    ensures opened { OnOk result (IsOpened (is_some path.entry) log.old log.new) }
     ensures fault { IfErr result (λ e. e.0 ≡ Fault.File) }
-    ensures unopened { OnErr result (HasLogged (is_some path) log.old log.new []) }
+    ensures unopened { OnErr result (HasLogged (is_some path.entry) log.old log.new []) }
 {
     let Some(path) = path else {
         return Ok(());
@@ -37,8 +37,8 @@ pub(crate) fn after_log<'a, G: Write>(
     log: &LogOutput<G>,
     path: Option<&'a str>,
 ) -> Answered<'a>
-    ensures text { answer_bytes result.text ≡ answer_bytes answered.text }
-    ensures status { result.status ≡ status_after log.now answered.status }
+    ensures text { answer_bytes result.text ≡ answer_bytes answered.entry.text }
+    ensures status { result.status ≡ status_after log.now answered.entry.status }
 {
     match log.failure() {
         Some(kind) => Answered {

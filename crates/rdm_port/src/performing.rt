@@ -3,7 +3,7 @@ ghost use Rattle.std.specs.Prelude.{◌≡◌, ℕ, List, None, Ok, IfOk, IfErr,
 ghost use Rattle.rdm_port.specs.Fault.{IsFaultOf, fault_line, fault_status};
 ghost use Rattle.rdm_serving.specs.Report.{line_of};
 ghost use Rattle.rdm_port.specs.Outcome.{Answers, IsLogged, IsLoggedWith, IsOutcome, IsPrinted, has_log};
-ghost use Rattle.rdm_port.specs.body.Logged.{HasLogged, status_after};
+ghost use Rattle.rdm_port.specs.body.Logged.{HasLogged, IsTold, status_after};
 ghost use Rattle.rdm_port.specs.body.Texts.{answer_bytes};
 
 use crate::answer::{Answer, Answered, Refused};
@@ -91,24 +91,39 @@ pub(crate) fn print<'a, G: Write, W: Write>(
     path: Option<&'a str>,
     answer: Result<Answered<'a>, Refused<'a>>,
 ) -> (u8, Option<Reason<'a>>)
-    ensures ok { IfOk answer (λ a. IsPrinted (W.contents writer.old) (W.contents writer.new)
+    ensures ok { IfOk answer.entry (λ a. IsPrinted (W.contents writer.old) (W.contents writer.new)
         (answer_bytes a.text) (status_after log.now a.status) result.0) }
-    ensures fault { IfErr answer (λ e. IsPrinted (W.contents writer.old) (W.contents writer.new)
+    ensures fault { IfErr answer.entry (λ e. IsPrinted (W.contents writer.old) (W.contents writer.new)
         (line_of (fault_line e.0)) (status_after log.now (fault_status e.0)) result.0) }
 {
-    let answered = match answer {
+    let told = told(answer);
+    write_answer(writer, after_log(told, log, path))
+}
+
+// The answer, or the line of its fault.
+fn told<'a>(answer: Result<Answered<'a>, Refused<'a>>) -> Answered<'a>
+    ensures ok { IfOk answer.entry (λ a. IsTold result (answer_bytes a.text) a.status) }
+    ensures fault { IfErr answer.entry (λ e. IsTold result (line_of (fault_line e.0)) (fault_status e.0)) }
+{
+    match answer {
         Ok(answered) => answered,
         Err((fault, reason)) => Answered {
             text: Answer::line(fault.line().as_bytes()),
             status: fault.status(),
             reason,
         },
-    };
+    }
+}
+
+fn write_answer<'a, W: Write>(writer: &mut W, answered: Answered<'a>) -> (u8, Option<Reason<'a>>)
+    ensures { IsPrinted (W.contents writer.old) (W.contents writer.new)
+        (answer_bytes answered.entry.text) answered.entry.status result.0 }
+{
     let Answered {
         text,
         status,
         reason,
-    } = after_log(answered, log, path);
+    } = answered;
     match write_all(writer, text.as_slice()) {
         Ok(()) => (status, reason),
         Err(kind) => (NOT_WRITTEN, Some(Reason::Unwritten(kind))),

@@ -53,9 +53,9 @@ pub fn answer_run<'a, R: Read, G: OpensLog, P: Progress + Send, T: Threads + Wai
     requires sound { log.old.is_failed ≡ false }
     ensures ok { IfOk result (λ a. (logged : List ℕ)
         × Runs (R.remaining reader.old) (answer_bytes a.text) logged a.status
-        × HasLogged (is_some log_path) log.old log.new logged) }
+        × HasLogged (is_some log_path.entry) log.old log.new logged) }
     ensures fault { IfErr result (λ e. IsRunFault SessionState IsSessionFile (R.remaining reader.old) e.0) }
-    ensures logged { OnErr result (HasLogged (is_some log_path) log.old log.new []) }
+    ensures logged { OnErr result (HasLogged (is_some log_path.entry) log.old log.new []) }
 {
     let file = match session_file(alloc, path, reader, progress) {
         Ok(file) => file,

@@ -2,6 +2,8 @@
 use Rattle.std.specs.Prelude.{◌≡◌, ℕ, Bool, true, false, List}
 use Rattle.std.specs.Io.KnownBytes.{Keeps}
 use Rattle.rdm_serving.specs.Writing.{LogState, IsWritten}
+use Rattle.rdm_port.specs.body.Texts.{answer_bytes}
+use Rattle.rdm_port.specs.declared.answer.Answered.{Answered}
 
 -- a log that nothing was written to, and that isn't open
 abbrev pub IsClosedLog : LogState → Type 0
@@ -26,3 +28,8 @@ failed_or false status = status
 -- the status, unless the log has failed
 abbrev pub status_after : LogState → ℕ → ℕ
 status_after log status = failed_or log.is_failed status
+
+-- the answer has this text and this status
+pub record IsTold (answered : Answered) (text : List ℕ) (status : ℕ) : Type 0 where
+  pub text_is : answer_bytes answered.text ≡ text
+  pub status_is : answered.status ≡ status
