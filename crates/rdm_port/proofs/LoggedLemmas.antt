@@ -1,5 +1,5 @@
 -- What a log has got while a command was answered, and what is told of it.
-use Rattle.std.proofs.Common.{◌≡◌, ◌⊎◌, inl, inr, ℕ, Bool, true, false, List, [], Option, Result, Ok, Err, refl, sym, ap, subst, ◌∙◌}
+use Rattle.std.proofs.Common.{◌≡◌, ◌⊎◌, inl, inr, ℕ, Bool, true, false, List, [], Option, None, Result, Ok, Err, refl, sym, ap, subst, ◌∙◌}
 use Rattle.std.specs.Prelude.{IfOk, IfErr, OnErr}
 use Rattle.std.specs.Io.KnownBytes.{Appends, Keeps}
 use Rattle.std.proofs.KnownBytes.{Appends-nil, Keeps-refl, Keeps-trans}
@@ -144,3 +144,9 @@ pub memory_logged : {E : Type 0} (r : Result Answered (Fault × E)) (wanted : Bo
     → IfErr r (λ e. e.0 ≡ Memory) → IfErr r (λ e. (logged : List ℕ) × IsLoggedWith e.0 logged × HasLogged wanted old new logged)
 memory_logged (Ok a) wanted old mid new text opened logs memory = tt
 memory_logged (Err e) wanted old mid new text opened logs memory = (text, inr memory, opened_then wanted old mid new text opened logs)
+
+-- a log whose contents aren't known
+pub unknown_log : (wanted : Bool) (new : Option (List ℕ)) (text : List ℕ) (status result : ℕ) → IsLogged wanted None new text status result → IsLogged wanted None None text status result
+unknown_log false new text status result (is, kept) = (is, tt)
+unknown_log true new text status result (inl (is, wrote)) = inl (is, tt)
+unknown_log true new text status result (inr (is, (front, rest, whole, some, wrote))) = inr (is, (front, rest, whole, some, tt))

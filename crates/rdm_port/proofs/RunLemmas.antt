@@ -1,6 +1,8 @@
 -- What is said of a session that was read, and of one that was served.
-use Rattle.std.proofs.Common.{◌≡◌, ◌⊎◌, inl, inr, ℕ, Bool, List, [], Option, Result, Ok, Err, refl}
-use Rattle.std.specs.Prelude.{IfOk, OnOk, OnErr}
+use Rattle.std.proofs.Common.{◌≡◌, ◌⊎◌, inl, inr, ℕ, Bool, List, [], Option, Some, None, Result, Ok, Err, refl}
+use Rattle.std.specs.Prelude.{IfOk, OnOk, OnErr, unwrap_or}
+use Rattle.std.specs.Borrow.{Bor}
+use Rattle.clap.specs.Words.{Text}
 use Rattle.serde_json.specs.Data.{Data}
 use Rattle.rdm_log.specs.declared.entry.Opening.{Opening}
 use Rattle.rdm_log.specs.declared.entry.Entry.{Entry}
@@ -12,6 +14,7 @@ use Rattle.rdm_serving.specs.SessionReport.{AllSettled, session_text}
 use Rattle.rdm_serving.specs.Writing.{LogState, Logs}
 use Rattle.rdm_serving.specs.declared.outcomes.Outcomes.{Outcomes}
 use Rattle.rdm_port.specs.Fault.{ReadsSession, IsRunFault, IsSessionTextFault, IsServeFault}
+use Rattle.rdm_port.specs.LineOutcome.{replies_path}
 use Rattle.rdm_port.specs.Outcome.{HasServed}
 use Rattle.rdm_port.specs.body.Logged.{IsOpened, HasLogged}
 use Rattle.rdm_port.specs.body.Sessions.{IsNoValue}
@@ -71,3 +74,9 @@ pub served_as : {E : Type 0} (r : Result Answered (Fault × E)) (P Q : List ℕ 
     → IfOk r (λ a. (logged : List ℕ) × Q (answer_bytes a.text) logged a.status × HasLogged wanted old new logged)
 served_as (Err e) P Q wanted old new to here = tt
 served_as (Ok a) P Q wanted old new to (logged, served, has) = (logged, to (answer_bytes a.text) logged a.status served, has)
+
+-- a line that was opened by the path for replies, or else by that for frames
+pub opened_by : {L : Type 0} (opens : Text → L → Type 0) (out : Bor Text) (replies : Option (Bor Text)) (path : Bor Text) (line : L)
+    → path ≡ unwrap_or replies out → opens path.now line → opens (replies_path out replies) line
+opened_by opens out None path line is opened = rw is at opened
+opened_by opens out (Some given) path line is opened = rw is at opened

@@ -177,8 +177,9 @@ fn run<'a>(alloc: Global) -> Result<Command<'a>, AllocError>
 
 /// A command with the option of a log.
 pub(crate) fn with_log<'a>(alloc: Global, command: Command<'a>) -> Result<Command<'a>, AllocError>
+    requires { (fields_of command).has_globals ≡ false }
     ensures app { IfOk result (λ r. app_of r ≡ with_log (app_of command.entry)) }
-    ensures local { IfOk result (λ r. (fields_of r).has_globals ≡ (fields_of command.entry).has_globals) }
+    ensures local { IfOk result (λ r. (fields_of r).has_globals ≡ false) }
 {
     command.arg(Arg::new(alloc, "log").long("log"))
 }

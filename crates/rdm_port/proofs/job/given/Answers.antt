@@ -94,7 +94,7 @@ returns-in_ok-get_str-in-discover-clause-some c =
       value_of-found (subcommand_rows_of c.args.matches.now) (codes "discover") (codes "file") (found_of c.in_ok-name.given.now) _ parts refl c.in_ok-get_str-in-discover.ensures,
       flag_of-found (subcommand_rows_of c.args.matches.now) (codes "discover") (codes "incremental") (found_of c.in_ok-name.given.now) _ parts refl c.has_flag.ensures,
       flag_of-found (subcommand_rows_of c.args.matches.now) (codes "discover") (codes "quick") (found_of c.in_ok-name.given.now) _ parts refl c.has_flag-in-discover.ensures,
-      option_of-found (subcommand_rows_of c.args.matches.now) (codes "discover") (codes "log") (found_of c.in_ok-name.given.now) _ parts refl c.get_str.ensures,
+      option_of-found (subcommand_rows_of c.args.matches.now) (codes "discover") (codes "log") (found_of c.in_ok-name.given.now) _ parts refl c.get_str-in-discover-2.ensures,
     )
 
 pub returns-in_err-get_str-in-discover-clause-none :
@@ -118,7 +118,7 @@ returns-in_ok-port_of-in-run-clause-some c =
     let parts = rw c.in-run.is at (with_parts (out-ArgMatches c.args.matches.now).subcommand _ _ c.in_ok-name.ensures.name c.in_ok-name.ensures.rows) in (
       value_of-found (subcommand_rows_of c.args.matches.now) (codes "run") (codes "file") (found_of c.in_ok-name.given.now) _ parts refl c.in_ok-get_str-in-run.ensures,
       port_of-found (subcommand_rows_of c.args.matches.now) (codes "run") (found_of c.in_ok-name.given.now) _ parts refl c.in_ok-port_of-in-run.ensures,
-      option_of-found (subcommand_rows_of c.args.matches.now) (codes "run") (codes "log") (found_of c.in_ok-name.given.now) _ parts refl c.get_str-in-run.ensures,
+      option_of-found (subcommand_rows_of c.args.matches.now) (codes "run") (codes "log") (found_of c.in_ok-name.given.now) _ parts refl c.get_str-in-run-2.ensures,
     )
 
 pub returns-in_err-get_str-in-run-clause-none : goal.returns-in_err-get_str-in-run-clause-none

@@ -1,0 +1,12 @@
+use Rattle.std.proofs.Common.{ap}
+use Rattle.rdm_files.specs.Forms.{is_memory}
+use Rattle.serde_json.specs.View.{view}
+use Rattle.rdm_port.proofs.line_run.line_session_of.Goals as goal
+
+pub returns-in-Err-Mismatch-clause-fault : goal.returns-in-Err-Mismatch-clause-fault
+returns-in-Err-Mismatch-clause-fault g c = record {
+  value = view c.in-Ok.value;
+  json = c.in-Ok.ensures.ok.json;
+  no_command = c.in-Ok.ensures.ok.no_command;
+  none = c.in-Err-Mismatch.ensures (ap is_memory c.in-Err-Mismatch.field-0-is);
+}
