@@ -77,6 +77,7 @@ fn one_device_too_many(rt: HostRuntime) {
     }
     has_asked(&rt, &agent, 2_053);
     check(&rt, agent.found().len() == 1024);
+    check(&rt, agent.next() == Op::End);
     check(&rt, agent.fault() == Some(AgentFault::TooMany));
     ends_with_too_many(&rt, agent);
 }
