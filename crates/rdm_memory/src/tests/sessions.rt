@@ -52,7 +52,10 @@ fn takes_all_places(rt: &impl Abort, alloc: Global, places: u8) {
     moves(rt, alloc, &mut stage, &join);
     let state = stage.state();
     check(rt, state.is_idle && !state.is_closed && !state.is_paused);
-    check(rt, state.counts.entries == state.counts.calls.saturating_add(1));
+    check(
+        rt,
+        state.counts.entries == state.counts.calls.saturating_add(1),
+    );
     for number in 0..u64::from(places) {
         let submitted = stage.act(alloc, Act::Client(0, Step::Submit(0)));
         check(rt, submitted == Heard::Number(number));
