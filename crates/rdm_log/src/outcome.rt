@@ -48,7 +48,8 @@ pub enum Outcome {
 
 const _: () = prove!(size_of::<Outcome>() == 32_832);
 
-/// An outcome of which a list may hold many: the set of a discovery lies in memory of its own (profile of this project).
+/// What a client collects by an event: an [`Outcome`], but the set of a discovery lies in memory of its own (profile of
+/// this project).
 #[derive(Debug, Drop)]
 pub enum BoxedOutcome {
     /// A request has ended.

@@ -9,7 +9,7 @@
 //! - `take` and `deliver` look at the clients' fronts, 16 at most; `submit` and the calls that collect look at one
 //!   client. So none of them takes longer for the requests that wait.
 //! - `next_completion` moves no set of devices, and `next_discovery` writes one into the caller's. `next_outcome` gives
-//!   a value with room for a set, 32 KB, for a request too. `answer` and `run` do so for no request: they take memory
+//!   a value with room for a set, 32 KB, for a request too. `answer` and `run` move none for a request, and take memory
 //!   for the set of each discovery that is collected.
 //! - `close`, and the reply after it, look at the fronts once for each request that they finish.
 //! - `join_client` adds up the places of the clients, 16 at most, and reserves the memory of the client's rings.

@@ -57,8 +57,8 @@ impl Session {
         Ok(answers)
     }
 
-    // A client's oldest outcome, and None where there is none. Each kind has a function of its own, so that no set is in
-    // the frame of what collects a request's.
+    // Collects a client's oldest outcome; None where there is none. Each kind has a function of its own, so that no set
+    // is in the frame of what collects a request's.
     // Err: it is a discovery's, and there is no memory for its set; nothing has changed.
     fn collect(&mut self, alloc: Global, client: ClientId) -> Result<Option<BoxedOutcome>, NoMemory>
         ensures adds { GrowsBy self.old (CollectLogs self.old client result) self.new }
@@ -73,7 +73,7 @@ impl Session {
         }
     }
 
-    // A client's oldest outcome, which is a request's.
+    // Collects a client's oldest outcome, which is a request's.
     fn collect_request(&mut self, client: ClientId) -> Option<BoxedOutcome>
         requires oldest { oldest_kind self.old.opening self.old.entries client.0 ≡ Some kinds.Request }
         ensures adds { GrowsBy self.old (CollectLogs self.old client (Ok result)) self.new }
@@ -83,8 +83,8 @@ impl Session {
         Some(BoxedOutcome::Request { number, done })
     }
 
-    // A client's oldest outcome, which is a discovery's. The memory of its set is taken first. It isn't inlined, since
-    // a set is made in its frame.
+    // Collects a client's oldest outcome, which is a discovery's. The memory of its set is taken first. This isn't
+    // inlined, since a set is made in its frame.
     // Err: there is no memory for it; nothing has changed.
     #[inline(never)]
     fn collect_discovery(

@@ -172,8 +172,8 @@ abbrev pub TakeLogs : LogState → Result (Option (ArrayVec ℕ)) LogFull → Li
 TakeLogs k (Ok taken) block = (is_full_log k ≡ false) × TakeAdds k.opening k.entries taken block
 TakeLogs k (Err x) block = (is_full_log k ≡ true) × (block ≡ [])
 
--- a collect of an event: the answer and the block of a controller's, whose outcome the answer holds boxed; or NoMemory,
--- only if the client's oldest outcome that isn't collected is a discovery's, and then nothing is added
+-- a collect among events: the outcome and the block of a controller's collect; or NoMemory and no entry, only if the
+-- client's oldest outcome that isn't collected is a discovery's
 abbrev pub CollectLogs : LogState → ClientId → Result (Option BoxedOutcome) NoMemory → List Entry → Type 0
 CollectLogs k c (Ok given) block = CollectAdds k.opening k.entries c (option_map unboxed given) block
 CollectLogs k c (Err x) block = (oldest_kind k.opening k.entries c.0 ≡ Some kinds.Discovery) × (block ≡ [])

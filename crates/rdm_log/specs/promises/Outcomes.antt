@@ -83,7 +83,7 @@ abbrev pub discovery_outcome : DiscoveryEnd → List Device → Outcome
 discovery_outcome end set =
     outcomes.Discovery (Some end.number) (record { run = end.run; fault = end.fault; set = set })
 
--- the outcome that a boxed one holds, wherever its set lies
+-- the same outcome, whose set of devices lies in memory of its own
 abbrev pub unboxed : BoxedOutcome → Outcome
 unboxed (boxed.Request number done) = request_outcome (number, done)
 unboxed (boxed.Discovery end set) = discovery_outcome end set.value
