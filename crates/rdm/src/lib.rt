@@ -9,8 +9,8 @@ pub use rdm_line::{
     Scene, SceneDevice, SceneDevices, SimLine, StreamLine, TapeLine,
 };
 pub use rdm_queue::{
-    Answer, AskCompletion, AskFault, Call, Cause, ClientId, Completion, Config, Controller,
-    DiscoveryEnd, Entry, Event, JoinFault, LEAST_FREE, Log, LogFull, MOST_CLIENTS,
+    Answer, AskCompletion, AskFault, BoxedOutcome, Call, Cause, ClientId, Completion, Config,
+    Controller, DiscoveryEnd, Entry, Event, JoinFault, LEAST_FREE, Log, LogFull, MOST_CLIENTS,
     MOST_DISCOVERIES, MOST_FREE_ENTRIES, MOST_PLACES, NoMemory, NotAsked, NotIdle, Opening,
     Outcome, OutcomeKind, Owner, Session, Setup, SubmitFault,
 };

@@ -1,19 +1,12 @@
 -- How a call comes out of a client's ring.
-use Rattle.std.proofs.Common.{◌≡◌, ℕ, Bool, true, false, List, [], ◌∷◌, ◌++◌, Some, None, refl, sym, ap, ◌∙◌, slice_get, MatchOption, append-nil, option_and_then, length, ◌+◌, length-append, arith}
+use Rattle.std.proofs.Common.{◌≡◌, ℕ, Bool, true, false, List, [], ◌∷◌, ◌++◌, refl, sym, ap, ◌∙◌, slice_get, MatchOption, append-nil, length, ◌+◌, length-append, arith}
 use Rattle.std.specs.Prelude.{⊤, ◌||◌}
 use Rattle.std.specs.List.{list_any}
 use Rattle.std.specs.declared.alloc.Global.{Global}
 use Rattle.rtrb.specs.declared.AnyItems.{AnyItems}
 use Rattle.rtrb.specs.declared.consumer.Consumer.{Consumer}
 use Rattle.rtrb.specs.Ring.{sent as pushed, received as popped}
-use Rattle.rdm_log.specs.declared.entry.Opening.{Opening}
-use Rattle.rdm_log.specs.declared.entry.Entry.{Entry}
-use Rattle.rdm_log.specs.declared.entry.Entry.TheVariants.{Finish, Answer}
-use Rattle.rdm_log.specs.log.Clients.{is_answer_to, answers_to, uncollected, collects_by}
 use Rattle.rdm_log.specs.log.LogState.{LogState}
-use Rattle.rdm_log.specs.promises.Outcomes.{kind_of_answer, oldest_kind}
-use Rattle.rdm_log.proofs.LogLemmas.Places.{slice_get-drop}
-use Rattle.rdm_log.proofs.PromiseLemmas.StableResults.{filter_has}
 use Rattle.rdm_lanes.specs.declared.call.ClientCall.{ClientCall}
 use Rattle.rdm_lanes.specs.declared.call.ClientCall.TheVariants.{Submit, Discover, Leave}
 use Rattle.rdm_lanes.specs.declared.lane.Lane.{Lane}
@@ -82,20 +75,6 @@ fits_looked c k lane next f got same left = record {
   asks_are = same.asks_are ∙ f.asks_are;
   left_is = left ∙ f.left_is ∙ sym (ap (list_any is_leave) got);
 }
-
--- where there is no oldest outcome nothing is uncollected
-has_kind : (o : Opening) (c : ℕ) (h : List Entry) (e : Entry) → is_answer_to o c h e ≡ true → kind_of_answer e ≡ None → ⊥
-has_kind o c h (Finish n status len) is none = cc
-has_kind o c h (Answer n r fault) is none = cc
-has_kind o c h _ is none = cc
-
-pub nothing_uncollected : (o : Opening) (c : ℕ) (h : List Entry) → oldest_kind o h c ≡ None → uncollected o c h ≡ []
-unfolding answers_to
-nothing_uncollected o c h nothing = by_first (uncollected o c h) (λ x at. let found = filter_has (is_answer_to o c h) h (length (collects_by c h) + 0) x (sym (slice_get-drop (length (collects_by c h)) (answers_to o c h) 0) ∙ at) in has_kind o c h x found.2) nothing
-  where
-    by_first : (us : List Entry) → ((x : Entry) → slice_get us 0 ≡ Some x → kind_of_answer x ≡ None → ⊥) → option_and_then kind_of_answer (slice_get us 0) ≡ None → us ≡ []
-    by_first [] never is = refl
-    by_first (x ∷ us) never is = absurd (never x refl is)
 
 pub fits_slot : (c : ℕ) (k : LogState) (lane next : Lane) → Fits c k lane → LooksForSlot lane next → Fits c k next
 fits_slot c k lane next f look = fits_looked c k lane next f (ap (λ (l : Lane). popped l.calls) look.rest) (record { told_are = look.looked.1; requests_are = ap (λ (l : Lane). l.requests) look.rest; asks_are = ap (λ (l : Lane). l.asks) look.rest }) (ap (λ (l : Lane). l.left) look.rest)

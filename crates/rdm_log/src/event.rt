@@ -1,7 +1,7 @@
 //! What is asked of a session, as one value, and what it answers.
 use crate::entry::ClientId;
-use crate::fault::{AskFault, JoinFault, LogFull, NotAsked, SubmitFault};
-use crate::outcome::Outcome;
+use crate::fault::{AskFault, JoinFault, LogFull, NoMemory, NotAsked, SubmitFault};
+use crate::outcome::BoxedOutcome;
 use rdm_agent::Kind;
 use rdm_join::LineEvent;
 use rdm_wire::{Frame, Request};
@@ -30,8 +30,7 @@ pub enum Event {
     Collect(ClientId),
 }
 
-/// What a session answers: the result of the call of that name (profile of this project). It has room for the set of a
-/// discovery.
+/// What a session answers: the result of the call of that name (profile of this project).
 #[derive(Debug, Drop)]
 pub enum Answer {
     /// The client, or why it may not join.
@@ -50,8 +49,9 @@ pub enum Answer {
     Take(Result<Option<Frame>, LogFull>),
     /// Done; or no reply was awaited, with what was delivered.
     Deliver(Result<(), (NotAsked, LineEvent)>),
-    /// The outcome, or None where there is none.
-    Collect(Option<Outcome>),
+    /// The outcome, or None where there is none. Or there was no memory for the set of a discovery: nothing has
+    /// changed, and the client's next collect meets the same outcome.
+    Collect(Result<Option<BoxedOutcome>, NoMemory>),
 }
 
-const _: () = prove!(size_of::<Answer>() == 32_848);
+const _: () = prove!(size_of::<Answer>() == 296);

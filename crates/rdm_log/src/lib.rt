@@ -27,4 +27,4 @@ pub use entry::{
 pub use event::{Answer, Event};
 pub use fault::{AskFault, JoinFault, LogFull, NoMemory, NotAsked, NotIdle, SubmitFault};
 pub use log::{LEAST_FREE, Log, MOST_FREE_ENTRIES};
-pub use outcome::{AskCompletion, Completion, DiscoveryEnd, Outcome, OutcomeKind};
+pub use outcome::{AskCompletion, BoxedOutcome, Completion, DiscoveryEnd, Outcome, OutcomeKind};

@@ -48,6 +48,28 @@ pub enum Outcome {
 
 const _: () = prove!(size_of::<Outcome>() == 32_832);
 
+/// What a client collects by an event: an [`Outcome`], but the set of a discovery lies in memory of its own (profile of
+/// this project).
+#[derive(Debug, Drop)]
+pub enum BoxedOutcome {
+    /// A request has ended.
+    Request {
+        /// Its number.
+        number: u64,
+        /// How it ended.
+        done: Completion,
+    },
+    /// A discovery has ended.
+    Discovery {
+        /// How it ended, and its number.
+        end: DiscoveryEnd,
+        /// The devices that its run found, as [`AskCompletion::set`] has them.
+        set: Box<DeviceSet>,
+    },
+}
+
+const _: () = prove!(size_of::<BoxedOutcome>() == 56);
+
 /// Of which kind an outcome is (profile of this project).
 #[derive(Clone, Copy, Debug, PartialEq, Eq)]
 pub enum OutcomeKind {

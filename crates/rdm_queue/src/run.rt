@@ -1,15 +1,20 @@
 //! A list of events, answered one by one.
 use crate::session::Session;
-use rdm_log::{Answer, Event, NoMemory};
+use rdm_log::{Answer, BoxedOutcome, ClientId, Event, NoMemory, OutcomeKind};
+use rdm_wire::DeviceSet;
 use std::alloc::Global;
 
 impl Session {
-    ghost use Rattle.std.specs.Prelude.{◌≡◌, List, IfOk, OnErr};
+    ghost use Rattle.std.specs.Prelude.{◌≡◌, List, IfOk, OnErr, Some};
     ghost use Rattle.rdm_log.specs.log.Legal.{Legal};
+    ghost use Rattle.rdm_log.specs.promises.Blocks.{CollectLogs, GrowsBy};
+    ghost use Rattle.rdm_log.specs.promises.Outcomes.{oldest_kind};
+    ghost use Rattle.rdm_log.specs.declared.outcome.OutcomeKind.TheVariants as kinds;
     ghost use Rattle.rdm_log.specs.promises.Explains.{IsAnswered, Explains};
     ghost use Rattle.rdm_log.specs.promises.EventsHeadline.{EventsPromised};
 
-    /// Makes the call of an event, and gives its answer. What the call refuses comes back in the answer.
+    /// Makes the call of an event, and gives its answer. What the call refuses comes back in the answer. A collect of a
+    /// discovery's outcome takes memory for its set; if there is none, the answer says so, and the outcome stays.
     pub fn answer(&mut self, alloc: Global, event: &Event) -> Answer
         ensures answered { IsAnswered self.old event.now result self.new }
         ensures legal { Legal self.new.opening self.new.entries }
@@ -28,13 +33,13 @@ impl Session {
             }
             Event::Take => Answer::Take(self.take()),
             Event::Deliver(event) => Answer::Deliver(self.deliver(alloc, event.copied())),
-            Event::Collect(client) => Answer::Collect(self.next_outcome(*client)),
+            Event::Collect(client) => Answer::Collect(self.collect(alloc, *client)),
         }
     }
 
-    /// Answers each event by its call, in order, and gives the answers: one for each event. Each takes 32,848 bytes,
-    /// since it has room for the set of a discovery; `answer` gives one at a time.
-    /// Err: there was no memory for the answers; the session is unchanged, and no call was made.
+    /// Answers each event by its call, in order, and gives the answers: one for each event, as `answer` gives it. Each
+    /// takes 296 bytes, and the set of each discovery that is collected 32 KB more.
+    /// Err: there was no memory for the list of answers; the session is unchanged, and no call was made.
     pub fn run(&mut self, alloc: Global, events: &[Event]) -> Result<Vec<Answer>, NoMemory>
         ensures explains { IfOk result (λ answers. Explains self.old events.now answers.items self.new) }
         ensures promised { IfOk result (λ answers. EventsPromised self.old events.now answers.items self.new) }
@@ -50,5 +55,54 @@ impl Session {
             answers.push_reserved(self.answer(alloc, event));
         }
         Ok(answers)
+    }
+
+    // Collects a client's oldest outcome; None where there is none. Each kind has a function of its own, so that no set
+    // is in the frame of what collects a request's.
+    // Err: it is a discovery's, and there is no memory for its set; nothing has changed.
+    fn collect(&mut self, alloc: Global, client: ClientId) -> Result<Option<BoxedOutcome>, NoMemory>
+        ensures adds { GrowsBy self.old (CollectLogs self.old client result) self.new }
+        ensures legal { Legal self.new.opening self.new.entries }
+    {
+        // The log is legal, also where nothing is collected.
+        self.log();
+        match self.oldest(client) {
+            None => Ok(None),
+            Some(OutcomeKind::Request) => Ok(self.collect_request(client)),
+            Some(OutcomeKind::Discovery) => self.collect_discovery(alloc, client),
+        }
+    }
+
+    // Collects a client's oldest outcome, which is a request's.
+    fn collect_request(&mut self, client: ClientId) -> Option<BoxedOutcome>
+        requires oldest { oldest_kind self.old.opening self.old.entries client.0 ≡ Some kinds.Request }
+        ensures adds { GrowsBy self.old (CollectLogs self.old client (Ok result)) self.new }
+        ensures legal { Legal self.new.opening self.new.entries }
+    {
+        let (number, done) = self.next_completion(client)?;
+        Some(BoxedOutcome::Request { number, done })
+    }
+
+    // Collects a client's oldest outcome, which is a discovery's. The memory of its set is taken first. This isn't
+    // inlined, since a set is made in its frame.
+    // Err: there is no memory for it; nothing has changed.
+    #[inline(never)]
+    fn collect_discovery(
+        &mut self,
+        alloc: Global,
+        client: ClientId,
+    ) -> Result<Option<BoxedOutcome>, NoMemory>
+        requires oldest { oldest_kind self.old.opening self.old.entries client.0 ≡ Some kinds.Discovery }
+        requires legal { Legal self.old.opening self.old.entries }
+        ensures adds { GrowsBy self.old (CollectLogs self.old client result) self.new }
+        ensures legal { Legal self.new.opening self.new.entries }
+    {
+        let Ok(mut set) = Box::new(alloc, DeviceSet::new()) else {
+            return Err(NoMemory);
+        };
+        let Some(end) = self.next_discovery(client, &mut set) else {
+            return Ok(None);
+        };
+        Ok(Some(BoxedOutcome::Discovery { end, set }))
     }
 }

@@ -21,7 +21,7 @@ use Rattle.rdm_log.specs.log.Entries.{collector_of, collectors}
 use Rattle.rdm_log.specs.log.History.{is_closed, can_pause, can_resume}
 use Rattle.rdm_log.specs.log.Clients.{answers_to, collects_by, collected, uncollected}
 use Rattle.rdm_log.specs.log.Legal.{MayFollow}
-use Rattle.rdm_log.specs.promises.Outcomes.{OutcomeValue, outcome_value, outcome_of}
+use Rattle.rdm_log.specs.promises.Outcomes.{OutcomeValue, outcome_value, outcome_of, unboxed}
 use Rattle.rdm_log.specs.log.LogState.{LogState, grown}
 use Rattle.rdm_log.specs.promises.Blocks.{join_refused, submit_refused, ask_refused, is_result, IsWithResults, IsOldest, SwitchAdds, CloseAddsWhere}
 use Rattle.rdm_log.specs.promises.Explains.{Adds, IsAnswered, Explains}
@@ -111,8 +111,9 @@ gave k events.Take (answers.Take (Ok None)) block adds = inl (record { none = rw
 gave k events.Take (answers.Take (Err x)) block adds = inl (record { none = rw adds.1 tt; nothing = λ d. refl })
 gave k (events.Deliver event) (answers.Deliver (Ok x)) block adds = inl (record { none = with_results_none (Came event) block refl adds.1; nothing = λ d. refl })
 gave k (events.Deliver event) (answers.Deliver (Err e)) block adds = inl (record { none = rw adds.2 tt; nothing = λ d. refl })
-gave k (events.Collect c) (answers.Collect (Some outcome)) block adds = inr (record { client = c; outcome = outcome; oldest = adds.0; is = adds.1; given = λ d. refl })
-gave k (events.Collect c) (answers.Collect None) block adds = inl (record { none = rw adds.1 tt; nothing = λ d. refl })
+gave k (events.Collect c) (answers.Collect (Ok (Some outcome))) block adds = inr (record { client = c; outcome = unboxed outcome; oldest = adds.0; is = adds.1; given = λ d. refl })
+gave k (events.Collect c) (answers.Collect (Ok None)) block adds = inl (record { none = rw adds.1 tt; nothing = λ d. refl })
+gave k (events.Collect c) (answers.Collect (Err x)) block adds = inl (record { none = rw adds.1 tt; nothing = λ d. refl })
 gave k _ _ block adds = absurd adds
 
 -- the oldest uncollected answer has its outcome also in a later log

@@ -1,6 +1,6 @@
 -- A discovery that was accepted stands in the log, and a client with four outstanding is refused.
-use Rattle.std.proofs.Common.{◌≡◌, ℕ, zero, suc, false, List, [], ◌∷◌, ◌++◌, Some, slice_get, refl, sym, ap, ◌∙◌}
-use Rattle.std.specs.Prelude.{Ok, Err, option_map}
+use Rattle.std.proofs.Common.{◌≡◌, ℕ, zero, suc, false, List, [], ◌∷◌, ◌++◌, Option, Some, slice_get, refl, sym, ap, ◌∙◌}
+use Rattle.std.specs.Prelude.{Result, Ok, Err, option_map}
 use Rattle.std.specs.List.{Contains}
 use Rattle.std.proofs.lemmas.Option.{none-some, slice_get-get_or, slice_get-map, same_Some}
 use Rattle.rdm_wire.specs.Lists.{EachAfter}
@@ -10,7 +10,8 @@ use Rattle.rdm_log.specs.declared.entry.Entry.{Entry}
 use Rattle.rdm_log.specs.declared.entry.Entry.TheVariants.{Ask}
 use Rattle.rdm_log.specs.declared.entry.Call.TheVariants as calls
 use Rattle.rdm_log.specs.declared.fault.AskFault.TheVariants.{Full}
-use Rattle.rdm_log.specs.declared.outcome.Outcome.{Outcome}
+use Rattle.rdm_log.specs.declared.fault.NoMemory.{NoMemory}
+use Rattle.rdm_log.specs.declared.outcome.BoxedOutcome.{BoxedOutcome}
 use Rattle.rdm_log.specs.declared.event.Event.{Event}
 use Rattle.rdm_log.specs.declared.event.Event.TheVariants as events
 use Rattle.rdm_log.specs.declared.event.Answer.{Answer}
@@ -75,13 +76,13 @@ most old es rs new explains legal i c kind answer at_e at_r = record {
     each is =
         block_follows new at.before at.here.block (ask_refused c kind Full ∷ []) (placed old es rs new i (events.Discover c kind) answer at) (refused_block at.before c kind answer at.here.block at.here.adds is) legal.each
 
--- an outcome is given to the client that collects it
-collected_here : (k : LogState) (e : Event) (outcome : Outcome) (block : List Entry) → Adds k e (answers.Collect (Some outcome)) block → (c : ClientId) × (Some e ≡ Some (events.Collect c))
-collected_here k (events.Collect c) outcome block adds = (c, refl)
-collected_here k _ outcome block adds = absurd adds
+-- the answer of a collect is that of the client that collects
+collected_here : (k : LogState) (e : Event) (given : Result (Option BoxedOutcome) NoMemory) (block : List Entry) → Adds k e (answers.Collect given) block → (c : ClientId) × (Some e ≡ Some (events.Collect c))
+collected_here k (events.Collect c) given block adds = (c, refl)
+collected_here k _ given block adds = absurd adds
 
-pub collected_by : (old : LogState) (es : List Event) (rs : List Answer) (new : LogState) → Explains old es rs new → (i : ℕ) (outcome : Outcome) → slice_get rs i ≡ Some (answers.Collect (Some outcome)) → (c : ClientId) × (slice_get es i ≡ Some (events.Collect c))
-collected_by old es [] new is i outcome at = absurd (none-some (answers.Collect (Some outcome)) at)
-collected_by old [] (r ∷ rs) new is i outcome at = absurd is
-collected_by old (e ∷ es) (r ∷ rs) new is zero outcome at = collected_here old e outcome is.1.block (rw (same_Some r (answers.Collect (Some outcome)) at) at is.1.adds)
-collected_by old (e ∷ es) (r ∷ rs) new is (suc i) outcome at = collected_by is.0 es rs new is.2 i outcome at
+pub collected_by : (old : LogState) (es : List Event) (rs : List Answer) (new : LogState) → Explains old es rs new → (i : ℕ) (given : Result (Option BoxedOutcome) NoMemory) → slice_get rs i ≡ Some (answers.Collect given) → (c : ClientId) × (slice_get es i ≡ Some (events.Collect c))
+collected_by old es [] new is i given at = absurd (none-some (answers.Collect given) at)
+collected_by old [] (r ∷ rs) new is i given at = absurd is
+collected_by old (e ∷ es) (r ∷ rs) new is zero given at = collected_here old e given is.1.block (rw (same_Some r (answers.Collect given) at) at is.1.adds)
+collected_by old (e ∷ es) (r ∷ rs) new is (suc i) given at = collected_by is.0 es rs new is.2 i given at

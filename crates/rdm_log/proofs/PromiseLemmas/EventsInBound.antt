@@ -68,8 +68,9 @@ event_in_bound k events.Take (answers.Take (Ok None)) block adds = rw adds.1.1 t
 event_in_bound k events.Take (answers.Take (Err x)) block adds = rw adds.1 tt
 event_in_bound k (events.Deliver event) (answers.Deliver (Ok x)) block adds = adds.2
 event_in_bound k (events.Deliver event) (answers.Deliver (Err e)) block adds = rw adds.2 tt
-event_in_bound k (events.Collect c) (answers.Collect (Some outcome)) block adds = rw adds.1 (tt, tt)
-event_in_bound k (events.Collect c) (answers.Collect None) block adds = rw adds.1 tt
+event_in_bound k (events.Collect c) (answers.Collect (Ok (Some outcome))) block adds = rw adds.1 (tt, tt)
+event_in_bound k (events.Collect c) (answers.Collect (Ok None)) block adds = rw adds.1 tt
+event_in_bound k (events.Collect c) (answers.Collect (Err x)) block adds = rw adds.1 tt
 event_in_bound k _ _ block adds = absurd adds
 
 -- and with all that events added

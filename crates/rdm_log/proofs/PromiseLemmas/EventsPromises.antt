@@ -1,5 +1,5 @@
 -- What is promised of a list of events.
-use Rattle.std.proofs.Common.{◌≡◌, ℕ, false, List, [], ◌∷◌, ◌++◌, Option, Some, slice_get, refl, sym, ap, ◌∙◌, append_assoc}
+use Rattle.std.proofs.Common.{◌≡◌, ℕ, false, List, [], ◌∷◌, ◌++◌, Option, Some, slice_get, refl, sym, ap, ◌∙◌, append_assoc, append-nil}
 use Rattle.std.specs.Prelude.{Ok, Err, option_map}
 use Rattle.std.specs.List.{Contains}
 use Rattle.std.proofs.lemmas.Option.{none-some, slice_get-get_or, slice_get-map, same_Some}
@@ -11,8 +11,9 @@ use Rattle.rdm_log.specs.declared.entry.Entry.TheVariants.{Accept}
 use Rattle.rdm_log.specs.declared.entry.Call.TheVariants as calls
 use Rattle.rdm_log.specs.declared.fault.SubmitFault.TheVariants.{Full}
 use Rattle.rdm_log.specs.declared.outcome.AskCompletion.{AskCompletion}
-use Rattle.rdm_log.specs.declared.outcome.Outcome.{Outcome}
+use Rattle.rdm_log.specs.declared.fault.NoMemory.{NoMemory}
 use Rattle.rdm_log.specs.declared.outcome.Outcome.TheVariants as outcomes
+use Rattle.rdm_log.specs.declared.outcome.BoxedOutcome.{BoxedOutcome}
 use Rattle.rdm_log.specs.declared.event.Event.{Event}
 use Rattle.rdm_log.specs.declared.event.Event.TheVariants as events
 use Rattle.rdm_log.specs.declared.event.Answer.{Answer}
@@ -22,10 +23,10 @@ use Rattle.rdm_log.specs.log.Refusals.{submit_fault}
 use Rattle.rdm_log.specs.log.Legal.{MayFollow, Legal}
 use Rattle.rdm_log.specs.log.LogState.{LogState, grown, is_full_log}
 use Rattle.rdm_log.specs.promises.Blocks.{submit_refused, SubmitAdds}
-use Rattle.rdm_log.specs.promises.Outcomes.{discovered}
+use Rattle.rdm_log.specs.promises.Outcomes.{discovered, unboxed}
 use Rattle.rdm_log.specs.promises.Explains.{Adds, Explains}
 use Rattle.rdm_log.specs.promises.Headline.{IsFull, numbers_accepted}
-use Rattle.rdm_log.specs.promises.EventsHeadline.{AnsweredAt, FullExactly, refuses_full, IsOwnOutcome, ReportsTheLine, EventsPromised}
+use Rattle.rdm_log.specs.promises.EventsHeadline.{AnsweredAt, FullExactly, refuses_full, IsOwnOutcome, ReportsTheLine, RefusesDiscovery, EventsPromised}
 use Rattle.rdm_log.proofs.LogLemmas.Places.{filter_map_has}
 use Rattle.rdm_log.proofs.PromiseLemmas.StableResults.{contains_from_get}
 use Rattle.rdm_log.proofs.PromiseLemmas.OneResult.{one_result}
@@ -88,22 +89,27 @@ full old es rs new explains legal i c request answer at_e at_r = record {
     each is =
         block_follows new at.before at.here.block (submit_refused c request Full ∷ []) (placed old es rs new i (events.Submit c request) answer at) (refused_block at.before c request answer at.here.block at.here.adds is) legal.each
 
-collected : (old : LogState) (es : List Event) (rs : List Answer) (new : LogState) → Explains old es rs new → Legal new.opening new.entries → (i : ℕ) (c : ClientId) (outcome : Outcome) → slice_get es i ≡ Some (events.Collect c) → slice_get rs i ≡ Some (answers.Collect (Some outcome)) → IsOwnOutcome new.opening new.entries c.0 outcome
-collected old es rs new explains legal i c outcome at_e at_r = rw whole (own_outcome new.opening at.before.entries (at.here.block ++ place.back) c.0 outcome (rw whole at legal.each) (rw (← place.same_opening) at at.here.adds.0))
+collected : (old : LogState) (es : List Event) (rs : List Answer) (new : LogState) → Explains old es rs new → Legal new.opening new.entries → (i : ℕ) (c : ClientId) (outcome : BoxedOutcome) → slice_get es i ≡ Some (events.Collect c) → slice_get rs i ≡ Some (answers.Collect (Ok (Some outcome))) → IsOwnOutcome new.opening new.entries c.0 (unboxed outcome)
+collected old es rs new explains legal i c outcome at_e at_r = rw whole (own_outcome new.opening at.before.entries (at.here.block ++ place.back) c.0 (unboxed outcome) (rw whole at legal.each) (rw (← place.same_opening) at at.here.adds.0))
   where
-    at : AnsweredAt old es rs new i (events.Collect c) (answers.Collect (Some outcome))
-    at = answered_at old es rs new explains i (events.Collect c) (answers.Collect (Some outcome)) at_e at_r
+    at : AnsweredAt old es rs new i (events.Collect c) (answers.Collect (Ok (Some outcome)))
+    at = answered_at old es rs new explains i (events.Collect c) (answers.Collect (Ok (Some outcome))) at_e at_r
 
     place : IsPlaced new at.before at.here.block
-    place = placed old es rs new i (events.Collect c) (answers.Collect (Some outcome)) at
+    place = placed old es rs new i (events.Collect c) (answers.Collect (Ok (Some outcome))) at
 
     whole : new.entries ≡ at.before.entries ++ (at.here.block ++ place.back)
     whole = place.whole ∙ append_assoc at.before.entries at.here.block place.back
 
-reported : (old : LogState) (es : List Event) (rs : List Answer) (new : LogState) → Explains old es rs new → Legal new.opening new.entries → (i : ℕ) (number : Option ℕ) (done : AskCompletion) → slice_get rs i ≡ Some (answers.Collect (Some (outcomes.Discovery number done))) → ReportsTheLine new.entries (discovered done)
-reported old es rs new explains legal i number done at_r =
-    let asked = collected_by old es rs new explains i (outcomes.Discovery number done) at_r in
-    reports_the_line new.opening new.entries legal asked.0.0 number (discovered done) (collected old es rs new explains legal i asked.0 (outcomes.Discovery number done) asked.1 at_r)
+reported : (old : LogState) (es : List Event) (rs : List Answer) (new : LogState) → Explains old es rs new → Legal new.opening new.entries → (i : ℕ) (outcome : BoxedOutcome) (number : Option ℕ) (done : AskCompletion) → slice_get rs i ≡ Some (answers.Collect (Ok (Some outcome))) → unboxed outcome ≡ outcomes.Discovery number done → ReportsTheLine new.entries (discovered done)
+reported old es rs new explains legal i outcome number done at_r is =
+    let asked = collected_by old es rs new explains i (Ok (Some outcome)) at_r in
+    reports_the_line new.opening new.entries legal asked.0.0 number (discovered done) (rw is at (collected old es rs new explains legal i asked.0 outcome asked.1 at_r))
+
+no_memory : (old : LogState) (es : List Event) (rs : List Answer) (new : LogState) → Explains old es rs new → (i : ℕ) (c : ClientId) (fault : NoMemory) → slice_get es i ≡ Some (events.Collect c) → slice_get rs i ≡ Some (answers.Collect (Err fault)) → RefusesDiscovery old es rs new i c fault
+no_memory old es rs new explains i c fault at_e at_r =
+    let at = answered_at old es rs new explains i (events.Collect c) (answers.Collect (Err fault)) at_e at_r in
+    record { at = at; discovery = at.here.adds.0; unchanged = at.here.grows ∙ ap (grown at.before) at.here.adds.1 ∙ ap (λ l. record at.before { entries = l }) (append-nil at.before.entries) }
 
 pub events_promised : (old : LogState) (es : List Event) (rs : List Answer) (new : LogState) → Explains old es rs new → Legal new.opening new.entries → EventsPromised old es rs new
 events_promised old es rs new explains legal = record {
@@ -123,6 +129,7 @@ events_promised old es rs new explains legal = record {
   most = most old es rs new explains legal;
   collected = collected old es rs new explains legal;
   reported = reported old es rs new explains legal;
+  no_memory = no_memory old es rs new explains;
   collected_once = collected_once old es rs new explains legal.each;
   in_bound = in_bound old es rs new explains legal.each;
 }

@@ -1,6 +1,6 @@
 -- What a log has told and known stays, as it grows.
 use Rattle.std.proofs.Common.{◌≡◌, ℕ, zero, suc, ◌+◌, ◌≤◌, ◌<◌, Bool, true, false, List, [], ◌∷◌, ◌++◌, length, drop, fold, Option, Some, None, slice_get, refl, sym, ap, ◌∙◌, inl, inr, arith, filter_map, if◌then◌else◌}
-use Rattle.std.specs.Prelude.{◌⊎◌, ◌==◌, ◌||◌}
+use Rattle.std.specs.Prelude.{◌⊎◌, ◌==◌, ◌||◌, option_and_then}
 use Rattle.std.specs.List.{AllByRecursion, list_any}
 use Rattle.std.proofs.lemmas.Bool.{false≢true, eq-eqb}
 use Rattle.std.proofs.lemmas.Option.{none-some, same_Some}
@@ -15,7 +15,7 @@ use Rattle.rdm_log.specs.log.Entries.{Answered, answered_of, answers}
 use Rattle.rdm_log.specs.log.Clients.{is_answer_to, answers_to, collects_by, uncollected}
 use Rattle.rdm_log.specs.log.Runs.{is_answered, last_run_without_fault, if_without_fault, run_exchanges, known_devices, devices_of}
 use Rattle.rdm_log.specs.log.Legal.{MayFollow}
-use Rattle.rdm_log.specs.promises.Outcomes.{outcome_of, OutcomeValue}
+use Rattle.rdm_log.specs.promises.Outcomes.{outcome_of, OutcomeValue, kind_of_answer, oldest_kind}
 use Rattle.rdm_log.proofs.LogLemmas.Places.{slice_get-drop, filter_map_has}
 use Rattle.rdm_log.proofs.LogLemmas.LegalFacts.{legal_facts}
 use Rattle.rdm_log.proofs.LogLemmas.RunFacts.{open_is}
@@ -100,6 +100,16 @@ unfolding answers_to
 answers_passed o c h =
     let P : Entry → Type 0 = λ e. is_answer_to o c h e ≡ true in
     recursion_from_All P (uncollected o c h) (All-drop P (length (collects_by c h)) (answers_to o c h) (filter_passes (is_answer_to o c h) h))
+
+-- where there is no oldest outcome nothing is uncollected
+pub nothing_uncollected : (o : Opening) (c : ℕ) (h : List Entry) → oldest_kind o h c ≡ None → uncollected o c h ≡ []
+nothing_uncollected o c h none = no_first (uncollected o c h) (answers_passed o c h) none
+  where
+    no_first : (es : List Entry) → AllByRecursion (λ e. is_answer_to o c h e ≡ true) es → option_and_then kind_of_answer (slice_get es 0) ≡ None → es ≡ []
+    no_first [] all is = refl
+    no_first (Finish n status len ∷ es) all is = absurd (none-some _ (sym is))
+    no_first (Answer n run fault ∷ es) all is = absurd (none-some _ (sym is))
+    no_first (e ∷ es) all is = absurd (false≢true all.0)
 
 -- without the first of them
 pub outcomes_rest : (o : Opening) (c : ℕ) (h k : List Entry) (es : List Entry) → AllByRecursion (λ e. is_answer_to o c k e ≡ true) es → filter_map (outcome_of h) (drop 1 es) ≡ drop 1 (filter_map (outcome_of h) es)

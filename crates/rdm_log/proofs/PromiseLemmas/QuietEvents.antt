@@ -74,8 +74,9 @@ quiet k events.Take (answers.Take (Ok None)) block closed adds = rw adds.1.1 tt
 quiet k events.Take (answers.Take (Err x)) block closed adds = rw adds.1 tt
 quiet k (events.Deliver event) (answers.Deliver (Ok x)) block closed adds = with_results_quiet (Came event) block refl adds.1
 quiet k (events.Deliver event) (answers.Deliver (Err e)) block closed adds = rw adds.2 tt
-quiet k (events.Collect c) (answers.Collect (Some outcome)) block closed adds = rw adds.1 (refl, tt)
-quiet k (events.Collect c) (answers.Collect None) block closed adds = rw adds.1 tt
+quiet k (events.Collect c) (answers.Collect (Ok (Some outcome))) block closed adds = rw adds.1 (refl, tt)
+quiet k (events.Collect c) (answers.Collect (Ok None)) block closed adds = rw adds.1 tt
+quiet k (events.Collect c) (answers.Collect (Err x)) block closed adds = rw adds.1 tt
 quiet k _ _ block closed adds = absurd adds
 
 stays_idle : (old : LogState) (es : List Event) (rs : List Answer) (new : LogState) → Explains old es rs new → is_closed old.opening old.entries ≡ true → awaited old.entries ≡ false → awaited new.entries ≡ false

@@ -1,6 +1,6 @@
 -- What each call adds to a log: for each call one word, of what it answers and of its block of entries.
 use Rattle.std.specs.Prelude.{◌≡◌, ℕ, Bool, true, false, List, [], ◌∷◌, Option, Some, None, Result, Ok, Err}
-use Rattle.std.specs.Prelude.{unwrap_or, if◌then◌else◌, slice_get}
+use Rattle.std.specs.Prelude.{unwrap_or, option_map, if◌then◌else◌, slice_get}
 use Rattle.std.specs.List.{AllByRecursion}
 use Rattle.arrayvec.specs.ArrayVec.{ArrayVec}
 use Rattle.rdm_wire.specs.declared.request.Request.{Request}
@@ -21,7 +21,10 @@ use Rattle.rdm_log.specs.declared.fault.AskFault.{AskFault}
 use Rattle.rdm_log.specs.declared.fault.AskFault.TheVariants as ask_faults
 use Rattle.rdm_log.specs.declared.fault.LogFull.{LogFull}
 use Rattle.rdm_log.specs.declared.fault.NotAsked.{NotAsked}
+use Rattle.rdm_log.specs.declared.fault.NoMemory.{NoMemory}
 use Rattle.rdm_log.specs.declared.outcome.Outcome.{Outcome}
+use Rattle.rdm_log.specs.declared.outcome.BoxedOutcome.{BoxedOutcome}
+use Rattle.rdm_log.specs.declared.outcome.OutcomeKind.TheVariants as kinds
 use Rattle.rdm_log.specs.log.History.{awaited, is_closed, can_pause, can_resume, next_client, next_request}
 use Rattle.rdm_log.specs.log.History.{next_ask}
 use Rattle.rdm_log.specs.log.Clients.{uncollected}
@@ -29,7 +32,7 @@ use Rattle.rdm_log.specs.log.Refusals.{join_fault, submit_fault, ask_fault, numb
 use Rattle.rdm_log.specs.log.Refusals.{number_of_submit_fault, number_of_ask_fault}
 use Rattle.rdm_log.specs.log.MaySend.{MaySend, NoSend}
 use Rattle.rdm_log.specs.log.LogState.{LogState, grown, is_full_log}
-use Rattle.rdm_log.specs.promises.Outcomes.{outcome_value, outcome_of}
+use Rattle.rdm_log.specs.promises.Outcomes.{outcome_value, outcome_of, unboxed, oldest_kind}
 use Rattle.rdm_log.specs.promises.InBound.{AnswersInBound}
 
 -- the entry of a refused join
@@ -168,6 +171,12 @@ ResumeLogs k (Err x) block = (is_full_log k ≡ true) × (block ≡ [])
 abbrev pub TakeLogs : LogState → Result (Option (ArrayVec ℕ)) LogFull → List Entry → Type 0
 TakeLogs k (Ok taken) block = (is_full_log k ≡ false) × TakeAdds k.opening k.entries taken block
 TakeLogs k (Err x) block = (is_full_log k ≡ true) × (block ≡ [])
+
+-- a collect among events: the outcome and the block of a controller's collect; or NoMemory and no entry, only if the
+-- client's oldest outcome that isn't collected is a discovery's
+abbrev pub CollectLogs : LogState → ClientId → Result (Option BoxedOutcome) NoMemory → List Entry → Type 0
+CollectLogs k c (Ok given) block = CollectAdds k.opening k.entries c (option_map unboxed given) block
+CollectLogs k c (Err x) block = (oldest_kind k.opening k.entries c.0 ≡ Some kinds.Discovery) × (block ≡ [])
 
 -- old grew to new by a block of which this holds
 pub record GrowsBy (old : LogState) (Adds : List Entry → Type 0) (new : LogState) : Type 0 where

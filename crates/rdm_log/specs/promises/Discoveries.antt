@@ -134,8 +134,8 @@ pub record HasMostDiscoveries (o : Opening) (h : List Entry) (c : ℕ) : Type 0 
   pub known : c < next_client o h
   pub full : (4 ≤ outstanding_discoveries o c h) ⊎ (18446744073709551614 ≤ next_ask o h)
 
--- A discover is refused with Full only if its client has four discoveries outstanding or the numbers have run out, and it
--- isn't accepted then.
+-- A discover is refused with Full only if its client has four discoveries outstanding or the numbers have run out, and
+-- it isn't accepted then.
 pub record FullRefusesDiscoveries (o : Opening) (h : List Entry) : Type 0 where
   -- where a Refuse with the number of Full stands, HasMostDiscoveries holds of its client
   pub refused : (front back : List Entry) (c : ClientId) (kind : Kind) (cause : Cause)
@@ -147,7 +147,8 @@ pub record FullRefusesDiscoveries (o : Opening) (h : List Entry) : Type 0 where
 
 -- All that clients are promised of discoveries, of each legal log.
 pub record DiscoveriesPromised (o : Opening) (h : List Entry) : Type 0 where
-  -- each discovery that was asked is answered at most once, and exactly once when the queue is closed and awaits no reply
+  -- each discovery that was asked is answered at most once, and exactly once when the queue is closed and awaits no
+  -- reply
   pub one_answer : OneAnswer o h
   -- discoveries are answered in the order in which they were asked
   pub in_order : AnsweredInOrder o h

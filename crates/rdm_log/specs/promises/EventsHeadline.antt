@@ -20,9 +20,12 @@ use Rattle.rdm_log.specs.declared.entry.Entry.TheVariants.{Accept, Ask, Finish}
 use Rattle.rdm_log.specs.declared.entry.Entry.TheVariants as entries
 use Rattle.rdm_log.specs.declared.fault.SubmitFault.TheVariants.{Full}
 use Rattle.rdm_log.specs.declared.fault.AskFault.TheVariants as ask_faults
+use Rattle.rdm_log.specs.declared.fault.NoMemory.{NoMemory}
 use Rattle.rdm_log.specs.declared.outcome.AskCompletion.{AskCompletion}
 use Rattle.rdm_log.specs.declared.outcome.Outcome.{Outcome}
 use Rattle.rdm_log.specs.declared.outcome.Outcome.TheVariants as outcomes
+use Rattle.rdm_log.specs.declared.outcome.BoxedOutcome.{BoxedOutcome}
+use Rattle.rdm_log.specs.declared.outcome.OutcomeKind.TheVariants as kinds
 use Rattle.rdm_log.specs.declared.event.Event.{Event}
 use Rattle.rdm_log.specs.declared.event.Event.TheVariants as events
 use Rattle.rdm_log.specs.declared.event.Answer.{Answer}
@@ -32,7 +35,7 @@ use Rattle.rdm_log.specs.log.History.{is_closed}
 use Rattle.rdm_log.specs.log.Runs.{run_exchanges, answer_devices}
 use Rattle.rdm_log.specs.log.Clients.{client_of_request, client_of_discovery, collected}
 use Rattle.rdm_log.specs.promises.Outcomes.{OutcomeValue, Discovered, completion_value, discovered, outcome_value}
-use Rattle.rdm_log.specs.promises.Outcomes.{outcome_of, completion_of}
+use Rattle.rdm_log.specs.promises.Outcomes.{outcome_of, completion_of, unboxed, oldest_kind}
 use Rattle.rdm_log.specs.log.LogState.{LogState, grown, is_full_log}
 use Rattle.rdm_log.specs.promises.Blocks.{submit_refused, ask_refused}
 use Rattle.rdm_log.specs.promises.Explains.{IsAnswered, Explains}
@@ -77,6 +80,14 @@ pub record MostExactly (old : LogState) (es : List Event) (rs : List Answer) (ne
   pub refused : answer ≡ refuses_discovery
       → at.after ≡ grown at.before (ask_refused c kind ask_faults.Full ∷ [])
   pub unchanged : answer ≡ refuses_discovery → SameQueue new.opening at.before.entries at.after.entries
+
+-- a collect was answered with NoMemory: the client's oldest outcome that isn't collected is a discovery's, and nothing
+-- has changed
+pub record RefusesDiscovery (old : LogState) (es : List Event) (rs : List Answer) (new : LogState) (i : ℕ)
+    (c : ClientId) (fault : NoMemory) : Type 0 where
+  pub at : AnsweredAt old es rs new i (events.Collect c) (answers.Collect (Err fault))
+  pub discovery : oldest_kind at.before.opening at.before.entries c.0 ≡ Some kinds.Discovery
+  pub unchanged : at.after ≡ at.before
 
 -- an answer that starts something: a client joined, a request or a discovery was accepted, or a frame was given
 abbrev pub starts : Answer → Bool
@@ -127,10 +138,10 @@ pub record ReportsTheLine (h : List Entry) (done : Discovered) : Type 0 where
   pub no_stranger : (sets : List (List ℕ)) (u : ℕ) → HonestOver sets (run_exchanges done.run h)
       → has (uids_of done.devices) u ≡ true → IsInOne u sets
 
--- the outcome that an event gave to the client
+-- the outcome that an event gave to the client; none if there was no memory for it
 abbrev pub outcome_given : ℕ → Event → Answer → Option OutcomeValue
-outcome_given c (events.Collect d) (answers.Collect (Some outcome)) =
-    if c == d.0 then Some (outcome_value outcome) else None
+outcome_given c (events.Collect d) (answers.Collect (Ok (Some outcome))) =
+    if c == d.0 then Some (outcome_value (unboxed outcome)) else None
 outcome_given c _ _ = None
 
 -- all outcomes that events gave to the client, in order
@@ -161,8 +172,8 @@ pub record EventsPromised (old : LogState) (es : List Event) (rs : List Answer) 
   -- where a discover was answered with a number, the log has an Ask of its client and kind under that number
   pub asked : (i : ℕ) (c : ClientId) (n : ℕ) (kind : Kind) → slice_get es i ≡ Some (events.Discover c kind)
       → slice_get rs i ≡ Some (answers.Discover (Ok n)) → Contains new.entries (Ask c n kind)
-  -- where a discover was answered with a number, and a Close and later a Deliver are among the events, the discovery has
-  -- exactly one answer
+  -- where a discover was answered with a number, and a Close and later a Deliver are among the events, the discovery
+  -- has exactly one answer
   pub answered : (i j m : ℕ) (c : ClientId) (n : ℕ) (kind : Kind) (event : LineEvent)
       → slice_get es i ≡ Some (events.Discover c kind) → slice_get rs i ≡ Some (answers.Discover (Ok n)) → j < m
       → slice_get es j ≡ Some events.Close → slice_get es m ≡ Some (events.Deliver event)
@@ -191,12 +202,16 @@ pub record EventsPromised (old : LogState) (es : List Event) (rs : List Answer) 
       → slice_get es i ≡ Some (events.Discover c kind) → slice_get rs i ≡ Some answer
       → MostExactly old es rs new i c kind answer
   -- what a Collect gave is the outcome of a request or a discovery of that client, and says what the log says of it
-  pub collected : (i : ℕ) (c : ClientId) (outcome : Outcome) → slice_get es i ≡ Some (events.Collect c)
-      → slice_get rs i ≡ Some (answers.Collect (Some outcome)) → IsOwnOutcome new.opening new.entries c.0 outcome
+  pub collected : (i : ℕ) (c : ClientId) (outcome : BoxedOutcome) → slice_get es i ≡ Some (events.Collect c)
+      → slice_get rs i ≡ Some (answers.Collect (Ok (Some outcome)))
+      → IsOwnOutcome new.opening new.entries c.0 (unboxed outcome)
   -- the devices that a Collect gave with a discovery are those that the line showed in its run
-  pub reported : (i : ℕ) (number : Option ℕ) (done : AskCompletion)
-      → slice_get rs i ≡ Some (answers.Collect (Some (outcomes.Discovery number done)))
+  pub reported : (i : ℕ) (outcome : BoxedOutcome) (number : Option ℕ) (done : AskCompletion)
+      → slice_get rs i ≡ Some (answers.Collect (Ok (Some outcome))) → unboxed outcome ≡ outcomes.Discovery number done
       → ReportsTheLine new.entries (discovered done)
+  -- a Collect is answered with NoMemory only if its client's oldest outcome is a discovery's; that changes nothing
+  pub no_memory : (i : ℕ) (c : ClientId) (fault : NoMemory) → slice_get es i ≡ Some (events.Collect c)
+      → slice_get rs i ≡ Some (answers.Collect (Err fault)) → RefusesDiscovery old es rs new i c fault
   -- the outcomes that a client has collected by the end are those that it had before, and then those that these events
   -- gave it, each once and in order
   pub collected_once : (c : ℕ)

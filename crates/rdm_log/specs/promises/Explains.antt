@@ -7,7 +7,7 @@ use Rattle.rdm_log.specs.declared.event.Answer.{Answer}
 use Rattle.rdm_log.specs.declared.event.Answer.TheVariants as answers
 use Rattle.rdm_log.specs.log.LogState.{LogState}
 use Rattle.rdm_log.specs.promises.Blocks.{JoinLogs, SubmitLogs, DiscoverLogs, PauseLogs, ResumeLogs, TakeLogs}
-use Rattle.rdm_log.specs.promises.Blocks.{CloseAdds, DeliverAdds, CollectAdds, GrowsBy}
+use Rattle.rdm_log.specs.promises.Blocks.{CloseAdds, DeliverAdds, CollectLogs, GrowsBy}
 
 -- an event that is answered so adds this block: that of its call
 abbrev pub Adds : LogState → Event → Answer → List Entry → Type 0
@@ -19,7 +19,7 @@ Adds k events.Resume (answers.Resume answer) block = ResumeLogs k answer block
 Adds k events.Close answers.Close block = CloseAdds k.opening k.entries block
 Adds k events.Take (answers.Take answer) block = TakeLogs k answer block
 Adds k (events.Deliver event) (answers.Deliver answer) block = DeliverAdds k event answer block
-Adds k (events.Collect c) (answers.Collect answer) block = CollectAdds k.opening k.entries c answer block
+Adds k (events.Collect c) (answers.Collect answer) block = CollectLogs k c answer block
 -- no event is answered as another
 Adds k _ _ block = ⊥
 

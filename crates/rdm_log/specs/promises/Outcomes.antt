@@ -17,6 +17,8 @@ use Rattle.rdm_log.specs.declared.outcome.Completion.{Completion}
 use Rattle.rdm_log.specs.declared.outcome.AskCompletion.{AskCompletion}
 use Rattle.rdm_log.specs.declared.outcome.Outcome.{Outcome}
 use Rattle.rdm_log.specs.declared.outcome.Outcome.TheVariants as outcomes
+use Rattle.rdm_log.specs.declared.outcome.BoxedOutcome.{BoxedOutcome}
+use Rattle.rdm_log.specs.declared.outcome.BoxedOutcome.TheVariants as boxed
 use Rattle.rdm_log.specs.declared.outcome.OutcomeKind.{OutcomeKind}
 use Rattle.rdm_log.specs.declared.outcome.OutcomeKind.TheVariants as kinds
 use Rattle.rdm_log.specs.declared.outcome.DiscoveryEnd.{DiscoveryEnd}
@@ -80,6 +82,11 @@ request_outcome r = outcomes.Request (Some r.0) r.1
 abbrev pub discovery_outcome : DiscoveryEnd → List Device → Outcome
 discovery_outcome end set =
     outcomes.Discovery (Some end.number) (record { run = end.run; fault = end.fault; set = set })
+
+-- the same outcome, whose set of devices lies in memory of its own
+abbrev pub unboxed : BoxedOutcome → Outcome
+unboxed (boxed.Request number done) = request_outcome (number, done)
+unboxed (boxed.Discovery end set) = discovery_outcome end set.value
 
 -- the completion of a status: with status Completed the joined data and the last reply's head
 abbrev pub completion_of : Status → Option Joined → Joined

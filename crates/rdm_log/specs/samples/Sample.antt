@@ -10,7 +10,7 @@ use Rattle.rdm_log.specs.declared.entry.Opening.{Opening}
 use Rattle.rdm_log.specs.declared.entry.Owner.TheVariants as owners
 use Rattle.rdm_log.specs.declared.entry.Entry.{Entry}
 use Rattle.rdm_log.specs.declared.entry.Entry.TheVariants.{Join, Accept, Send, Came, Finish, Collect, Close}
-use Rattle.rdm_log.specs.declared.outcome.Outcome.TheVariants as outcomes
+use Rattle.rdm_log.specs.declared.outcome.BoxedOutcome.TheVariants as boxed
 use Rattle.rdm_log.specs.declared.event.Event.{Event}
 use Rattle.rdm_log.specs.declared.event.Event.TheVariants as events
 use Rattle.rdm_log.specs.declared.event.Answer.{Answer}
@@ -100,5 +100,5 @@ abbrev pub sample_answers : Vec ℕ → List Answer
 sample_answers none =
     answers.Join (Ok (record { 0 = 0 })) ∷ answers.Submit (Ok 0)
     ∷ answers.Take (Ok (Some (record { items = sample_frame }))) ∷ answers.Deliver (Ok tt)
-    ∷ answers.Collect (Some (outcomes.Request (Some 0) (record { status = Timeout; reply = None; bytes = none })))
+    ∷ answers.Collect (Ok (Some (boxed.Request 0 (record { status = Timeout; reply = None; bytes = none }))))
     ∷ answers.Close ∷ []

@@ -1,5 +1,7 @@
 -- Logs with discoveries to compute with: one run that finds one device answers two discoveries, and a request waits.
-use Rattle.std.specs.Prelude.{ℕ, List, [], ◌∷◌, ◌++◌, take, Some, None, Ok}
+use Rattle.std.specs.Prelude.{ℕ, List, [], ◌∷◌, ◌++◌, take, Some, None, Ok, Err}
+use Rattle.std.specs.Global.{Box}
+use Rattle.rdm_wire.specs.declared.device.Device.{Device}
 use Rattle.rdm_wire.specs.CommandFrames.{branch_frame, mute_frame, unmute_frame}
 use Rattle.rdm_join.specs.declared.event.LineEvent.TheVariants.{Reply, Failed}
 use Rattle.rdm_agent.specs.declared.search.Search.TheVariants.{Steady}
@@ -13,7 +15,8 @@ use Rattle.rdm_log.specs.declared.entry.Owner.TheVariants as owners
 use Rattle.rdm_log.specs.declared.entry.Entry.{Entry}
 use Rattle.rdm_log.specs.declared.entry.Entry.TheVariants.{Join, Accept, Ask, Send, Came, Finish, Answer, Pause}
 use Rattle.rdm_log.specs.declared.entry.Entry.TheVariants.{Resume, Close, Collect}
-use Rattle.rdm_log.specs.declared.outcome.Outcome.TheVariants as outcomes
+use Rattle.rdm_log.specs.declared.outcome.DiscoveryEnd.{DiscoveryEnd}
+use Rattle.rdm_log.specs.declared.outcome.BoxedOutcome.TheVariants as boxed
 use Rattle.rdm_log.specs.declared.event.Event.{Event}
 use Rattle.rdm_log.specs.declared.event.Event.TheVariants as events
 use Rattle.rdm_log.specs.declared.event.Answer.{Answer as EventAnswer}
@@ -194,16 +197,20 @@ wasted_with h = record { opening = wasted_opening; entries = h; room = 40; searc
 abbrev pub collected_failed : List Entry
 collected_failed = aborted_log ++ Collect first_client ∷ []
 
--- the calls of that log
+-- the calls of that log, and before its Collect one for which there is no memory
 abbrev pub failing_events : List Event
 failing_events =
     events.Join 1 ∷ events.Discover first_client Full ∷ events.Take ∷ events.Discover first_client Incremental
-    ∷ events.Deliver Failed ∷ events.Close ∷ events.Collect first_client ∷ []
+    ∷ events.Deliver Failed ∷ events.Close ∷ events.Collect first_client ∷ events.Collect first_client ∷ []
 
--- the answers to these calls
-abbrev pub failing_answers : List EventAnswer
-failing_answers =
+-- how its first discovery ended
+abbrev pub failed_end : DiscoveryEnd
+failed_end = record { number = 0; run = 1; fault = Some LineFailed }
+
+-- the answers to these calls; the set of the first discovery is this one
+abbrev pub failing_answers : Box (List Device) → List EventAnswer
+failing_answers set =
     answers.Join (Ok first_client) ∷ answers.Discover (Ok 0)
     ∷ answers.Take (Ok (Some (record { items = unmute_frame source 0 }))) ∷ answers.Discover (Ok 1)
-    ∷ answers.Deliver (Ok tt) ∷ answers.Close
-    ∷ answers.Collect (Some (outcomes.Discovery (Some 0) (record { run = 1; fault = Some LineFailed; set = [] }))) ∷ []
+    ∷ answers.Deliver (Ok tt) ∷ answers.Close ∷ answers.Collect (Err (record {}))
+    ∷ answers.Collect (Ok (Some (boxed.Discovery failed_end set))) ∷ []

@@ -1,6 +1,7 @@
 //! Answers that a log explains, and answers that none does.
 ghost use Rattle.std.specs.Prelude.{◌≡◌, ℕ, List, [], ◌∷◌, ◌++◌, Ok, Err, Some, None, slice_get};
-ghost use Rattle.std.specs.Global.{Vec};
+ghost use Rattle.std.specs.Global.{Vec, Box};
+ghost use Rattle.rdm_wire.specs.declared.device.Device.{Device};
 ghost use Rattle.rdm_log.specs.declared.fault.LogFull.{LogFull};
 ghost use Rattle.rdm_join.specs.declared.event.LineEvent.TheVariants.{Reply};
 ghost use Rattle.rdm_agent.specs.declared.kind.Kind.TheVariants.{Full};
@@ -20,9 +21,10 @@ ghost use Rattle.rdm_join.specs.Result.{result_of};
 ghost use Rattle.rdm_log.specs.log.Entries.{verdicts};
 ghost use Rattle.rdm_log.specs.log.Legal.{Legal};
 ghost use Rattle.rdm_log.specs.samples.SampleParts.{wide_opening, joined_log, joined_parts};
-ghost use Rattle.rdm_log.specs.samples.Sample.{sample_request, join_only, accepted_one, closed_log, logged_with};
-ghost use Rattle.rdm_log.specs.samples.Sample.{sample_events, sample_answers};
+ghost use Rattle.rdm_log.specs.samples.Sample.{sample_request, join_only, accepted_one, finished_one, closed_log};
+ghost use Rattle.rdm_log.specs.samples.Sample.{logged_with, sample_events, sample_answers};
 ghost use Rattle.rdm_log.specs.samples.SampleRuns.{asked_one, failing_events, failing_answers, collected_failed};
+ghost use Rattle.rdm_log.specs.samples.SampleRuns.{first_client, aborted_log};
 ghost use Rattle.rdm_log.specs.samples.SampleRuns.{wasted_opening, wasted_with, wasted_sent, wasted_run};
 
 /// A whole log explains the answers to its events: a join, a submit, a take, a deliver, a collect, a close.
@@ -32,9 +34,10 @@ pub fn sample_is_explained()
 {}
 
 /// A log with a run explains the answers to its events: a discover, the run's first frame, a discover during the run,
-/// a failure of the line, a close, and a collect.
+/// a failure of the line, a close, a collect for which there is no memory, and another that gives the outcome.
 pub fn failing_run_is_explained()
-    ensures { Explains (logged_with []) failing_events failing_answers (logged_with collected_failed) }
+    ensures { (set : Box (List Device)) → set.value ≡ []
+        → Explains (logged_with []) failing_events (failing_answers set) (logged_with collected_failed) }
 {}
 
 /// Where a log explains the answers to a list of events, it explains each of them where it stands.
@@ -63,6 +66,11 @@ pub fn not_explained()
         → Explains (logged_with asked_one) (events.Take ∷ []) (answers.Take (Ok None) ∷ []) new → ⊥ }
     ensures no_room { (new : LogState)
         → Explains (logged_with accepted_one) (events.Take ∷ []) (answers.Take (Err (record {})) ∷ []) new → ⊥ }
+    // There is said to be no memory for a request's outcome; or a discovery's outcome is gone after that answer.
+    ensures request { (new : LogState) → Explains (logged_with finished_one)
+        (events.Collect first_client ∷ []) (answers.Collect (Err (record {})) ∷ []) new → ⊥ }
+    ensures lost { Explains (logged_with aborted_log) (events.Collect first_client ∷ [])
+        (answers.Collect (Err (record {})) ∷ []) (logged_with collected_failed) → ⊥ }
     // An event without an answer, an answer without its entry, and answers in another order.
     ensures left_out { (new : LogState)
         → Explains (logged_with []) (events.Pause ∷ events.Resume ∷ []) (answers.Pause (Ok tt) ∷ []) new → ⊥ }

@@ -1,11 +1,13 @@
 //! Lists of events that a session answers.
 use super::checks::check;
 use super::lines::first_device;
-use rdm_agent::DEFAULT_BUDGET;
+use rdm_agent::{DEFAULT_BUDGET, Kind};
 use rdm_join::{LineEvent, LineReply, Status};
 use rdm_line::{Line, SimLine};
-use rdm_queue::{Answer, ClientId, Event, JoinFault, NoMemory, Outcome, Session};
-use rdm_rig::{Heard, completion_told, request, session_of};
+use rdm_queue::{
+    Answer, BoxedOutcome, ClientId, DiscoveryEnd, Event, JoinFault, NoMemory, OutcomeKind, Session,
+};
+use rdm_rig::{Found, Heard, completion_told, found_in, request, session_of};
 use std::alloc::Global;
 use std::process::Abort;
 
@@ -64,7 +66,9 @@ fn runs(rt: &impl Abort, alloc: Global, session: &mut Session, events: &[Event])
 fn is_served(answer: &Answer) -> bool {
     match answer {
         Answer::Take(Ok(Some(_))) => true,
-        Answer::Collect(Some(Outcome::Request { done, .. })) => done.status == Status::Timeout,
+        Answer::Collect(Ok(Some(BoxedOutcome::Request { done, .. }))) => {
+            done.status == Status::Timeout
+        }
         _ => false,
     }
 }
@@ -80,7 +84,8 @@ fn served(answers: &[Answer]) -> usize {
     served
 }
 
-// Runs so many requests. If the join finds no memory, there is no client, and nothing is sent. Says whether it found it.
+// Runs so many requests. If the join finds no memory, there is no client, and nothing is sent. Says whether it found
+// it.
 fn runs_requests(rt: &impl Abort, alloc: Global, times: usize) -> bool {
     let mut session = session(rt, alloc);
     let answers = runs(rt, alloc, &mut session, &events(rt, alloc, times));
@@ -173,4 +178,62 @@ fn answer_of_a_join_and_of_a_reply(rt: HostRuntime) {
         &rt,
         heard == Heard::Answered(0, 1, 2) || heard == Heard::Answered(1, 1, 2),
     );
+}
+
+// The frames of a run over one device: three unmutes, its branch, its mute, and five silent branches.
+const RUN_FRAMES: usize = 10;
+
+// Lets a client discover, and makes all exchanges of the run.
+fn discovers(rt: &impl Abort, alloc: Global, session: &mut Session, line: &mut SimLine) {
+    let asked = session.answer(alloc, &Event::Discover(CLIENT, Kind::Full));
+    check(rt, matches!(&asked, Answer::Discover(Ok(0))));
+    for _ in 0..RUN_FRAMES {
+        let frame = session.take().ok().flatten().expect(rt, "a frame");
+        let event = LineEvent::Reply(line.exchange(&frame).expect(rt, "a reply"));
+        check(rt, session.deliver(alloc, event).is_ok());
+    }
+}
+
+// Answers a collect of a discovery's outcome, again if there is no memory for it: the session is then unchanged.
+fn collects(rt: &impl Abort, alloc: Global, session: &mut Session) -> Answer {
+    let entries = session.log().entries().len();
+    let free = session.free();
+    let collected = session.answer(alloc, &Event::Collect(CLIENT));
+    if !matches!(&collected, Answer::Collect(Err(NoMemory))) {
+        return collected;
+    }
+    check(
+        rt,
+        session.log().entries().len() == entries && session.free() == free,
+    );
+    check(rt, session.oldest(CLIENT) == Some(OutcomeKind::Discovery));
+    session.answer(alloc, &Event::Collect(CLIENT))
+}
+
+// Whether the answer is the outcome of discovery 0, whose run found the first device alone, with its control field and
+// its binding UID.
+fn is_found(answer: &Answer) -> bool {
+    match answer {
+        Answer::Collect(Ok(Some(BoxedOutcome::Discovery { end, set }))) => {
+            let wanted = DiscoveryEnd {
+                number: 0,
+                run: 1,
+                fault: None,
+            };
+            *end == wanted && found_in(set) == Found::First
+        }
+        _ => false,
+    }
+}
+
+#[test]
+fn answer_of_a_collect_of_a_discovery(rt: HostRuntime) {
+    let mut line = first_device(&rt, rt.alloc(), &[], &[]);
+    let mut session = session(&rt, rt.alloc());
+    joins(&rt, rt.alloc(), &mut session);
+    discovers(&rt, rt.alloc(), &mut session, &mut line);
+    let collected = collects(&rt, rt.alloc(), &mut session);
+    check(&rt, is_found(&collected) && session.is_idle());
+    let nothing = session.answer(rt.alloc(), &Event::Collect(CLIENT));
+    check(&rt, matches!(&nothing, Answer::Collect(Ok(None))));
 }

@@ -139,7 +139,8 @@ ForEachBlock s P = (o : Opening) (h : List Entry) → StandsAmid o h s → P o h
 
 -- with this entry more a queue stands amid each log after which old stands and of which this holds; its runs search as
 -- before
-pub record AddsAmid (old : QueueState) (May : Opening → List Entry → Type 0) (e : Entry) (new : QueueState) : Type 0 where
+pub record AddsAmid (old : QueueState) (May : Opening → List Entry → Type 0) (e : Entry) (new : QueueState)
+    : Type 0 where
   pub search : new.search ≡ old.search
   pub each : (o : Opening) (h : List Entry) → StandsAfter o h old → May o h → StandsAmid o (h ++ e ∷ []) new
 

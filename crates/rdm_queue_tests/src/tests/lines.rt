@@ -5,7 +5,7 @@ use arrayvec::ArrayVec;
 use rdm_agent::{AgentFault, DEFAULT_BUDGET};
 use rdm_join::{LineEvent, LineReply};
 use rdm_queue::{Controller, Outcome, Session};
-use rdm_wire::{AckType, RespClass, Response, Uid, encode_response, write_branch_reply};
+use rdm_wire::{AckType, DeviceSet, RespClass, Response, Uid, encode_response, write_branch_reply};
 use std::alloc::Global;
 use std::process::Abort;
 
@@ -166,11 +166,15 @@ pub fn is_discovery(
             *own == Some(number)
                 && done.run == run
                 && done.fault == fault
-                && done.set.len() == devices.len()
-                && devices.iter().all(|uid| done.set.contains(*uid))
+                && is_of(&done.set, devices)
         }
         _ => false,
     }
+}
+
+/// Whether the set has exactly these devices.
+pub fn is_of(set: &DeviceSet, devices: &[Uid]) -> bool {
+    set.len() == devices.len() && devices.iter().all(|uid| set.contains(*uid))
 }
 
 /// The devices known are this many, of this run.

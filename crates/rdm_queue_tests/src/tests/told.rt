@@ -1,8 +1,8 @@
 //! What lists of events are answered.
 use super::checks::check;
-use super::lines::is_discovery;
+use super::lines::is_of;
 use rdm_join::Status;
-use rdm_queue::{Answer, ClientId, Event, Outcome, Session};
+use rdm_queue::{Answer, BoxedOutcome, ClientId, DiscoveryEnd, Event, Session};
 use rdm_wire::Uid;
 use std::alloc::Global;
 use std::process::Abort;
@@ -61,7 +61,7 @@ pub fn told_by(answer: &Answer) -> Told {
         Answer::Take(Ok(Some(_))) => Told::Frame,
         Answer::Take(Ok(None)) => Told::NoFrame,
         Answer::Deliver(Ok(())) => Told::Heard,
-        Answer::Collect(Some(outcome)) => told_of(outcome),
+        Answer::Collect(Ok(Some(outcome))) => told_of(outcome),
         Answer::Pause(Ok(())) => Told::Paused,
         Answer::Resume(Ok(())) => Told::Resumed,
         Answer::Close => Told::Closed,
@@ -70,17 +70,10 @@ pub fn told_by(answer: &Answer) -> Told {
 }
 
 // Which outcome it is.
-fn told_of(outcome: &Outcome) -> Told {
+fn told_of(outcome: &BoxedOutcome) -> Told {
     match outcome {
-        Outcome::Request {
-            number: Some(own),
-            ..
-        } => Told::Request(*own),
-        Outcome::Discovery {
-            number: Some(own),
-            ..
-        } => Told::Discovery(*own),
-        _ => Told::Other,
+        BoxedOutcome::Request { number, .. } => Told::Request(*number),
+        BoxedOutcome::Discovery { end, .. } => Told::Discovery(end.number),
     }
 }
 
@@ -107,7 +100,7 @@ pub fn count(answers: &[Answer], from: usize, told: Told) -> usize {
 pub fn outcomes(answers: &[Answer]) -> usize {
     let mut outcomes = 0_usize;
     for answer in answers {
-        if matches!(answer, Answer::Collect(Some(_))) {
+        if matches!(answer, Answer::Collect(Ok(Some(_)))) {
             outcomes = outcomes.saturating_add(1);
         }
     }
@@ -125,14 +118,9 @@ pub fn is_frame(answer: &Answer, frame: &[u8]) -> bool {
 /// Whether the answer is the outcome of request 0, with this status and these bytes.
 pub fn is_request(answer: &Answer, status: Status, bytes: &[u8]) -> bool {
     match answer {
-        Answer::Collect(
-            Some(
-                Outcome::Request {
-                    number: Some(0),
-                    done,
-                },
-            ),
-        ) => { done.status == status && done.bytes.as_slice() == bytes }
+        Answer::Collect(Ok(Some(BoxedOutcome::Request { number: 0, done }))) => {
+            done.status == status && done.bytes.as_slice() == bytes
+        }
         _ => false,
     }
 }
@@ -141,7 +129,14 @@ pub fn is_request(answer: &Answer, status: Status, bytes: &[u8]) -> bool {
 /// these devices.
 pub fn is_found(answer: &Answer, number: u64, devices: &[Uid]) -> bool {
     match answer {
-        Answer::Collect(outcome) => is_discovery(outcome, number, 1, None, devices),
+        Answer::Collect(Ok(Some(BoxedOutcome::Discovery { end, set }))) => {
+            let wanted = DiscoveryEnd {
+                number,
+                run: 1,
+                fault: None,
+            };
+            *end == wanted && is_of(set, devices)
+        }
         _ => false,
     }
 }

@@ -16,7 +16,7 @@ use Rattle.rdm_log.proofs.laws.explained.failing_run_is_explained.Goals as goal
 
 pub returns : goal.returns
 unfolding joins accepts finishes sends cames collectors traded of_request verdicts result awaited is_paused is_closed answers_to asks answers has_begun entries_before_run last_run run_exchanges
-returns c = (
+returns c = λ set empty. (
   logged_with join_only,
   record { block = Join first_client 1 ∷ []; adds = (refl, refl, refl); grows = refl },
   (
@@ -35,9 +35,13 @@ returns c = (
             logged_with aborted_log,
             record { block = Close ∷ Answer 1 0 (Some Aborted) ∷ []; adds = record { results = Answer 1 0 (Some Aborted) ∷ []; whole = refl; each = (refl, tt) }; grows = refl },
             (
-              logged_with collected_failed,
-              record { block = Collect first_client ∷ []; adds = (record { entry = Answer 0 1 (Some LineFailed); oldest = refl; told = refl }, refl); grows = refl },
-              refl,
+              logged_with aborted_log,
+              record { block = []; adds = (refl, refl); grows = refl },
+              (
+                logged_with collected_failed,
+                record { block = Collect first_client ∷ []; adds = (record { entry = Answer 0 1 (Some LineFailed); oldest = refl; told = rw empty refl }, refl); grows = refl },
+                refl,
+              ),
             ),
           ),
         ),
