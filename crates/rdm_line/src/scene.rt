@@ -5,13 +5,10 @@ ghost use Rattle.rdm_line.specs.Scenes.{is_present};
 use crate::collision::Collision;
 use crate::parameter::Parameters;
 use crate::scene_devices::SceneDevices;
-use rdm_wire::{Device, Uid};
-use thiserror::Error;
+use rdm_wire::{Device, LONGEST_PREAMBLE, Uid};
 
-/// Memory ran out.
-#[derive(Clone, Copy, Debug, PartialEq, Eq, Error)]
-#[error("out of memory")]
-pub struct NoMemory;
+/// The latest exchange at which a simulated device may come: 1,000,000,000.
+pub const LATEST_ARRIVAL: u64 = 1_000_000_000;
 
 /// A line to be simulated. Exchanges are numbered from 0.
 #[derive(Debug, Drop)]

@@ -17,12 +17,12 @@ use crate::collision::Collision;
 use crate::line::{Line, LineFault};
 use crate::overlay::lay_over;
 use crate::parameter::ParameterPart;
-use crate::scene::{NoMemory, Scene, SceneDevice};
+use crate::scene::{Scene, SceneDevice};
 use arrayvec::ArrayVec;
 use rdm_join::LineReply;
 use rdm_wire::{
-    AckType, Command, Frame, LONGEST_PREAMBLE, ReqClass, Request, RespClass, Response, Uid,
-    UidRange, UidSet, encode_response, mute_response, read_command, write_branch_reply,
+    AckType, Command, Frame, LONGEST_PREAMBLE, NoMemory, ReqClass, Request, RespClass, Response,
+    Uid, UidRange, UidSet, encode_response, mute_response, read_command, write_branch_reply,
 };
 use std::alloc::{AllocError, Global};
 use std::marker::Model;
@@ -69,8 +69,8 @@ impl Model for SimLine {
 }
 
 impl SimLine {
-    /// A line of the scene's devices, all of them unmuted, before its first exchange. If memory runs out, the
-    /// scene is returned.
+    /// A line of the scene's devices, all of them unmuted, before its first exchange. [`NoMemory`]: there was no
+    /// memory, and the scene is returned.
     pub fn new(alloc: Global, scene: Scene) -> Result<SimLine, (NoMemory, Scene)>
         ensures devices { IfOk result (λ s. s.devices ≡ scene.devices) }
         // What laws on simulated lines ask of the state in which a run begins.

@@ -1,9 +1,8 @@
 //! The log of a session.
 use crate::entry::{Entry, Opening};
-use crate::fault::NoMemory;
 use arrayvec::ArrayVec;
 use rdm_agent::Search;
-use rdm_wire::{DeviceSet, Uid};
+use rdm_wire::{DeviceSet, NoMemory, Uid};
 use std::alloc::Global;
 use std::marker::Model;
 
