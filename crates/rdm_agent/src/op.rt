@@ -42,8 +42,9 @@ pub enum OpReply {
 }
 
 impl Op {
-    /// The packet that asks it of the line, from the controller `source`, with the transaction number `tn`. A mute must
-    /// be of a device, as [`Agent::next`](crate::Agent::next)'s is, and [`Op::End`] has no packet.
+    /// The operation's packet, from the controller `source`, with the transaction number `tn`. [`Op::End`] has none. A
+    /// mute must be of a device, whose UID isn't broadcast ([`Uid::is_broadcast`]). Those of
+    /// [`Agent::next`](crate::Agent::next) are.
     pub fn frame(&self, source: Uid, tn: u8) -> Frame
         requires goes_on { self.now ≢ Op.End }
         requires device { (u : ℕ) → self.now ≡ Op.Mute u → IsDevice u }

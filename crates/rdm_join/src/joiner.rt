@@ -157,7 +157,8 @@ impl Joiner {
         }
     }
 
-    /// Gives it the verdict on the next reply. The request must be open: no call before may have answered `Done`.
+    /// Adds the verdict on the next reply. The request must be open ([`Joiner::is_open`]): no earlier call has returned
+    /// `Done`.
     ///
     /// A reply joins with the parts before it if all of these hold. Otherwise the request ends as an invalid response.
     ///

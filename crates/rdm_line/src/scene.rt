@@ -1,6 +1,7 @@
 //! A line to be simulated: its devices, and what goes wrong on it.
-ghost use Rattle.std.specs.Prelude.{◌≡◌};
-ghost use Rattle.rdm_line.specs.Scenes.{is_present};
+ghost use Rattle.std.specs.Prelude.{◌≡◌, ◌↔◌, true, false};
+ghost use Rattle.rdm_wire.specs.Uid.{is_broadcast};
+ghost use Rattle.rdm_line.specs.Scenes.{is_present, IsSceneDevice};
 
 use crate::collision::Collision;
 use crate::parameter::Parameters;
@@ -35,13 +36,22 @@ pub struct SceneDevice {
     pub preamble: u8,
     /// The parameters that it has.
     pub params: Parameters,
-    /// The exchange at which it comes: 0 to 1,000,000,000.
+    /// The exchange at which it comes: 0 to [`LATEST_ARRIVAL`].
     pub from: u64,
     /// The exchange at which it has left, if it ever leaves.
     pub until: Option<u64>,
 }
 
 impl SceneDevice {
+    /// Whether it may be added to a scene: its UID isn't broadcast, and its fields are in their ranges.
+    pub fn is_valid(&self) -> bool
+        ensures { (result ≡ true) ↔ ((is_broadcast self.now.device.uid ≡ false) × IsSceneDevice self.now) }
+    {
+        !self.device.uid.is_broadcast()
+            && self.preamble <= LONGEST_PREAMBLE
+            && self.from <= LATEST_ARRIVAL
+    }
+
     // Its own UID.
     pub(crate) fn uid(&self) -> Uid
         ensures { result ≡ self.now.device.uid }

@@ -56,7 +56,8 @@ impl SceneDevices {
         }
     }
 
-    /// Puts in a device. An error is the first fault, in the order of [`AddFault`], and leaves the devices unchanged.
+    /// Adds a device, which must be valid ([`SceneDevice::is_valid`]). An error is the first fault that applies, in the
+    /// order of [`AddFault`]. Then the devices are unchanged.
     pub fn add(&mut self, device: SceneDevice) -> Result<(), AddFault>
         requires own { is_broadcast device.device.uid ≡ false }
         requires preamble { device.preamble ≤ 7 }

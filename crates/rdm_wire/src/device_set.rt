@@ -111,8 +111,9 @@ impl DeviceSet {
         self.search(uid).is_ok()
     }
 
-    /// Puts in a device; `false` if one with its UID was there already, which is unchanged. [`SetFull`]: none was there
-    /// and the set is full. If the device isn't put in, the set is unchanged.
+    /// Adds a device, whose UID must not be broadcast ([`Uid::is_broadcast`]). Returns whether it was added: `false` if
+    /// the set has a device with that UID. [`SetFull`]: it has none, and is full. If nothing is added, the set is
+    /// unchanged.
     pub fn insert(&mut self, device: Device) -> Result<bool, SetFull>
         requires { is_broadcast device.uid ≡ false }
         ensures there { (result ≡ Ok false) ↔ (has (uids_of self.old) device.uid ≡ true) }

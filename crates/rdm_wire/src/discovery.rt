@@ -33,7 +33,7 @@ pub fn encode_branch(range: UidRange, source: Uid, tn: u8) -> Frame
 }
 
 /// The packet that mutes a device (E1.20, discovery mute), from the controller `source`, with the transaction number
-/// `tn`. It has no data.
+/// `tn`. It has no data. `uid` must not be broadcast ([`Uid::is_broadcast`]).
 pub fn encode_mute(uid: Uid, source: Uid, tn: u8) -> Frame
     requires { is_broadcast uid ≡ false }
     ensures frame { result.items ≡ mute_frame uid source tn }

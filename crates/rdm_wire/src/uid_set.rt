@@ -105,8 +105,8 @@ impl UidSet {
         self.index_for(uid).is_none()
     }
 
-    /// Puts in `uid`, a device's; `false` if it was there already. [`SetFull`]: it isn't there and the set is full. If
-    /// it isn't put in, the set is unchanged.
+    /// Adds `uid`, which must not be broadcast ([`Uid::is_broadcast`]). Returns whether it was added: `false` if the
+    /// set has it already. [`SetFull`]: the set doesn't have it, and is full. If nothing is added, it is unchanged.
     pub fn insert(&mut self, uid: Uid) -> Result<bool, SetFull>
         requires { is_broadcast uid ≡ false }
         ensures there { (result ≡ Ok false) ↔ (has self.old uid ≡ true) }
