@@ -1,4 +1,4 @@
-//! Sets of devices, with what each said of itself.
+//! Sets of devices, each with its control field and binding UID.
 ghost use Rattle.std.specs.Prelude.{⊤, ◌≡◌, ◌≢◌, ◌<◌, ◌≤◌, ◌^◌, ◌↔◌, ◌==◌, ℕ, [], length, true, false, Ok, None};
 ghost use Rattle.std.specs.Prelude.{IsErr, IfNone, IfSome, OnSome, IfOk, IfErr, OnOk, OnErr, insert, slice_get};
 ghost use Rattle.std.specs.Iterator.Runs.{EveryRun, ItemsMapTo};
@@ -22,7 +22,7 @@ pub struct DeviceSet {
     devices: ArrayVec<Device, MOST_DEVICES>,
 }
 
-// What the docs say of its size: 32 bytes for each device that fits, and 8 for how many are taken.
+// The size that the docs state: 32 bytes for each device that fits, and 8 for the count.
 const _: () = prove!(size_of::<DeviceSet>() == 32 * MOST_DEVICES + 8);
 
 impl Model for DeviceSet {
@@ -135,7 +135,7 @@ impl DeviceSet {
         Ok(true)
     }
 
-    // The index at which a device with this UID is to be put in; `None` if one is there.
+    // The index at which a device with this UID is to be inserted; `None` if there is one already.
     fn index_for(&self, uid: Uid) -> Option<usize>
         ensures there { IfNone result (has (uids_of self.now) uid ≡ true) }
         ensures absent { OnSome result (has (uids_of self.now) uid ≡ false) }
@@ -148,7 +148,7 @@ impl DeviceSet {
         self.search(uid).err()
     }
 
-    // Where the device with this UID is, or else where one is to be put in.
+    // The index of the device with this UID, or else the index at which one is to be inserted.
     fn search(&self, uid: Uid) -> Result<usize, usize>
         ensures there { OnOk result (has (uids_of self.now) uid ≡ true) }
         ensures found { IfOk result (λ i. slice_get self.now i ≡ device_with self.now uid) }
@@ -175,14 +175,14 @@ impl DeviceSet {
         UidSet::of_devices(self.as_slice())
     }
 
-    /// Takes out all devices. It costs no more than the devices that there were.
+    /// Removes all devices. The cost grows with the number of devices that the set had.
     pub fn clear(&mut self)
         ensures { self.new ≡ [] }
     {
         self.devices.clear();
     }
 
-    /// Becomes the same set as `other`. It costs no more than the devices of both.
+    /// Becomes the same set as `other`. The cost grows with the number of devices of both.
     pub fn copy_from(&mut self, other: &DeviceSet)
         ensures { self.new ≡ other.now }
     {

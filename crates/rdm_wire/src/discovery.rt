@@ -51,7 +51,7 @@ pub fn encode_unmute(source: Uid, tn: u8) -> Frame
     discovery_header(Uid::ALL, source, tn, DISC_UN_MUTE).encode(&[])
 }
 
-// What a discovery command says before its data.
+// The header of a discovery command.
 fn discovery_header(dest: Uid, source: Uid, tn: u8, pid: u16) -> Header
     ensures { (param : List ℕ) → header_fields result param ≡ discovery_fields dest pid param source tn }
 {
