@@ -18,8 +18,8 @@ pub struct Scene {
     pub source: Uid,
     /// The devices.
     pub devices: SceneDevices,
-    /// What comes of replies to a branch that collide, one after another; the last one stays in force, and if there is
-    /// none it is [`Collision::Or`].
+    /// What results from collisions of replies to a branch, in order. The last one is repeated. If there is none, each
+    /// is a [`Collision::Or`].
     pub collisions: Vec<Collision>,
     /// The exchanges whose reply is lost, in any order. `u64::MAX` names none.
     pub losses: Vec<u64>,
