@@ -80,7 +80,8 @@ fn served(answers: &[Answer]) -> usize {
     served
 }
 
-// Runs so many requests. If the join finds no memory, there is no client, and nothing is sent. Says whether it found it.
+// Runs so many requests. If the join finds no memory, there is no client, and nothing is sent. Says whether it found
+// it.
 fn runs_requests(rt: &impl Abort, alloc: Global, times: usize) -> bool {
     let mut session = session(rt, alloc);
     let answers = runs(rt, alloc, &mut session, &events(rt, alloc, times));
