@@ -21,12 +21,12 @@ most_frames devices known = 8 + 370 * devices + 5 * known
 abbrev pub enough_for : List ℕ → Kind → List ℕ → ℕ
 enough_for present kind known = most_frames (length present) (length (known_of kind known))
 
--- what suffices for a run that makes this search; a quick one's sweep adds 205
+-- what suffices for a run with this search; the sweep of a quick one adds 205
 abbrev pub enough_by : Search → List ℕ → Kind → List ℕ → ℕ
 enough_by Steady present kind known = enough_for present kind known
 enough_by Quick present kind known = 213 + 370 * length present + 5 * length (known_of kind known)
 
--- an honest line with these devices, of which a run can report all, and no failure
+-- an honest line with these devices, without a failure; a run can report all of them
 pub record IsCalm (present : List ℕ) (x : List Seen) : Type 0 where
   pub honest : HonestTrace present x
   pub few : length present ≤ 1024
@@ -38,7 +38,7 @@ pub record IsUndisturbed (present : List ℕ) (run : RunSoFar) : Type 0 where
   pub not_aborted : run.aborted ≡ false
   pub budgeted : enough_by run.search present run.kind run.known ≤ run.budget
 
--- a run after one exchange more, as one makes that wasn't aborted
+-- a run after one more exchange, which only a run makes that wasn't aborted
 abbrev pub with_exchange : RunSoFar → Seen → RunSoFar
 with_exchange run e = record {
   search = run.search;
@@ -49,13 +49,13 @@ with_exchange run e = record {
   exchanges = run.exchanges ++ e ∷ [];
 }
 
--- after such a run an agent made no more exchanges than suffice, and has ended once it made as many
+-- after such a run an agent has made at most as many exchanges as suffice, and has ended if it has made as many
 abbrev pub StaysInBound : AgentState → RunSoFar → Type 0
 StaysInBound a run = (present : List ℕ) → IsUndisturbed present run
     → (a.frames ≤ enough_by run.search present run.kind run.known)
     × (a.frames ≡ enough_by run.search present run.kind run.known → next_op a ≡ End)
 
--- no more exchanges than suffice are made, the run has ended once they are made, and it ends without fault
+-- at most this many exchanges are made, the run has ended once they are made, and it ends without fault
 pub record EndsWithin (most : ℕ) (b : AgentState) : Type 0 where
   pub at_most : b.frames ≤ most
   pub ends : b.frames ≡ most → next_of b ≡ None
@@ -71,7 +71,7 @@ abbrev pub EndsInBound : Type 0
 EndsInBound = OfEachRun Steady (λ kind known budget x b. (present : List ℕ)
     → IsCalm present x → enough_for present kind known ≤ budget → EndsWithin (enough_for present kind known) b)
 
--- each run with the budget by default ends like this, if the known UIDs fit into a set
+-- each run with the default budget ends like this, if the known UIDs fit into a set
 abbrev pub EndsByDefault : Type 0
 EndsByDefault = OfEachRun Steady (λ kind known budget x b. (present : List ℕ)
     → IsCalm present x → length known ≤ 1024 → budget ≡ DEFAULT_BUDGET → EndsWithin (enough_for present kind known) b)

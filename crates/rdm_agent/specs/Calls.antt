@@ -1,4 +1,4 @@
--- An agent's calls, and which agents a run comes to.
+-- An agent's calls, and the states of agents that runs lead to.
 use Rattle.std.specs.Prelude.{◌≡◌, ◌≢◌, ℕ, Bool, true, false, List, Option, Some, None, Result, Ok, Err, MatchBool}
 use Rattle.rdm_wire.specs.Uid.{IsDeviceSet}
 use Rattle.rdm_wire.specs.declared.device.Device.{Device}
@@ -16,7 +16,7 @@ use Rattle.rdm_agent.specs.declared.op.Op.TheVariants as ops
 use Rattle.rdm_agent.specs.declared.op.OpReply.{OpReply}
 use Rattle.rdm_agent.specs.declared.op.OpReply.TheVariants as came
 
--- the operation that asks this; nothing asked is the end
+-- the operation that asks this; `End` if nothing is asked
 abbrev pub op_of : Option Asked → Op
 op_of None = ops.End
 op_of (Some Unmute) = ops.UnmuteAll
@@ -38,7 +38,7 @@ fits came.Failed (ops.Mute u) = true
 fits came.Failed (ops.Branch r) = true
 fits _ _ = false
 
--- the agent, ended before its own end
+-- the agent after an abort
 abbrev pub ended_by_abort : AgentState → AgentState
 ended_by_abort a = record {
   budget = a.budget;
@@ -48,7 +48,7 @@ ended_by_abort a = record {
   phase = Ended (Some Aborted);
 }
 
--- what a run answers: the set, and its fault before it
+-- what a run returns: the set, or its fault with the set
 abbrev pub run_result : Option AgentFault → List Device → Result (List Device) (AgentFault × List Device)
 run_result None found = Ok found
 run_result (Some fault) found = Err (fault, found)
@@ -74,7 +74,7 @@ pub record RunSoFar : Type 0 where
   pub aborted : Bool
   pub exchanges : List Seen
 
--- P holds of each run after which the agent may be in this state
+-- P holds for each run after which the agent may be in this state
 abbrev pub AfterEach : AgentState → (RunSoFar → Type 0) → Type 0
 AfterEach a P =
     (run : RunSoFar) → HasRunBy run.search run.kind run.known run.budget run.aborted run.exchanges a → P run

@@ -1,4 +1,4 @@
--- What a fault shows of its run.
+-- What a fault shows about its run.
 use Rattle.std.specs.Prelude.{◌≡◌, ◌≢◌, ◌⊎◌, ℕ, ◌≤◌, true, false, List, [], ◌∷◌, ◌++◌, length}
 use Rattle.std.specs.List.{AllByRecursion}
 use Rattle.rdm_wire.specs.Uid.{IsDevice, has, set_of}
@@ -12,14 +12,14 @@ use Rattle.rdm_agent.specs.declared.fault.AgentFault.{AgentFault}
 use Rattle.rdm_agent.specs.declared.fault.AgentFault.TheVariants.{Corrupt, TooMany, Exhausted, LineFailed, Aborted}
 use Rattle.rdm_agent.specs.declared.limits.TheConstants.{TRIES}
 
--- a reply to the branch of u alone that shows neither an empty range nor a new device u
+-- a reply to the branch of u alone that shows neither an empty range nor a device u that wasn't found yet
 pub record IsCorruptReply (u : ℕ) (before : List Seen) (heard : Heard) : Type 0 where
   pub not_failed : heard ≢ Failed
   pub not_silent : heard ≢ Silent
   pub not_found : heard ≡ One u → IsDevice u → has (acked_in before) u ≡ true
 
--- the last branch is of the range of u alone. Its reply is the last one, and corrupt; or it is u, and the
--- exchanges after it, the last ones, are TRIES mutes of u without an acknowledgement, none failed
+-- The last branch is of the range of u alone. Either its reply is the last one, and is corrupt. Or its reply is u, and
+-- the exchanges after it are TRIES mutes of u, none of them acknowledged and none failed.
 pub record IsCorrupt (u : ℕ) (x : List Seen) : Type 0 where
   pub before : List Seen
   pub heard : Heard
@@ -29,7 +29,7 @@ pub record IsCorrupt (u : ℕ) (x : List Seen) : Type 0 where
       ⊎ ((heard ≡ One u) × (length mutes ≡ TRIES)
       × AllByRecursion (IsLostMute u) mutes × AllByRecursion (λ e. e.heard ≢ Failed) mutes)
 
--- as many UIDs were acknowledged as fit into a set, and the last exchange acknowledges another
+-- a full set of UIDs was acknowledged, and the last exchange acknowledges another
 pub record IsOneTooMany (x : List Seen) : Type 0 where
   pub before : List Seen
   pub last : Seen
@@ -52,11 +52,11 @@ pub record IsExhausted (budget : ℕ) (x : List Seen) : Type 0 where
   pub not_failed : EndsFailed x → ⊥
   pub not_corrupt : (u : ℕ) → IsCorrupt u x → ⊥
 
--- no more UIDs were acknowledged than fit into a set, so that all of them are reported
+-- at most as many UIDs were acknowledged as fit into a set, so all of them are reported
 abbrev pub AllReported : List Seen → Type 0
 AllReported x = length (once (acked_in x)) ≤ MOST_DEVICES
 
--- the cause of a fault, for a budget, and a fact that says that the run was aborted; without TooMany all
+-- the cause of a fault, for this budget; is_aborted says that the run was aborted. Unless the fault is TooMany, all
 -- acknowledged UIDs are reported
 abbrev pub Cause : ℕ → Type 0 → AgentFault → List Seen → Type 0
 Cause budget is_aborted (Corrupt u) x = IsCorrupt u x × AllReported x

@@ -1,4 +1,4 @@
--- What a run without fault shows of its set.
+-- What a run without fault shows about its set.
 use Rattle.std.specs.Prelude.{◌≡◌, ◌≢◌, ◌⊎◌, ℕ, ◌<◌, ◌^◌, true, List, [], take, map, replicate, Some}
 use Rattle.std.specs.List.{AllByRecursion, before_first}
 use Rattle.rdm_wire.specs.Uid.{IsDevice, has, is_within, set_of}
@@ -14,7 +14,7 @@ use Rattle.rdm_agent.specs.declared.kind.Kind.{Kind}
 use Rattle.rdm_agent.specs.declared.kind.Kind.TheVariants.{Full, Incremental}
 use Rattle.rdm_agent.specs.declared.limits.TheConstants.{TRIES, UNMUTES}
 
--- the UIDs that a run of this kind starts from
+-- the known UIDs that a run of this kind mutes first
 abbrev pub known_of : Kind → List ℕ → List ℕ
 known_of Full known = []
 known_of Incremental known = known
@@ -24,7 +24,7 @@ pub record IsTried (s : List ℕ) (x : List Seen) (u : ℕ) : Type 0 where
   pub device : IsDevice u
   pub tried : (has s u ≡ true) ⊎ InSuccession TRIES (IsLostMute u) x
 
--- u lies in a range that was branched TRIES times in a row, and silent each time
+-- u is in a range that was branched TRIES times in a row, each time without a byte
 pub record IsCleared (x : List Seen) (u : ℕ) : Type 0 where
   pub lo : ℕ
   pub hi : ℕ
@@ -49,7 +49,7 @@ pub record SearchShows (kind : Kind) (known : List ℕ) (x : List Seen) (s : Lis
   pub known_first : AllByRecursion (λ u. has (muted_in (before_first is_branch x)) u ≡ true) (known_of kind known)
   pub read_first : EachAfter (MutesNamed (known_of kind known)) x
 
--- the devices of s are those of the search, each as its first acknowledgement says it
+-- the devices of s are those of the search, each with the data of its first acknowledgement
 pub record Certificate (kind : Kind) (known : List ℕ) (x : List Seen) (s : List Device) : Type 0 where
   pub search : SearchShows kind known x (uids_of s)
   pub first : AsFirstAcked x s

@@ -18,14 +18,14 @@ use Rattle.rdm_agent.specs.declared.fault.AgentFault.{AgentFault}
 use Rattle.rdm_agent.specs.declared.limits.TheConstants.{TRIES, UNMUTES}
 use Rattle.rdm_agent.specs.declared.fault.AgentFault.TheVariants.{Corrupt, TooMany, Exhausted, LineFailed}
 
--- what a sweep remembers: how many exchanges it made, and the UID that it gave up last
+-- what a sweep remembers: how many exchanges it has made, and the UID that it gave up last
 pub record Sweep : Type 0 where
   pub made : ℕ
   pub suspect : Option ℕ
 
--- unmutes still to send; a known UID with the tries made; the top range with its silences and the ranges below;
--- a UID that the top range spelt, with the tries made; the same two of a sweep, and whether a range of one UID collided
--- by itself; the end
+-- The phases: the unmutes still to send; the mute of a known UID, with the tries made; the branch of the top range,
+-- with its silences; and the mute of a UID that was read there, with the tries made. Then the same two phases of a
+-- sweep; the branch that shows whether a range of one UID collided by itself; and the end.
 pub data Phase : Type 0 where
   Unmuting : (more : ℕ) (known : List ℕ) → Phase
   MutingKnown : (u tries : ℕ) (known : List ℕ) → Phase
@@ -36,7 +36,7 @@ pub data Phase : Type 0 where
   Doubting : (sweep : Sweep) (top : Span) (below : List Span) → Phase
   Ended : (fault : Option AgentFault) → Phase
 
--- an agent: how many exchanges it may make and has made, how it searches, the devices found, and its phase
+-- an agent: how many exchanges it may make and how many it has made, how it searches, the devices found, its phase
 pub record AgentState : Type 0 where
   pub budget : ℕ
   pub frames : ℕ
@@ -62,7 +62,7 @@ start_by search kind known budget = record {
 abbrev pub start : Kind → List ℕ → ℕ → AgentState
 start kind known budget = start_by Steady kind known budget
 
--- a UID that a sweep remembers
+-- whether a sweep remembers this UID
 abbrev pub is_suspect : Option ℕ → ℕ → Bool
 is_suspect None u = false
 is_suspect (Some v) u = v == u
@@ -71,17 +71,17 @@ is_suspect (Some v) u = v == u
 abbrev pub is_one : Span → Bool
 is_one r = r.lo == r.hi
 
--- what a sweep branches for its top range. One UID is branched together with the UID below it, which was swept before;
--- alone where that one was just given up
+-- the range that a sweep branches for its top range. One UID is branched together with the UID below it, which was
+-- swept before. It is branched alone if that one was just given up
 abbrev pub probe : Option ℕ → Span → Span
 probe suspect r =
     if is_one r && not (is_suspect suspect (r.lo - 1)) then record { lo = r.lo - 1; hi = r.hi } else r
 
--- if that collided, what is branched to see whether it was the UID below that replied
+-- the range that is branched after such a collision, to see whether the UID below replied
 abbrev pub lower_pair : Span → Span
 lower_pair r = record { lo = r.lo - 2; hi = r.lo - 1 }
 
--- what a phase asks; nothing at the end
+-- what a phase asks; None at the end
 abbrev pub wanted : Phase → Option Asked
 wanted (Unmuting more known) = Some Unmute
 wanted (MutingKnown u tries known) = Some (Mute u)
@@ -96,7 +96,7 @@ wanted (Ended fault) = None
 abbrev pub next_of : AgentState → Option Asked
 next_of a = if nat_lt a.frames a.budget then wanted a.phase else None
 
--- a quick search sweeps first
+-- a sweep at its start
 abbrev pub first_sweep : Sweep
 first_sweep = record { made = 0; suspect = None }
 
@@ -115,13 +115,13 @@ abbrev pub search_below : List Span → Phase
 search_below [] = Ended None
 search_below (r ∷ rs) = Searching 0 r rs
 
--- the two halves, the lower one on top; a range of one UID is corrupt
+-- the phase after a split: the two halves, the lower one on top. A range of one UID is corrupt
 abbrev pub split : Span → List Span → Phase
 split r below =
     if r.lo == r.hi then Ended (Some (Corrupt r.lo))
     else Searching 0 (lower_half r) (upper_half r ∷ below)
 
--- a UID that may be a new device of the range
+-- whether a UID may be that of a new device in the range
 abbrev pub is_new : List ℕ → Span → ℕ → Bool
 is_new found r u = not (is_broadcast u) && is_within r.lo r.hi u && not (has found u)
 
@@ -133,8 +133,8 @@ counted sweep = record { made = sweep.made + 1; suspect = sweep.suspect }
 abbrev pub suspecting : ℕ → Sweep → Sweep
 suspecting u sweep = record { made = sweep.made; suspect = Some u }
 
--- a sweep with this many devices found goes on while it made fewer exchanges than 100 for each of them and 200 more;
--- then the steady search begins
+-- a sweep that has found this many devices goes on while it has made fewer exchanges than 100 for each of them and 200
+-- more. Then the steady search begins
 abbrev pub sweep_to : Sweep → ℕ → Span → List Span → Phase
 sweep_to sweep found top below =
     if nat_lt sweep.made (100 * (found + 2)) then Sweeping sweep top below else Searching 0 whole []
@@ -144,34 +144,34 @@ abbrev pub sweep_below : Sweep → ℕ → List Span → Phase
 sweep_below sweep found [] = Searching 0 whole []
 sweep_below sweep found (r ∷ rs) = sweep_to sweep found r rs
 
--- the two halves, the lower one on top; UID 0, below which there is none, is given up
+-- the two halves, the lower one on top. UID 0 is given up, since no UID is below it
 abbrev pub sweep_halves : Sweep → ℕ → Span → List Span → Phase
 sweep_halves sweep found r below =
     if middle r == 0 then sweep_to (suspecting 0 sweep) found (upper_half r) below
     else sweep_to sweep found (lower_half r) (upper_half r ∷ below)
 
--- whether r is the upper half to the lower half top, and has halves itself
+-- whether r may be the upper half of a range whose lower half is top, and has halves itself
 abbrev pub is_sibling : Span → Span → Bool
 is_sibling top r = ((r.hi - r.lo) == (top.hi - top.lo)) && not (is_one r)
 
--- the top range was silent. If it was a lower half, the upper one holds what collided. The silence of the whole range
--- counts in the steady search
+-- the top range was silent. If it was a lower half, the collision was in the upper half. If it was the whole range, the
+-- silence counts in the steady search
 abbrev pub sweep_silent : Sweep → ℕ → Span → List Span → Phase
 sweep_silent sweep found top [] = Searching (if top.lo == 0 then 1 else 0) whole []
 sweep_silent sweep found top (r ∷ rs) =
     if is_sibling top r then sweep_halves sweep found r rs else sweep_to sweep found r rs
 
--- one UID is given up
+-- a top range of one UID is given up
 abbrev pub sweep_past : Sweep → ℕ → Span → List Span → Phase
 sweep_past sweep found top below = sweep_below (suspecting top.lo sweep) found below
 
--- one UID collided with the one below it
+-- a top range of one UID collided with the UID below it
 abbrev pub sweep_doubt : Sweep → ℕ → Span → List Span → Phase
 sweep_doubt sweep found top below =
     if nat_lt 1 top.lo && nat_lt sweep.made (100 * (found + 2)) then Doubting sweep top below
     else sweep_past sweep found top below
 
--- the top range collided, as asked. One UID that was asked alone is corrupt
+-- the range asked collided, for this top range. One UID that was asked alone is corrupt
 abbrev pub sweep_apart : Span → Sweep → ℕ → Span → List Span → Phase
 sweep_apart asked sweep found top below =
     if is_one asked then Ended (Some (Corrupt asked.lo))
@@ -188,7 +188,7 @@ to_phase a phase = record {
   phase = phase;
 }
 
--- a device is found, and the phase goes on; one too many ends the run
+-- a device is found, and this phase follows; one too many ends the run
 abbrev pub to_found : AgentState → Device → Phase → AgentState
 to_found a d phase =
     if has (found_uids a) d.uid then to_phase a phase
@@ -221,13 +221,13 @@ mute_heard a u tries top below (Acked ack) = to_found a (device_from u ack) (Sea
 mute_heard a u tries top below _ =
     to_phase a (if (tries + 1) == TRIES then split top below else MutingRead u (tries + 1) top below)
 
--- what a sweep's branch spelt is muted, unless it is remembered; in a range of its own it always is
+-- whether the UID that a sweep's branch spelt is muted: not if it is remembered, unless its range has no other UID
 abbrev pub is_wanted : List ℕ → Sweep → Span → ℕ → Bool
 is_wanted found sweep top u =
     is_new found top u && not (is_suspect sweep.suspect u && not (is_one (probe sweep.suspect top)))
 
--- the agent after a branch of a sweep. Silence ends the range, a UID that is wanted is muted, and anything else takes
--- the range apart
+-- the agent after a branch of a sweep. Silence ends the range, a UID that is wanted is muted, and anything else splits
+-- the range
 abbrev pub sweep_heard : AgentState → Sweep → Span → List Span → Heard → AgentState
 sweep_heard a sweep top below Silent = to_phase a (sweep_silent (counted sweep) (length a.found) top below)
 sweep_heard a sweep top below (One u) =
@@ -236,14 +236,14 @@ sweep_heard a sweep top below (One u) =
 sweep_heard a sweep top below _ =
     to_phase a (sweep_apart (probe sweep.suspect top) (counted sweep) (length a.found) top below)
 
--- if the pair below is silent, the top UID itself collided and is given up; otherwise the one below is the suspect
+-- if the pair below is silent, the top UID itself collided and is given up. Otherwise the one below is remembered
 abbrev pub doubt_heard : AgentState → Sweep → Span → List Span → Heard → AgentState
 doubt_heard a sweep top below Silent = to_phase a (sweep_past (counted sweep) (length a.found) top below)
 doubt_heard a sweep top below _ =
     to_phase a (sweep_to (suspecting (top.lo - 1) (counted sweep)) (length a.found) top below)
 
 -- the agent after the mute of a UID that a sweep read. It is found if acknowledged. After five tries the sweep gives it
--- up and takes the range apart; a series of mutes is never cut short
+-- up and splits the range. A series of mutes is never cut short
 abbrev pub swept_heard : AgentState → ℕ → ℕ → Sweep → Span → List Span → Heard → AgentState
 swept_heard a u tries sweep top below (Acked ack) =
     to_found a (device_from u ack) (sweep_below (counted sweep) (length a.found + 1) below)
@@ -252,7 +252,7 @@ swept_heard a u tries sweep top below _ =
     then sweep_apart (probe sweep.suspect top) (suspecting u (counted sweep)) (length a.found) top below
     else MutingSwept u (tries + 1) (counted sweep) top below)
 
--- the agent after what it heard in this phase, if the line didn't fail
+-- the agent after this was heard in this phase, if the line didn't fail
 abbrev pub heard_by_phase : AgentState → Phase → Heard → AgentState
 heard_by_phase a (Unmuting more known) heard =
     to_phase a (if nat_lt 1 more then Unmuting (more - 1) known else search_from a.search known)
@@ -272,17 +272,17 @@ fed a (One u) = heard_by_phase a a.phase (One u)
 fed a (Acked ack) = heard_by_phase a a.phase (Acked ack)
 fed a Noise = heard_by_phase a a.phase Noise
 
--- a becomes b over these exchanges, each of which it asked
+-- a becomes b by these exchanges, each of which it asked
 abbrev pub Runs : AgentState → List Seen → AgentState → Type 0
 Runs a [] b = b ≡ a
 Runs a (x ∷ xs) b = (next_of a ≡ Some x.asked) × Runs (fed a x.heard) xs b
 
--- the fault of an agent whose next is the end
+-- the fault of an agent that asks nothing more
 abbrev pub fault_of : Phase → Option AgentFault
 fault_of (Ended fault) = fault
 fault_of _ = Some Exhausted
 
--- the ranges that are open: the whole one before the search
+-- the number of open ranges: one before the search, the whole range
 abbrev pub open_ranges : Phase → ℕ
 open_ranges (Unmuting more known) = 1
 open_ranges (MutingKnown u tries known) = 1

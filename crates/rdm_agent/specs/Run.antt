@@ -95,20 +95,20 @@ acked_in x = filter_map acked_by x
 abbrev pub read_in : List Seen → List ℕ
 read_in x = filter_map read_by x
 
--- the device u with what this acknowledgement of its mute says
+-- the device u with the data of this acknowledgement of its mute
 abbrev pub device_from : ℕ → MuteAck → Device
 device_from u ack = record { uid = u; control = ack.control; binding = ack.binding }
 
--- the device whose mute an exchange finds acknowledged, as it says it
+-- the device whose mute was acknowledged like this, with the data of the acknowledgement
 abbrev pub acked_device : Asked → Heard → Option Device
 acked_device (Mute u) (Acked ack) = Some (device_from u ack)
 acked_device _ _ = None
 
--- the device whose mute an exchange finds acknowledged, as its reply describes it
+-- the device whose mute an exchange finds acknowledged, with the data of the acknowledgement
 abbrev pub device_by : Seen → Option Device
 device_by x = acked_device x.asked x.heard
 
--- in order, what each acknowledgement says
+-- the devices of all acknowledgements, in order
 abbrev pub devices_in : List Seen → List Device
 devices_in x = filter_map device_by x
 
@@ -116,7 +116,7 @@ devices_in x = filter_map device_by x
 abbrev pub reported : List Seen → List ℕ
 reported x = set_of (take MOST_DEVICES (once (acked_in x)))
 
--- each device as the first acknowledgement of its mute says it
+-- each device with the data of its first acknowledgement
 abbrev pub AsFirstAcked : List Seen → List Device → Type 0
 AsFirstAcked x s = AllByRecursion (λ d. device_with (devices_in x) d.uid ≡ Some d) s
 
@@ -130,7 +130,7 @@ abbrev pub FailureIsLast : List Seen → Type 0
 FailureIsLast x =
     (front back : List Seen) (e : Seen) → x ≡ front ++ e ∷ back → e.heard ≡ Failed → back ≡ []
 
--- n exchanges of the list, one after the other, have P
+-- n consecutive exchanges of the list have P
 pub record InSuccession (n : ℕ) (P : Seen → Type 0) (x : List Seen) : Type 0 where
   pub front : List Seen
   pub run : List Seen

@@ -18,7 +18,7 @@ sample_uid = 0x123400000001
 abbrev pub sample_ack : MuteAck
 sample_ack = record { control = 0x0002; binding = Some 0x123400000005 }
 
--- the first device, as its acknowledgement describes it
+-- the first device, with the data of its acknowledgement
 abbrev pub sample_device : Device
 sample_device = record { uid = 0x123400000001; control = 0x0002; binding = Some 0x123400000005 }
 
@@ -34,7 +34,7 @@ sample_run =
     ∷ exchange all_branch Silent ∷ exchange all_branch Silent ∷ exchange all_branch Silent
     ∷ exchange all_branch Silent ∷ exchange all_branch Silent ∷ []
 
--- the same, where this many branches and then this many mutes are lost
+-- the same, but this many branches and then this many mutes are lost
 abbrev pub lossy_run : ℕ → ℕ → List Seen
 lossy_run branches mutes =
     replicate 3 (exchange Unmute Silent) ++ (replicate branches (exchange all_branch Silent)
@@ -45,7 +45,7 @@ lossy_run branches mutes =
 abbrev pub other_uid : ℕ
 other_uid = 0x9abc00000002
 
--- the other device, as its acknowledgement describes it
+-- the other device, with the data of its acknowledgement
 abbrev pub other_device : Device
 other_device = record { uid = other_uid; control = 0; binding = None }
 

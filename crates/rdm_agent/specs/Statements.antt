@@ -1,4 +1,4 @@
--- What is shown of the machine, over whole runs.
+-- What is proved about the machine, for whole runs.
 use Rattle.std.specs.Prelude.{◌≡◌, ◌≢◌, ◌⊎◌, ℕ, ◌<◌, ◌≤◌, ◌^◌, true, List, [], ◌∷◌, length, None, MatchOption}
 use Rattle.std.specs.List.{AllByRecursion}
 use Rattle.rdm_wire.specs.Uid.{has, IsDevice, IsDeviceSet}
@@ -15,8 +15,8 @@ use Rattle.rdm_agent.specs.declared.kind.Kind.{Kind}
 use Rattle.rdm_agent.specs.declared.search.Search.{Search}
 use Rattle.rdm_agent.specs.declared.limits.TheConstants.{MOST_RANGES, UNMUTES}
 
--- whatever the line replies, this holds of each agent b that a run comes to by the exchanges x: a run of this search
--- and kind, with this known set and budget
+-- whatever the line replies, P holds for each agent b that a run reaches by the exchanges x: a run with this search and
+-- kind, and with this known set and budget
 abbrev pub OfEachRun : Search → (Kind → List ℕ → ℕ → List Seen → AgentState → Type 0) → Type 0
 OfEachRun search P =
     (kind : Kind) (known : List ℕ) (budget : ℕ) (x : List Seen) (b : AgentState) →
@@ -55,17 +55,17 @@ EndsAtFailure search = OfEachRun search (λ kind known budget x b. FailureIsLast
 abbrev pub EndsAtBudget : Search → Type 0
 EndsAtBudget search = OfEachRun search (λ kind known budget x b. length x ≡ budget → next_of b ≡ None)
 
--- while it goes on, nothing that was heard has ended it: no exchange failed, and none shows a corrupt UID
+-- while it goes on, no exchange has failed, and none shows a corrupt UID
 abbrev pub GoesOnSoundly : Search → Type 0
 GoesOnSoundly search = OfEachRun search (λ kind known budget x b. next_of b ≢ None →
     AllByRecursion (λ e. e.heard ≢ Failed) x × ((u : ℕ) → IsCorrupt u x → ⊥))
 
--- at any moment it has found what it reports, and while it goes on these are all acknowledged UIDs
+-- at any moment it has found what it reports, and while it goes on it has found all acknowledged UIDs
 abbrev pub FindsAcknowledged : Search → Type 0
 FindsAcknowledged search = OfEachRun search (λ kind known budget x b.
     IsReport x b.found × (next_of b ≢ None → AllReported x))
 
--- few ranges are open
+-- at most MOST_RANGES ranges are open
 abbrev pub HasFewRanges : Search → Type 0
 HasFewRanges search = OfEachRun search (λ kind known budget x b. open_ranges b.phase ≤ MOST_RANGES)
 
@@ -75,7 +75,7 @@ EndsCertified search = OfEachRun search (λ kind known budget x b. next_of b ≡
     MatchOption (fault_of b.phase) (Certificate kind known x b.found) (λ f. Cause budget ⊥ f x)
     × IsReport x b.found)
 
--- and it has a certificate, of whatever set, only once it has ended without fault
+-- it has a certificate, of any set, only once it has ended without fault
 abbrev pub CertificateIsTheEnd : Search → Type 0
 CertificateIsTheEnd search = OfEachRun search (λ kind known budget x b. (s : List Device) → Certificate kind known x s
     → (next_of b ≡ None) × (fault_of b.phase ≡ None))
@@ -85,7 +85,7 @@ abbrev pub FindsAll : Search → Type 0
 FindsAll search = OfEachRun search (λ kind known budget x b. (present : List ℕ) →
     next_of b ≡ None → fault_of b.phase ≡ None → HonestTrace present x → found_uids b ≡ present)
 
--- if the line is honest to a device, it finds that device, whatever others do
+-- if the line is honest to a device, it finds that device, whatever the others do
 abbrev pub FindsEach : Search → Type 0
 FindsEach search = OfEachRun search (λ kind known budget x b. (u : ℕ) → next_of b ≡ None → fault_of b.phase ≡ None →
     IsDevice u → HonestTo u x → has (found_uids b) u ≡ true)

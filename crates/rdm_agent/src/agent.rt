@@ -29,8 +29,8 @@ use std::mem::size_of;
 
 /// One discovery run by E1.20's discovery commands, between an exchange and the next.
 ///
-/// It is a plain value of 41,848 bytes, allocates nothing and keeps no exchanges. Contracts see the state of the
-/// machine that a run is: its budget, how many exchanges it has made, the devices found, and its phase.
+/// It is a plain value of 41,848 bytes, allocates nothing and stores no exchanges. Contracts see it as the state of a
+/// machine: its budget, how many exchanges it has made, the devices found, and its phase.
 #[derive(Debug, Drop)]
 pub struct Agent {
     budget: u64,
@@ -39,7 +39,7 @@ pub struct Agent {
     progress: Progress,
 }
 
-// What the docs say of its size.
+// The size that the docs state.
 const _: () = prove!(size_of::<Agent>() == 41_848);
 
 impl Model for Agent {
@@ -83,8 +83,8 @@ impl Agent {
         }
     }
 
-    /// Begins another run in place of this one, as [`Agent::start_by`] does. It writes no more than what the run before
-    /// used of the agent, and the known UIDs, while a new agent is filled whole.
+    /// Begins another run in place of this one, as [`Agent::start_by`] does. It writes only what the last run used of
+    /// the agent, and the known UIDs. A new agent is filled completely.
     pub fn restart(&mut self, search: Search, kind: Kind, known: &UidSet, budget: u64)
         ensures state { self.new ≡ start_by search kind known.now budget }
         ensures has_run { HasRunBy search kind known.now budget false [] self.new }
@@ -106,7 +106,7 @@ impl Agent {
         ensures failed { AfterEach self.now (λ run. EndsFailed run.exchanges → result ≡ End) }
         ensures aborted { AfterEach self.now (λ run. run.aborted ≡ true → result ≡ End) }
 
-        // On an honest line the run has ended once it made as many exchanges as suffice for the devices.
+        // On an honest line the run has ended once it has made as many exchanges as suffice for the devices.
         ensures in_bound { AfterEach self.now (λ run. (present : List ℕ) → IsUndisturbed present run
             → length run.exchanges ≡ enough_by run.search present run.kind run.known → result ≡ End) }
     {
@@ -117,7 +117,7 @@ impl Agent {
         }
     }
 
-    /// Hears the reply to what it asks next, which the reply must fit ([`OpReply::fits`]).
+    /// Takes the reply to what it asks next, which the reply must fit ([`OpReply::fits`]).
     pub fn hear(&mut self, reply: OpReply)
         requires { fits reply (next_op self.old) ≡ true }
         ensures state { self.new ≡ fed self.old (heard_by reply) }
@@ -173,7 +173,7 @@ impl Agent {
     }
 
     /// The devices found so far, each with the control field and the binding UID of its first acknowledgement in the
-    /// run. It is what [`Agent::end`] gives, without a copy.
+    /// run. These are the devices that [`Agent::end`] returns, without a copy.
     pub fn found(&self) -> &DeviceSet
         ensures value { result.now ≡ self.now.found }
         ensures report { AfterEach self.now (λ run. IsReport run.exchanges result.now) }
@@ -181,8 +181,8 @@ impl Agent {
         &self.progress.found
     }
 
-    /// Why the run, which must have ended (`next` is [`Op::End`]), has no answer; None if it has one. It is what
-    /// [`Agent::end`] gives, without the set.
+    /// Why the run has no answer; None if it has one. The run must have ended (`next` returns [`Op::End`]). This is the
+    /// fault that [`Agent::end`] returns, without the set.
     pub fn fault(&self) -> Option<AgentFault>
         requires { next_op self.now ≡ End }
         ensures value { result ≡ fault_of self.now.phase }
@@ -194,16 +194,16 @@ impl Agent {
         self.phase.fault()
     }
 
-    /// What the run found; it must have ended (`next` is [`Op::End`]). `Ok`: the devices found, with the certificate
-    /// that each other UID was silent. `Err`: why it ended, and the devices found until then; if more were found than
-    /// fit into a set, the first ones. Each device has the control field and the binding UID of its first
+    /// What the run found. It must have ended (`next` returns [`Op::End`]). `Ok`: the devices found, with the
+    /// certificate that each other UID was silent. `Err`: why it ended, and the devices found until then, or the first
+    /// ones if more were found than fit into a set. Each device has the control field and the binding UID of its first
     /// acknowledgement in the run.
     ///
     /// On an honest line the result has no device that was never there, and `Ok` has each one that was always there. It
     /// is `Ok` if at most 1,024 devices stayed, the budget suffices for them, no exchange failed and the run wasn't
     /// aborted.
     ///
-    /// The set is copied: [`Agent::found`] and [`Agent::fault`] give the same without a copy.
+    /// The set is copied. [`Agent::found`] and [`Agent::fault`] return the same without a copy.
     pub fn end(self) -> Result<DeviceSet, (AgentFault, DeviceSet)>
         requires { next_op self ≡ End }
         ensures value { result ≡ run_result (fault_of self.phase) self.found }
@@ -212,8 +212,8 @@ impl Agent {
         ensures caused { AfterEach self (λ run. IfErr result (λ e.
             Cause run.budget (run.aborted ≡ true) e.0 run.exchanges × IsReport run.exchanges e.1)) }
 
-        // On an honest line the devices are found, and nothing else is; a device to which the line is honest is
-        // found whatever others do.
+        // On an honest line the devices are found, and nothing else. A device to which the line is honest is found,
+        // whatever the others do.
         ensures finds_all { AfterEach self (λ run.
             (present : List ℕ) → HonestTrace present run.exchanges → IfOk result (λ s. uids_of s ≡ present)) }
         ensures finds_each { AfterEach self (λ run.
@@ -221,8 +221,8 @@ impl Agent {
         ensures no_phantom { AfterEach self (λ run. (present : List ℕ) (u : ℕ) → HonestTrace present run.exchanges
             → IfErr result (λ e. has (uids_of e.1) u ≡ true → has present u ≡ true)) }
 
-        // On an honest line whose devices come and leave, each that was always present is found, and none that never
-        // was; with a fault too, none that never was.
+        // On an honest line whose devices come and leave, each device that was always present is found. None is found
+        // that was never present, not even with a fault.
         ensures finds_staying { AfterEach self (λ run. (sets : List (List ℕ)) (u : ℕ) →
             HonestOver sets run.exchanges → IsInEach u sets → IfOk result (λ s. has (uids_of s) u ≡ true)) }
         ensures no_stranger { AfterEach self (λ run. (sets : List (List ℕ)) (u : ℕ) →
@@ -234,16 +234,16 @@ impl Agent {
         ensures no_fault { AfterEach self (λ run. (present : List ℕ) →
             IsUndisturbed present run → IsOkAnd result (λ s. uids_of s ≡ present)) }
     {
-        // Each arm makes its own copy: one set that both arms move is split by LLVM into thousands of pieces.
+        // Each arm makes its own copy. If both moved one set, LLVM would split it into thousands of pieces.
         match self.phase.fault() {
             None => Ok(self.progress.found.copied()),
             Some(fault) => Err((fault, self.progress.found.copied())),
         }
     }
 
-    /// How many ranges are still open: 1 from the start, [`MOST_RANGES`] at most. A quick run has those of its sweep
-    /// first, and 1 again where its steady search begins. 0 at the end of the search, after a failure and after an
-    /// abort; if the budget ended during the search, those that it left open.
+    /// How many ranges are still open: 1 from the start, [`MOST_RANGES`] at most. A quick run first has those of its
+    /// sweep, and 1 again when its steady search begins. 0 at the end of the search, after a failure and after an
+    /// abort. If the budget was used up during the search, the ranges that were open then still count.
     pub fn open_ranges(&self) -> usize
         ensures value { result ≡ open_ranges self.now.phase }
         ensures at_most { result ≤ MOST_RANGES }

@@ -10,7 +10,7 @@ pub enum AgentFault {
     /// 1: the branch of this UID alone was answered, but showed no new device.
     #[error("the branch of one UID alone was answered, but showed no new device")]
     Corrupt(Uid),
-    /// 2: more devices than a set has room for.
+    /// 2: more devices were found than fit into a set.
     #[error("more devices were found than a set has room for")]
     TooMany,
     /// 3: the frames that were allowed are used up.

@@ -3,8 +3,8 @@
 /// What a discovery run starts from.
 #[derive(Clone, Copy, Debug, PartialEq, Eq)]
 pub enum Kind {
-    /// From nothing: the whole range of UIDs is searched.
+    /// No known devices: the whole range of UIDs is searched.
     Full,
-    /// From known devices: each of them is muted first, and then the whole range is searched.
+    /// Known devices: each of them is muted first, and then the whole range is searched.
     Incremental,
 }

@@ -1,4 +1,4 @@
-//! Known UIDs, one after another.
+//! The known UIDs that a run mutes, in order.
 ghost use Rattle.std.specs.Prelude.{◌≡◌, ◌∷◌, [], MatchOption};
 ghost use Rattle.rdm_wire.specs.Uid.{IsDeviceSet};
 ghost use Rattle.rdm_agent.specs.Certificate.{known_of};
@@ -7,7 +7,7 @@ use crate::kind::Kind;
 use rdm_wire::{Uid, UidSet};
 use std::marker::Model;
 
-/// The known UIDs that a run hasn't come to yet, in ascending order. Contracts see the list of their numbers.
+/// The known UIDs that a run hasn't muted yet, in ascending order. Contracts see the list of their numbers.
 #[derive(Debug, Drop)]
 pub(crate) struct KnownLeft {
     uids: UidSet,
@@ -40,7 +40,7 @@ impl KnownLeft {
         KnownLeft { uids, taken: 0 }
     }
 
-    /// Becomes what [`KnownLeft::new`] gives. It costs no more than the UIDs that there were, and the known ones.
+    /// Becomes what [`KnownLeft::new`] returns. The cost grows with the number of UIDs that it had, and of known ones.
     pub(crate) fn reset(&mut self, kind: Kind, known: &UidSet)
         ensures value { self.new ≡ known_of kind known.now }
         ensures devices { IsDeviceSet known.now }

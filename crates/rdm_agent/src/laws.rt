@@ -1,5 +1,5 @@
 //! Laws of whole runs, each the contract of a function that does nothing: what a run asks, how it ends, and what it
-//! finds on an honest line. [`OpReply`](crate::OpReply) says what is heard; the definitions are in `specs`.
+//! finds on an honest line. [`OpReply`](crate::OpReply) describes the replies. The definitions are in `specs`.
 ghost use Rattle.std.specs.Prelude.{◌≡◌, ◌≢◌, ◌≤◌, ◌⊎◌, ◌++◌, ℕ, List, [], ◌∷◌, map, length, true, false, replicate};
 ghost use Rattle.std.specs.Prelude.{◌↔◌, ◌+◌, ◌*◌, Option, Some, None};
 ghost use Rattle.rdm_wire.specs.Uid.{has, IsDevice};
@@ -37,8 +37,8 @@ ghost use Rattle.rdm_agent.specs.Certificate.{Certificate, known_of};
 
 /// A run unmutes three times, and then asks for branches and for mutes of devices. It counts its exchanges, and asks
 /// nothing after a failure, nor after exchanges that show a corrupt UID, nor once its budget is used up. It has found
-/// what was acknowledged, and keeps at most [`MOST_RANGES`](crate::MOST_RANGES) ranges open. This holds of either
-/// search, of full and of incremental runs, for every known set and budget, at any moment, and whatever the line
+/// what was acknowledged, and has at most [`MOST_RANGES`](crate::MOST_RANGES) ranges open. This holds for both
+/// searches, for full and incremental runs, for every known set and budget, at any moment, and whatever the line
 /// replies.
 pub fn run_asks_in_order()
     ensures in_order { (search : Search) → AsksInOrder search }
@@ -50,54 +50,54 @@ pub fn run_asks_in_order()
 {}
 
 /// A run that ends without fault has its certificate: each of the 2^48 UIDs is acknowledged, or lies in a range that
-/// was branched five times in a row and silent each time. One with a fault shows that fault's cause. Either
-/// reports the acknowledged UIDs (if there is one too many for a set, as many as fit), whatever the line replies.
+/// was branched five times in a row and silent each time. A run with a fault shows that fault's cause. Both report the
+/// acknowledged UIDs, or as many as fit into a set. This holds whatever the line replies.
 pub fn run_has_certificate()
     ensures { (search : Search) → EndsCertified search }
 {}
 
-/// A run has a certificate, of whatever set, only once it has ended without fault. So no fault is ever reported for a
-/// run whose exchanges show all: not because the frames ran out at the very end, and not because of an abort.
+/// A run has a certificate, of any set, only once it has ended without fault. So a run whose exchanges show everything
+/// never has a fault, even if its budget is used up at the very end, or if it is aborted then.
 pub fn certificate_is_the_end()
     ensures { (search : Search) → CertificateIsTheEnd search }
 {}
 
-/// On an honest line a run that ends without fault finds exactly the devices, whatever bytes colliding replies make.
-/// If a line is honest to one device, that device is found, whatever others do.
+/// On an honest line a run that ends without fault finds exactly the devices, whatever bytes result from collisions.
+/// If a line is honest to one device, that device is found, whatever the others do.
 pub fn honest_run_finds_all()
     ensures all { (search : Search) → FindsAll search }
     ensures each { (search : Search) → FindsEach search }
 {}
 
 /// On an honest line whose devices come and leave, a run that ends without fault finds each device that was present at
-/// every exchange; and no run finds one that was present at none, not when it has ended with a fault and not before.
-/// That a device which came during the run is found isn't promised.
+/// every exchange. No run finds one that was present at none, whether it has ended or not, and whatever its fault. We
+/// don't promise that it finds a device that came during the run.
 pub fn changing_devices()
     ensures staying { (search : Search) → FindsStaying search }
     ensures no_stranger { (search : Search) → FindsNoStranger search }
 {}
 
-/// On an honest line no UID is found that isn't a device's: not when a run has ended with a fault, and not before.
+/// On an honest line only devices are found, whether a run has ended or not, and whatever its fault.
 pub fn no_phantom()
     ensures { (search : Search) → FindsNoPhantom search }
 {}
 
 /// The bound: a run makes at most `8 + 370 n + 5 k` exchanges, where `n` devices are on the line and `k` UIDs are known
-/// (0 in a full run). Once it made as many it has ended, and at its end it has no fault, whatever bytes colliding
-/// replies make. The premises:
+/// (0 in a full run). Once it has made as many it has ended. At its end it has no fault, whatever bytes result from
+/// collisions. The premises:
 /// - the line is honest, and has at most 1,024 devices;
 /// - no exchange failed;
 /// - the run's budget is no less than the bound.
 ///
-/// Of a quick search the same holds with `213 + 370 n + 5 k` exchanges.
+/// For a quick search the same holds with `213 + 370 n + 5 k` exchanges.
 pub fn honest_run_ends()
     ensures steady { EndsInBound }
     ensures quick { EndsInBoundBy Quick }
 {}
 
-/// The budget by default suffices for each such run of the steady search, with up to 1,024 devices and as many known
-/// UIDs. For a quick one it suffices exactly if `370 n + 5 k` is at most 383,795. So it does for up to 1,023 devices
-/// and 1,024 known UIDs, and for 1,024 devices and 983 known UIDs.
+/// The default budget suffices for each such run of the steady search, with up to 1,024 devices and as many known UIDs.
+/// For a quick one it suffices exactly if `370 n + 5 k` is at most 383,795: for instance for 1,023 devices and 1,024
+/// known UIDs, and for 1,024 devices and 983 known UIDs.
 pub fn default_budget_suffices()
     ensures most { (present known : List ℕ) (kind : Kind) →
         length present ≤ 1024 → length known ≤ 1024 → enough_for present kind known ≤ DEFAULT_BUDGET }
@@ -109,11 +109,11 @@ pub fn default_budget_suffices()
         → enough_by Quick present kind known ≤ DEFAULT_BUDGET }
 {}
 
-/// The same of a list of exchanges, whoever asked. On an honest line a certificate's set is that of the devices, and
-/// no phantom is acknowledged. Where devices come and leave, a certificate's set has each that was always present, and
+/// The same for any list of exchanges, whoever asked. On an honest line a certificate's set is that of the devices, and
+/// only devices are acknowledged. If devices come and leave, a certificate's set has each that was always present, and
 /// only devices that were present at some exchange are acknowledged.
 pub fn honest_certificate()
-    // A device to which the line was honest is found, whatever others do.
+    // A device to which the line was honest is found, whatever the others do.
     ensures found { (kind : Kind) (known : List ℕ) (x : List Seen) (s : List Device) (u : ℕ) →
         IsDevice u → Certificate kind known x s → HonestTo u x → has (uids_of s) u ≡ true }
     ensures devices { (kind : Kind) (known : List ℕ) (x : List Seen) (s : List Device) (present : List ℕ) →
@@ -126,7 +126,7 @@ pub fn honest_certificate()
         FailureIsLast x → HonestOver sets x → has (acked_in x) u ≡ true → IsInOne u sets }
 {}
 
-/// Whole runs: an empty line; a line that answers each branch by a byte; budgets of 8, 7 and 0.
+/// Whole runs: on an empty line, on a line that answers each branch with one byte, and with budgets of 8, 7 and 0.
 pub fn worked_runs()
     ensures empty { fed_all (start Full [] DEFAULT_BUDGET) (replicate 8 Silent)
         ≡ record { budget = DEFAULT_BUDGET; frames = 8; search = Steady; found = []; phase = Ended None } }
@@ -147,8 +147,7 @@ pub fn worked_runs()
         (fed_all (start Full [] DEFAULT_BUDGET) (replicate 3 Silent ++ replicate 48 Noise)).phase ≡ 49 }
 {}
 
-/// Ten exchanges with one device are an honest line's and have the certificate of its set, and a run makes them and
-/// ends.
+/// Ten exchanges with one device, on an honest line. They have the certificate of its set. A run makes them and ends.
 pub fn honest_run()
     ensures honest { HonestTrace (sample_uid ∷ []) sample_run }
     ensures certified { Certificate Full [] sample_run (sample_device ∷ []) }
@@ -176,8 +175,8 @@ pub fn incremental_sample()
     }) }
 {}
 
-/// The ten exchanges of [`honest_run`] are such a run's: the bound speaks of runs that there are. With one device it is
-/// 378 exchanges, and with 1,024 devices 378,888.
+/// The ten exchanges of [`honest_run`] are those of such a run, so the law on the bound isn't empty. The bound is 378
+/// exchanges with one device, and 378,888 with 1,024 devices.
 pub fn undisturbed_run()
     ensures undisturbed { IsUndisturbed (sample_uid ∷ [])
         (record { search = Steady; kind = Full; known = []; budget = 378; aborted = false; exchanges = sample_run }) }
@@ -227,8 +226,8 @@ pub fn honest_lines()
 {}
 
 /// Quick searches. The first silence of an empty line is one of the five. The line of [`honest_run`] takes ten
-/// exchanges, as ever. Two devices that collide take 13, where the steady search takes 18. A line that answers each
-/// branch by a byte is corrupt, at the first UID that is branched alone.
+/// exchanges, as with the steady search. Two devices that collide take 13, and 18 with the steady search. A line that
+/// answers each branch with one byte is corrupt, at the first UID that is branched alone.
 pub fn quick_runs()
     ensures empty { fed_all (start_by Quick Full [] DEFAULT_BUDGET) (replicate 8 Silent)
         ≡ record { budget = DEFAULT_BUDGET; frames = 8; search = Quick; found = []; phase = Ended None } }
@@ -251,7 +250,7 @@ pub fn quick_runs()
         ≡ Ended (Some (AgentFault.Corrupt 1)) }
 {}
 
-/// The numbers of the profile.
+/// The constants of the profile.
 pub fn limits_are()
     ensures unmutes { UNMUTES ≡ 3 }
     ensures tries { TRIES ≡ 5 }
@@ -259,9 +258,9 @@ pub fn limits_are()
     ensures budget { DEFAULT_BUDGET ≡ 384008 }
 {}
 
-/// The frame of an operation asks what the operation asks. An agent that hears what a frame and its answer show goes
-/// on, and its run has made that exchange; so what holds of runs holds of the frames and bytes of a log. By
-/// [`Op::read_reply`](crate::Op::read_reply) the agent hears the same.
+/// The frame of an operation asks what the operation asks. If an agent takes what was heard after that frame, its run
+/// has made that exchange. So what holds for runs holds for the frames and bytes of a log. With
+/// [`Op::read_reply`](crate::Op::read_reply) the agent takes the same.
 pub fn frames_carry_operations()
     ensures asked { (op : Op) (s tn : ℕ) → op ≢ End → IsSendable op s tn → asked_in (op_frame op s tn) ≡ asked_by op }
     ensures goes_on { (a : AgentState) (s tn : ℕ) (answer : Option (List ℕ)) →

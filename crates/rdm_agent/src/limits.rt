@@ -4,7 +4,7 @@ use rdm_wire::MOST_DEVICES;
 /// How many unmutes begin a run: the first ones may be lost.
 pub const UNMUTES: u8 = 3;
 
-/// How often in a row a range is branched before its silence counts. As often a UID is muted before it counts as
+/// How often in a row a range is branched before its silence counts, and how often a UID is muted before it counts as
 /// absent.
 pub const TRIES: u8 = 5;
 
@@ -12,10 +12,10 @@ pub const TRIES: u8 = 5;
 /// ranges of E1.20's discovery unique branch.
 pub const MOST_RANGES: usize = 49;
 
-/// A sweep makes a branch only while it made fewer exchanges than this for each device found, and twice as many more.
+/// A sweep goes on while it has made fewer exchanges than this for each device found, and twice as many more.
 pub(crate) const SWEEP_FRAMES: usize = 100;
 
-// What a device adds: 24 splits of ten exchanges, 24 last ranges of five, and ten of its own.
+// What a device adds to the bound: 24 splits of ten exchanges, 24 last ranges of five, and ten of its own.
 const FRAMES_PER_DEVICE: u64 = 370;
 
 /// The exchanges that suffice for [`MOST_DEVICES`] devices and as many known UIDs: 384,008.

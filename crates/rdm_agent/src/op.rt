@@ -35,15 +35,16 @@ pub enum OpReply {
     Done,
     /// The acknowledgement of a mute, if one came.
     Mute(Option<MuteAck>),
-    /// What the bytes after a branch say.
+    /// What the bytes after a branch mean.
     Branch(BranchReply),
     /// The line failed.
     Failed,
 }
 
 impl Op {
-    /// The packet that asks it of the line, from the controller `source`, with the transaction number `tn`. A mute must
-    /// be of a device, as [`Agent::next`](crate::Agent::next)'s is, and [`Op::End`] has no packet.
+    /// The operation's packet, from the controller `source`, with the transaction number `tn`. [`Op::End`] has none. A
+    /// mute must be of a device, whose UID isn't broadcast ([`Uid::is_broadcast`]). Those of
+    /// [`Agent::next`](crate::Agent::next) are.
     pub fn frame(&self, source: Uid, tn: u8) -> Frame
         requires goes_on { self.now ≢ Op.End }
         requires device { (u : ℕ) → self.now ≡ Op.Mute u → IsDevice u }
@@ -59,8 +60,8 @@ impl Op {
         }
     }
 
-    /// The reply that came after its packet of this source and transaction number: what the bytes of `answer` say, and
-    /// [`OpReply::Failed`] for `None`, if the line failed. [`Op::End`] has no reply.
+    /// What the bytes in `answer` mean, which came after its packet with this source and transaction number. `None`:
+    /// the line failed, and the result is [`OpReply::Failed`]. [`Op::End`] has no reply.
     pub fn read_reply(&self, source: Uid, tn: u8, answer: Option<&[u8]>) -> OpReply
         requires goes_on { self.now ≢ Op.End }
         ensures fits { fits result self.now ≡ true }
@@ -69,8 +70,8 @@ impl Op {
             heard_by result ≡ heard_in (op_frame self.now source tn) (option_copied answer.entry) }
         ensures acked { (ack : MuteAck) → (result ≡ OpReply.Mute (Some ack))
             ↔ (heard_in (op_frame self.now source tn) (option_copied answer.entry) ≡ Acked ack) }
-        // An agent goes on by the reply as by the bytes: after a mute, bytes that acknowledge nothing are as silence
-        // to it, and after an unmute any bytes are.
+        // An agent continues in the same way with the reply as with the bytes. After a mute, bytes that acknowledge
+        // nothing mean the same to it as silence, and so do any bytes after an unmute.
         ensures fed { (a : AgentState) → next_op a ≡ self.now → fed a (heard_by result)
             ≡ fed a (heard_in (op_frame self.now source tn) (option_copied answer.entry)) }
     {
@@ -80,7 +81,7 @@ impl Op {
         }
     }
 
-    // The reply that these bytes are.
+    // The reply that these bytes mean.
     fn read_bytes(&self, source: Uid, tn: u8, bytes: &[u8]) -> OpReply
         requires goes_on { self.now ≢ Op.End }
         ensures fits { fits result self.now ≡ true }
@@ -101,7 +102,7 @@ impl Op {
         }
     }
 
-    // For the proof alone: its packet can be sent, since a UID's number is below 2^48.
+    // Only for the proof: each number fits its field, since a UID's number is below 2^48.
     fn show_sendable(&self, source: Uid, tn: u8)
         ensures { IsSendable self.now source tn }
     {
@@ -119,7 +120,7 @@ impl Op {
 }
 
 impl OpReply {
-    /// Whether it may answer this operation; [`OpReply::Failed`] may answer all but [`Op::End`], which nothing does.
+    /// Whether it may answer this operation. [`OpReply::Failed`] may answer each but [`Op::End`], which has no reply.
     pub fn fits(&self, op: &Op) -> bool
         ensures { result ≡ fits self.now op.now }
     {

@@ -1,4 +1,4 @@
-//! Where a run stands.
+//! The phase of a run.
 ghost use Rattle.std.specs.Prelude.{◌≡◌, ℕ, List};
 ghost use Rattle.rdm_wire.specs.Span.{Span};
 ghost use Rattle.rdm_agent.specs.Machine.{wanted, fault_of};
@@ -9,7 +9,7 @@ use crate::op::Op;
 use crate::sweep::{Sweep, lower_pair};
 use rdm_wire::{Uid, UidRange};
 
-/// Where a run stands. Contracts see it together with the known UIDs that are left and the ranges below the top one.
+/// The phase of a run. Contracts see it together with the known UIDs that are left and the ranges below the top one.
 #[derive(Clone, Copy, Debug, PartialEq, Eq)]
 pub(crate) enum Phase {
     /// This many unmutes are still to be sent, this one among them.
@@ -58,7 +58,7 @@ pub(crate) enum Phase {
         /// What the sweep remembers.
         sweep: Sweep,
     },
-    /// A range of one UID collided in a sweep with the UID below it, and it is asked whether that one replied.
+    /// In a sweep a range of one UID collided with the UID below it. A branch shows whether that one replied.
     Doubting {
         /// The range.
         top: UidRange,
@@ -88,7 +88,7 @@ impl Phase {
         }
     }
 
-    /// The fault of a run that asks nothing more in it: where it hasn't ended, its frames are used up.
+    /// The fault of a run that asks nothing more in this phase. If it hasn't ended, its budget is used up.
     pub(crate) fn fault(self) -> Option<AgentFault>
         ensures { (known : List ℕ) (below : List Span) → result ≡ fault_of (phase_of self known below) }
     {

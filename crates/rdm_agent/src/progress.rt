@@ -29,21 +29,21 @@ use crate::search::Search;
 use crate::sweep::{Sweep, lower_pair};
 use rdm_wire::{BranchReply, Device, DeviceSet, MuteAck, SetFull, Uid, UidRange, UidSet};
 
-/// What a run has found, and what it hasn't looked at yet.
+/// What a run has found, and what it still has to search.
 #[derive(Debug, Drop)]
 pub(crate) struct Progress {
     /// How the run searches.
     pub(crate) search: Search,
     /// The known UIDs that weren't muted yet.
     pub(crate) known: KnownLeft,
-    /// The devices whose mute was acknowledged, each as its first acknowledgement says it.
+    /// The devices whose mute was acknowledged, each with the data of its first acknowledgement.
     pub(crate) found: DeviceSet,
     /// The open ranges but the top one.
     pub(crate) below: RangesBelow,
 }
 
 impl Progress {
-    /// Finds nothing yet, and comes to the known UIDs of a run of this kind, as at its start.
+    /// Becomes that of a run of this kind at its start: nothing is found, and the known UIDs are still to be muted.
     pub(crate) fn reset(&mut self, search: Search, kind: Kind, known: &UidSet)
         ensures search { self.new.search ≡ search }
         ensures known { self.new.known ≡ known_of kind known.now }
@@ -115,7 +115,7 @@ impl Progress {
         }
     }
 
-    // The next known UID is muted; where none is left the search begins.
+    // The next known UID is muted. If none is left, the search begins.
     fn next_known(&mut self) -> Phase
         requires devices { AllByRecursion IsDevice self.old.known }
         requires fresh { self.old.below ≡ [] }
@@ -207,7 +207,7 @@ impl Progress {
         }
     }
 
-    // A device is found, and the run goes on; where there is no room for it the run ends.
+    // A device is found, and the run goes on. If the set is full, the run ends.
     fn find(&mut self, device: Device, onward: Phase) -> Phase
         requires { is_broadcast device.uid ≡ false }
         ensures state { Steps (λ a. to_found a device (seen_phase onward self.old)) onward self.old result self.new }
@@ -221,7 +221,7 @@ impl Progress {
         }
     }
 
-    // The range below the top one is searched; where there is none the run ends.
+    // The range below the top one is searched. If there is none, the run ends.
     fn next_range(&mut self) -> Phase
         requires { (top : Span) × IsStack top self.old.below }
         ensures phase { seen_phase result self.new ≡ search_below self.old.below }
@@ -236,7 +236,7 @@ impl Progress {
         }
     }
 
-    // The halves of the top range are searched, the lower one first; of one UID there are none.
+    // The halves of the top range are searched, the lower one first. A range of one UID has none.
     fn split(&mut self, top: UidRange) -> Phase
         requires { IsStack top self.old.below }
         ensures phase { seen_phase result self.new ≡ split top self.old.below }
@@ -282,7 +282,7 @@ impl Progress {
         }
     }
 
-    // After a branch of the two UIDs below a sweep's top range, which is of one UID and collided with the one below it.
+    // After a branch of the two UIDs below a sweep's top range. That is of one UID, and collided with the one below it.
     fn doubted(&mut self, top: UidRange, sweep: Sweep, reply: BranchReply) -> Phase
         requires made { sweep.made < 2 ^ 20 }
         requires some { 1 < top.lo }
@@ -338,7 +338,7 @@ impl Progress {
         }
     }
 
-    // A sweep goes on with this range, where this many devices are found; at its limit the steady search begins.
+    // A sweep that has found this many devices goes on with this range. At its limit the steady search begins.
     fn sweep_to(&mut self, sweep: Sweep, found: usize, top: UidRange) -> Phase
         requires found { found ≤ 1025 }
         requires ranges { IsStack top self.old.below }
@@ -355,7 +355,7 @@ impl Progress {
         searching_all(0)
     }
 
-    // A sweep's top range is taken off; where none is below it the steady search begins.
+    // A sweep's top range is removed. If there is none below it, the steady search begins.
     fn sweep_below(&mut self, sweep: Sweep, found: usize) -> Phase
         requires found { found ≤ 1025 }
         requires ranges { (top : Span) × IsStack top self.old.below }
@@ -391,8 +391,8 @@ impl Progress {
         }
     }
 
-    // The halves of a range of several UIDs are swept, the lower one first; UID 0, below which there is none, is given
-    // up.
+    // The halves of a range of several UIDs are swept, the lower one first. UID 0 is given up, since no UID is below
+    // it.
     fn sweep_halves(&mut self, sweep: Sweep, found: usize, range: UidRange) -> Phase
         requires found { found ≤ 1025 }
         requires several { is_one range ≡ false }
@@ -443,7 +443,7 @@ impl Progress {
         }
     }
 
-    // A sweep's top range collided, as it was asked. One UID that was asked alone is corrupt.
+    // The range that was asked for a sweep's top range collided. One UID that was asked alone is corrupt.
     fn sweep_apart(&mut self, asked: UidRange, sweep: Sweep, found: usize, top: UidRange) -> Phase
         requires found { found ≤ 1025 }
         requires ranges { IsStack top self.old.below }
@@ -478,7 +478,7 @@ impl Progress {
     }
 }
 
-// The whole range is searched, and was silent this many times.
+// The search of the whole range, which was silent this many times.
 fn searching_all(silences: u8) -> Phase
     requires { silences < TRIES }
     ensures phase { (known : List ℕ) → phase_of result known [] ≡ searching silences whole [] }
@@ -490,7 +490,7 @@ fn searching_all(silences: u8) -> Phase
     }
 }
 
-// Whether a range is the upper half to this lower one, and has halves itself.
+// Whether a range may be the upper half of a range with this lower half, and has halves itself.
 fn is_sibling(lower: UidRange, upper: UidRange) -> bool
     requires lower { lower.lo ≤ lower.hi }
     requires upper { upper.lo ≤ upper.hi }
@@ -500,7 +500,7 @@ fn is_sibling(lower: UidRange, upper: UidRange) -> bool
     size == lower.hi.number() - lower.lo.number() && upper.lo != upper.hi
 }
 
-// The device with what it said in the acknowledgement of its mute.
+// The device with the data of the acknowledgement of its mute.
 fn device_from(uid: Uid, ack: MuteAck) -> Device
     ensures { result ≡ device_from uid ack }
 {

@@ -1,4 +1,4 @@
-//! The ranges that wait below the one that is searched.
+//! The ranges that are searched after the top one.
 ghost use Rattle.std.specs.Prelude.{◌≡◌, ◌∷◌, ◌<◌, ◌≤◌, [], length, MatchOption};
 
 use crate::limits::MOST_RANGES;
@@ -6,7 +6,7 @@ use arrayvec::ArrayVec;
 use rdm_wire::UidRange;
 use std::marker::Model;
 
-/// The most of them: all open ranges but the top one.
+/// How many there are at most: all open ranges but the top one.
 pub(crate) const MOST_BELOW: usize = MOST_RANGES - 1;
 
 /// The ranges below the top one. Contracts see their list, the next one first.

@@ -8,14 +8,14 @@ use rdm_wire::{Uid, UidRange};
 /// What a sweep remembers from exchange to exchange.
 #[derive(Clone, Copy, Debug, PartialEq, Eq)]
 pub(crate) struct Sweep {
-    /// How many exchanges it made.
+    /// How many exchanges it has made.
     pub(crate) made: usize,
-    /// The UID that it gave up last: it was muted in vain, or a range of its own collided.
+    /// The UID that it gave up last: its mutes weren't acknowledged, or the range of it alone collided.
     pub(crate) suspect: Option<Uid>,
 }
 
 impl Sweep {
-    /// At its begin.
+    /// A sweep at its start.
     pub(crate) fn new() -> Sweep
         ensures { sweep_of result ≡ first_sweep }
     {
@@ -25,7 +25,7 @@ impl Sweep {
         }
     }
 
-    /// After one exchange more.
+    /// The sweep after one more exchange.
     pub(crate) fn counted(&self) -> Sweep
         requires { self.now.made < 2 ^ 32 }
         ensures { sweep_of result ≡ counted (sweep_of self.now) }
@@ -36,7 +36,7 @@ impl Sweep {
         }
     }
 
-    /// Where it gives up this UID.
+    /// The sweep after it gives up this UID.
     pub(crate) fn suspecting(&self, uid: Uid) -> Sweep
         ensures { sweep_of result ≡ suspecting uid (sweep_of self.now) }
     {
@@ -46,8 +46,8 @@ impl Sweep {
         }
     }
 
-    /// The range that it branches for its top one. One UID is branched together with the UID below it: a bad answer is
-    /// then no fault of the run, and that UID was swept before. It is branched alone where that one was just given up.
+    /// The range that it branches for its top one. One UID is branched together with the UID below it, which was swept
+    /// before. So a bad answer isn't a fault of the run. It is branched alone if that one was just given up.
     pub(crate) fn probe(&self, top: UidRange) -> UidRange
         ensures asked { result ≡ probe self.now.suspect top }
     {
@@ -59,7 +59,7 @@ impl Sweep {
     }
 }
 
-/// The two UIDs below a range; from UID 0 on where there are fewer.
+/// The two UIDs below a range, or those from UID 0 on if there are fewer.
 pub(crate) fn lower_pair(top: UidRange) -> UidRange
     ensures { result ≡ lower_pair top }
 {

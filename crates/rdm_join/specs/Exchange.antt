@@ -11,6 +11,6 @@ abbrev pub bytes_heard : LineEvent → Option (List ℕ)
 bytes_heard Failed = None
 bytes_heard (Reply bytes) = Some bytes.items
 
--- a frame and its event, as seen
+-- the exchange of a frame and its event: what was asked, and what was heard
 abbrev pub seen_event : ArrayVec ℕ × LineEvent → Seen
 seen_event e = seen_exchange e.0.items (bytes_heard e.1)

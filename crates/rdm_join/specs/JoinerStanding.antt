@@ -1,4 +1,4 @@
--- What a joiner stands for.
+-- What contracts see of a joiner.
 use Rattle.std.specs.Prelude.{ℕ, List, Option, Some, None}
 use Rattle.rdm_join.specs.declared.joiner.ReplyHead.{ReplyHead}
 use Rattle.rdm_join.specs.declared.joiner.Stage.{Stage}
@@ -22,7 +22,7 @@ IsOpenStage (Ended head) = ⊥
 abbrev pub IsOpen : JoinerStanding → Type 0
 IsOpen s = IsOpenStage s.stage
 
--- what the result so far asks of the caller
+-- what the result so far means for the caller: to send the request again, or that it has ended
 abbrev pub step_of : Option Joined → Step
 step_of None = More
 step_of (Some j) = Done j.status

@@ -9,7 +9,7 @@ use Rattle.rdm_join.specs.declared.status.Status.{Status}
 use Rattle.rdm_join.specs.declared.status.Status.TheVariants.{Completed, InvalidResponse}
 use Rattle.rdm_join.specs.declared.joiner.ReplyHead.{ReplyHead}
 
--- a status; with status Completed the joined data and the last reply's head, else neither
+-- a status. With status Completed it has the joined data and the last reply's head, and otherwise neither
 pub record Joined : Type 0 where
   pub status : Status
   pub data_ : List ℕ
@@ -29,19 +29,19 @@ joined_data vs = flat_map data_of vs
 abbrev pub head_of : Response → ReplyHead
 head_of r = record { ack = r.ack; class = r.class; pid = r.pid; sub_device = r.sub_device }
 
--- one has another class, PID or sub-device than the other
+-- whether the two differ in class, PID or sub-device
 abbrev pub differs : ReplyHead → ReplyHead → Bool
 differs p r =
     not (code_of_class p.class == code_of_class r.class) || not (p.pid == r.pid) || not (p.sub_device == r.sub_device)
 
--- r has another class, PID or sub-device than the first of the list
+-- whether r differs from the first of the list in class, PID or sub-device
 abbrev pub differs_from_first : List Judged → Response → Bool
 differs_from_first [] r = false
 differs_from_first (Whole p ∷ vs) r = differs (head_of p) (head_of r)
 differs_from_first (Part p ∷ vs) r = differs (head_of p) (head_of r)
 differs_from_first (Ended s ∷ vs) r = false
 
--- the data up to here is too long: an answer has 65,535 bytes at most
+-- whether the data up to here is too long: an answer has at most 65,535 bytes
 abbrev pub is_too_long : List Judged → Response → Bool
 is_too_long before r = nat_lt 65535 (length (joined_data before) + length r.param.items)
 
@@ -49,7 +49,7 @@ is_too_long before r = nat_lt 65535 (length (joined_data before) + length r.para
 abbrev pub ended : Status → Joined
 ended s = record { status = s; data_ = []; head = None }
 
--- what a verdict decides after those before it, if anything. A part in the 512th place ends the request
+-- what a verdict decides after those before it, if anything. A part that is the 512th reply ends the request
 abbrev pub decides : List Judged → Judged → Option Joined
 decides before (Ended s) = Some (ended s)
 decides before (Whole r) =
@@ -71,13 +71,13 @@ decides_option before (Some v) = decides before v
 abbrev pub decides_at : List Judged → ℕ → Option Joined
 decides_at vs i = decides_option (take i vs) (slice_get vs i)
 
--- j is the result: what the first position that decides something decides
+-- j is the result: that of the first position that decides anything
 pub record IsResult (vs : List Judged) (j : Joined) : Type 0 where
   pub at : ℕ
   pub here : decides_at vs at ≡ Some j
   pub earlier : (i : ℕ) → i < at → decides_at vs i ≡ None
 
--- the first, or if it is open the second
+-- the first, or the second if the first is still open
 abbrev pub or_if_open : Option Joined → Option Joined → Option Joined
 or_if_open (Some j) later = Some j
 or_if_open None later = later
@@ -87,6 +87,6 @@ abbrev pub result_after : List Judged → List Judged → Option Joined
 result_after before [] = None
 result_after before (v ∷ vs) = or_if_open (decides before v) (result_after (before ++ v ∷ []) vs)
 
--- the result as a function: None is open
+-- the result as a function; None if the request is still open
 abbrev pub result_of : List Judged → Option Joined
 result_of vs = result_after [] vs

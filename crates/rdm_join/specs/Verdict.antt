@@ -1,4 +1,4 @@
--- The status of one event: of the tests below, in this order, the first that holds decides.
+-- The verdict on one event. The first of the tests below that holds decides, in this order.
 use Rattle.std.specs.Prelude.{ℕ, Bool, false, ◌&&◌, ◌||◌, not, List, [], ◌∷◌, Result, Ok, Err, ◌==◌, if◌then◌else◌}
 use Rattle.rdm_wire.specs.Uid.{is_broadcast}
 use Rattle.rdm_wire.specs.Responses.{decoded, code_of_class}
@@ -23,11 +23,11 @@ use Rattle.rdm_join.specs.declared.status.Status.TheVariants as status
 abbrev pub queued_message : ℕ
 queued_message = 0x0020
 
--- the sub-device that addresses all of them
+-- the number that addresses all sub-devices
 abbrev pub all_sub_devices : ℕ
 all_sub_devices = 0xffff
 
--- the class answers the request: a GET of a queued message may be answered as a GET or as a SET
+-- whether the class answers the request: a GET of a queued message may be answered as a GET or as a SET
 abbrev pub answers_class : Sent → RespClass → Bool
 answers_class sent responses.Discovery = false
 answers_class sent responses.Get = (code_of_request_class sent.class == 0x20)
@@ -71,7 +71,7 @@ verdict sent Failed = Ended status.FailedToSend
 verdict sent (Reply bytes) =
     if is_broadcast sent.target then Ended status.WasBroadcast else verdict_of_bytes sent bytes.items
 
--- what a request's frame says was sent
+-- the part of a request's frame by which its reply is judged
 abbrev pub sent_by : List ℕ → Sent
 sent_by frame = record {
   target = (fields_at frame).dest;

@@ -4,20 +4,20 @@ ghost use Rattle.std.specs.Prelude.{◌≡◌};
 use arrayvec::ArrayVec;
 use rdm_wire::MOST_FRAME_BYTES;
 
-/// The bytes that came after a frame; none is silence. 257 at most.
+/// The bytes that came after a frame: at most 257. No bytes are silence.
 pub type LineReply = ArrayVec<u8, MOST_FRAME_BYTES>;
 
 /// What the line answered to a frame.
 #[derive(Debug, Drop)]
 pub enum LineEvent {
-    /// These bytes came; none is silence.
+    /// These bytes came. No bytes are silence.
     Reply(LineReply),
-    /// The line failed, and what the devices saw isn't known.
+    /// The line failed, so it isn't known what the devices received.
     Failed,
 }
 
 impl LineEvent {
-    /// The same event again. It copies no more than the bytes that came.
+    /// A copy of the event. It copies only the bytes that came.
     pub fn copied(&self) -> LineEvent
         ensures { result ≡ self.now }
     {

@@ -17,10 +17,10 @@ use std::mem::size_of;
 /// The most bytes of an answer, all its parts together: 65,535.
 pub const MOST_JOINED_BYTES: usize = 65_535;
 
-/// The most replies that an answer comes in: 512. If the last of them is a part, it ends the request.
+/// The most replies that an answer may have: 512. If the last of them is a part, it ends the request.
 pub const MOST_PARTS: usize = 512;
 
-/// What the last reply of a completed request says beside its data (E1.20, response packet).
+/// The fields that a completed request reports of its last reply, beside the data (E1.20, response packet).
 #[derive(Clone, Copy, Debug, PartialEq, Eq)]
 pub struct ReplyHead {
     /// How the device responded.
@@ -34,7 +34,7 @@ pub struct ReplyHead {
 }
 
 impl ReplyHead {
-    // Whether it answers the same: its class, PID and sub-device are those of `other`.
+    // Whether its class, PID and sub-device are those of `other`.
     fn goes_with(self, other: ReplyHead) -> bool
         ensures { result ≡ not (differs self other) }
     {
@@ -53,7 +53,7 @@ fn head_of(response: &Response) -> ReplyHead
     }
 }
 
-/// What a verdict makes of the request.
+/// What follows from a verdict for the request.
 #[derive(Clone, Copy, Debug, PartialEq, Eq)]
 pub enum Step {
     /// A part was joined: the same request is to be sent again, for the rest.
@@ -74,7 +74,7 @@ enum Stage {
 }
 
 impl Stage {
-    // The stage after one more part, if it goes with the first and isn't the last one that there may be.
+    // The stage after one more part, if it joins with the first and isn't the last reply that is allowed.
     fn with_part(self, head: ReplyHead) -> Option<Stage>
         ensures { result ≡ stage_with_part self head }
     {
@@ -93,7 +93,7 @@ impl Stage {
         }
     }
 
-    // Whether a reply that has all, or the rest, of the answer ends the request well.
+    // Whether a reply with all, or the rest, of the answer completes the request.
     fn takes_whole(self, head: ReplyHead) -> bool
         ensures { result ≡ takes_whole self head }
     {
@@ -106,15 +106,15 @@ impl Stage {
 }
 
 /// Joins the replies to one request: the same request is sent until a reply has all, or the rest, of the answer
-/// (E1.20, ACK_OVERFLOW). Contracts see how far the request is, and its data: after any list of verdicts these are
-/// those of the verdicts' result, and if there is none yet, of their parts (`StandsAt`).
+/// (E1.20, ACK_OVERFLOW). Contracts see the stage of the request, and its data. After any list of verdicts these are
+/// those of the verdicts' result, or of their parts if there is no result yet (`StandsAt`).
 #[derive(Debug, Drop)]
 pub struct Joiner {
     stage: Stage,
     joined: ArrayVec<u8, MOST_JOINED_BYTES>,
 }
 
-// What the docs say of its size.
+// The size that the docs state.
 const _: () = prove!(size_of::<Joiner>() == 65_560);
 
 impl Model for Joiner {
@@ -126,8 +126,8 @@ impl Model for Joiner {
 }
 
 impl Joiner {
-    /// A joiner to which no verdict was given. It allocates nothing. It is 64 KB large and fills all of them, so it
-    /// is best made once and reset for each request.
+    /// A joiner that was given no verdict yet. It allocates nothing. It has 64 KB, and this call fills all of them. So
+    /// make it once, and reset it for each request.
     pub fn new() -> Joiner
         ensures is_open { IsOpen result }
         ensures stands { StandsAt [] result }
@@ -138,7 +138,7 @@ impl Joiner {
         }
     }
 
-    /// Forgets all verdicts, for another request. It costs no more than the data that there were.
+    /// Forgets all verdicts, for another request. The cost grows with the data that it had.
     pub fn reset(&mut self)
         ensures is_open { IsOpen self.new }
         ensures stands { StandsAt [] self.new }
@@ -157,7 +157,8 @@ impl Joiner {
         }
     }
 
-    /// Gives it the verdict on the next reply. The request must be open: no call before may have answered `Done`.
+    /// Adds the verdict on the next reply. The request must be open ([`Joiner::is_open`]): no earlier call has returned
+    /// `Done`.
     ///
     /// A reply joins with the parts before it if all of these hold. Otherwise the request ends as an invalid response.
     ///
@@ -228,8 +229,8 @@ impl Joiner {
     }
 
     /// A copy of the data: of the parts so far, or of the whole answer if the request is completed. If it has ended
-    /// otherwise there are none. It is the only call that allocates: an `Err` says that memory ran out. A copy of no
-    /// data takes no memory, and can't fail.
+    /// with another status, there are none. This is the only call that allocates. `Err`: there was no memory. A copy of
+    /// no data needs no memory, and can't fail.
     pub fn take_data(&self, alloc: Global) -> Result<Vec<u8>, AllocError>
         ensures ok { IfOk result (λ v. v.items ≡ self.now.data_) }
         ensures err { OnErr result (0 < length self.now.data_) }

@@ -13,15 +13,15 @@ use crate::event::LineEvent;
 use crate::joiner::{MOST_JOINED_BYTES, MOST_PARTS};
 use crate::verdict::ALL_SUB_DEVICES;
 
-/// The numbers of this crate that others build on.
+/// The constants of this crate that other crates depend on.
 pub fn limits_are()
     ensures joined { MOST_JOINED_BYTES ≡ 65535 }
     ensures parts { MOST_PARTS ≡ 512 }
     ensures sub_devices { ALL_SUB_DEVICES ≡ 0xffff }
 {}
 
-/// An exchange of a frame and an event asks what the frame asks. It is heard as a failure if the line failed, and
-/// as silence if no bytes came.
+/// An exchange of a frame and an event asks what the frame asks. What is heard is a failure if the line failed, and
+/// silence if no bytes came.
 pub fn events_are_seen()
     ensures asked { (frame : Items ℕ) (event : LineEvent) → (seen_event (frame, event)).asked ≡ asked_in frame.items }
     ensures failed { (frame : Items ℕ) → (seen_event (frame, LineEvent.Failed)).heard ≡ Failed }
@@ -29,8 +29,8 @@ pub fn events_are_seen()
         → (seen_event (frame, LineEvent.Reply reply)).heard ≡ Silent }
 {}
 
-/// A request's result is what the first deciding position says, there is one at most, and what follows that
-/// position doesn't change it.
+/// A request's result is that of the first position that decides anything. There is at most one result, and later
+/// verdicts don't change it.
 pub fn result_is_determined()
     ensures meets { (vs : List Judged) (j : Joined) → result_of vs ≡ Some j → IsResult vs j }
     ensures only { (vs : List Judged) (j : Joined) → IsResult vs j → result_of vs ≡ Some j }

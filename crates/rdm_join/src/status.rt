@@ -9,7 +9,7 @@ use rdm_wire::PacketFault;
 pub enum Status {
     /// 0: the device answered.
     Completed,
-    /// 1: the request was broadcast, and isn't answered.
+    /// 1: the request was broadcast, so no device answers it.
     WasBroadcast,
     /// 2: the line failed, or the controller was closed.
     FailedToSend,
@@ -23,15 +23,15 @@ pub enum Status {
     WrongStart,
     /// 7: another sub start code.
     WrongSubStart,
-    /// 8: a message length that the bytes don't have.
+    /// 8: a message length that doesn't fit the bytes.
     LengthMismatch,
-    /// 9: a length of the parameter data that the message length contradicts.
+    /// 9: a parameter data length that doesn't fit the message length.
     ParamLengthMismatch,
     /// 10: a checksum that isn't the bytes' sum.
     Checksum,
     /// 11: a command class that isn't a response's.
     InvalidClass,
-    /// 12: a response type that there isn't.
+    /// 12: a response type that doesn't exist.
     InvalidResponseType,
     /// 13: another transaction number than the request's.
     TransactionMismatch,

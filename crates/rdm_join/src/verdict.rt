@@ -6,10 +6,10 @@ use crate::event::LineEvent;
 use crate::status::Status;
 use rdm_wire::{AckType, QUEUED_MESSAGE, ReqClass, RespClass, Response, Uid, decode_response};
 
-/// The sub-device that addresses all of them (E1.20, sub-devices).
+/// The number that addresses all sub-devices (E1.20, sub-devices).
 pub const ALL_SUB_DEVICES: u16 = 0xffff;
 
-/// What of a request's frame its reply is judged by (E1.20, request packet).
+/// The fields of a request's frame by which its reply is judged (E1.20, request packet).
 #[derive(Clone, Copy, Debug)]
 pub struct Sent {
     /// The device, or a broadcast UID.
@@ -37,8 +37,8 @@ pub enum Judged {
     Ended(Status),
 }
 
-/// What the event means for the request: the first that holds of a failed line, a broadcast request, silence, the
-/// faults of a packet, and a response that isn't the request's; else the response. A request
+/// What the event means for the request. The first of these that applies decides: a failed line, a broadcast request,
+/// silence, a fault of the packet, or a response that isn't the request's. Otherwise the response decides. A request
 /// for a queued message may be answered with any PID and sub-device, and as a GET or a SET (E1.20, QUEUED_MESSAGE).
 pub fn judge(sent: &Sent, event: &LineEvent) -> Judged
     ensures { result ≡ verdict sent.now event.now }
@@ -83,7 +83,7 @@ fn judge_response(sent: &Sent, response: Response) -> Judged
     judge_type(response)
 }
 
-// By the response's type: of the answer to a GET alone more may follow.
+// The verdict by the response type. Only the answer to a GET may have several parts.
 fn judge_type(response: Response) -> Judged
     ensures { result ≡ verdict_of_type response response.ack }
 {

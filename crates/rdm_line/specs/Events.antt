@@ -9,17 +9,17 @@ use Rattle.rdm_line.specs.declared.line.LineFault.{LineFault}
 abbrev pub Exchange : Type 0
 Exchange = ArrayVec ℕ × LineEvent
 
--- what an exchange's result says that came
+-- the event that an exchange's result reports
 abbrev pub event_of : Result (ArrayVec ℕ) LineFault → LineEvent
 event_of (Ok reply) = Reply reply
 event_of (Err fault) = Failed
 
--- each failure counts one, and nothing else counts
+-- each failure is counted, and nothing else
 abbrev pub CountsFailure : LineEvent → ℕ → ℕ → Type 0
 CountsFailure Failed old new = new ≡ old + 1
 CountsFailure (Reply reply) old new = new ≡ old
 
--- a line makes these exchanges one after another, each by its own step
+-- a line makes these exchanges in a row, each by its own step
 abbrev pub Makes : (L : Type 0) → (L → Exchange → L → Type 0) → L → List Exchange → L → Type 0
 Makes L step old [] new = new ≡ old
 Makes L step old (x ∷ xs) new = (next : L) × step old x next × Makes L step next xs new

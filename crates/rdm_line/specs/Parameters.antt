@@ -5,7 +5,7 @@ use Rattle.arrayvec.specs.ArrayVec.{ArrayVec}
 use Rattle.rdm_wire.specs.declared.response.AckType.{AckType}
 use Rattle.rdm_wire.specs.declared.response.AckType.TheVariants.{Ack, Overflow}
 
--- a parameter: the parts of its data, and which of them the next GET is answered with
+-- a parameter: the parts of its data, and the index of the part that answers the next GET
 pub record ParameterState : Type 0 where
   pub pid : ℕ
   pub parts : List (ArrayVec ℕ)
@@ -28,7 +28,7 @@ has_more p = nat_lt (p.next + 1) (length p.parts)
 abbrev pub ack_of_part : ParameterState → AckType
 ack_of_part p = if has_more p then Overflow else Ack
 
--- after a part the next one is to be sent, and after the last one the first again
+-- the parameter after a part was sent: the next part follows, and after the last one the first again
 abbrev pub part_sent : ParameterState → ParameterState
 part_sent p = record p { next = if has_more p then p.next + 1 else 0 }
 

@@ -1,4 +1,4 @@
--- The simulated line: its state, and a rule for each thing that it is asked.
+-- The simulated line: its state, and a rule for each kind of frame.
 use Rattle.std.specs.Prelude.{◌≡◌, ℕ, ◌+◌, ◌<◌, Bool, ◌&&◌, not, List, [], ◌∷◌, length, map, filter, Option, Some, None}
 use Rattle.std.specs.Prelude.{MatchOption, nat_lt, if◌then◌else◌, MatchBool}
 use Rattle.hex.specs.Hex.{IsBytes}
@@ -31,13 +31,13 @@ use Rattle.rdm_line.specs.declared.scene.SceneDevice.{SceneDevice}
 use Rattle.rdm_line.specs.declared.collision.Collision.{Collision}
 use Rattle.rdm_line.specs.declared.collision.Collision.TheVariants as collisions
 
--- the state of the simulated line: its devices, what is to come, and how many exchanges there were
+-- the state of the simulated line: its devices, what will go wrong, and how many exchanges there were
 pub record SimState : Type 0 where
   -- the devices, each parameter with the part to be sent next
   pub devices : List SceneDevice
-  -- the UIDs of the muted ones
+  -- the UIDs of the muted devices
   pub muted : List ℕ
-  -- what comes of collisions, the next one first
+  -- what results from collisions, the next one first
   pub collisions : List Collision
   -- the numbers of the exchanges that are lost, and of those that fail
   pub losses : List ℕ
@@ -46,7 +46,7 @@ pub record SimState : Type 0 where
   pub exchanges : ℕ
   pub failures : ℕ
 
--- the count of exchanges stays at its end, where none fails or is lost
+-- the greatest count of exchanges. From then on no exchange fails or is lost
 abbrev pub last_exchange : ℕ
 last_exchange = 0xffffffffffffffff
 
@@ -54,7 +54,7 @@ last_exchange = 0xffffffffffffffff
 abbrev pub next_exchange : ℕ → ℕ
 next_exchange i = if nat_lt i last_exchange then i + 1 else i
 
--- whether this exchange is one of those numbers
+-- whether this exchange is one of these numbers
 abbrev pub is_among : ℕ → List ℕ → Bool
 is_among i numbers = nat_lt i last_exchange && has numbers i
 
@@ -71,41 +71,41 @@ answering i s range = filter (answers_branch i s.muted range) s.devices
 abbrev pub branch_reply_of : SceneDevice → List ℕ
 branch_reply_of d = branch_text d.device.uid d.preamble
 
--- what comes of a collision, if the replies lie over one another as these bytes
+-- the bytes that result from a collision, if these are the OR of the replies
 abbrev pub collided : List Collision → List ℕ → List ℕ
 collided [] over = over
 collided (collisions.Or ∷ cs) over = over
 collided (collisions.Uid u ∷ cs) over = branch_text u 7
 collided (collisions.Bytes bytes ∷ cs) over = bytes
 
--- the collisions that are left after one: the last one stays
+-- the collisions after one of them: the last one is repeated
 abbrev pub later_collisions : List Collision → List Collision
 later_collisions [] = []
 later_collisions (c ∷ []) = c ∷ []
 later_collisions (c ∷ d ∷ cs) = d ∷ cs
 
--- nothing is said, and nothing changes
+-- no reply, and nothing changes
 pub record KeepsSilent (s : SimState) (reply : List ℕ) (new : SimState) : Type 0 where
   pub silent : reply ≡ []
   pub same : new ≡ s
 
--- an unmute unmutes all, and is not answered
+-- an unmute unmutes all devices, and is not answered
 pub record Unmutes (s : SimState) (reply : List ℕ) (new : SimState) : Type 0 where
   pub silent : reply ≡ []
   pub unmuted : new ≡ record s { muted = [] }
 
--- a mute of a present device mutes it, and it says what it is
+-- a mute of a present device mutes it, and it acknowledges with its control field and binding UID
 pub record Mutes (s : SimState) (d : SceneDevice) (source tn : ℕ) (reply : List ℕ) (new : SimState) : Type 0 where
   pub bytes : reply ≡ packet (fields_of (mute_response d.device source tn))
   pub mutes : new ≡ record s { muted = with_uid d.device.uid s.muted }
 
--- a branch that several devices answer: a collision is never silent
+-- a branch that several devices answer: a collision always has bytes
 pub record Collides (s : SimState) (replies : List (List ℕ)) (reply : List ℕ) (new : SimState) : Type 0 where
   pub some : 0 < length reply
   pub bytes : reply ≡ collided s.collisions (all_laid_over replies)
   pub next : new ≡ record s { collisions = later_collisions s.collisions }
 
--- nobody answers a branch: silence; one device: its reply; more: what comes of the collision
+-- the reply to a branch: silence if no device answers, the reply of a single device, or the result of a collision
 abbrev pub AnswersBranch : SimState → List SceneDevice → List ℕ → SimState → Type 0
 AnswersBranch s [] reply new = KeepsSilent s reply new
 AnswersBranch s (d ∷ []) reply new = (reply ≡ branch_reply_of d) × (new ≡ s)
@@ -125,7 +125,7 @@ response_to r source tn class ack bytes = record {
   param = record { items = bytes };
 }
 
--- the class that answers a request's
+-- the class of the response to a request of this class
 abbrev pub answers_class : ReqClass → RespClass
 answers_class Get = responses.Get
 answers_class Set = responses.Set
@@ -170,16 +170,16 @@ ActsOn i s (Requested r) source tn reply new =
     (KeepsSilent s reply new)
     (λ d. AnswersRequest s r source tn d reply new)
 
--- how the devices act on a frame: on one that is no command they keep silent
+-- how the devices act on a frame: if it is no command, they keep silent
 abbrev pub Acts : ℕ → SimState → Option (Command × ℕ × ℕ) → List ℕ → SimState → Type 0
 Acts i s None reply new = KeepsSilent s reply new
 Acts i s (Some sent) reply new = ActsOn i s sent.0 sent.1 sent.2 reply new
 
--- what is heard of a reply: it may be lost
+-- what is heard of a reply: nothing if it is lost
 abbrev pub IsHeard : Bool → List ℕ → LineEvent → Type 0
 IsHeard lost reply event = event ≡ Reply (record { items = if lost then [] else reply })
 
--- an exchange is counted
+-- the state after one more exchange was counted
 abbrev pub counted : SimState → SimState
 counted s = record s { exchanges = next_exchange s.exchanges }
 
@@ -199,7 +199,7 @@ pub record Exchanges (s : SimState) (x : Exchange) (new : SimState) : Type 0 whe
 abbrev pub IsSoundState : SimState → Type 0
 IsSoundState s = IsSound s.devices s.muted s.losses s.fails s.exchanges s.failures
 
--- a step of the simulated line. That the state before is sound is a part of it, so laws on runs needn't ask for that
+-- a step of the simulated line. It includes that the state before is sound, so laws on runs needn't require that
 pub record SimStep (s : SimState) (x : Exchange) (new : SimState) : Type 0 where
   pub sound : IsSoundState s
   pub rule : MatchBool (is_among s.exchanges s.fails) (FailsOnly s x.1 new) (Exchanges s x new)

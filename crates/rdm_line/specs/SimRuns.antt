@@ -17,7 +17,7 @@ pub record Step : Type 0 where
   pub before : SimState
   pub exchange : Exchange
 
--- steps one after another
+-- consecutive steps
 abbrev pub IsRun : SimState → List Step → SimState → Type 0
 IsRun s [] new = new ≡ s
 IsRun s (x ∷ xs) new = (x.before ≡ s) × (next : SimState) × SimStep x.before x.exchange next × IsRun next xs new
@@ -26,21 +26,21 @@ IsRun s (x ∷ xs) new = (x.before ≡ s) × (next : SimState) × SimStep x.befo
 abbrev pub present_in : Step → List ℕ
 present_in x = present_at x.before.devices x.before.exchanges
 
--- how an exchange is seen
+-- an exchange: what was asked, and what was heard
 abbrev pub seen_in : Step → Seen
 seen_in x = seen_event x.exchange
 
--- the scene loses the reply of this exchange
+-- the scene loses the reply in this exchange
 abbrev pub is_lost : Step → Type 0
 is_lost x = is_among x.before.exchanges x.before.losses ≡ true
 
--- what no exchange changes of a scene: which devices are present when, and which exchanges are lost and fail
+-- no exchange changes when which devices are present, nor which exchanges are lost and fail
 pub record KeepsScene (s new : SimState) : Type 0 where
   pub present : (i : ℕ) → present_at new.devices i ≡ present_at s.devices i
   pub losses : new.losses ≡ s.losses
   pub fails : new.fails ≡ s.fails
 
--- the exchange fails exactly when its number is one of these
+-- the exchange fails if and only if its number is one of these
 abbrev pub FailsAsNamed : List ℕ → Step → Type 0
 FailsAsNamed fails x = (x.exchange.1 ≡ Failed) ↔ (is_among x.before.exchanges fails ≡ true)
 
@@ -67,7 +67,7 @@ abbrev pub NeverFive : (Step → Type 0) → List Step → Type 0
 NeverFive P xs =
     (front five back : List Step) → xs ≡ front ++ five ++ back → length five ≡ 5 → AllByRecursion P five → ⊥
 
--- what a run may lose
+-- a run loses few replies: no five branches and no five mutes in a row
 pub record LosesFew (xs : List Step) : Type 0 where
   pub branches : NeverFive LosesBranch xs
   pub mutes : NeverFive LosesMute xs

@@ -1,4 +1,4 @@
--- The invariant of `SimLine`: what holds of the state of each such value.
+-- The invariant of `SimLine`: what holds for the state of each such value.
 use Rattle.std.specs.Prelude.{◌≡◌, ℕ, ◌<◌, ◌≤◌, true, List, Option, Some, option_map}
 use Rattle.std.specs.List.Sorted.{IsNonDecreasing}
 use Rattle.rdm_wire.specs.Uid.{has, IsDeviceSet}
@@ -9,13 +9,13 @@ use Rattle.rdm_line.specs.declared.scene.SceneDevice.{SceneDevice}
 abbrev pub from_of : List SceneDevice → ℕ → Option ℕ
 from_of devices u = option_map (λ (d : SceneDevice). d.from) (find_device devices u)
 
--- the devices, lists and counts of a `SimLine` value. A `SimState` is any record, so of one alone this isn't known
+-- the devices, lists and counts of a `SimLine` value. Not every record `SimState` is the state of such a value
 pub record IsSound (devices : List SceneDevice) (muted losses fails : List ℕ) (exchanges failures : ℕ) : Type 0 where
   pub scene : IsScene devices
   pub muted_set : IsDeviceSet muted
-  -- who is muted is a device
+  -- the muted UIDs are those of devices
   pub present : (u : ℕ) → has muted u ≡ true → has (uids_of_scene devices) u ≡ true
-  -- which came before
+  -- and these devices have come
   pub came : (u from : ℕ) → has muted u ≡ true → from_of devices u ≡ Some from → from < exchanges
   pub losses_ascend : IsNonDecreasing losses
   pub fails_ascend : IsNonDecreasing fails

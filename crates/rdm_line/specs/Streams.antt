@@ -5,7 +5,7 @@ use Rattle.hex.specs.Hex.{encode_lower, decode_of}
 use Rattle.rdm_line.specs.Events.{Exchange}
 use Rattle.rdm_join.specs.declared.event.LineEvent.TheVariants.{Reply, Failed}
 
--- what the reader has left and the writer holds, each where it is known, and how many exchanges have failed
+-- what the reader has left and what the writer holds, if these are known, and how many exchanges have failed
 pub record StreamState : Type 0 where
   pub left : Option (List ℕ)
   pub held : Option (List ℕ)
@@ -15,7 +15,7 @@ pub record StreamState : Type 0 where
 abbrev pub frame_line : List ℕ → List ℕ
 frame_line bytes = encode_lower bytes ++ 10 ∷ []
 
--- A line, without its newline, says which bytes came: at most 257, in hexadecimal of either case. A carriage return may
+-- A line, without its newline, encodes these bytes: at most 257, in hexadecimal of either case. A carriage return may
 -- follow the digits.
 abbrev pub SaysReply : List ℕ → List ℕ → Type 0
 SaysReply line bytes =
@@ -24,12 +24,12 @@ SaysReply line bytes =
     × (decode_of text ≡ Ok bytes)
     × (length bytes ≤ 257)
 
--- one line was taken with its newline, and it says that these bytes came
+-- one line was read with its newline, and it encodes these bytes
 abbrev pub TakesReply : Option (List ℕ) → Option (List ℕ) → List ℕ → Type 0
 TakesReply left after bytes =
     (line : List ℕ) × All (λ b. b ≢ 10) line × Consumes left after (line ++ 10 ∷ []) × SaysReply line bytes
 
--- a part of a line was taken, or one line with its newline, which doesn't say which bytes came
+-- a part of a line was read, or one line with its newline, which encodes no bytes
 abbrev pub TakesNoReply : Option (List ℕ) → Option (List ℕ) → Type 0
 TakesNoReply left after =
     (line : List ℕ)
@@ -37,12 +37,12 @@ TakesNoReply left after =
     × (Consumes left after line
     ⊎ (Consumes left after (line ++ 10 ∷ []) × ((bytes : List ℕ) → SaysReply line bytes → ⊥)))
 
--- no reply came to this frame: nothing was taken, or the frame's line was written first
+-- no reply came to this frame: nothing was read, or the frame's line was written first
 abbrev pub GoesUnanswered : StreamState → List ℕ → StreamState → Type 0
 GoesUnanswered old frame new =
     (new.left ≡ old.left) ⊎ (Appends old.held new.held (frame_line frame) × TakesNoReply old.left new.left)
 
--- A reply is what one line says, after the frame's line was written. A failure takes no reply. At the greatest count of
+-- A reply is read from one line, after the frame's line was written. A failure reads no reply. At the greatest count of
 -- failures a failure is silence.
 abbrev pub StreamStep : StreamState → Exchange → StreamState → Type 0
 StreamStep old (frame, Failed) new = GoesUnanswered old frame.items new

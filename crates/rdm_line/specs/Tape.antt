@@ -9,7 +9,7 @@ pub record TapeState : Type 0 where
   pub left : List LineEvent
   pub failures : ℕ
 
--- the event to come; past the end each exchange fails
+-- the next event; after the last one each exchange fails
 abbrev pub front_event : List LineEvent → LineEvent
 front_event [] = Failed
 front_event (event ∷ events) = event
@@ -19,7 +19,7 @@ abbrev pub later_events : List LineEvent → List LineEvent
 later_events [] = []
 later_events (event ∷ events) = events
 
--- what an exchange gives for an event, and the count of failures after it: at the greatest count a failure is silence
+-- what an exchange returns for an event, and the count of failures after it. At the greatest count a failure is silence
 abbrev pub IsTold : LineEvent → ℕ → LineEvent → ℕ → Type 0
 IsTold (Reply reply) failures told counted = (told ≡ Reply reply) × (counted ≡ failures)
 IsTold Failed failures told counted =

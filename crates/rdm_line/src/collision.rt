@@ -1,14 +1,14 @@
-//! What comes of replies that collide.
+//! What results from replies that collide.
 ghost use Rattle.std.specs.Prelude.{◌≡◌, ◌↔◌, ◌<◌, ◌≤◌, [], length, IsNone, IfSome};
 
 use rdm_join::LineReply;
 use rdm_wire::{MOST_FRAME_BYTES, Uid};
 use std::marker::Model;
 
-/// What comes of replies to a branch that collide.
+/// What results from replies to a branch that collide.
 #[derive(Debug, Drop)]
 pub enum Collision {
-    /// The replies' bits, laid over one another.
+    /// The OR of the replies.
     Or,
     /// The text of this UID, which may be a device's or not, after seven preamble bytes.
     Uid(Uid),
@@ -16,7 +16,7 @@ pub enum Collision {
     Bytes(CollisionBytes),
 }
 
-/// Bytes that come of colliding replies: 1 to 257.
+/// Bytes that result from a collision: 1 to 257.
 #[derive(Debug, Drop)]
 pub struct CollisionBytes {
     bytes: LineReply,
@@ -33,7 +33,7 @@ impl Model for CollisionBytes {
 }
 
 impl CollisionBytes {
-    /// These bytes; `None` if there is none.
+    /// These bytes; `None` if there are none.
     pub fn new(bytes: LineReply) -> Option<CollisionBytes>
         ensures none { IsNone result ↔ (bytes.items ≡ []) }
         ensures some { IfSome result (λ c. c ≡ bytes.items) }

@@ -13,21 +13,21 @@ ghost use Rattle.std.specs.List.{AllByRecursion};
 
 /// A simulated line is honest towards the devices that are present at each exchange. The premise is that no five
 /// replies of a kind are lost in a row: to branches that a device is due to answer, and to mutes of a present
-/// device. This holds of a run of exchanges that begins at any moment, up to its first failure, if there is one. It
-/// holds whatever the frames, the collisions and the devices that come and leave.
+/// device. This holds for a run of exchanges that begins at any moment, up to its first failure, if there is one. It
+/// holds for any frames and collisions, and for any devices that come and leave.
 pub fn simulated_line_is_honest()
     ensures { (s new : SimState) (steps : List Step) →
         IsRun s steps new → LosesFew steps → HonestOver (map present_in steps) (map seen_in steps) }
 {}
 
-/// A line whose devices stay, from the first exchange on and for good, is honest towards them: the premise of the
-/// promises on lines with fixed devices.
+/// A line is honest towards its devices if all of them are there from the first exchange on and never leave. This is
+/// the premise of the promises on lines with fixed devices.
 pub fn staying_line_is_honest()
     ensures { (s new : SimState) (steps : List Step) → IsScene s.devices → AllByRecursion Stays s.devices →
         IsRun s steps new → LosesFew steps → HonestTrace (uids_of_scene s.devices) (map seen_in steps) }
 {}
 
-/// An exchange fails exactly when the scene names its number; if it names none, none fails.
+/// An exchange fails if and only if the scene names its number. If it names none, none fails.
 pub fn fails_are_named()
     ensures named { (s new : SimState) (steps : List Step) →
         IsRun s steps new → AllByRecursion (FailsAsNamed s.fails) steps }
@@ -35,20 +35,20 @@ pub fn fails_are_named()
         IsRun s steps new → s.fails ≡ [] → AllByRecursion (λ x. (seen_in x).heard ≢ Failed) steps }
 {}
 
-/// No exchange changes which devices are present when, nor which exchanges are lost and fail.
+/// No exchange changes when which devices are present, nor which exchanges are lost and fail.
 pub fn scene_is_kept()
     ensures after { (s new : SimState) (steps : List Step) → IsRun s steps new → KeepsScene s new }
     ensures amid { (s new : SimState) (steps : List Step) →
         IsRun s steps new → AllByRecursion (λ x. KeepsScene s x.before) steps }
 {}
 
-/// The exchanges that a simulated line makes one after another are a run.
+/// Consecutive exchanges of a simulated line are a run.
 pub fn exchanges_are_a_run()
     ensures { (s new : SimState) (xs : List Exchange) → Makes SimState SimStep s xs new →
         (steps : List Step) × IsRun s steps new × (map (λ x. x.exchange) steps ≡ xs) }
 {}
 
-/// Losses of which no five have consecutive numbers are few enough, whatever the frames are.
+/// If no five losses have consecutive numbers, they are few enough, whatever the frames are.
 pub fn few_losses_suffice()
     ensures { (s new : SimState) (steps : List Step) →
         IsRun s steps new → NoFiveSuccessive s.losses → LosesFew steps }

@@ -1,4 +1,4 @@
-//! What a line owes.
+//! What a line has to do.
 ghost use Rattle.std.specs.Prelude.{◌≡◌, ℕ};
 ghost use Rattle.rdm_line.specs.Events.{Exchange, event_of, CountsFailure};
 
@@ -6,13 +6,13 @@ use rdm_join::LineReply;
 use rdm_wire::Frame;
 use thiserror::Error;
 
-/// The line failed, and what the devices saw isn't known.
+/// The line failed, so it isn't known what the devices received.
 #[derive(Clone, Copy, Debug, PartialEq, Eq, Error)]
 #[error("the line failed")]
 pub struct LineFault;
 
-/// A line on which frames are sent and replies come. Each line names its step: the relation between its value before an
-/// exchange, the frame with what came after it, and its value afterwards.
+/// A line on which frames are sent and replies come. Each line names its step. This relates its value before an
+/// exchange, the frame with the event after it, and its value afterwards.
 pub trait Line {
     /// The line's step.
     ghost step: { Self → Exchange → Self → Type 0 };
@@ -20,9 +20,9 @@ pub trait Line {
     /// How many exchanges have failed.
     ghost failures_of: { Self → ℕ };
 
-    /// Sends a frame, and returns the bytes that came after it; no bytes are silence. [`LineFault`]: the line failed.
-    /// It fails exactly when [`failures`](Line::failures) rises by one. That count ends at `u64::MAX`, where an
-    /// exchange that would fail gives silence.
+    /// Sends a frame, and returns the bytes that came after it. No bytes are silence. [`LineFault`]: the line failed.
+    /// It fails if and only if [`failures`](Line::failures) rises by one. That count ends at `u64::MAX`. From then on
+    /// an exchange that would fail returns silence.
     fn exchange(&mut self, frame: &Frame) -> Result<LineReply, LineFault>
         ensures step { step self.old (frame.now, event_of result) self.new }
         ensures failures { CountsFailure (event_of result) (failures_of self.old) (failures_of self.new) };

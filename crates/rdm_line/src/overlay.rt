@@ -1,11 +1,11 @@
-//! Replies that lie over one another on the line.
+//! Replies that are on the line at the same time.
 ghost use Rattle.std.specs.Prelude.{◌≡◌, ◌≤◌, length};
 ghost use Rattle.rdm_line.specs.Overlays.{laid_over};
 
 use rdm_join::LineReply;
 use rdm_wire::LONGEST_BRANCH_REPLY;
 
-/// Lays a reply over others: their bits are joined byte by byte, and the shorter one is filled up with zeros.
+/// Adds a reply to others: the OR of both, byte by byte. The shorter one is filled up with zeros.
 pub(crate) fn lay_over(all: &mut LineReply, reply: &[u8])
     requires all { length all.old.items ≤ LONGEST_BRANCH_REPLY }
     requires reply { length reply.now ≤ LONGEST_BRANCH_REPLY }

@@ -10,8 +10,7 @@ use std::marker::Model;
 /// A part of a parameter's data: 231 bytes at most.
 pub type ParameterPart = ArrayVec<u8, MOST_PARAMETER_BYTES>;
 
-/// A parameter of a simulated device: the parts of its data, at least one, and which of them the next GET is answered
-/// with.
+/// A parameter of a simulated device: the parts of its data, at least one, and the part that answers the next GET.
 #[derive(Debug, Drop)]
 pub struct Parameter {
     pid: u16,
@@ -31,7 +30,7 @@ impl Model for Parameter {
 }
 
 impl Parameter {
-    /// A parameter with these parts, of which there is one at least. The first GET is answered with the first of them.
+    /// A parameter with these parts, which must not be empty. The first GET is answered with the first of them.
     pub fn new(pid: u16, parts: Vec<ParameterPart>) -> Parameter
         requires { 0 < length parts.items }
         ensures { result ≡ record { pid = pid; parts = parts.items; next = 0 } }
@@ -43,8 +42,8 @@ impl Parameter {
         }
     }
 
-    // The part that is to be sent, with the type of response that it is sent as; then the next one is to be sent, and
-    // after the last one the first.
+    // The part that answers this GET, with its response type. The next GET is answered with the next part, and after
+    // the last one with the first.
     fn send(&mut self) -> (ParameterPart, AckType)
         ensures part { result.0.items ≡ part_of self.old }
         ensures ack { result.1 ≡ ack_of_part self.old }
@@ -61,7 +60,7 @@ impl Parameter {
     }
 }
 
-/// The parameters of a simulated device; of two with one PID the first answers. Contracts see their list.
+/// The parameters of a simulated device. If two have the same PID, the first answers. Contracts see their list.
 #[derive(Debug, Drop)]
 pub struct Parameters {
     parameters: Vec<Parameter>,
@@ -84,7 +83,7 @@ impl Parameters {
         Parameters { parameters }
     }
 
-    // How many stand before the first one with this PID.
+    // How many precede the first one with this PID.
     fn count_before(&self, pid: u16) -> usize
         ensures value { result ≡ index_of pid self.now }
         ensures bound { result ≤ length self.now }
@@ -102,8 +101,8 @@ impl Parameters {
         self.count_before(pid) < self.parameters.len()
     }
 
-    // The part of the parameter with this PID that is to be sent, with the type of response that it is sent as; then
-    // its next one is to be sent.
+    // The part of the parameter with this PID that answers this GET, with its response type. The next GET is answered
+    // with its next part.
     pub(crate) fn send(&mut self, pid: u16) -> Option<(ParameterPart, AckType)>
         ensures value { AnswersPart (parameter_of pid self.old) result }
         ensures sent { self.new ≡ sent_of pid self.old }

@@ -1,17 +1,15 @@
 //! A line to be simulated: its devices, and what goes wrong on it.
-ghost use Rattle.std.specs.Prelude.{◌≡◌};
-ghost use Rattle.rdm_line.specs.Scenes.{is_present};
+ghost use Rattle.std.specs.Prelude.{◌≡◌, ◌↔◌, true, false};
+ghost use Rattle.rdm_wire.specs.Uid.{is_broadcast};
+ghost use Rattle.rdm_line.specs.Scenes.{is_present, IsSceneDevice};
 
 use crate::collision::Collision;
 use crate::parameter::Parameters;
 use crate::scene_devices::SceneDevices;
-use rdm_wire::{Device, Uid};
-use thiserror::Error;
+use rdm_wire::{Device, LONGEST_PREAMBLE, Uid};
 
-/// Memory ran out.
-#[derive(Clone, Copy, Debug, PartialEq, Eq, Error)]
-#[error("out of memory")]
-pub struct NoMemory;
+/// The latest exchange at which a simulated device may come: 1,000,000,000.
+pub const LATEST_ARRIVAL: u64 = 1_000_000_000;
 
 /// A line to be simulated. Exchanges are numbered from 0.
 #[derive(Debug, Drop)]
@@ -20,8 +18,8 @@ pub struct Scene {
     pub source: Uid,
     /// The devices.
     pub devices: SceneDevices,
-    /// What comes of replies to a branch that collide, one after another; the last one stays in force, and if there is
-    /// none it is [`Collision::Or`].
+    /// What results from collisions of replies to a branch, in order. The last one is repeated. If there is none, each
+    /// is a [`Collision::Or`].
     pub collisions: Vec<Collision>,
     /// The exchanges whose reply is lost, in any order. `u64::MAX` names none.
     pub losses: Vec<u64>,
@@ -38,13 +36,22 @@ pub struct SceneDevice {
     pub preamble: u8,
     /// The parameters that it has.
     pub params: Parameters,
-    /// The exchange at which it comes: 0 to 1,000,000,000.
+    /// The exchange at which it comes: 0 to [`LATEST_ARRIVAL`].
     pub from: u64,
     /// The exchange at which it has left, if it ever leaves.
     pub until: Option<u64>,
 }
 
 impl SceneDevice {
+    /// Whether it may be added to a scene: its UID isn't broadcast, and its fields are in their ranges.
+    pub fn is_valid(&self) -> bool
+        ensures { (result ≡ true) ↔ ((is_broadcast self.now.device.uid ≡ false) × IsSceneDevice self.now) }
+    {
+        !self.device.uid.is_broadcast()
+            && self.preamble <= LONGEST_PREAMBLE
+            && self.from <= LATEST_ARRIVAL
+    }
+
     // Its own UID.
     pub(crate) fn uid(&self) -> Uid
         ensures { result ≡ self.now.device.uid }

@@ -32,7 +32,7 @@ impl Model for SceneDevices {
     ghost invariant = { λ s. IsScene s.devices.items };
 }
 
-/// Why a device isn't put into a scene, in the order in which it is tested.
+/// Why a device isn't added to a scene, in the order in which it is tested.
 #[derive(Clone, Copy, Debug, PartialEq, Eq, Error)]
 pub enum AddFault {
     /// There is a device with this UID.
@@ -41,7 +41,7 @@ pub enum AddFault {
     /// There are 1,024 devices.
     #[error("there are 1,024 devices")]
     Full,
-    /// Memory ran out.
+    /// There was no memory.
     #[error("out of memory")]
     NoMemory,
 }
@@ -56,7 +56,8 @@ impl SceneDevices {
         }
     }
 
-    /// Puts in a device. An error is the first fault, in the order of [`AddFault`], and leaves the devices unchanged.
+    /// Adds a device, which must be valid ([`SceneDevice::is_valid`]). An error is the first fault that applies, in the
+    /// order of [`AddFault`]. Then the devices are unchanged.
     pub fn add(&mut self, device: SceneDevice) -> Result<(), AddFault>
         requires own { is_broadcast device.device.uid ≡ false }
         requires preamble { device.preamble ≤ 7 }
@@ -79,7 +80,7 @@ impl SceneDevices {
         }
     }
 
-    // How many devices have a lesser UID, which is the index of the one with this UID.
+    // How many devices have a smaller UID. This is the index of the one with this UID.
     fn count_below(&self, uid: Uid) -> usize
         ensures value { result ≡ index_in self.now uid }
         ensures bound { result ≤ length self.now }
@@ -164,8 +165,8 @@ impl SceneDevices {
         }
     }
 
-    // The part that the device with this UID sends of its parameter with this PID, with the type of response that it is
-    // sent as; then the next part is to be sent.
+    // The part with which the device with this UID answers a GET of this PID, with its response type. The next GET is
+    // answered with the next part.
     pub(crate) fn send(&mut self, uid: Uid, pid: u16) -> Option<(ParameterPart, AckType)>
         ensures value { AnswersPart (parameter_at uid pid self.old) result }
         ensures sent { self.new ≡ sent_by uid pid self.old }

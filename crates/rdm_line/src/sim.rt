@@ -17,29 +17,29 @@ use crate::collision::Collision;
 use crate::line::{Line, LineFault};
 use crate::overlay::lay_over;
 use crate::parameter::ParameterPart;
-use crate::scene::{NoMemory, Scene, SceneDevice};
+use crate::scene::{Scene, SceneDevice};
 use arrayvec::ArrayVec;
 use rdm_join::LineReply;
 use rdm_wire::{
-    AckType, Command, Frame, LONGEST_PREAMBLE, ReqClass, Request, RespClass, Response, Uid,
-    UidRange, UidSet, encode_response, mute_response, read_command, write_branch_reply,
+    AckType, Command, Frame, LONGEST_PREAMBLE, NoMemory, ReqClass, Request, RespClass, Response,
+    Uid, UidRange, UidSet, encode_response, mute_response, read_command, write_branch_reply,
 };
 use std::alloc::{AllocError, Global};
 use std::marker::Model;
 
-// The reason for which a device refuses a parameter that it doesn't have (E1.20, NR_UNKNOWN_PID).
+// The reason with which a device refuses a parameter that it doesn't have (E1.20, NR_UNKNOWN_PID).
 const UNKNOWN_PID: [u8; 2] = [0, 0];
 
-/// A line of simulated devices. Contracts see its state, and its step is that of the rules for simulated lines.
+/// A line of simulated devices. Contracts see its state, and its step follows the rules for simulated lines.
 ///
-/// Exchanges are counted up to `u64::MAX`, where the count stays. The number of an exchange that is lost or that fails
-/// is therefore below `u64::MAX`: that number names none.
+/// Exchanges are counted up to `u64::MAX`, and the count stays there. So `u64::MAX` is never the number of an exchange
+/// that is lost or that fails.
 #[derive(Debug, Drop)]
 pub struct SimLine {
     scene: Scene,
     // The UIDs of the devices that are muted.
     muted: UidSet,
-    // The collision to come.
+    // The index of the next collision.
     collision: usize,
     // The numbers of the exchanges that are lost and that fail, ascending.
     losses: Vec<u64>,
@@ -69,11 +69,11 @@ impl Model for SimLine {
 }
 
 impl SimLine {
-    /// A line of the scene's devices, all of them unmuted, before its first exchange. If memory runs out, the
-    /// scene is returned.
+    /// A line of the scene's devices, all of them unmuted, before its first exchange. [`NoMemory`]: there was no
+    /// memory, and the scene is returned.
     pub fn new(alloc: Global, scene: Scene) -> Result<SimLine, (NoMemory, Scene)>
         ensures devices { IfOk result (λ s. s.devices ≡ scene.devices) }
-        // What laws on simulated lines ask of the state in which a run begins.
+        // The laws on simulated lines require this of the state in which a run begins.
         ensures scene { IfOk result (λ s. IsScene s.devices) }
         ensures unmuted { IfOk result (λ s. s.muted ≡ []) }
         ensures collisions { IfOk result (λ s. s.collisions ≡ scene.collisions.items) }
@@ -99,7 +99,7 @@ impl SimLine {
         })
     }
 
-    // The devices act on the frame of this exchange, which is counted already, and this is what they reply.
+    // The devices' reply to the frame of this exchange, which was counted already.
     fn act(&mut self, exchange: u64, frame: &[u8]) -> LineReply
         requires { self.old.exchanges ≡ next_exchange exchange }
         ensures acts { Acts exchange self.old (command_read frame.now) result.items self.new }
@@ -131,7 +131,7 @@ impl SimLine {
             return LineReply::new();
         };
         let response = mute_response(&device.device, source, tn);
-        // A set has room for all devices of a scene.
+        // All devices of a scene fit into a set.
         let _ = self.muted.insert(uid);
         encode_response(&response)
     }
@@ -146,7 +146,7 @@ impl SimLine {
         self.collide(replies)
     }
 
-    // How many devices answer a branch, and their replies over one another.
+    // How many devices answer a branch, and the OR of their replies.
     fn replies(&self, exchange: u64, range: UidRange) -> (usize, LineReply)
         ensures count { result.0 ≡ length (answering exchange self.now range) }
         ensures replies { result.1.items ≡ all_laid_over (map branch_reply_of (answering exchange self.now range)) }
@@ -171,8 +171,7 @@ impl SimLine {
         device.is_present(exchange) && range.contains(uid) && !self.muted.contains(uid)
     }
 
-    // What comes of a collision of replies that lie over one another like this; the next collision is to come, or the
-    // last one again.
+    // What results from a collision of replies with this OR. Then the next collision follows, or the last one again.
     fn collide(&mut self, replies: LineReply) -> LineReply
         requires { 0 < length replies.items }
         ensures some { 0 < length result.items }
@@ -271,7 +270,7 @@ impl Line for SimLine {
     }
 }
 
-// Whether this exchange is one of these numbers. At the end of the count it is none, since the count stays there.
+// Whether this exchange is one of these numbers. At the end of the count it isn't, since the count stays there.
 fn is_among(exchange: u64, numbers: &[u64]) -> bool
     requires { IsNonDecreasing numbers.now }
     ensures { result ≡ is_among exchange numbers.now }
@@ -279,7 +278,7 @@ fn is_among(exchange: u64, numbers: &[u64]) -> bool
     exchange < u64::MAX && numbers.binary_search(&exchange).is_ok()
 }
 
-// A device's response to a GET of which it sent this part, or nothing.
+// A device's response to a GET that it answers with this part. `None`: it doesn't have the parameter.
 fn answer_get(
     request: &Request,
     source: Uid,

@@ -23,7 +23,7 @@ const MOST_LINE_BYTES: usize = MOST_DIGITS + 1;
 type Text = ArrayVec<u8, MOST_LINE_BYTES>;
 
 /// A line whose far end is another program, which is reached by text. Each exchange writes its frame as a line of
-/// lower-case hexadecimal, flushes, and then reads one line, which says what came:
+/// lower-case hexadecimal, and flushes. Then it reads one line, which reports the reply:
 ///
 /// - at most 257 bytes in hexadecimal of either case: a reply with these bytes;
 /// - an empty line: silence;
@@ -32,10 +32,10 @@ type Text = ArrayVec<u8, MOST_LINE_BYTES>;
 /// A carriage return before the newline is no part of the line. The far end decides how long it waits for a device.
 ///
 /// An exchange also fails when either stream gives an error, and at the end of the input. A last line without a newline
-/// is no reply, since it may have been cut off. Each exchange takes one line at most, and none unless its frame was
-/// written. A line that is longer than a reply is read to its end, and isn't kept.
+/// is no reply, since it may have been cut off. Each exchange reads one line at most, and none unless its frame was
+/// written. A line that is longer than a reply is read to its end, and dropped.
 ///
-/// After an error of a stream, the far end may still send what it owes. The next exchange takes that for its own.
+/// After an error of a stream, the far end may still send its reply. The next exchange takes that for its own.
 ///
 /// The reader is asked for one byte at a time, so give it a buffer, such as `BufReader`. Contracts see what the reader
 /// has left, what the writer holds, and the count of failures.
@@ -120,7 +120,7 @@ fn write_frame<W: Write>(writer: &mut W, frame: &Frame) -> io::Result<()>
     writer.flush()
 }
 
-// The next byte; None at the end of the input or if the reader fails, and then none is taken.
+// The next byte; None at the end of the input or if the reader fails, and then nothing was read.
 fn next_byte<R: Read>(reader: &mut R) -> Option<u8>
     ensures some { IfSome result (λ b. Consumes (R.remaining reader.old) (R.remaining reader.new) (b ∷ [])) }
     ensures none { IfNone result (Consumes (R.remaining reader.old) (R.remaining reader.new) []) }
@@ -172,7 +172,7 @@ fn skip_line<R: Read>(reader: &mut R)
     }
 }
 
-// The bytes that a line says; None if it says none.
+// The bytes that a line encodes; None if it encodes none.
 fn parse_reply(line: &[u8]) -> Option<LineReply>
     requires { length line.now ≤ MOST_LINE_BYTES }
     ensures some { IfSome result (λ reply. SaysReply line.now reply.items) }
@@ -185,7 +185,7 @@ fn parse_reply(line: &[u8]) -> Option<LineReply>
     ArrayVec::try_from(&bytes[..count]).ok()
 }
 
-// The text of a line: a carriage return at its end is no part of it.
+// The text of a line, without a carriage return at its end.
 fn text_of(line: &[u8]) -> &[u8]
     ensures text { IsTextOf line.now result.now }
     ensures fits { length result.now ≤ length line.now }

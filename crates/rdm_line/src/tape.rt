@@ -8,8 +8,8 @@ use rdm_join::{LineEvent, LineReply};
 use rdm_wire::Frame;
 use std::marker::Model;
 
-/// A line that gives these events in order, whatever the frames are, and then fails at each exchange. An event that is
-/// a failure is used up as any other, and counted. Contracts see the events to come and the count of failures.
+/// A line that returns these events in order, whatever the frames are, and then fails at each exchange. An event that
+/// is a failure is also used up, and counted. Contracts see the events to come and the count of failures.
 #[derive(Debug, Drop)]
 pub struct TapeLine {
     events: Vec<LineEvent>,
@@ -27,7 +27,7 @@ impl Model for TapeLine {
 }
 
 impl TapeLine {
-    /// A line that gives these events.
+    /// A line that returns these events.
     pub fn new(events: Vec<LineEvent>) -> TapeLine
         ensures { result ≡ record { left = events.items; failures = 0 } }
     {
@@ -38,7 +38,7 @@ impl TapeLine {
         }
     }
 
-    // The event to come, off the tape; past the end the line fails.
+    // Takes the next event off the tape. After the last one the line fails.
     fn next_event(&mut self) -> LineEvent
         ensures event { result ≡ front_event self.old.left }
         ensures rest { self.new ≡ record self.old { left = later_events self.old.left } }

@@ -10,13 +10,27 @@ pub const MOST_PLACES: u16 = 4080;
 pub struct Config {
     /// The controller's own UID, which isn't broadcast.
     pub source: Uid,
-    /// The greatest queue size, which the clients share: 0 to 4,080 places.
+    /// The greatest sum of the clients' queue depths: 0 to [`MOST_PLACES`].
     pub places: u16,
     /// How many frames a discovery may take, from 1.
     pub budget: u64,
 }
 
 /// How a session is set up: the configuration of its controller, and how the discovery runs search (profile of this
+impl Config {
+    ghost use Rattle.std.specs.Prelude.{◌≡◌, ◌↔◌, true};
+    ghost use Rattle.rdm_log.specs.log.Config.{IsConfig};
+
+    /// Whether a controller may have this configuration: each field is in its range.
+    pub fn is_valid(&self) -> bool
+        ensures { (result ≡ true) ↔ IsConfig self.now }
+    {
+        // For the proof alone: a UID's number is below 2^48.
+        let _in_range = self.source.number();
+        !self.source.is_broadcast() && self.places <= MOST_PLACES && 1 <= self.budget
+    }
+}
+
 /// project).
 #[derive(Clone, Copy, Debug)]
 pub struct Setup {

@@ -1,10 +1,10 @@
 //! What is asked of a session, as one value, and what it answers.
 use crate::entry::ClientId;
-use crate::fault::{AskFault, JoinFault, LogFull, NoMemory, NotAsked, SubmitFault};
+use crate::fault::{AskFault, JoinFault, LogFull, NotAsked, SubmitFault};
 use crate::outcome::BoxedOutcome;
 use rdm_agent::Kind;
 use rdm_join::LineEvent;
-use rdm_wire::{Frame, Request};
+use rdm_wire::{Frame, NoMemory, Request};
 use std::mem::size_of;
 
 /// A call of a session (profile of this project).

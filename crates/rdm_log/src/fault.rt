@@ -1,11 +1,6 @@
 //! Why a call is refused.
 use thiserror::Error;
 
-/// There was no memory, and nothing has changed (profile of this project).
-#[derive(Clone, Copy, Debug, PartialEq, Eq, Error)]
-#[error("out of memory")]
-pub struct NoMemory;
-
 /// The log has fewer than three free entries, and nothing has changed (profile of this project).
 #[derive(Clone, Copy, Debug, PartialEq, Eq, Error)]
 #[error("the log is full")]

@@ -25,6 +25,7 @@ pub use entry::{
     NEVER_GIVEN_TO_A_DISCOVERY, Opening, Owner,
 };
 pub use event::{Answer, Event};
-pub use fault::{AskFault, JoinFault, LogFull, NoMemory, NotAsked, NotIdle, SubmitFault};
+pub use fault::{AskFault, JoinFault, LogFull, NotAsked, NotIdle, SubmitFault};
 pub use log::{LEAST_FREE, Log, MOST_FREE_ENTRIES};
 pub use outcome::{AskCompletion, BoxedOutcome, Completion, DiscoveryEnd, Outcome, OutcomeKind};
+pub use rdm_wire::NoMemory;

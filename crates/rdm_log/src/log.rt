@@ -1,9 +1,8 @@
 //! The log of a session.
 use crate::entry::{Entry, Opening};
-use crate::fault::NoMemory;
 use arrayvec::ArrayVec;
 use rdm_agent::Search;
-use rdm_wire::{DeviceSet, Uid};
+use rdm_wire::{DeviceSet, NoMemory, Uid};
 use std::alloc::Global;
 use std::marker::Model;
 
@@ -47,9 +46,9 @@ impl Log {
     ghost use Rattle.std.specs.Prelude.{◌≡◌, ◌+◌, ◌<◌, ◌≤◌, [], ◌∷◌, IfOk, length};
     ghost use Rattle.rdm_log.specs.log.LogState.{grown, blank_opening, blank_log};
 
-    /// A log without entries, with room for this many, 0 to 1,000,000, and one more for a close. Its opening has 0
-    /// everywhere, no places and no devices, is neither paused nor closed, and is written when a session begins.
-    /// Err: there was no memory.
+    /// A log without entries, with room for this many, 0 to [`MOST_FREE_ENTRIES`], and one more for a close. Its
+    /// opening has 0 everywhere, no clients and no devices, and is neither paused nor closed. It is written when a
+    /// session begins. Err: there was no memory.
     pub fn new(alloc: Global, free: usize) -> Result<Log, NoMemory>
         requires { free ≤ 1000000 }
         ensures { IfOk result (λ log. log ≡ blank_log (free + 1)) }
@@ -120,8 +119,8 @@ impl Log {
         self
     }
 
-    /// Puts an entry at the end. Fewer entries than [`room`](Log::room) stand in the log, so this allocates nothing.
-    /// What the log has is unchanged. The entry is any: whether the log is legal with it is for the caller to see to.
+    /// Adds an entry at the end. The log must have fewer entries than [`room`](Log::room), so this allocates nothing.
+    /// The entries before it are unchanged. Any entry is accepted: the caller has to ensure that the log stays legal.
     pub fn append(&mut self, entry: Entry)
         requires { length self.old.entries < self.old.room }
         ensures { self.new ≡ grown self.old (entry ∷ []) }

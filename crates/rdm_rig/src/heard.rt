@@ -79,7 +79,8 @@ pub fn completion_told(completion: &Option<(u64, Completion)>) -> Heard {
     }
 }
 
-// How the request with this tag ended. A reply is there for status Completed alone, and is the device's to that request.
+// How the request with this tag ended. A reply is there for status Completed alone, and is the device's to that
+// request.
 fn of_request(tag: u64, done: &Completion) -> Heard {
     match &done.reply {
         None if done.status == Status::Completed || !done.bytes.is_empty() => Heard::Mixed,

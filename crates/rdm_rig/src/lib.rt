@@ -1,5 +1,5 @@
-//! Rigs for tests: callbacks that tell what they were called with, lines of simulated devices and of stored replies, and
-//! a list of acts that drives the clients of a queue. Here the queue is a session in one thread; `rdm_stage` has a
+//! Rigs for tests: callbacks that tell what they were called with, lines of simulated devices and of stored replies,
+//! and a list of acts that drives the clients of a queue. Here the queue is a session in one thread; `rdm_stage` has a
 //! session with a mutex, and clients with ring buffers. Nothing but tests and measurements depends on these crates.
 //!
 //! What a test compares is plain data: [`Heard`] for what an act came to, [`Said`] for an entry of a log, and [`State`]

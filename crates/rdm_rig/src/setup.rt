@@ -63,8 +63,8 @@ pub fn get() -> Request {
 /// The tags from this one on are of requests for the parameter `8001`.
 pub const LONG: u64 = 1 << 32;
 
-/// The request with this tag: a GET of the parameter `0060`, or `8001`, from `1234:00000001`. The tag 0 has no sub-device
-/// and no data. Each other one names another sub-device, up to 511, and has its last byte as data.
+/// The request with this tag: a GET of the parameter `0060`, or `8001`, from `1234:00000001`. The tag 0 has no
+/// sub-device and no data. Each other one names another sub-device, up to 511, and has its last byte as data.
 pub fn request(tag: u64) -> Request {
     let mut param = ArrayVec::new();
     if tag != 0 {

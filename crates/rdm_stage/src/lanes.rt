@@ -413,7 +413,8 @@ pub fn counts_are(left: &[Left], wanted: &[(u64, u64, u64)]) -> Result<(), Faile
     Ok(())
 }
 
-/// As [`play_lanes`], but the worker goes after the moves, and each client reads once more. What the first one sees then.
+/// As [`play_lanes`], but the worker goes after the moves, and each client reads once more. What the first one sees
+/// then.
 #[inline(never)]
 pub fn read_alone<X: Line + Drop, R: Wait>(
     rt: &R,

@@ -310,7 +310,8 @@ fn plays<L: Ledger, X: Line + Drop, R: Wait>(
     over_of(alloc, port, gone)
 }
 
-/// The same with this driver in place of the moves. If there is no memory for the port, it is opened with what came back.
+/// The same with this driver in place of the moves. If there is no memory for the port, it is opened with what came
+/// back.
 pub fn drive_port<X: Line + Drop, R: Wait, D: Driver>(
     rt: &R,
     alloc: Global,

@@ -82,8 +82,8 @@ pub fn run_players<X: Line + Send + Drop, R: Threads + Wait + Sync>(
     }
 }
 
-/// The same with these players, and this many turns of the worker. If there is no memory for the session, it is run with
-/// what came back.
+/// The same with these players, and this many turns of the worker. If there is no memory for the session, it is run
+/// with what came back.
 pub fn run_bodies<X: Line + Send + Drop, R: Threads + Wait + Sync>(
     rt: &R,
     alloc: Global,

@@ -24,8 +24,8 @@ pub record BranchText (b : List ℕ) (u : ℕ) : Type 0 where
   pub uid : number_of (ands (take 12 e)) ≡ u
   pub sum : number_of (ands (drop 12 e)) ≡ checksum (take 12 e)
 
--- how bytes are read as the reply to a branch: no bytes are silence, the text of a UID is that UID, all else is a
--- collision (E1.20, discovery unique branch response)
+-- how bytes are read as the reply to a branch: no bytes are silence, the text of a UID is that UID, and anything else
+-- is a collision (E1.20, discovery unique branch response)
 abbrev pub ReadsAs : List ℕ → BranchReply → Type 0
 ReadsAs b Silent = b ≡ []
 ReadsAs b (One u) = BranchText b u

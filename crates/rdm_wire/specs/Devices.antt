@@ -11,7 +11,7 @@ abbrev pub device_with : List Device → ℕ → Option Device
 device_with [] u = None
 device_with (d ∷ ds) u = if u == d.uid then Some d else device_with ds u
 
--- the set with d, ascending by UID; a device with its UID that is there already is kept instead
+-- the set with d added, ascending by UID. If the set already has a device with that UID, it is unchanged
 abbrev pub with_device : Device → List Device → List Device
 with_device d [] = d ∷ []
 with_device d (e ∷ es) =

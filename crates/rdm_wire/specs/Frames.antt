@@ -1,4 +1,4 @@
--- How frames and bytes are seen: what they ask, and what was heard.
+-- What frames ask of the devices, and what bytes answer to that.
 use Rattle.std.specs.Prelude.{ℕ, List, [], ◌∷◌, Option, Some, None, bytes_eq, if◌then◌else◌}
 use Rattle.rdm_wire.specs.Bytes.{number_at}
 use Rattle.rdm_wire.specs.Packet.{Fields, fields_at}
@@ -9,16 +9,16 @@ use Rattle.rdm_wire.specs.Honest.{Asked, Heard, Seen}
 use Rattle.rdm_wire.specs.Honest.Asked.{Unmute, Branch, Mute, Other}
 use Rattle.rdm_wire.specs.Honest.Heard.{Failed, Silent, One, Acked, Noise}
 
--- the lower bound of a branch, as its data give it
+-- the lower bound of a branch, from its data
 abbrev pub lower_bound : Fields → ℕ
 lower_bound f = number_at 0 6 f.param
 
--- the upper bound of a branch, as its data give it
+-- the upper bound of a branch, from its data
 abbrev pub upper_bound : Fields → ℕ
 upper_bound f = number_at 6 6 f.param
 
--- what a frame with these fields asks: it is a discovery frame if it is exactly that frame, byte for byte. A branch
--- whose bounds are crossed therefore asks an empty range, and a mute may name a broadcast UID
+-- what a frame with these fields asks: it is a discovery frame if it is exactly that frame, byte for byte. So a
+-- branch whose bounds are crossed asks an empty range, and a mute may be of a broadcast UID
 abbrev pub asked_with : List ℕ → Fields → Asked
 asked_with frame f =
     if bytes_eq frame (unmute_frame f.source f.tn) then Unmute
@@ -40,7 +40,7 @@ abbrev pub acked_or_noise : Option MuteAck → Heard
 acked_or_noise None = Noise
 acked_or_noise (Some ack) = Acked ack
 
--- how bytes are heard after a frame of this source and number that asked this
+-- how bytes are heard after a frame that asked this, with this source and transaction number
 abbrev pub heard_bytes : ℕ → ℕ → Asked → List ℕ → Heard
 heard_bytes s tn asked [] = Silent
 heard_bytes s tn (Branch lo hi) (b ∷ bs) = one_or_noise (text_read (b ∷ bs))

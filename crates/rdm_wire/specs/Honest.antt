@@ -1,5 +1,5 @@
--- The honest line, over what was asked and what was heard: once for frames and bytes, and for the agent's
--- operations and replies.
+-- The honest line, by what was asked and what was heard. The same definitions serve for frames and bytes, and for the
+-- agent's operations and replies.
 use Rattle.std.specs.Prelude.{◌≡◌, ◌⊎◌, ℕ, ◌+◌, ◌≤◌, Bool, true, false, ◌&&◌, not, List, [], ◌∷◌, ◌==◌, filter}
 use Rattle.std.specs.Prelude.{if◌then◌else◌, MatchBool}
 use Rattle.rdm_wire.specs.Uid.{has, is_within, IsDeviceSet}
@@ -12,7 +12,7 @@ pub data Asked : Type 0 where
   Mute : (u : ℕ) → Asked
   Other : Asked
 
--- what came: the line failed; no bytes; the text of a UID; an acknowledgement of the mute; other bytes
+-- what was heard: the line failed; no bytes; the text of a UID; an acknowledgement of the mute; other bytes
 pub data Heard : Type 0 where
   Failed : Heard
   Silent : Heard
@@ -50,7 +50,7 @@ due_in present muted lo hi = filter (λ u. is_within lo hi u && not (muted u)) p
 abbrev pub KeepsMuted : ℕ → LineState → LineState → Type 0
 KeepsMuted u old new = new.muted u ≡ old.muted u
 
--- new has these counts, no more than four replies lost in a row
+-- new has these counts, and no more than four replies were lost in a row
 pub record Counts (new : LineState) (b m n : ℕ) : Type 0 where
   pub branches : new.lost_branches ≡ b
   pub mutes : new.lost_mutes ≡ m
@@ -80,7 +80,7 @@ pub record UnmuteMoves (u : ℕ) (old new : LineState) : Type 0 where
   pub fewer : new.muted u ≡ true → old.muted u ≡ true
   pub third : 3 ≤ old.unmutes + 1 → new.muted u ≡ false
 
--- a line with these devices may give this answer, and go on to the state new
+-- a line with these devices may answer like this, and then be in the state new
 abbrev pub HonestStep : List ℕ → LineState → Asked → Heard → LineState → Type 0
 HonestStep present old (Branch lo hi) heard new =
     MayReply (due_in present old.muted lo hi) heard
@@ -94,7 +94,7 @@ HonestStep present old (Mute u) heard new =
 HonestStep present old Unmute heard new = ((u : ℕ) → UnmuteMoves u old new) × Counts new 0 0 (old.unmutes + 1)
 HonestStep present old Other heard new = ((u : ℕ) → KeepsMuted u old new) × Counts new 0 0 0
 
--- the same for one device, whatever others do
+-- the same for one device, whatever the others do
 abbrev pub HonestToStep : ℕ → LineState → Asked → Heard → LineState → Type 0
 HonestToStep u old (Branch lo hi) heard new =
     KeepsMuted u old new × Counts new (lost_after (due_in (u ∷ []) old.muted lo hi) heard old.lost_branches) 0 0
@@ -103,7 +103,7 @@ HonestToStep u old (Mute v) heard new =
 HonestToStep u old Unmute heard new = UnmuteMoves u old new × Counts new 0 0 (old.unmutes + 1)
 HonestToStep u old Other heard new = KeepsMuted u old new × Counts new 0 0 0
 
--- steps one after another from a state, up to the first failure, after which nothing is asked
+-- consecutive steps from a state, up to the first failure, after which nothing is asked
 abbrev pub Chain : (LineState → Asked → Heard → LineState → Type 0) → LineState → List Seen → Type 0
 Chain Step old [] = Unit {0}
 Chain Step old (x ∷ xs) = (x.heard ≡ Failed) ⊎ ((new : LineState) × Step old x.asked x.heard new × Chain Step new xs)

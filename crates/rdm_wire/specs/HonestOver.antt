@@ -5,9 +5,9 @@ use Rattle.rdm_wire.specs.Uid.{has, IsDeviceSet}
 use Rattle.rdm_wire.specs.Honest.{LineState, HonestStep, KeepsMuted, Seen, before_run}
 use Rattle.rdm_wire.specs.Honest.Heard.{Failed}
 
--- devices leave and come before an exchange. Those in present are there at it; those in last were there at the
--- exchange before; those in earlier were there at some earlier exchange of the run. Who left doesn't come back, and
--- who isn't there isn't muted
+-- devices leave and come before an exchange. The list present has those that are on the line at this exchange, last
+-- those of the exchange before, and earlier those of all earlier exchanges of the run. A device that has left doesn't
+-- come back, and a device that isn't there isn't muted
 pub record ComeAndLeave (earlier last present : List ℕ) (old new : LineState) : Type 0 where
   pub stays : (u : ℕ) → has last u ≡ true → has present u ≡ true → KeepsMuted u old new
   pub comes : (u : ℕ) → has last u ≡ false → has present u ≡ true → (has earlier u ≡ false) × (new.muted u ≡ false)
@@ -16,8 +16,8 @@ pub record ComeAndLeave (earlier last present : List ℕ) (old new : LineState) 
   pub lost_mutes : new.lost_mutes ≡ old.lost_mutes
   pub unmutes : new.unmutes ≡ old.unmutes
 
--- exchanges one after another from a state, up to the first failure, each with the devices that are present at it:
--- before each some leave and others come, and then the line with those present answers
+-- consecutive exchanges from a state, up to the first failure, each with its present devices. Before an exchange some
+-- devices leave and others come. Then the line answers with those that are present
 abbrev pub ChainOver : (earlier last : List ℕ) → LineState → List (List ℕ) → List Seen → Type 0
 ChainOver earlier last old [] [] = Unit {0}
 ChainOver earlier last old [] (x ∷ xs) = ⊥
@@ -28,7 +28,7 @@ ChainOver earlier last old (present ∷ sets) (x ∷ xs) =
     ⊎ ((new : LineState) × HonestStep present moved x.asked x.heard new
     × ChainOver (present ++ earlier) present new sets xs))
 
--- those present at the first exchange
+-- the devices present at the first exchange
 abbrev pub first_set : List (List ℕ) → List ℕ
 first_set [] = []
 first_set (present ∷ sets) = present

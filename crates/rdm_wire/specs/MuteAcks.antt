@@ -20,14 +20,14 @@ pub record MuteAcked (u s n : ℕ) (b : List ℕ) : Type 0 where
   pub tn : response.tn ≡ n
   pub size : (length response.param.items ≡ 2) ⊎ (length response.param.items ≡ 8)
 
--- what the data of an acknowledgement say: the control field, and with 8 bytes the binding UID (E1.20, discovery mute
--- message)
+-- what the data of an acknowledgement encode: the control field, and with 8 bytes the binding UID (E1.20, discovery
+-- mute message)
 abbrev pub ack_data : List ℕ → MuteAck
 ack_data param = record {
   control = number_at 0 2 param;
   binding = if length param == 8 then Some (number_at 2 6 param) else None;
 }
 
--- b acknowledges a mute of u, asked by s with this number, and says ack
+-- b acknowledges a mute of u that s sent with this transaction number, and its data encode ack
 abbrev pub MuteAckedWith : ℕ → ℕ → ℕ → List ℕ → MuteAck → Type 0
 MuteAckedWith u s n b ack = (a : MuteAcked u s n b) × (ack ≡ ack_data a.response.param.items)

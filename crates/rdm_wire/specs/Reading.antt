@@ -16,7 +16,7 @@ after_preamble n (x ∷ xs) =
     if x == 0xaa then Some xs
     else (if (x == 0xfe) && nat_lt 0 n then after_preamble (n - 1) xs else None)
 
--- the UID that sixteen bytes spell, if their sum is right
+-- the UID that sixteen bytes spell, if their checksum is right
 abbrev pub uid_of_coded : List ℕ → Option ℕ
 uid_of_coded e =
     if nat_le 16 (length e) && (number_of (ands (drop 12 (take 16 e))) == checksum (take 12 e))
@@ -27,18 +27,18 @@ uid_of_coded e =
 abbrev pub text_read : List ℕ → Option ℕ
 text_read b = option_and_then uid_of_coded (after_preamble 7 b)
 
--- the response acknowledges a mute of u by s with this number
+-- whether the response acknowledges a mute of u that s sent with this transaction number
 abbrev pub acks : ℕ → ℕ → ℕ → Response → Bool
 acks u s tn r =
     (code_of_class r.class == 0x11) && (r.pid == 2) && (code_of_ack r.ack == 0)
     && (r.source == u) && (r.dest == s) && (r.tn == tn)
     && ((length r.param.items == 2) || (length r.param.items == 8))
 
--- what a decoded response acknowledges, if it acknowledges that mute
+-- the acknowledgement in a decoded response, if it acknowledges that mute
 abbrev pub ack_in_response : ℕ → ℕ → ℕ → Result Response PacketFault → Option MuteAck
 ack_in_response u s tn (Err fault) = None
 ack_in_response u s tn (Ok r) = if acks u s tn r then Some (ack_data r.param.items) else None
 
--- what the bytes acknowledge, computed
+-- the acknowledgement in these bytes, computed
 abbrev pub ack_read : ℕ → ℕ → ℕ → List ℕ → Option MuteAck
 ack_read u s tn b = ack_in_response u s tn (decoded b)

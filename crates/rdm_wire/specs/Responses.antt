@@ -44,7 +44,7 @@ fields_of r = record {
 abbrev pub Reads : Response → List ℕ → Type 0
 Reads r b = Fits (fields_of r) × (rest : List ℕ) × (b ≡ packet (fields_of r) ++ rest)
 
--- the class of a code, if it is a response's
+-- the class with this code, if it is a response's
 abbrev pub class_of_code : ℕ → Option RespClass
 class_of_code code =
     if code == 0x11 then Some responses.Discovery
@@ -57,7 +57,7 @@ ack_of_code code =
     else (if code == 1 then Some Timer
     else (if code == 2 then Some Nack else (if code == 3 then Some Overflow else None)))
 
--- the response at the table's offsets, of this class and type
+-- the response with this class and type, and with the other fields at the packet's offsets
 abbrev pub response_at : RespClass → AckType → List ℕ → Response
 response_at class ack b = record {
   source = (fields_at b).source;
@@ -71,13 +71,13 @@ response_at class ack b = record {
   param = record { items = (fields_at b).param };
 }
 
--- a class and a type that are a response's, and their faults
+-- the response with this class and this type, or the fault if a response has no such class or no such type
 abbrev pub response_of : List ℕ → Option RespClass → Option AckType → Result Response PacketFault
 response_of b None ack = Err InvalidClass
 response_of b (Some class) None = Err InvalidResponseType
 response_of b (Some class) (Some ack) = Ok (response_at class ack b)
 
--- what bytes decode to: the first fault that holds, else the response
+-- what bytes decode to: the first fault that applies, or else the response
 abbrev pub decoded : List ℕ → Result Response PacketFault
 decoded b =
     if nat_lt (length b) 26 then Err TooShort

@@ -1,7 +1,7 @@
 -- Frames that laws read.
 use Rattle.std.specs.Prelude.{ℕ, List, [], ◌∷◌}
 
--- an unmute from 7a70:00000100, its checksum one too great
+-- an unmute from 7a70:00000100 whose checksum is too great by one
 abbrev pub frame_with_wrong_sum : List ℕ
 frame_with_wrong_sum =
     0xcc ∷ 0x01 ∷ 0x18 ∷ 0xff ∷ 0xff ∷ 0xff ∷ 0xff ∷ 0xff ∷ 0xff

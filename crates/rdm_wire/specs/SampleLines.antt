@@ -15,6 +15,6 @@ one_there = first_device ∷ []
 abbrev pub two_there : List ℕ
 two_there = first_device ∷ 0x9abc00000002 ∷ []
 
--- all UIDs were asked for, and this was heard
+-- a branch of all UIDs, after which this was heard
 abbrev pub asked_all : Heard → Seen
 asked_all heard = record { asked = Branch 0 0xffffffffffff; heard = heard }

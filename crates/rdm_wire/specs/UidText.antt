@@ -25,7 +25,7 @@ pub record UidText (text : List ℕ) (u : ℕ) : Type 0 where
 abbrev pub uid_text : ℕ → List ℕ
 uid_text u = encode_lower (take 2 (uid_bytes u)) ++ colon ∷ encode_lower (drop 2 (uid_bytes u))
 
--- what reading a text as a UID gives: the UID that it spells; or else the first fault, and any other is of the digits
+-- what parsing a text gives: the UID that it spells, or the first fault. Any other fault is that of the digits
 pub record ParsesUid (text : List ℕ) (result : Result ℕ UidFault) : Type 0 where
   pub ok : (u : ℕ) → (result ≡ Ok u) ↔ UidText text u
   pub length_fault : IsErrOf result Length ↔ (length text ≢ 13)

@@ -9,14 +9,14 @@ use crate::checksum::checksum;
 use crate::uid::Uid;
 use arrayvec::ArrayVec;
 
-/// What the bytes that answered a branch say (E1.20, discovery unique branch).
+/// What the bytes after a branch mean (E1.20, discovery unique branch).
 #[derive(Clone, Copy, Debug, PartialEq, Eq)]
 pub enum BranchReply {
     /// No bytes came.
     Silent,
-    /// The text of this UID came.
+    /// The bytes were the text of this UID.
     One(Uid),
-    /// Other bytes came, such as those of several devices that reply at once.
+    /// The bytes were others, such as those of several devices that reply at once.
     Collision,
 }
 
@@ -33,7 +33,7 @@ const PREAMBLE: u8 = 0xfe;
 
 const SEPARATOR: u8 = 0xaa;
 
-// A byte is sent as two, the first with these bits set and the second with the others: the AND of both is the byte.
+// Each byte is sent twice, first with these bits set and then with the other bits set. The AND of the two is the byte.
 const FIRST_SET: u8 = 0xaa;
 
 const SECOND_SET: u8 = 0x55;
@@ -42,8 +42,7 @@ const ENCODED_UID_LEN: usize = 12;
 
 const ENCODED_CHECKSUM_LEN: usize = 4;
 
-/// What the bytes that answered a branch say (E1.20, discovery unique branch). Bytes after a device's text are
-/// ignored.
+/// What the bytes after a branch mean (E1.20, discovery unique branch). Bytes after a device's text are ignored.
 pub fn read_branch_reply(bytes: &[u8]) -> BranchReply
     ensures one { (u : ℕ) → (result ≡ BranchReply.One u) ↔ BranchText bytes.now u }
     ensures silent { (result ≡ BranchReply.Silent) ↔ (bytes.now ≡ []) }
@@ -90,7 +89,7 @@ fn preamble_len(bytes: &[u8]) -> usize
     bytes.iter().take_while(|byte| **byte == PREAMBLE).count()
 }
 
-// The UID that encoded bytes give, if the checksum after it is their sum as received.
+// The UID that these bytes encode, if the checksum after it is the sum of its bytes as received.
 fn uid_of_encoded(encoded: &[u8]) -> Option<Uid>
     ensures { result ≡ uid_of_coded encoded.now }
 {

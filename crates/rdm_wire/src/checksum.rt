@@ -5,7 +5,7 @@ ghost use Rattle.rdm_wire.specs.Bytes.{checksum as checksum_of};
 use crate::frame::MOST_FRAME_BYTES;
 
 /// The 16-bit sum of the bytes (E1.20, checksum).
-// No packet is longer, and the sum of this many bytes has 16 bits.
+// No packet is longer, so the sum fits 16 bits.
 pub(crate) fn checksum(bytes: &[u8]) -> u16
     requires { length bytes.now ≤ MOST_FRAME_BYTES }
     ensures { result ≡ checksum_of bytes.now }

@@ -18,7 +18,7 @@ use crate::uid::Uid;
 use crate::uid_range::UidRange;
 use arrayvec::ArrayVec;
 
-// How many bytes the data of a branch have: the two bounds.
+// How many bytes of data a branch has: its two bounds.
 const BOUNDS_LENGTH: usize = 12;
 
 /// What a controller asks, one for each of the encoders (E1.20, discovery, GET and SET commands).
@@ -54,7 +54,7 @@ pub fn read_command(bytes: &[u8]) -> Option<(Command, Uid, u8)>
     }
 }
 
-// The length of the parameter data, if the bytes are as many as it says.
+// The length of the parameter data, if the packet has exactly that many.
 fn data_length(bytes: &[u8]) -> Option<usize>
     ensures none { IfNone result (command_read bytes.now ≡ None) }
     ensures length { IfSome result (λ n. (n ≡ slice_index bytes.now 23) × (length bytes.now ≡ 26 + n)) }
@@ -72,7 +72,7 @@ fn data_length(bytes: &[u8]) -> Option<usize>
     }
 }
 
-// The command that a header and data say by class, PID and data.
+// The command that a header and its data encode.
 fn command_of(header: Header, param: &[u8]) -> Option<Command>
     requires { length param.now ≤ MOST_PARAMETER_BYTES }
     ensures value { result ≡ command_in (header_fields header param.now) }

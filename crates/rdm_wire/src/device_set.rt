@@ -1,4 +1,4 @@
-//! Sets of devices, with what each said of itself.
+//! Sets of devices, each with its control field and binding UID.
 ghost use Rattle.std.specs.Prelude.{⊤, ◌≡◌, ◌≢◌, ◌<◌, ◌≤◌, ◌^◌, ◌↔◌, ◌==◌, ℕ, [], length, true, false, Ok, None};
 ghost use Rattle.std.specs.Prelude.{IsErr, IfNone, IfSome, OnSome, IfOk, IfErr, OnOk, OnErr, insert, slice_get};
 ghost use Rattle.std.specs.Iterator.Runs.{EveryRun, ItemsMapTo};
@@ -22,7 +22,7 @@ pub struct DeviceSet {
     devices: ArrayVec<Device, MOST_DEVICES>,
 }
 
-// What the docs say of its size: 32 bytes for each device that fits, and 8 for how many are taken.
+// The size that the docs state: 32 bytes for each device that fits, and 8 for the count.
 const _: () = prove!(size_of::<DeviceSet>() == 32 * MOST_DEVICES + 8);
 
 impl Model for DeviceSet {
@@ -111,8 +111,9 @@ impl DeviceSet {
         self.search(uid).is_ok()
     }
 
-    /// Puts in a device; `false` if one with its UID was there already, which is unchanged. [`SetFull`]: none was there
-    /// and the set is full. If the device isn't put in, the set is unchanged.
+    /// Adds a device, whose UID must not be broadcast ([`Uid::is_broadcast`]). Returns whether it was added: `false` if
+    /// the set has a device with that UID. [`SetFull`]: it has none, and is full. If nothing is added, the set is
+    /// unchanged.
     pub fn insert(&mut self, device: Device) -> Result<bool, SetFull>
         requires { is_broadcast device.uid ≡ false }
         ensures there { (result ≡ Ok false) ↔ (has (uids_of self.old) device.uid ≡ true) }
@@ -134,7 +135,7 @@ impl DeviceSet {
         Ok(true)
     }
 
-    // The index at which a device with this UID is to be put in; `None` if one is there.
+    // The index at which a device with this UID is to be inserted; `None` if there is one already.
     fn index_for(&self, uid: Uid) -> Option<usize>
         ensures there { IfNone result (has (uids_of self.now) uid ≡ true) }
         ensures absent { OnSome result (has (uids_of self.now) uid ≡ false) }
@@ -147,7 +148,7 @@ impl DeviceSet {
         self.search(uid).err()
     }
 
-    // Where the device with this UID is, or else where one is to be put in.
+    // The index of the device with this UID, or else the index at which one is to be inserted.
     fn search(&self, uid: Uid) -> Result<usize, usize>
         ensures there { OnOk result (has (uids_of self.now) uid ≡ true) }
         ensures found { IfOk result (λ i. slice_get self.now i ≡ device_with self.now uid) }
@@ -174,14 +175,14 @@ impl DeviceSet {
         UidSet::of_devices(self.as_slice())
     }
 
-    /// Takes out all devices. It costs no more than the devices that there were.
+    /// Removes all devices. The cost grows with the number of devices that the set had.
     pub fn clear(&mut self)
         ensures { self.new ≡ [] }
     {
         self.devices.clear();
     }
 
-    /// Becomes the same set as `other`. It costs no more than the devices of both.
+    /// Becomes the same set as `other`. The cost grows with the number of devices of both.
     pub fn copy_from(&mut self, other: &DeviceSet)
         ensures { self.new ≡ other.now }
     {

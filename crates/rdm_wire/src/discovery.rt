@@ -33,7 +33,7 @@ pub fn encode_branch(range: UidRange, source: Uid, tn: u8) -> Frame
 }
 
 /// The packet that mutes a device (E1.20, discovery mute), from the controller `source`, with the transaction number
-/// `tn`. It has no data.
+/// `tn`. It has no data. `uid` must not be broadcast ([`Uid::is_broadcast`]).
 pub fn encode_mute(uid: Uid, source: Uid, tn: u8) -> Frame
     requires { is_broadcast uid ≡ false }
     ensures frame { result.items ≡ mute_frame uid source tn }
@@ -51,7 +51,7 @@ pub fn encode_unmute(source: Uid, tn: u8) -> Frame
     discovery_header(Uid::ALL, source, tn, DISC_UN_MUTE).encode(&[])
 }
 
-// What a discovery command says before its data.
+// The header of a discovery command.
 fn discovery_header(dest: Uid, source: Uid, tn: u8, pid: u16) -> Header
     ensures { (param : List ℕ) → header_fields result param ≡ discovery_fields dest pid param source tn }
 {

@@ -87,17 +87,17 @@ pub(crate) mod class {
 
 /// The codes of the response types (E1.20, response type).
 pub(crate) mod response_type {
-    /// It is done.
+    /// ACK: it is done.
     pub(crate) const ACK: u8 = 0x00;
-    /// The answer comes later.
+    /// ACK_TIMER: the answer comes later.
     pub(crate) const ACK_TIMER: u8 = 0x01;
-    /// It is refused.
+    /// NACK_REASON: it is refused.
     pub(crate) const NACK_REASON: u8 = 0x02;
-    /// It is done, and more data follow.
+    /// ACK_OVERFLOW: it is done, and there is more data to get.
     pub(crate) const ACK_OVERFLOW: u8 = 0x03;
 }
 
-/// What a packet says before its parameter data.
+/// The fields of a packet before its parameter data.
 #[derive(Clone, Copy)]
 pub(crate) struct Header {
     /// The destination.

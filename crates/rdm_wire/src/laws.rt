@@ -24,7 +24,7 @@ use crate::frame::{MOST_FRAME_BYTES, MOST_PARAMETER_BYTES};
 use crate::request::QUEUED_MESSAGE;
 use crate::uid_set::MOST_DEVICES;
 
-/// The numbers of this crate that others build on.
+/// The constants of this crate that other crates depend on.
 pub fn limits_are()
     ensures devices { MOST_DEVICES ≡ 1024 }
     ensures frame { MOST_FRAME_BYTES ≡ 257 }
@@ -72,8 +72,8 @@ pub fn what_frames_ask()
     ensures wrong_sum { asked_in frame_with_wrong_sum ≡ Other }
 {}
 
-/// What an encoder writes is read as its command, and a frame asks the devices what the command does that it is read
-/// as; bytes that are no command ask no device anything. The definitions are in `specs`.
+/// What an encoder writes is read as its command. A frame asks of the devices what the command asks that it is read
+/// as, and bytes that are no command ask nothing of any device.
 pub fn commands_read_back()
     ensures read { (command : Command) (s tn : ℕ) (b : List ℕ) →
         Writes command s tn b → command_read b ≡ Some (command, s, tn) }
@@ -82,14 +82,15 @@ pub fn commands_read_back()
     ensures asks { (b : List ℕ) → IsBytes b → AsksSo (command_read b) (asked_in b) }
 {}
 
-/// A line whose present devices are the same at each exchange is the honest line of those devices.
+/// If the same devices are present at each exchange, the honest line whose devices come and leave is the honest line
+/// with these devices.
 pub fn one_set_is_a_case()
     ensures { (present : List ℕ) (x : List Seen) → IsDeviceSet present
         → HonestTrace present x ↔ HonestOver (replicate (length x) present) x }
 {}
 
-/// A line on which a device comes is honest, and so is one on which a device leaves. One on which a device comes back
-/// isn't.
+/// A line may be honest if a device comes during the run, and also if one leaves. It isn't honest if a device comes
+/// back.
 pub fn devices_come_and_leave()
     ensures comes { HonestOver (one_there ∷ two_there ∷ []) (asked_all (One first_device) ∷ asked_all Noise ∷ []) }
     ensures leaves { HonestOver (two_there ∷ one_there ∷ []) (asked_all Noise ∷ asked_all (One first_device) ∷ []) }

@@ -13,10 +13,10 @@ const CONTROL_LENGTH: usize = 2;
 
 const CONTROL_AND_BINDING_LENGTH: usize = 8;
 
-/// What a device says when it acknowledges that it was muted (E1.20, discovery mute).
+/// The data with which a device acknowledges a mute (E1.20, discovery mute).
 #[derive(Clone, Copy, Debug, PartialEq, Eq)]
 pub struct MuteAck {
-    /// The control field's bits: 1 managed proxy, 2 sub-device, 4 boot-loader, 8 proxied device; others pass.
+    /// The control field's bits: 1 managed proxy, 2 sub-device, 4 boot-loader, 8 proxied device. Other bits are kept.
     pub control: u16,
     /// The binding UID, if the device gave one.
     pub binding: Option<Uid>,
@@ -50,7 +50,7 @@ fn acknowledges(response: &Response, uid: Uid, source: Uid, tn: u8) -> bool
         && (size == CONTROL_LENGTH || size == CONTROL_AND_BINDING_LENGTH)
 }
 
-// What an acknowledgement's parameter data say: the control field, and the binding UID if it follows.
+// What an acknowledgement's parameter data encode: the control field, and the binding UID if it follows.
 fn ack_of_data(param: &[u8]) -> MuteAck
     requires { 2 ≤ length param.now }
     ensures { result ≡ ack_data param.now }

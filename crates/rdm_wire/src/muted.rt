@@ -27,7 +27,7 @@ pub fn mute_response(device: &Device, source: Uid, tn: u8) -> Response
     }
 }
 
-// What a device says of itself.
+// The data of the acknowledgement: the control field, and then the binding UID if there is one.
 fn mute_data(device: &Device) -> ArrayVec<u8, MOST_PARAMETER_BYTES>
     ensures { result.items ≡ mute_data device.now }
 {

@@ -141,8 +141,8 @@ impl AckType {
     }
 }
 
-/// The response whose packet the bytes begin with (E1.20, packet format). What follows the
-/// checksum is ignored. Otherwise the first fault that holds, in the order in which `PacketFault` names them.
+/// The response whose packet the bytes begin with (E1.20, packet format). Bytes after the checksum are ignored. An
+/// error is the first fault that applies, in the order of [`PacketFault`].
 pub fn decode_response(bytes: &[u8]) -> Result<Response, PacketFault>
     ensures value { result ≡ decoded bytes.now }
     ensures reads { (r : Response) → (result ≡ Ok r) ↔ Reads r bytes.now }

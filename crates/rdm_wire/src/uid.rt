@@ -90,7 +90,8 @@ impl Uid {
         self.number
     }
 
-    /// Whether it addresses many devices, so that no device has it: its device's bits are all set (E1.20, broadcast).
+    /// Whether it addresses many devices, because all bits of its device part are set (E1.20, broadcast). No device has
+    /// such a UID.
     pub fn is_broadcast(self) -> bool
         ensures { result ≡ is_broadcast self }
     {
@@ -98,11 +99,11 @@ impl Uid {
     }
 
     /// The UID that a text spells: four hexadecimal digits, a colon and eight hexadecimal digits, in either case. An
-    /// error is the first fault, in the order of `UidFault`. `from_str` gives the same.
+    /// error is the first fault that applies, in the order of [`UidFault`]. `from_str` returns the same.
     pub fn parse(text: &str) -> Result<Uid, UidFault>
         ensures ok { (u : ℕ) → (result ≡ Ok u) ↔ UidText text.now u }
         ensures length { IsErrOf result UidFault.Length ↔ (length text.now ≢ 13) }
-        // Any other fault is of the digits.
+        // Any other fault is that of the digits.
         ensures separator { IsErrOf result UidFault.Separator
             ↔ ((length text.now ≡ 13) × (slice_index text.now 4 ≢ colon)) }
     {

@@ -24,7 +24,7 @@ pub struct UidSet {
     uids: ArrayVec<Uid, MOST_DEVICES>,
 }
 
-// What the docs say of its size: 8 bytes for each device that fits, and 8 for how many are taken.
+// The size that the docs state: 8 bytes for each device that fits, and 8 for the count.
 const _: () = prove!(size_of::<UidSet>() == 8 * MOST_DEVICES + 8);
 
 impl Model for UidSet {
@@ -40,7 +40,7 @@ impl Model for UidSet {
     ghost inverse = { λ us. record { uids = record { items = us } } };
 }
 
-/// A set is full: another device doesn't fit.
+/// The set is full, so another device doesn't fit. The set is unchanged.
 #[derive(Clone, Copy, Debug, PartialEq, Eq, Error)]
 #[error("a set has room for 1,024 devices")]
 pub struct SetFull;
@@ -105,8 +105,8 @@ impl UidSet {
         self.index_for(uid).is_none()
     }
 
-    /// Puts in `uid`, a device's; `false` if it was there already. [`SetFull`]: it isn't there and the set is full. If
-    /// it isn't put in, the set is unchanged.
+    /// Adds `uid`, which must not be broadcast ([`Uid::is_broadcast`]). Returns whether it was added: `false` if the
+    /// set has it already. [`SetFull`]: the set doesn't have it, and is full. If nothing is added, it is unchanged.
     pub fn insert(&mut self, uid: Uid) -> Result<bool, SetFull>
         requires { is_broadcast uid ≡ false }
         ensures there { (result ≡ Ok false) ↔ (has self.old uid ≡ true) }
@@ -126,7 +126,7 @@ impl UidSet {
         Ok(true)
     }
 
-    // The index at which `uid` is to be put in; `None` if it is there.
+    // The index at which `uid` is to be inserted; `None` if the set has it already.
     fn index_for(&self, uid: Uid) -> Option<usize>
         ensures there { IfNone result (has self.now uid ≡ true) }
         ensures absent { OnSome result (has self.now uid ≡ false) }
@@ -143,14 +143,14 @@ impl UidSet {
         }
     }
 
-    /// Takes out all devices. It costs no more than the devices that there were.
+    /// Removes all devices. The cost grows with the number of devices that the set had.
     pub fn clear(&mut self)
         ensures { self.new ≡ [] }
     {
         self.uids.clear();
     }
 
-    /// Becomes the same set as `other`. It costs no more than the devices of both.
+    /// Becomes the same set as `other`. The cost grows with the number of devices of both.
     pub fn copy_from(&mut self, other: &UidSet)
         ensures { self.new ≡ other.now }
     {
@@ -158,7 +158,7 @@ impl UidSet {
         self.uids.try_extend_from_slice(other.as_slice()).unwrap();
     }
 
-    /// The UIDs of these devices, which are a set's.
+    /// The UIDs of these devices, which are those of a set.
     pub(crate) fn of_devices(devices: &[Device]) -> UidSet
         requires devices { IsDeviceSet (uids_of devices.now) }
         requires fits { length devices.now ≤ MOST_DEVICES }

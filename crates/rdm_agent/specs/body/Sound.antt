@@ -1,4 +1,4 @@
--- What holds of each agent.
+-- What holds for each agent.
 use Rattle.std.specs.Prelude.{◌≡◌, ℕ, suc, ◌+◌, ◌^◌, ◌<◌, ◌≤◌, List, [], ◌∷◌}
 use Rattle.std.specs.List.{AllByRecursion}
 use Rattle.rdm_wire.specs.Uid.{IsDevice}
@@ -8,20 +8,20 @@ use Rattle.rdm_agent.specs.Machine.Phase.{Unmuting, MutingKnown, Searching, Muti
 use Rattle.rdm_agent.specs.Machine.Phase.{Sweeping, MutingSwept, Doubting}
 use Rattle.rdm_agent.specs.declared.limits.TheConstants.{TRIES}
 
--- ranges that cover the UIDs from one on, each of 2^l UIDs where l is at least the level, and rises
+-- ranges that cover the UIDs from this one on. Each has 2^l UIDs, where l is at least the level and rises
 abbrev pub Ascends : ℕ → ℕ → List Span → Type 0
 Ascends from level [] = from ≡ 2 ^ 48
 Ascends from level (r ∷ rs) =
     (l : ℕ) × (level ≤ l) × (l ≤ 47) × (r.lo ≡ from) × (r.hi + 1 ≡ from + 2 ^ l) × Ascends (r.hi + 1) (suc l) rs
 
--- open ranges, halves of halves of the whole: the top one has 2^level UIDs, and those below cover the rest
+-- open ranges, got by halving the whole range: the top one has 2^level UIDs, and those below cover the rest
 pub record IsStack (top : Span) (below : List Span) : Type 0 where
   pub level : ℕ
   pub height : level ≤ 48
   pub size : top.hi + 1 ≡ top.lo + 2 ^ level
   pub rest : Ascends (top.hi + 1) level below
 
--- a phase's UIDs are devices', its counts below TRIES or small, its ranges halves of halves
+-- a phase's UIDs are those of devices, its counts are below TRIES or small, and its ranges are got by halving
 abbrev pub IsSound : Phase → Type 0
 IsSound (Unmuting more known) = AllByRecursion IsDevice known
 IsSound (MutingKnown u tries known) = IsDevice u × (tries < TRIES) × AllByRecursion IsDevice known
@@ -33,7 +33,7 @@ IsSound (MutingSwept u tries sweep top below) =
 IsSound (Doubting sweep top below) = (sweep.made < 2 ^ 20) × (1 < top.lo) × IsStack top below
 IsSound (Ended fault) = Unit {0}
 
--- no range waits before the search
+-- before the search there is no other range
 abbrev pub IsFresh : Phase → List Span → Type 0
 IsFresh (Unmuting more known) below = below ≡ []
 IsFresh (MutingKnown u tries known) below = below ≡ []

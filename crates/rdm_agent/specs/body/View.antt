@@ -1,4 +1,4 @@
--- How an agent's fields are seen.
+-- The machine's state in an agent's fields.
 use Rattle.std.specs.Prelude.{◌≡◌, ◌+◌, ℕ, List}
 use Rattle.rdm_wire.specs.Span.{Span}
 use Rattle.rdm_agent.specs.Machine as machine
@@ -26,7 +26,7 @@ phase_of (MutingSwept uid tries top sweep) known below = muting_swept uid tries 
 phase_of (Doubting top sweep) known below = doubting (sweep_of sweep) top below
 phase_of (Ended fault) known below = ended fault
 
--- the same of all that a run keeps
+-- the same for all that a run keeps
 abbrev pub seen_phase : Phase → Progress → machine.Phase
 seen_phase phase p = phase_of phase p.known p.below
 
@@ -40,7 +40,7 @@ state_of budget frames phase p = record {
   phase = seen_phase phase p;
 }
 
--- the new phase and progress are what the step makes of the old ones, and count one exchange more
+-- the new phase and progress are those after the step, which counts one more exchange
 abbrev pub Steps : (machine.AgentState → machine.AgentState) → Phase → Progress → Phase → Progress → Type 0
 Steps step phase old result new =
     (budget frames : ℕ) → state_of budget (frames + 1) result new ≡ step (state_of budget frames phase old)

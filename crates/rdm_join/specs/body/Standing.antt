@@ -1,5 +1,6 @@
--- Where a joiner stands after a list of verdicts.
-use Rattle.std.specs.Prelude.{◌≡◌, ◌↔◌, ◌+◌, Bool, true, false, ◌&&◌, not, List, [], ◌∷◌, ◌++◌, length, Option, Some, None}
+-- The state of a joiner after a list of verdicts.
+use Rattle.std.specs.Prelude.{◌≡◌, ◌↔◌, ◌+◌, Bool, true, false, ◌&&◌, not, List, [], ◌∷◌, ◌++◌, length}
+use Rattle.std.specs.Prelude.{Option, Some, None}
 use Rattle.std.specs.Prelude.{◌==◌, nat_lt, if◌then◌else◌}
 use Rattle.rdm_wire.specs.Responses.{code_of_ack}
 use Rattle.rdm_join.specs.declared.verdict.Judged.{Judged}
@@ -12,29 +13,29 @@ use Rattle.rdm_join.specs.Result.{Joined, result_of, joined_data, head_of, diffe
 use Rattle.rdm_join.specs.JoinerStanding.{JoinerStanding, IsOpen, step_of}
 use Rattle.rdm_join.specs.declared.verdict.Judged.TheVariants as verdicts
 
--- the stage at which a list of verdicts leaves a request open: they are all parts
+-- the stage of a request that a list of verdicts leaves open: they are all parts
 abbrev pub stage_of_parts : List Judged → Stage
 stage_of_parts [] = Waiting
 stage_of_parts (verdicts.Part r ∷ vs) = Joining (head_of r) (length vs + 1)
 stage_of_parts (verdicts.Whole r ∷ vs) = Waiting
 stage_of_parts (verdicts.Ended s ∷ vs) = Waiting
 
--- where a joiner stands: at the result of the verdicts, or if they have none, at their parts
+-- the state of a joiner: the result of the verdicts, or if they have none, their parts
 abbrev pub standing_at : Option Joined → List Judged → JoinerStanding
 standing_at (Some j) vs = record { stage = Ended j.head; data_ = j.data_ }
 standing_at None vs = record { stage = stage_of_parts vs; data_ = joined_data vs }
 
--- a joiner that was given these verdicts, in order, stands at s
+-- s is the state of a joiner that was given these verdicts, in order
 abbrev pub StandsAt : List Judged → JoinerStanding → Type 0
 StandsAt vs s = s ≡ standing_at (result_of vs) vs
 
--- new is where a joiner stands after old and the verdict v, and result what it answers
+-- new is the state of a joiner that was in the state old and was given the verdict v, and result is what it returns
 pub record JoinerMoves (old : JoinerStanding) (v : Judged) (result : Step) (new : JoinerStanding) : Type 0 where
   pub more : (result ≡ More) ↔ IsOpen new
   pub stands : (vs : List Judged) → StandsAt vs old → StandsAt (vs ++ v ∷ []) new
   pub step : (vs : List Judged) → StandsAt vs old → result ≡ step_of (result_of (vs ++ v ∷ []))
 
--- where a joiner stands whose request has ended without data
+-- the state of a joiner whose request has ended without data
 abbrev pub ended_standing : JoinerStanding
 ended_standing = record { stage = Ended None; data_ = [] }
 

@@ -1,4 +1,4 @@
--- The part of a parameter that is sent, as the proofs see it.
+-- The part of a parameter that is sent, for the proofs.
 use Rattle.std.specs.Prelude.{not, ◌≡◌, true, is_some, IfSome, ℕ, List, Option, Some, None, ◌==◌, option_and_then}
 use Rattle.std.specs.List.{prefix_len}
 use Rattle.arrayvec.specs.ArrayVec.{ArrayVec}
@@ -20,7 +20,7 @@ AnswersPart None answer = answer ≡ None
 AnswersPart (Some p) answer =
     IfSome answer (λ a. (a.0.items ≡ part_of p) × (a.1 ≡ ack_of_part p)) × (is_some answer ≡ true)
 
--- how many parameters stand before the first one with this PID
+-- how many parameters precede the first one with this PID
 abbrev pub index_of : ℕ → List ParameterState → ℕ
 index_of pid ps = prefix_len (λ p. not (p.pid == pid)) ps
 
@@ -28,7 +28,7 @@ index_of pid ps = prefix_len (λ p. not (p.pid == pid)) ps
 abbrev pub parameter_at : ℕ → ℕ → List SceneDevice → Option ParameterState
 parameter_at u pid devices = option_and_then (λ (d : SceneDevice). parameter_of pid d.params) (find_device devices u)
 
--- the response to a GET of which this part was sent; a parameter that the device doesn't have is refused, with reason 0
+-- the response to a GET that is answered with this part. A parameter that the device doesn't have is refused, reason 0
 abbrev pub SendsPart : Request → ℕ → ℕ → Option (ArrayVec ℕ × AckType) → List ℕ → Type 0
 SendsPart r source tn None reply =
     reply ≡ packet (fields_of (response_to r source tn responses.Get Nack (two_bytes 0)))

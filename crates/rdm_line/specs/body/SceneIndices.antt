@@ -4,7 +4,7 @@ use Rattle.std.specs.List.{prefix_len}
 use Rattle.rdm_line.specs.Scenes.{find_device}
 use Rattle.rdm_line.specs.declared.scene.SceneDevice.{SceneDevice}
 
--- how many devices have a lesser UID: the index of the one with this UID
+-- how many devices have a smaller UID: the index of the one with this UID
 abbrev pub index_in : List SceneDevice → ℕ → ℕ
 index_in devices u = prefix_len (λ d. nat_lt d.device.uid u) devices
 
@@ -22,7 +22,7 @@ pub record IsFoundAt (index u : ℕ) (devices : List SceneDevice) : Type 0 where
   pub there : has_at index u devices ≡ true
   pub found : find_device devices u ≡ slice_get devices index
 
--- there is no device with this UID, and this would be its index
+-- there is no device with this UID, and one would have this index
 pub record IsFreeAt (index u : ℕ) (devices : List SceneDevice) : Type 0 where
   pub is_index : index ≡ index_in devices u
   pub free : has_at index u devices ≡ false

@@ -11,7 +11,7 @@ use Rattle.rdm_log.specs.declared.entry.Entry.TheVariants.{Accept}
 use Rattle.rdm_log.specs.declared.entry.Call.TheVariants as calls
 use Rattle.rdm_log.specs.declared.fault.SubmitFault.TheVariants.{Full}
 use Rattle.rdm_log.specs.declared.outcome.AskCompletion.{AskCompletion}
-use Rattle.rdm_log.specs.declared.fault.NoMemory.{NoMemory}
+use Rattle.rdm_wire.specs.declared.fault.NoMemory.{NoMemory}
 use Rattle.rdm_log.specs.declared.outcome.Outcome.TheVariants as outcomes
 use Rattle.rdm_log.specs.declared.outcome.BoxedOutcome.{BoxedOutcome}
 use Rattle.rdm_log.specs.declared.event.Event.{Event}

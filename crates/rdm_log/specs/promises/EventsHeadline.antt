@@ -20,7 +20,7 @@ use Rattle.rdm_log.specs.declared.entry.Entry.TheVariants.{Accept, Ask, Finish}
 use Rattle.rdm_log.specs.declared.entry.Entry.TheVariants as entries
 use Rattle.rdm_log.specs.declared.fault.SubmitFault.TheVariants.{Full}
 use Rattle.rdm_log.specs.declared.fault.AskFault.TheVariants as ask_faults
-use Rattle.rdm_log.specs.declared.fault.NoMemory.{NoMemory}
+use Rattle.rdm_wire.specs.declared.fault.NoMemory.{NoMemory}
 use Rattle.rdm_log.specs.declared.outcome.AskCompletion.{AskCompletion}
 use Rattle.rdm_log.specs.declared.outcome.Outcome.{Outcome}
 use Rattle.rdm_log.specs.declared.outcome.Outcome.TheVariants as outcomes

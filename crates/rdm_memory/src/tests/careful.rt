@@ -71,8 +71,8 @@ impl Driver for Careful<'_> {
     }
 }
 
-/// Whether a request in this log got no data and was made again. The log has this many entries, and more if a call found
-/// no memory: one for a join, this many for such a request.
+/// Whether a request in this log got no data and was made again. The log has this many entries, and more if a call
+/// found no memory: one for a join, this many for such a request.
 pub fn is_again(rt: &impl Abort, log: &[Said], wanted: usize, request: usize) -> bool {
     let mut more = 0;
     let mut is_again = false;

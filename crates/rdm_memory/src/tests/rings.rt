@@ -40,7 +40,8 @@ fn plays<X: Line + Drop, R: Wait + Abort>(
     }
 }
 
-// Makes these moves over a line that fails, again if the rig finds no memory. The clients then hold this many callbacks.
+// Makes these moves over a line that fails, again if the rig finds no memory. The clients then hold this many
+// callbacks.
 fn fails<R: Wait + Abort>(rt: &R, alloc: Global, places: &[u8], moves: &[Move], held: u64) {
     let over = match plays(rt, alloc, places, TapeLine::new(Vec::new(alloc)), moves) {
         Some(over) => over,

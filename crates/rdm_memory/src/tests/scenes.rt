@@ -53,8 +53,8 @@ fn mute(rt: &impl Abort) -> Frame {
     encode_mute(uid, controller(), 0)
 }
 
-// What comes of this many mutes of the device: the failures and the losses have their numbers, and else it answers, with
-// its binding UID.
+// What comes of this many mutes of the device: the failures and the losses have their numbers, and else it answers,
+// with its binding UID.
 fn has_faults(rt: &impl Abort, line: &mut SimLine, exchanges: u64, losses: &[u64], fails: &[u64]) {
     let frame = mute(rt);
     for number in 0..exchanges {

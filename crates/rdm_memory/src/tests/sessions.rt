@@ -45,7 +45,8 @@ fn join_client_of_one_place(rt: HostRuntime) {
     moves(&rt, rt.alloc(), &mut stage, &all);
 }
 
-// A client with this many places, which are then taken one after the other. A join without memory changes the log alone.
+// A client with this many places, which are then taken one after the other. A join without memory changes the log
+// alone.
 fn takes_all_places(rt: &impl Abort, alloc: Global, places: u8) {
     let mut stage = session(rt, alloc, places, 2000);
     let join = [(Act::Join(places), Heard::Number(0))];
@@ -121,7 +122,8 @@ fn log_new_of_the_most_entries(rt: HostRuntime) {
     check(&rt, made.state().free == 1_000_000);
 }
 
-// Whether the request with this number is answered by two bytes. If there is no memory for them, it ends with status 18.
+// Whether the request with this number is answered by two bytes. If there is no memory for them, it ends with status
+// 18.
 fn is_answered(
     rt: &impl Abort,
     alloc: Global,

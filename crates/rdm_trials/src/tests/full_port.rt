@@ -7,7 +7,8 @@ use rdm_stage::{PortSetup, play_port};
 use std::test::Fail;
 
 // Of five free entries the join takes one, and a request that is accepted holds three. Another one is refused, and so
-// is all else that needs an entry. The close ends the request, whose outcome is collected; the log is as full as it was.
+// is all else that needs an entry. The close ends the request, whose outcome is collected; the log is as full as it
+// was.
 static MOVES: [Move; 12] = [
     (Act::Join(2), Heard::Number(0)),
     (Act::Client(0, Step::Submit(0)), Heard::Number(0)),
