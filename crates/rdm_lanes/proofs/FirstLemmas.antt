@@ -28,7 +28,7 @@ use Rattle.rdm_lanes.specs.body.Showing.{NoneLater, AreShownFirst}
 use Rattle.rdm_lanes.specs.ViewsRead.{AllShownFirst}
 use Rattle.rdm_lanes.proofs.EndLemmas.{get_map, within_get}
 use Rattle.rdm_lanes.proofs.FoundLemmas.{is_last_true, adds_found}
-use Rattle.rdm_lanes.proofs.SceneLemmas.{IsToldBy, IsAnswered, IsRefusedByClose, told_in, discovery_of}
+use Rattle.rdm_lanes.proofs.ToldLemmas.{IsToldBy, IsAnswered, IsRefusedByClose, told_in, discovery_of}
 
 -- the run of each Answer without fault is among those that were found
 abbrev Has : List ℕ → ℕ → Type 0

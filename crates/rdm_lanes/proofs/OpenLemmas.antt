@@ -36,7 +36,8 @@ use Rattle.rdm_lanes.specs.Told.{told_values, uncollected_values, values_in}
 use Rattle.rdm_lanes.specs.declared.call.OperatorCall.{OperatorCall}
 use Rattle.rdm_lanes.specs.Operators.{switches, effective}
 use Rattle.rdm_lanes.specs.body.Operated.{IsOperated}
-use Rattle.rdm_lanes.specs.Lines.{exchanges, IsBetweenTurns}
+use Rattle.rdm_scenes.specs.Exchanges.{exchanges}
+use Rattle.rdm_lanes.specs.Lines.{IsBetweenTurns}
 use Rattle.rdm_lanes.specs.Lanes.{Fits, AllFit, lane_places}
 use Rattle.rdm_lanes.specs.Pairs.{Rings, ArePair, client_rings, ClientsPair}
 use Rattle.rdm_lanes.specs.declared.fault.OpenFault.TheVariants.{TooManyClients, NoPlaces}

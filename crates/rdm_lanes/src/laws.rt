@@ -4,9 +4,9 @@ ghost use Rattle.rdm_line.specs.Sim.{SimState};
 ghost use Rattle.rdm_log.specs.declared.config.Setup.{Setup};
 ghost use Rattle.rdm_log.specs.log.LogState.{LogState};
 ghost use Rattle.rdm_lanes.specs.declared.ends.ClientEnd.{ClientEnd};
-ghost use Rattle.rdm_lanes.specs.OverThreads.{IsLossyScene, IsStayingScene, IsEndOver};
-ghost use Rattle.rdm_lanes.specs.OverThreads.{TellsTheDevices, TellsTheChanging};
-ghost use Rattle.rdm_lanes.specs.OverThreads.{IsCalmScene, IsEnough, IsByDefault, TellsNoFault};
+ghost use Rattle.rdm_scenes.specs.Scenes.{IsLossyScene, IsStayingScene, IsCalmScene};
+ghost use Rattle.rdm_lanes.specs.OverThreads.{IsEndOver, TellsTheDevices, TellsTheChanging};
+ghost use Rattle.rdm_lanes.specs.OverThreads.{IsEnough, IsByDefault, TellsNoFault};
 
 use crate::history::ViewHistory;
 
