@@ -1,13 +1,9 @@
 //! How clients, an operator and a worker are opened.
-ghost use Rattle.std.specs.Prelude.{◌≡◌, ◌≤◌, ◌∷◌, [], false, IfOk, IfErr, IsErr, MatchOption};
-ghost use Rattle.rtrb.specs.Ring.{producer_capacity};
-ghost use Rattle.rdm_log.specs.log.Config.{IsConfig, steady};
-ghost use Rattle.rdm_lanes.specs.Opened.{places_fault, opened_with, AreNew, IsFullFor, IsLaterFault};
+ghost use Rattle.std.specs.Prelude.{◌≡◌, IfOk, IfErr};
+ghost use Rattle.rdm_log.specs.log.Config.{steady};
 ghost use Rattle.rdm_log.specs.log.LogState.{blank_log};
-ghost use Rattle.rdm_lanes.specs.Pairs.{ClientsPair};
-ghost use Rattle.rdm_lanes.specs.Views.{opening_view};
-ghost use Rattle.rdm_lanes.specs.Workers.{session_of, lanes_of, operator_has_left, published_by};
-ghost use Rattle.rdm_lanes.specs.Workers.{called_by, has_left, book_of, OperatorPairs};
+ghost use Rattle.rdm_lanes.specs.Opened.{places_fault, MayOpen, IsOpened, HasFirstFault};
+ghost use Rattle.rdm_lanes.specs.Workers.{book_of};
 
 use crate::client::RingClient;
 use crate::fault::OpenFault;
@@ -64,20 +60,9 @@ pub fn open_lanes<J: ViewHistory, C: Tells, A: TellsAsk, R: Wait + Drop>(
     ring: u8,
     places: &[u8],
 ) -> Result<Lanes<J, Shown<J>, R, C, A>, (OpenFault, Log, BlankHistory)>
-    requires name { book_of history ≡ J.book }
-    requires config_is { IsConfig config }
-    requires empty { log.entries ≡ [] }
-    requires slots { 1 ≤ ring }
-    ensures session { IfOk result (λ lanes. session_of lanes.worker ≡ opened_with (steady config) log.room places.now) }
-    ensures clients { IfOk result (λ lanes. AreNew ring places.now lanes.clients.items) }
-    ensures operator { IfOk result (λ lanes. (called_by lanes.operator ≡ []) × (has_left lanes.operator ≡ false)
-        × (operator_has_left lanes.worker ≡ false) × (producer_capacity lanes.operator.calls ≡ ring)
-        × OperatorPairs lanes.operator lanes.worker) }
-    ensures pairs { IfOk result (λ lanes. ClientsPair (lanes_of lanes.worker) lanes.clients.items) }
-    ensures published { IfOk result (λ lanes. published_by lanes.worker ≡ opening_view ∷ []) }
-    ensures fault { MatchOption (places_fault config.places places.now)
-        ((IsFullFor log.room places.now → IsErr result) × IfErr result (λ e. IsLaterFault log.room places.now e.0))
-        (λ fault. IsErr result × IfErr result (λ e. e.0 ≡ fault)) }
+    requires may_open { MayOpen J.book history config log ring }
+    ensures opened { IfOk result (IsOpened (steady config) log.room ring places.now) }
+    ensures fault { HasFirstFault config.places log.room places.now (λ e. e.0) result }
     ensures back { IfErr result (λ e. (e.1 ≡ blank_log log.room) × (book_of e.2 ≡ J.book)) }
 {
     open_lanes_with(rt, alloc, history, Setup::steady(config), log, ring, places)
@@ -93,20 +78,9 @@ pub fn open_lanes_with<J: ViewHistory, C: Tells, A: TellsAsk, R: Wait + Drop>(
     ring: u8,
     places: &[u8],
 ) -> Result<Lanes<J, Shown<J>, R, C, A>, (OpenFault, Log, BlankHistory)>
-    requires name { book_of history ≡ J.book }
-    requires config_is { IsConfig setup.config }
-    requires empty { log.entries ≡ [] }
-    requires slots { 1 ≤ ring }
-    ensures session { IfOk result (λ lanes. session_of lanes.worker ≡ opened_with setup log.room places.now) }
-    ensures clients { IfOk result (λ lanes. AreNew ring places.now lanes.clients.items) }
-    ensures operator { IfOk result (λ lanes. (called_by lanes.operator ≡ []) × (has_left lanes.operator ≡ false)
-        × (operator_has_left lanes.worker ≡ false) × (producer_capacity lanes.operator.calls ≡ ring)
-        × OperatorPairs lanes.operator lanes.worker) }
-    ensures pairs { IfOk result (λ lanes. ClientsPair (lanes_of lanes.worker) lanes.clients.items) }
-    ensures published { IfOk result (λ lanes. published_by lanes.worker ≡ opening_view ∷ []) }
-    ensures fault { MatchOption (places_fault setup.config.places places.now)
-        ((IsFullFor log.room places.now → IsErr result) × IfErr result (λ e. IsLaterFault log.room places.now e.0))
-        (λ fault. IsErr result × IfErr result (λ e. e.0 ≡ fault)) }
+    requires may_open { MayOpen J.book history setup.config log ring }
+    ensures opened { IfOk result (IsOpened setup log.room ring places.now) }
+    ensures fault { HasFirstFault setup.config.places log.room places.now (λ e. e.0) result }
     ensures back { IfErr result (λ e. (e.1 ≡ blank_log log.room) × (book_of e.2 ≡ J.book)) }
 {
     if let Some(fault) = fault_of_places(&setup.config, places) {

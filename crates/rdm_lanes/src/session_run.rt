@@ -1,19 +1,13 @@
 //! A whole session: clients, each with what it does, and a worker over a line, in threads.
-ghost use Rattle.std.specs.Prelude.{◌≡◌, ◌≢◌, ◌≤◌, [], length, true, false, IfOk, IfErr, IsErr, MatchOption};
-ghost use Rattle.rdm_log.specs.log.Config.{IsConfig, steady};
-ghost use Rattle.rdm_log.specs.log.LogState.{is_full_log};
-ghost use Rattle.rdm_log.specs.log.MaySend.{NoSend};
-ghost use Rattle.rdm_log.specs.promises.Promised.{Promised};
-ghost use Rattle.rdm_client.specs.declared.worker_end.WorkerEnd.TheVariants.{AllLeft, Turns, LogFull as FullLog};
-ghost use Rattle.rdm_lanes.specs.Opened.{places_fault, IsFullFor, IsLaterFault};
+ghost use Rattle.std.specs.Prelude.{◌≡◌, ◌≤◌, length, IfOk, IfErr};
+ghost use Rattle.rdm_log.specs.log.Config.{steady};
 ghost use Rattle.rdm_log.specs.log.LogState.{blank_log};
+ghost use Rattle.rdm_client.specs.declared.worker_end.WorkerEnd.TheVariants.{Turns};
+ghost use Rattle.rdm_lanes.specs.Ended.{IsEnded};
 ghost use Rattle.rdm_lanes.specs.Lines.{exchange_count};
-ghost use Rattle.rdm_lanes.specs.Ends.{AllAgree, AllRead, AllHoldTheirOwn};
+ghost use Rattle.rdm_lanes.specs.Opened.{MayOpen, HasFirstFault};
 ghost use Rattle.rdm_lanes.specs.Sessions.{SessionOver};
 ghost use Rattle.rdm_lanes.specs.Workers.{book_of};
-ghost use Rattle.rdm_lanes.specs.Views.{all_views};
-ghost use Rattle.rdm_lanes.specs.Publishing.{IsPublished};
-ghost use Rattle.rdm_lanes.specs.ViewsRead.{AllViewsRead, AllShownFirst};
 
 use crate::body::{Body, Gate};
 use crate::fault::OpenFault;
@@ -62,30 +56,13 @@ pub fn run_session<
     line: X,
     turns: u64,
 ) -> Result<LanesEnd<J, B, X, C, A>, (OpenFault, Log, Vec<B>, X, BlankHistory)>
-    requires name { book_of history ≡ J.book }
-    requires config_is { IsConfig config }
-    requires empty { log.entries ≡ [] }
-    requires slots { 1 ≤ ring }
+    requires may_open { MayOpen J.book history config log ring }
     requires one_each { length bodies.items ≡ length places.now }
     ensures session { IfOk result (λ end. SessionOver X.step (steady config) log.room places.now line
         end.line end.session) }
-    ensures promised { IfOk result (λ end. Promised end.session) }
-    ensures agree { IfOk result (λ end. AllAgree end.session end.ends.items) }
-    ensures all_left { IfOk result (λ end. end.worker ≡ AllLeft → AllRead end.ends.items
-        × NoSend end.session.opening end.session.entries) }
-    ensures full { IfOk result (λ end. end.worker ≡ FullLog → is_full_log end.session ≡ true) }
+    ensures ended { IfOk result (IsEnded (length places.now)) }
     ensures turns { IfOk result (λ end. (exchange_count end.session ≤ turns) × (turns ≡ 0 → end.worker ≡ Turns)) }
-    ensures one_each { IfOk result (λ end. (length end.ends.items ≡ length places.now)
-        × (length end.bodies.items ≡ length places.now)) }
-    ensures unspent { IfOk result (λ end. AllHoldTheirOwn end.ends.items) }
-    ensures matched { IfOk result (λ end. end.matched ≡ true) }
-    ensures published { IfOk result (λ end. IsPublished (all_views end.session.entries) end.published) }
-    ensures all_published { IfOk result (λ end. end.worker ≢ Turns → end.published ≡ all_views end.session.entries) }
-    ensures views { IfOk result (λ end. AllViewsRead end.published end.ends.items) }
-    ensures shown_first { IfOk result (λ end. AllShownFirst end.published end.ends.items) }
-    ensures fault { MatchOption (places_fault config.places places.now)
-        ((IsFullFor log.room places.now → IsErr result) × IfErr result (λ e. IsLaterFault log.room places.now e.0))
-        (λ fault. IsErr result × IfErr result (λ e. e.0 ≡ fault)) }
+    ensures fault { HasFirstFault config.places log.room places.now (λ e. e.0) result }
     ensures back { IfErr result (λ e. (e.1 ≡ blank_log log.room) × (e.2 ≡ bodies) × (e.3 ≡ line)
         × (book_of e.4 ≡ J.book)) }
 {
@@ -126,30 +103,13 @@ pub fn run_session_with<
     line: X,
     turns: u64,
 ) -> Result<LanesEnd<J, B, X, C, A>, (OpenFault, Log, Vec<B>, X, BlankHistory)>
-    requires name { book_of history ≡ J.book }
-    requires config_is { IsConfig setup.config }
-    requires empty { log.entries ≡ [] }
-    requires slots { 1 ≤ ring }
+    requires may_open { MayOpen J.book history setup.config log ring }
     requires one_each { length bodies.items ≡ length places.now }
     ensures session { IfOk result (λ end. SessionOver X.step setup log.room places.now line
         end.line end.session) }
-    ensures promised { IfOk result (λ end. Promised end.session) }
-    ensures agree { IfOk result (λ end. AllAgree end.session end.ends.items) }
-    ensures all_left { IfOk result (λ end. end.worker ≡ AllLeft → AllRead end.ends.items
-        × NoSend end.session.opening end.session.entries) }
-    ensures full { IfOk result (λ end. end.worker ≡ FullLog → is_full_log end.session ≡ true) }
+    ensures ended { IfOk result (IsEnded (length places.now)) }
     ensures turns { IfOk result (λ end. (exchange_count end.session ≤ turns) × (turns ≡ 0 → end.worker ≡ Turns)) }
-    ensures one_each { IfOk result (λ end. (length end.ends.items ≡ length places.now)
-        × (length end.bodies.items ≡ length places.now)) }
-    ensures unspent { IfOk result (λ end. AllHoldTheirOwn end.ends.items) }
-    ensures matched { IfOk result (λ end. end.matched ≡ true) }
-    ensures published { IfOk result (λ end. IsPublished (all_views end.session.entries) end.published) }
-    ensures all_published { IfOk result (λ end. end.worker ≢ Turns → end.published ≡ all_views end.session.entries) }
-    ensures views { IfOk result (λ end. AllViewsRead end.published end.ends.items) }
-    ensures shown_first { IfOk result (λ end. AllShownFirst end.published end.ends.items) }
-    ensures fault { MatchOption (places_fault setup.config.places places.now)
-        ((IsFullFor log.room places.now → IsErr result) × IfErr result (λ e. IsLaterFault log.room places.now e.0))
-        (λ fault. IsErr result × IfErr result (λ e. e.0 ≡ fault)) }
+    ensures fault { HasFirstFault setup.config.places log.room places.now (λ e. e.0) result }
     ensures back { IfErr result (λ e. (e.1 ≡ blank_log log.room) × (e.2 ≡ bodies) × (e.3 ≡ line)
         × (book_of e.4 ≡ J.book)) }
 {

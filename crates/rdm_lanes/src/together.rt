@@ -1,20 +1,15 @@
 //! A session over open lanes: the bodies in their seats, the worker beside them, and the comparison at the end.
-ghost use Rattle.std.specs.Prelude.{◌≡◌, ◌≢◌, ◌≤◌, ◌+◌, List, length, true, false};
+ghost use Rattle.std.specs.Prelude.{◌≡◌, ◌≤◌, ◌+◌, List, length};
 ghost use Rattle.rdm_log.specs.log.Legal.{Legal};
-ghost use Rattle.rdm_log.specs.log.LogState.{is_full_log};
-ghost use Rattle.rdm_log.specs.log.MaySend.{NoSend};
 ghost use Rattle.rdm_log.specs.promises.Promised.{Promised};
-ghost use Rattle.rdm_client.specs.declared.worker_end.WorkerEnd.TheVariants.{AllLeft, Turns, LogFull as FullLog};
+ghost use Rattle.rdm_client.specs.declared.worker_end.WorkerEnd.TheVariants.{Turns};
 ghost use Rattle.rdm_lanes.specs.declared.lane.Lane.{Lane};
 ghost use Rattle.rdm_lanes.specs.Lines.{Exchanged, SameSwitches, IsBetweenTurns, exchange_count};
 ghost use Rattle.rdm_lanes.specs.Lanes.{AllFit};
-ghost use Rattle.rdm_lanes.specs.Ends.{AllAgree, AllRead, AllHoldTheirOwn};
+ghost use Rattle.rdm_lanes.specs.Ended.{IsEnded};
 ghost use Rattle.rdm_lanes.specs.Pairs.{ClientsPair};
 ghost use Rattle.rdm_lanes.specs.body.Rooms.{HasRoomFor};
 ghost use Rattle.rdm_lanes.specs.Workers.{session_of, lanes_of};
-ghost use Rattle.rdm_lanes.specs.Views.{all_views};
-ghost use Rattle.rdm_lanes.specs.Publishing.{IsPublished};
-ghost use Rattle.rdm_lanes.specs.ViewsRead.{AllViewsRead, AllShownFirst};
 
 use crate::body::{Body, Gate};
 use crate::compared::Compared;
@@ -79,20 +74,9 @@ pub fn run_lanes<
     ensures switches { SameSwitches (session_of lanes.worker) result.session }
     ensures fits { (lanes_left : List Lane) × (length lanes_left ≡ length (lanes_of lanes.worker))
         × AllFit result.session lanes_left }
-    ensures agree { AllAgree result.session result.ends.items }
-    ensures all_left { result.worker ≡ AllLeft → AllRead result.ends.items
-        × NoSend result.session.opening result.session.entries }
-    ensures full { result.worker ≡ FullLog → is_full_log result.session ≡ true }
+    ensures ended { IsEnded (length bodies.items) result }
     ensures turns { (exchange_count result.session ≤ exchange_count (session_of lanes.worker) + turns)
         × (turns ≡ 0 → result.worker ≡ Turns) }
-    ensures one_each { (length result.ends.items ≡ length bodies.items)
-        × (length result.bodies.items ≡ length bodies.items) }
-    ensures unspent { AllHoldTheirOwn result.ends.items }
-    ensures matched { result.matched ≡ true }
-    ensures published { IsPublished (all_views result.session.entries) result.published }
-    ensures all_published { result.worker ≢ Turns → result.published ≡ all_views result.session.entries }
-    ensures views { AllViewsRead result.published result.ends.items }
-    ensures shown_first { AllShownFirst result.published result.ends.items }
 {
     let Lanes {
         clients,

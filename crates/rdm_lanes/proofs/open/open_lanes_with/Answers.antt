@@ -1,4 +1,4 @@
-use Rattle.std.proofs.Common.{◌≡◌, ◌∙◌, sym, subst, arith}
+use Rattle.std.proofs.Common.{◌≡◌, ◌∙◌, refl, sym, subst, arith}
 use Rattle.rdm_log.specs.log.LogState.{LogState}
 use Rattle.rdm_log.specs.log.Legal.{Legal}
 use Rattle.rdm_lanes.specs.Lines.{IsBetweenTurns}
@@ -33,8 +33,14 @@ invariant_of-result g c =
 pub discard-requires : goal.discard-requires
 discard-requires g c = new_hold_nothing c.args.ring c.args.places.now c.in-Some-open_clients.clients.items c.in-Some-open_clients.lanes.items c.in-Some-open_clients.ensures
 
-pub returns-in-Ok-joined-clause-clients : goal.returns-in-Ok-joined-clause-clients
-returns-in-Ok-joined-clause-clients g c = new_clients c.args.ring c.args.places.now c.in-Some-open_clients.clients.items c.in-Some-open_clients.lanes.items c.in-Some-open_clients.ensures
-
-pub returns-in-Ok-joined-clause-pairs : goal.returns-in-Ok-joined-clause-pairs
-returns-in-Ok-joined-clause-pairs g c = new_pairs c.args.ring c.args.places.now c.in-Some-open_clients.clients.items c.in-Some-open_clients.lanes.items c.in-Some-open_clients.ensures
+pub returns-in-Ok-joined-clause-opened : goal.returns-in-Ok-joined-clause-opened
+returns-in-Ok-joined-clause-opened g c =
+    let clients = c.in-Some-open_clients.clients.items in
+    let lanes = c.in-Some-open_clients.lanes.items in
+    record {
+      session = c.in-Ok-joined.ensures.session;
+      clients = new_clients c.args.ring c.args.places.now clients lanes c.in-Some-open_clients.ensures;
+      operator = (c.in-Ok.ensures.producer.0, refl, refl, c.in-Ok.ensures.producer.2 ∙ c.from.ensures, c.in-Ok.ensures.pair);
+      pairs = new_pairs c.args.ring c.args.places.now clients lanes c.in-Some-open_clients.ensures;
+      published = c.in-Ok-new.ensures.opening.0;
+    }
