@@ -28,7 +28,7 @@ use Rattle.rdm_log.proofs.LogLemmas.PushLemmas.{finishes-append, answered-append
 use Rattle.rdm_log.proofs.LogLemmas.Places.{slice_get-drop}
 use Rattle.rdm_lanes.specs.declared.call.ClientCall.{ClientCall}
 use Rattle.rdm_lanes.specs.declared.ring_outcome.RingOutcome.{RingOutcome}
-use Rattle.rdm_lanes.specs.declared.lane.Lane.{Lane}
+use Rattle.rdm_lanes.specs.declared.worker.lane.Lane.{Lane}
 use Rattle.rdm_lanes.specs.Calls.{work_in}
 use Rattle.rdm_lanes.specs.Told.{uncollected_values, values_in, value_in}
 use Rattle.rdm_lanes.specs.Lanes.{Fits, is_leave}

@@ -35,7 +35,7 @@ use Rattle.rdm_log.proofs.LogLemmas.ClientFacts.{client_facts}
 use Rattle.rdm_lanes.specs.declared.call.ClientCall.{ClientCall}
 use Rattle.rdm_lanes.specs.declared.call.ClientCall.TheVariants.{Submit, Discover}
 use Rattle.rdm_lanes.specs.declared.ring_outcome.RingOutcome.{RingOutcome}
-use Rattle.rdm_lanes.specs.declared.lane.Lane.{Lane}
+use Rattle.rdm_lanes.specs.declared.worker.lane.Lane.{Lane}
 use Rattle.rdm_lanes.specs.Calls.{call_by, calls_by, refused_call, work_in}
 use Rattle.rdm_lanes.specs.Told.{told_values, uncollected_values, values_in, value_in}
 use Rattle.rdm_lanes.specs.Lanes.{FitsBut, Fits, is_leave}

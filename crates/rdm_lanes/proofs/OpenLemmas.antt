@@ -25,11 +25,11 @@ use Rattle.rdm_log.specs.log.LogState.{LogState, grown, opened, is_full_log, fre
 use Rattle.rdm_log.specs.log.Legal.{Legal}
 use Rattle.rdm_log.specs.promises.Blocks.{GrowsBy, JoinLogs, JoinAdds, UnlessFull}
 use Rattle.rdm_log.proofs.LogLemmas.Places.{slice_get-push}
-use Rattle.rdm_lanes.specs.declared.history.ViewHistory.{Ghosts}
+use Rattle.rdm_lanes.specs.declared.views.history.ViewHistory.{Ghosts}
 use Rattle.rdm_lanes.specs.declared.call.ClientCall.{ClientCall}
 use Rattle.rdm_lanes.specs.declared.ring_outcome.RingOutcome.{RingOutcome}
 use Rattle.rdm_lanes.specs.declared.client.RingClient.{RingClient}
-use Rattle.rdm_lanes.specs.declared.lane.Lane.{Lane}
+use Rattle.rdm_lanes.specs.declared.worker.lane.Lane.{Lane}
 use Rattle.rdm_lanes.specs.Calls.{work_in, calls_by}
 use Rattle.rdm_lanes.specs.body.Counts.{IsCounted}
 use Rattle.rdm_lanes.specs.Told.{told_values, uncollected_values, values_in}

@@ -9,12 +9,12 @@ use mathlib.Core.List.{IsPrefix}
 use Rattle.rdm_client.specs.declared.view.DeviceView.{DeviceView}
 use Rattle.rdm_log.specs.log.LogState.{LogState}
 use Rattle.rdm_log.specs.promises.Outcomes.{OutcomeValue}
-use Rattle.rdm_lanes.specs.declared.history.ViewHistory.{Ghosts}
+use Rattle.rdm_lanes.specs.declared.views.history.ViewHistory.{Ghosts}
 use Rattle.rdm_client.specs.Desks.{Held}
 use Rattle.rdm_lanes.specs.declared.ring_outcome.RingOutcome.{RingOutcome}
 use Rattle.rdm_lanes.specs.declared.ring_outcome.RingOutcome.TheVariants.{Request, Discovery}
 use Rattle.rdm_lanes.specs.body.Holding.{HoldsForRequest}
-use Rattle.rdm_lanes.specs.declared.ends.ClientEnd.{ClientEnd}
+use Rattle.rdm_lanes.specs.declared.client.ends.ClientEnd.{ClientEnd}
 use Rattle.rdm_lanes.specs.Told.{value_in, values_in}
 use Rattle.rdm_lanes.specs.Views.{opening_view, last_view, last_view_run, RisesAbove, AreViews, all_views, found_after, last_found}
 use Rattle.rdm_lanes.specs.body.Showing.{Publishing, Publishes}

@@ -29,8 +29,8 @@ use Rattle.rdm_scenes.specs.Scenes.{IsLossyScene, IsStayingScene, IsCalmScene}
 use Rattle.rdm_scenes.specs.Reports.{IsLogOver, AnswersAreTheDevices, AnswersFollowTheDevices, FaultsFollowAClose}
 use Rattle.rdm_scenes.proofs.SceneLemmas.{are_the_devices, follow_the_devices}
 use Rattle.rdm_scenes.proofs.CalmLemmas.{faults_follow, follow_by_default}
-use Rattle.rdm_lanes.specs.declared.history.ViewHistory.{Ghosts}
-use Rattle.rdm_lanes.specs.declared.ends.ClientEnd.{ClientEnd}
+use Rattle.rdm_lanes.specs.declared.views.history.ViewHistory.{Ghosts}
+use Rattle.rdm_lanes.specs.declared.client.ends.ClientEnd.{ClientEnd}
 use Rattle.rdm_lanes.specs.OverThreads.{IsEnough, IsByDefault, HasGot, IsEndOver, TellsTheDevices, TellsNoFault, TellsTheChanging}
 use Rattle.rdm_lanes.proofs.GrowthLemmas.{tells}
 use Rattle.rdm_lanes.proofs.ToldLemmas.{IsToldBy, told_by, IsAnswered, IsRefusedByClose, discovery_of}

@@ -16,7 +16,7 @@ use Rattle.rdm_log.proofs.LogLemmas.Places.{slice_get-drop}
 use Rattle.rdm_log.proofs.PromiseLemmas.StableResults.{filter_has}
 use Rattle.rdm_lanes.specs.declared.call.ClientCall.{ClientCall}
 use Rattle.rdm_lanes.specs.declared.call.ClientCall.TheVariants.{Submit, Discover, Leave}
-use Rattle.rdm_lanes.specs.declared.lane.Lane.{Lane}
+use Rattle.rdm_lanes.specs.declared.worker.lane.Lane.{Lane}
 use Rattle.rdm_lanes.specs.Calls.{is_work, work_in}
 use Rattle.rdm_lanes.specs.Lanes.{FitsBut, Fits, is_leave}
 use Rattle.rdm_lanes.specs.body.Serving.{LooksForSlot}

@@ -16,8 +16,8 @@ use Rattle.rdm_log.specs.promises.Outcomes.OutcomeValue.{DiscoveryValue}
 use Rattle.rdm_log.proofs.LogLemmas.Places.{slice_get-append_left}
 use Rattle.rdm_log.proofs.PromiseLemmas.StableResults.{filter_has}
 use Rattle.rdm_scenes.proofs.SceneLemmas.{split_at}
-use Rattle.rdm_lanes.specs.declared.history.ViewHistory.{Ghosts}
-use Rattle.rdm_lanes.specs.declared.ends.ClientEnd.{ClientEnd}
+use Rattle.rdm_lanes.specs.declared.views.history.ViewHistory.{Ghosts}
+use Rattle.rdm_lanes.specs.declared.client.ends.ClientEnd.{ClientEnd}
 use Rattle.rtrb.specs.Ring.{known_items}
 use Rattle.rdm_lanes.specs.Told.{told_values, uncollected_values, values_in, TellsAll}
 use Rattle.rdm_lanes.specs.Ends.{end_got, Agrees}

@@ -3,8 +3,8 @@ use Rattle.std.specs.Prelude.{◌≡◌, ◌≢◌, ℕ, true, length}
 use Rattle.rdm_client.specs.declared.worker_end.WorkerEnd.TheVariants.{AllLeft, Turns, LogFull}
 use Rattle.rdm_log.specs.log.LogState.{is_full_log}
 use Rattle.rdm_log.specs.log.MaySend.{NoSend}
-use Rattle.rdm_lanes.specs.declared.history.ViewHistory.{Ghosts}
-use Rattle.rdm_lanes.specs.declared.together.LanesEnd.{LanesEnd}
+use Rattle.rdm_lanes.specs.declared.views.history.ViewHistory.{Ghosts}
+use Rattle.rdm_lanes.specs.declared.session.together.LanesEnd.{LanesEnd}
 use Rattle.rdm_lanes.specs.Ends.{AllAgree, AllRead, AllHoldTheirOwn}
 use Rattle.rdm_lanes.specs.Publishing.{IsPublished}
 use Rattle.rdm_lanes.specs.Views.{all_views}

@@ -11,10 +11,10 @@ use Rattle.rdm_log.specs.log.Config.{IsConfig}
 use Rattle.rdm_log.specs.declared.entry.Entry.{Entry}
 use Rattle.rdm_log.specs.declared.entry.Entry.TheVariants.{Join}
 use Rattle.rdm_log.specs.log.LogState.{LogState, opened}
-use Rattle.rdm_lanes.specs.declared.history.BlankHistory.{BlankHistory}
-use Rattle.rdm_lanes.specs.declared.history.ViewHistory.{Ghosts}
-use Rattle.rdm_lanes.specs.declared.publishing.Shown.{Shown}
-use Rattle.rdm_lanes.specs.declared.open.Lanes.{Lanes}
+use Rattle.rdm_lanes.specs.declared.views.history.BlankHistory.{BlankHistory}
+use Rattle.rdm_lanes.specs.declared.views.history.ViewHistory.{Ghosts}
+use Rattle.rdm_lanes.specs.declared.views.publishing.Shown.{Shown}
+use Rattle.rdm_lanes.specs.declared.opening.Lanes.{Lanes}
 use Rattle.rdm_lanes.specs.declared.fault.OpenFault.{OpenFault}
 use Rattle.rdm_lanes.specs.declared.fault.OpenFault.TheVariants.{TooManyClients, NoPlaces, NoMemory, LogFull}
 use Rattle.rdm_lanes.specs.declared.client.RingClient.{RingClient}

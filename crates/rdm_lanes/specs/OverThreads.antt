@@ -12,8 +12,8 @@ use Rattle.rdm_log.specs.declared.config.Setup.{Setup}
 use Rattle.rdm_log.specs.log.LogState.{LogState}
 use Rattle.rdm_log.specs.promises.Outcomes.{Discovered}
 use Rattle.rdm_log.specs.promises.Outcomes.OutcomeValue.{DiscoveryValue}
-use Rattle.rdm_lanes.specs.declared.history.ViewHistory.{Ghosts}
-use Rattle.rdm_lanes.specs.declared.ends.ClientEnd.{ClientEnd}
+use Rattle.rdm_lanes.specs.declared.views.history.ViewHistory.{Ghosts}
+use Rattle.rdm_lanes.specs.declared.client.ends.ClientEnd.{ClientEnd}
 use Rattle.rdm_lanes.specs.Ends.{end_got, Agrees}
 use Rattle.rdm_lanes.specs.Sessions.{SessionOver}
 
