@@ -28,13 +28,14 @@ use Rattle.rdm_log.proofs.LogLemmas.PushLemmas.{finishes-append, answered-append
 use Rattle.rdm_log.proofs.LogLemmas.Places.{slice_get-drop}
 use Rattle.rdm_lanes.specs.declared.call.ClientCall.{ClientCall}
 use Rattle.rdm_lanes.specs.declared.ring_outcome.RingOutcome.{RingOutcome}
-use Rattle.rdm_lanes.specs.declared.lane.Lane.{Lane}
+use Rattle.rdm_lanes.specs.declared.worker.lane.Lane.{Lane}
 use Rattle.rdm_lanes.specs.Calls.{work_in}
 use Rattle.rdm_lanes.specs.Told.{uncollected_values, values_in, value_in}
 use Rattle.rdm_lanes.specs.Lanes.{Fits, is_leave}
+use Rattle.rdm_lanes.proofs.Counting.{value_more}
 use Rattle.rdm_lanes.proofs.LineLemmas.{is_quiet}
-use Rattle.rdm_lanes.proofs.GrowthLemmas.{values_stay, answers_split, accepts_by_split, asks_by_split, collects_by_split}
-use Rattle.rdm_lanes.proofs.FitLemmas.{no_answer, told_same, calls_stay, asks_within, drop_more, IsNext, asks_none_of, first_of, accepts_none_of, to_values, values_more, map_drop, requests_within}
+use Rattle.rdm_lanes.proofs.GrowthLemmas.{to_values, values_stay, answers_split, accepts_by_split, asks_by_split, collects_by_split}
+use Rattle.rdm_lanes.proofs.FitLemmas.{no_answer, told_same, calls_stay, asks_within, drop_more, IsNext, asks_none_of, first_of, accepts_none_of, map_drop, requests_within}
 
 -- the client's oldest outcome was collected: which it was, and that it is a request's or a discovery's
 pub record IsFinishEntry (e : Entry) : Type 0 where
@@ -157,7 +158,7 @@ collected_fits : (o : Opening) (h : List Entry) (room : ℕ) (search : Search) (
 collected_fits o h room search d x item lane next requests asks each oldest told counted asked f isnext replies = record {
   calls_are = ap work_in isnext.calls_are ∙ f.calls_are ∙ ap (λ (xs : List ClientCall). xs ++ []) (sym (calls_stay d.0 h (Collect d) refl));
   told_are =
-      rw (replies, values_more (pushed lane.replies) item)
+      rw (replies, value_more (pushed lane.replies) item)
       (ap (λ (vs : List (Option OutcomeValue)). vs ++ uncollected_values o d.0 (h ++ Collect d ∷ [])) (map-append (λ (v : OutcomeValue). Some v) (values_in (pushed lane.replies)) (value_in item ∷ []))
       ∙ append_assoc (map (λ (v : OutcomeValue). Some v) (values_in (pushed lane.replies))) (Some (value_in item) ∷ []) (uncollected_values o d.0 (h ++ Collect d ∷ []))
       ∙ ap (λ (v : Option OutcomeValue). map (λ (v : OutcomeValue). Some v) (values_in (pushed lane.replies)) ++ v ∷ uncollected_values o d.0 (h ++ Collect d ∷ [])) (sym told)

@@ -39,7 +39,7 @@ without_one : {X : Type 0} (xs : List X) → 0 < length xs → length (drop 1 xs
 without_one [] some = absurd (omega (arith, some))
 without_one (x ∷ xs) some = omega arith
 
-value_more : (items : List RingOutcome) (item : RingOutcome) → values_in (items ++ item ∷ []) ≡ values_in items ++ value_in item ∷ []
+pub value_more : (items : List RingOutcome) (item : RingOutcome) → values_in (items ++ item ∷ []) ≡ values_in items ++ value_in item ∷ []
 unfolding values_in
 value_more items item = map-append value_in items (item ∷ [])
 

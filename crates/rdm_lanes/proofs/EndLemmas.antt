@@ -8,12 +8,12 @@ use Rattle.std.proofs.lemmas.List.{length-set, length-map, map-append}
 use Rattle.std.proofs.lemmas.List.Elements.{filter-append}
 use Rattle.rtrb.specs.Ring.{sent as pushed, received as popped, known_items}
 use Rattle.rdm_log.specs.log.LogState.{LogState}
-use Rattle.rdm_lanes.specs.declared.history.ViewHistory.{Ghosts}
+use Rattle.rdm_lanes.specs.declared.views.history.ViewHistory.{Ghosts}
 use Rattle.rdm_lanes.specs.declared.call.ClientCall.{ClientCall}
 use Rattle.rdm_lanes.specs.declared.call.ClientCall.TheVariants.{Submit, Discover, Leave}
 use Rattle.rdm_lanes.specs.declared.ring_outcome.RingOutcome.{RingOutcome}
-use Rattle.rdm_lanes.specs.declared.lane.Lane.{Lane}
-use Rattle.rdm_lanes.specs.declared.ends.ClientEnd.{ClientEnd}
+use Rattle.rdm_lanes.specs.declared.worker.lane.Lane.{Lane}
+use Rattle.rdm_lanes.specs.declared.client.ends.ClientEnd.{ClientEnd}
 use Rattle.rdm_lanes.specs.Calls.{is_work, work_in}
 use Rattle.rdm_lanes.specs.body.Leaves.{leave_if}
 use Rattle.rdm_lanes.specs.Told.{value_in, values_in}

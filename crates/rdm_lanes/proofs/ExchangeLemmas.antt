@@ -18,7 +18,8 @@ use Rattle.rdm_log.specs.promises.Blocks.{GrowsBy, TakeLogs, DeliverAdds, AllRes
 use Rattle.rdm_log.proofs.LogLemmas.Grows.{front}
 use Rattle.rdm_log.proofs.LogLemmas.PushLemmas.{awaited-push}
 use Rattle.rdm_log.proofs.LogLemmas.LegalFacts.{legal_facts, sent_evenly}
-use Rattle.rdm_lanes.specs.Lines.{exchanges, exchange_count, Exchanged, SameSwitches, NoCallLost, IsBetweenTurns}
+use Rattle.rdm_scenes.specs.Exchanges.{exchanges}
+use Rattle.rdm_lanes.specs.Lines.{exchange_count, Exchanged, SameSwitches, NoCallLost, IsBetweenTurns}
 use Rattle.rdm_lanes.specs.body.Quiet.{NoExchange}
 use Rattle.rdm_lanes.specs.body.Serving.{IsOnlyTold}
 use Rattle.rdm_lanes.specs.Views.{views_found}

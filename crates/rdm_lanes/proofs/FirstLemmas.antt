@@ -14,10 +14,10 @@ use Rattle.rdm_log.specs.promises.Outcomes.{OutcomeValue, Discovered, never_begu
 use Rattle.rdm_log.specs.promises.Outcomes.OutcomeValue.{DiscoveryValue}
 use Rattle.rdm_log.proofs.LogLemmas.Places.{slice_get-append_left}
 use Rattle.rdm_log.proofs.LogLemmas.PushLemmas.{answered-append, answered_more}
-use Rattle.rdm_lanes.specs.declared.history.ViewHistory.{Ghosts}
+use Rattle.rdm_lanes.specs.declared.views.history.ViewHistory.{Ghosts}
 use Rattle.rdm_lanes.specs.declared.client.RingClient.{RingClient}
-use Rattle.rdm_lanes.specs.declared.ends.ClientEnd.{ClientEnd}
-use Rattle.rdm_lanes.specs.declared.lane.Lane.{Lane}
+use Rattle.rdm_lanes.specs.declared.client.ends.ClientEnd.{ClientEnd}
+use Rattle.rdm_lanes.specs.declared.worker.lane.Lane.{Lane}
 use Rattle.rdm_lanes.specs.declared.ring_outcome.RingOutcome.{RingOutcome}
 use Rattle.rdm_lanes.specs.Told.{values_in, uncollected_values}
 use Rattle.rdm_lanes.specs.Lanes.{AllFit}
@@ -28,7 +28,7 @@ use Rattle.rdm_lanes.specs.body.Showing.{NoneLater, AreShownFirst}
 use Rattle.rdm_lanes.specs.ViewsRead.{AllShownFirst}
 use Rattle.rdm_lanes.proofs.EndLemmas.{get_map, within_get}
 use Rattle.rdm_lanes.proofs.FoundLemmas.{is_last_true, adds_found}
-use Rattle.rdm_lanes.proofs.SceneLemmas.{IsToldBy, IsAnswered, IsRefusedByClose, told_in, discovery_of}
+use Rattle.rdm_lanes.proofs.ToldLemmas.{IsToldBy, IsAnswered, IsRefusedByClose, told_in, discovery_of}
 
 -- the run of each Answer without fault is among those that were found
 abbrev Has : List ℕ → ℕ → Type 0

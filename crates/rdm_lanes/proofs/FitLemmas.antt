@@ -1,5 +1,5 @@
 -- How the lane of the client that is served agrees with the log, once its call was made.
-use Rattle.std.proofs.Common.{◌≡◌, ℕ, zero, suc, add-one, ◌+◌, ◌-◌, ◌<◌, ◌≤◌, Bool, true, false, true≢false, cond, List, [], ◌∷◌, ◌++◌, map, length, take, drop, Option, Some, None, refl, sym, ap, ◌∙◌, subst, slice_get, length-append, append-nil, arith, filter_map, Result, Ok, Err}
+use Rattle.std.proofs.Common.{◌≡◌, ℕ, zero, suc, add-one, ◌+◌, ◌<◌, ◌≤◌, Bool, true, false, true≢false, cond, List, [], ◌∷◌, ◌++◌, map, length, take, drop, Option, Some, None, refl, sym, ap, ◌∙◌, subst, slice_get, length-append, append-nil, arith, filter_map, Result, Ok, Err}
 use Rattle.std.specs.Prelude.{filter, ◌==◌, ◌||◌, nat_le, slice_index, if◌then◌else◌, MatchBool}
 use Rattle.std.specs.List.{list_any}
 use Rattle.std.proofs.lemmas.Bool.{eq-eqb}
@@ -35,25 +35,18 @@ use Rattle.rdm_log.proofs.LogLemmas.ClientFacts.{client_facts}
 use Rattle.rdm_lanes.specs.declared.call.ClientCall.{ClientCall}
 use Rattle.rdm_lanes.specs.declared.call.ClientCall.TheVariants.{Submit, Discover}
 use Rattle.rdm_lanes.specs.declared.ring_outcome.RingOutcome.{RingOutcome}
-use Rattle.rdm_lanes.specs.declared.lane.Lane.{Lane}
+use Rattle.rdm_lanes.specs.declared.worker.lane.Lane.{Lane}
 use Rattle.rdm_lanes.specs.Calls.{call_by, calls_by, refused_call, work_in}
 use Rattle.rdm_lanes.specs.Told.{told_values, uncollected_values, values_in, value_in}
 use Rattle.rdm_lanes.specs.Lanes.{FitsBut, Fits, is_leave}
 use Rattle.rdm_lanes.specs.body.Serving.{MayTell, MayMake, CanTakeSubmit, CanTakeDiscover, AfterSubmit, AfterSubmitFault, AfterDiscover, AfterAskFault}
+use Rattle.rdm_lanes.proofs.Counting.{value_more}
 use Rattle.rdm_lanes.proofs.LineLemmas.{is_quiet}
 use Rattle.rdm_lanes.proofs.GrowthLemmas.{tells, told_grows, uncollected_grows, collected_same, accepts_by_split, asks_by_split}
-
-pub values_more : (items : List RingOutcome) (item : RingOutcome) → values_in (items ++ item ∷ []) ≡ values_in items ++ value_in item ∷ []
-unfolding values_in
-values_more items item = map-append value_in items (item ∷ [])
 
 no_values : (o : Opening) (c : ℕ) (h : List Entry) → uncollected o c h ≡ [] → uncollected_values o c h ≡ []
 unfolding uncollected_values
 no_values o c h none = rw none refl
-
-pub to_values : (o : Opening) (c : ℕ) (h : List Entry) → uncollected_values o c h ≡ map (outcome_of h) (uncollected o c h)
-unfolding uncollected_values
-to_values o c h = refl
 
 pub map_drop : {X Y : Type 0} (f : X → Y) (xs : List X) → map f (drop 1 xs) ≡ drop 1 (map f xs)
 map_drop f [] = refl
@@ -132,9 +125,6 @@ own_accept d n request = rw (eq-eqb d.0 d.0 refl) refl
 own_ask : (d : ClientId) (n : ℕ) (kind : Kind) → asks_by d.0 (Ask d n kind ∷ []) ≡ record { client = d.0; number = n; kind = kind } ∷ []
 unfolding asks
 own_ask d n kind = rw (eq-eqb d.0 d.0 refl) refl
-
-one_more_left : (a m b : ℕ) → m ≤ a → b ≡ a + 1 → b - m ≡ (a - m) + 1
-one_more_left a m b within is = omega (arith, within, is)
 
 no_collect_of : (c : ℕ) (e : Entry) → collector_of e ≡ None → collects_by c (e ∷ []) ≡ []
 unfolding collectors
@@ -253,7 +243,7 @@ fits_closed old new d call cause x item lane next is legal mine shut tells none 
     rw is (record {
       calls_are = ap work_in isnext.calls_are ∙ f.calls_are ∙ sym (append-nil _ ∙ calls_more d.0 h e x (own_refusal d call cause x mine));
       told_are =
-          rw (left, replies, values_more (pushed lane.replies) item)
+          rw (left, replies, value_more (pushed lane.replies) item)
           (append-nil _ ∙ map-append (λ (v : OutcomeValue). Some v) (values_in (pushed lane.replies)) (value_in item ∷ [])
           ∙ ap (λ (vs : List (Option OutcomeValue)). vs ++ Some (value_in item) ∷ []) (sym (append-nil _) ∙ ap (λ (vs : List (Option OutcomeValue)). map (λ (v : OutcomeValue). Some v) (values_in (pushed lane.replies)) ++ vs) (sym (no_values o d.0 h none)) ∙ f.told_are)
           ∙ ap (λ (v : Option OutcomeValue). told_values o d.0 h ++ v ∷ []) (sym tells)

@@ -131,11 +131,11 @@ asks_none c [] all = refl
 asks_none c (Ask d n kind ∷ more) all = rw all.0 (asks_none c more all.1)
 asks_none c (e ∷ more) all = asks_none c more all.1
 
-collects_none : (c : ℕ) (more : List Entry) → Untouched c more → collects_by c more ≡ []
+pub no_collects : (c : ℕ) (more : List Entry) → Untouched c more → collects_by c more ≡ []
 unfolding collectors
-collects_none c [] all = refl
-collects_none c (Collect d ∷ more) all = rw all.0 (collects_none c more all.1)
-collects_none c (e ∷ more) all = collects_none c more all.1
+no_collects c [] all = refl
+no_collects c (Collect d ∷ more) all = rw all.0 (no_collects c more all.1)
+no_collects c (e ∷ more) all = no_collects c more all.1
 
 pub accepts_by_split : (c : ℕ) (h more : List Entry) → accepts_by c (h ++ more) ≡ accepts_by c h ++ accepts_by c more
 accepts_by_split c h more = ap (filter (λ (a : Accepted). c == a.client)) (accepts-append h more) ∙ filter-append (λ (a : Accepted). c == a.client) (accepts h) (accepts more)
@@ -160,7 +160,7 @@ uncollected_split o h more each c none =
     rw (collects_untouched c h more none, answers_split o h more each c)
     (drop-append-le (length (collects_by c h)) (answers_to o c h) (filter (is_answer_to o c (h ++ more)) more) ((client_facts o h (front o h more each)).collected_within c))
 
-to_values : (o : Opening) (c : ℕ) (k : List Entry) → uncollected_values o c k ≡ map (outcome_of k) (uncollected o c k)
+pub to_values : (o : Opening) (c : ℕ) (k : List Entry) → uncollected_values o c k ≡ map (outcome_of k) (uncollected o c k)
 unfolding uncollected_values
 to_values o c k = refl
 
@@ -180,11 +180,11 @@ collected_same o h more each c none =
 -- of a block that doesn't touch a client
 pub requests_untouched : (o : Opening) (h more : List Entry) → EachAfter (MayFollow o) (h ++ more) → (c : ℕ) → Untouched c more → outstanding_requests o c (h ++ more) ≡ outstanding_requests o c h
 requests_untouched o h more each c all =
-    rw (collected_same o h more each c (collects_none c more all), accepts_by_split c h more, accepts_none c more all, append-nil (accepts_by c h)) refl
+    rw (collected_same o h more each c (no_collects c more all), accepts_by_split c h more, accepts_none c more all, append-nil (accepts_by c h)) refl
 
 pub asks_untouched : (o : Opening) (h more : List Entry) → EachAfter (MayFollow o) (h ++ more) → (c : ℕ) → Untouched c more → outstanding_discoveries o c (h ++ more) ≡ outstanding_discoveries o c h
 asks_untouched o h more each c all =
-    rw (collected_same o h more each c (collects_none c more all), asks_by_split c h more, asks_none c more all, append-nil (asks_by c h)) refl
+    rw (collected_same o h more each c (no_collects c more all), asks_by_split c h more, asks_none c more all, append-nil (asks_by c h)) refl
 
 or_none : (a b : Bool) → b ≡ false → (a || b) ≡ a
 or_none true b is = refl
@@ -194,6 +194,3 @@ or_none false b is = is
 pub tells_untouched : (o : Opening) (k : List Entry) (c : ℕ) (more : List Entry) → Untouched c more → filter (tells o c k) more ≡ filter (is_answer_to o c k) more
 tells_untouched o k c [] all = refl
 tells_untouched o k c (e ∷ more) all = rw (or_none (is_answer_to o c k e) (is_closed_refusal c e) (refusal_none c e all.0), tells_untouched o k c more all.1) refl
-
-pub no_collects : (c : ℕ) (more : List Entry) → Untouched c more → collects_by c more ≡ []
-no_collects c more all = collects_none c more all

@@ -1,10 +1,10 @@
 -- How clients that were driven by hand are ended, one after the other.
-use Rattle.std.proofs.Common.{◌≡◌, ◌+◌, ◌≤◌, List, [], ◌∷◌, ◌++◌, length, map, Vec, vec_capacity, refl, sym, ap, ◌∙◌, append-nil, append_assoc, length-append, arith}
+use Rattle.std.proofs.Common.{◌≡◌, ◌+◌, ◌≤◌, List, [], ◌∷◌, ◌++◌, length, map, Vec, vec_capacity, refl, sym, ap, ◌∙◌, append_assoc, length-append, arith}
 use Rattle.std.specs.declared.alloc.Global.{Global}
 use Rattle.std.proofs.lemmas.List.{map-append}
-use Rattle.rdm_lanes.specs.declared.history.ViewHistory.{Ghosts}
+use Rattle.rdm_lanes.specs.declared.views.history.ViewHistory.{Ghosts}
 use Rattle.rdm_lanes.specs.declared.client.RingClient.{RingClient}
-use Rattle.rdm_lanes.specs.declared.ends.ClientEnd.{ClientEnd}
+use Rattle.rdm_lanes.specs.declared.client.ends.ClientEnd.{ClientEnd}
 use Rattle.rdm_lanes.specs.Ends.{end_rings}
 use Rattle.rdm_lanes.specs.Pairs.{Rings, client_rings}
 
@@ -34,7 +34,3 @@ module _ {J : Type 0} {h : Ghosts J} {C A : Type 0} where
     where
       both : end.calls ≡ client.calls → end.replies ≡ client.replies → end_rings end ≡ client_rings client
       both p q = rw (p, q) refl
-
-  pub all_ended : (first clients : List (RingClient J C A h)) (ends : Vec (ClientEnd J C A h) Global) → Ending first clients ends → clients ≡ [] → map end_rings ends.items ≡ map client_rings first
-  all_ended first clients ends is none =
-      sym (append-nil (map end_rings ends.items)) ∙ ap (λ (xs : List (RingClient J C A h)). map end_rings ends.items ++ map client_rings xs) (sym none) ∙ is.rings

@@ -14,7 +14,7 @@ use Rattle.rdm_log.specs.log.Legal.{Legal, MayFollow}
 use Rattle.rdm_log.specs.log.Clients.{is_answer_to}
 use Rattle.rdm_log.specs.promises.Outcomes.{OutcomeValue, outcome_of}
 use Rattle.rdm_lanes.specs.declared.call.ClientCall.{ClientCall}
-use Rattle.rdm_lanes.specs.declared.lane.Lane.{Lane}
+use Rattle.rdm_lanes.specs.declared.worker.lane.Lane.{Lane}
 use Rattle.rdm_lanes.specs.Told.{told_values, uncollected_values, values_in}
 use Rattle.rdm_lanes.specs.Lanes.{FitsBut, Fits, AllFit, SameLane, SameLanes, lane_places}
 use Rattle.rdm_lanes.specs.body.Quiet.{NoExchange}

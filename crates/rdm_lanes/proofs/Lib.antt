@@ -26,7 +26,6 @@ pub mod WorkLemmas
 pub mod EndLemmas
 pub mod OpenLemmas
 pub mod SessionLemmas
-pub mod PartLemmas
+pub mod ToldLemmas
 pub mod SceneLemmas
 pub mod FirstLemmas
-pub mod CalmLemmas

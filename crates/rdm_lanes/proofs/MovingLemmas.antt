@@ -1,7 +1,7 @@
 -- What a client's outcomes leave, while they are moved.
 use Rattle.std.proofs.Common.{◌≢◌, ℕ}
 use Rattle.rdm_log.specs.log.LogState.{LogState}
-use Rattle.rdm_lanes.specs.declared.lane.Lane.{Lane}
+use Rattle.rdm_lanes.specs.declared.worker.lane.Lane.{Lane}
 use Rattle.rdm_lanes.specs.body.Quiet.{OnlyCollects}
 use Rattle.rdm_lanes.specs.Lines.{IsBetweenTurns}
 use Rattle.rdm_lanes.specs.Lanes.{Fits, SameLane}

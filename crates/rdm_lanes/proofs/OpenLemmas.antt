@@ -1,6 +1,6 @@
 -- Clients and lanes that are opened one after the other, and the log of their joins.
 use Rattle.std.proofs.Common.{◌≡◌, ℕ, zero, suc, ◌+◌, ◌-◌, ◌<◌, ◌≤◌, Bool, true, false, List, [], ◌∷◌, ◌++◌, map, length, take, get_or, sum, Some, None, Result, Ok, Err, refl, sym, ap, ◌∙◌, subst, slice_get, inl, inr, length-append, arith}
-use Rattle.std.specs.Prelude.{◌⊎◌, nat_lt, nat_le, unwrap_or, if◌then◌else◌}
+use Rattle.std.specs.Prelude.{nat_lt, nat_le, unwrap_or, if◌then◌else◌}
 use Rattle.std.proofs.lemmas.Bool.Decides.{nat_tests}
 use Rattle.std.specs.List.{AllByRecursion}
 use Rattle.std.proofs.lemmas.Option.{slice_get_within}
@@ -25,18 +25,19 @@ use Rattle.rdm_log.specs.log.LogState.{LogState, grown, opened, is_full_log, fre
 use Rattle.rdm_log.specs.log.Legal.{Legal}
 use Rattle.rdm_log.specs.promises.Blocks.{GrowsBy, JoinLogs, JoinAdds, UnlessFull}
 use Rattle.rdm_log.proofs.LogLemmas.Places.{slice_get-push}
-use Rattle.rdm_lanes.specs.declared.history.ViewHistory.{Ghosts}
+use Rattle.rdm_lanes.specs.declared.views.history.ViewHistory.{Ghosts}
 use Rattle.rdm_lanes.specs.declared.call.ClientCall.{ClientCall}
 use Rattle.rdm_lanes.specs.declared.ring_outcome.RingOutcome.{RingOutcome}
 use Rattle.rdm_lanes.specs.declared.client.RingClient.{RingClient}
-use Rattle.rdm_lanes.specs.declared.lane.Lane.{Lane}
+use Rattle.rdm_lanes.specs.declared.worker.lane.Lane.{Lane}
 use Rattle.rdm_lanes.specs.Calls.{work_in, calls_by}
 use Rattle.rdm_lanes.specs.body.Counts.{IsCounted}
 use Rattle.rdm_lanes.specs.Told.{told_values, uncollected_values, values_in}
 use Rattle.rdm_lanes.specs.declared.call.OperatorCall.{OperatorCall}
 use Rattle.rdm_lanes.specs.Operators.{switches, effective}
 use Rattle.rdm_lanes.specs.body.Operated.{IsOperated}
-use Rattle.rdm_lanes.specs.Lines.{exchanges, IsBetweenTurns}
+use Rattle.rdm_scenes.specs.Exchanges.{exchanges}
+use Rattle.rdm_lanes.specs.Lines.{IsBetweenTurns}
 use Rattle.rdm_lanes.specs.Lanes.{Fits, AllFit, lane_places}
 use Rattle.rdm_lanes.specs.Pairs.{Rings, ArePair, client_rings, ClientsPair}
 use Rattle.rdm_lanes.specs.declared.fault.OpenFault.TheVariants.{TooManyClients, NoPlaces}
@@ -314,9 +315,6 @@ joined_next first old new r c ps i p none is g low at before = by_result (rw is 
         ∙ ap (λ (k : LogState). grown k (Join (record { 0 = length (take i ps) }) p ∷ [])) before
         ∙ ap (λ (es : List Entry). record first { entries = es }) (sym (ap (join_entries 0) (take_more ps i p low ∙ ap (λ (q : ℕ). take i ps ++ q ∷ []) (sym at)) ∙ join_more 0 (take i ps) p ∙ ap (λ (m : ℕ). join_entries 0 (take i ps) ++ Join (record { 0 = m }) p ∷ []) (omega arith)))
 
-pub joined_room : (first old new : LogState) (r : Result ClientId JoinFault) (p : ℕ) → GrowsBy old (JoinLogs old p r) new → old.room ≡ first.room → new.room ≡ first.room
-joined_room first old new r p g is = ap (λ (k : LogState). k.room) g.grows ∙ is
-
 -- how many entries are free while clients join
 no_accepts : (m : ℕ) (ps : List ℕ) → accepts (join_entries m ps) ≡ []
 unfolding accepts
@@ -415,12 +413,3 @@ refused_full false k n r block is full adds = absurd (never_full (is_closed k.op
 
 pub refused_as_full : (old new : LogState) (p : ℕ) (r : Result ClientId JoinFault) → r ≡ Err join_faults.LogFull → GrowsBy old (JoinLogs old p r) new → is_full_log old ≡ true
 refused_as_full old new p r is g = refused_full (is_full_log old) old p r g.block is refl g.adds
-
--- all joined
-pub all_fit : (room : ℕ) (ps : List ℕ) (i : ℕ) → length ps ≤ i → (i ≡ 0) ⊎ (i + 3 ≤ room) → IsFullFor room ps → ⊥
-all_fit room ps i all (inl none) full = full.0 (is_empty ps (omega (arith, all, none)))
-  where
-    is_empty : (ps : List ℕ) → length ps ≤ 0 → ps ≡ []
-    is_empty [] e = refl
-    is_empty (p ∷ ps) e = absurd (omega (arith, e))
-all_fit room ps i all (inr some) full = omega (arith, full.1, some, all)

@@ -1,25 +1,23 @@
 -- What clients have read of the published views, and what they found themselves.
-use Rattle.std.proofs.Common.{◌≡◌, ℕ, ◌+◌, ◌<◌, ◌≤◌, List, [], ◌∷◌, ◌++◌, length, take, map, fold, Some, refl, sym, ap, ◌∙◌, subst, inl, inr, slice_get, length-append, arith}
+use Rattle.std.proofs.Common.{◌≡◌, ℕ, ◌<◌, ◌≤◌, List, [], ◌∷◌, ◌++◌, length, take, map, fold, Some, refl, sym, ap, ◌∙◌, subst, inl, inr, slice_get, length-append, arith}
 use Rattle.std.specs.Prelude.{◌⊎◌}
 use Rattle.std.proofs.lemmas.Bool.{cases_lt}
 use Rattle.std.proofs.lemmas.Grind.{fold-append}
 use Rattle.std.proofs.lemmas.List.{map-append}
-use Rattle.std.proofs.lemmas.Option.{slice_get_within, get_or_from_slice_get}
 use mathlib.Core.List.{IsPrefix}
 use Rattle.rdm_client.specs.declared.view.DeviceView.{DeviceView}
 use Rattle.rdm_log.specs.log.LogState.{LogState}
 use Rattle.rdm_log.specs.promises.Outcomes.{OutcomeValue}
-use Rattle.rdm_lanes.specs.declared.history.ViewHistory.{Ghosts}
+use Rattle.rdm_lanes.specs.declared.views.history.ViewHistory.{Ghosts}
 use Rattle.rdm_client.specs.Desks.{Held}
 use Rattle.rdm_lanes.specs.declared.ring_outcome.RingOutcome.{RingOutcome}
 use Rattle.rdm_lanes.specs.declared.ring_outcome.RingOutcome.TheVariants.{Request, Discovery}
 use Rattle.rdm_lanes.specs.body.Holding.{HoldsForRequest}
-use Rattle.rdm_lanes.specs.declared.ends.ClientEnd.{ClientEnd}
+use Rattle.rdm_lanes.specs.declared.client.ends.ClientEnd.{ClientEnd}
 use Rattle.rdm_lanes.specs.Told.{value_in, values_in}
 use Rattle.rdm_lanes.specs.Views.{opening_view, last_view, last_view_run, RisesAbove, AreViews, all_views, found_after, last_found}
 use Rattle.rdm_lanes.specs.body.Showing.{Publishing, Publishes}
 use Rattle.rdm_lanes.specs.Publishing.{IsPublished, BeginOne}
-use Rattle.rdm_lanes.specs.ViewsRead.{AllViewsRead}
 use Rattle.rdm_lanes.proofs.Fronts.{prefix_shorter}
 
 -- what a client found, after one outcome more
@@ -87,23 +85,3 @@ module _ {J : Type 0} {h : Ghosts J} {C A : Type 0} where
   -- while they are compared: those before `at` are
   pub record ReadBefore (shown : List DeviceView) (at : ℕ) (ends : List (ClientEnd J C A h)) : Type 0 where
     pub each : (i : ℕ) (e : ClientEnd J C A h) → i < at → slice_get ends i ≡ Some e → BeginOne shown e.views
-
-  pub read_none : (shown : List DeviceView) (ends : List (ClientEnd J C A h)) → ReadBefore shown 0 ends
-  read_none shown ends = record { each = λ i e low here. absurd (omega (arith, low)) }
-
-  pub read_more : (shown : List DeviceView) (at : ℕ) (ends : List (ClientEnd J C A h)) (end : ClientEnd J C A h) → ReadBefore shown at ends → slice_get ends at ≡ Some end → BeginOne shown end.views → ReadBefore shown (at + 1) ends
-  read_more shown at ends end is here one = record { each = λ i e low there. by_place i e low there (cases_lt i at) }
-    where
-      by_place : (i : ℕ) (e : ClientEnd J C A h) → i < at + 1 → slice_get ends i ≡ Some e → (i < at) ⊎ (at ≤ i) → BeginOne shown e.views
-      by_place i e low there (inl less) = is.each i e less there
-      by_place i e low there (inr more) =
-          let last : i ≡ at = omega (arith, low, more) in
-          let mine : slice_get ends at ≡ Some e = subst (λ (n : ℕ). slice_get ends n ≡ Some e) last there in
-          let same : end ≡ e = sym (get_or_from_slice_get ends at end e here) ∙ get_or_from_slice_get ends at e e mine in
-          subst (λ (x : ClientEnd J C A h). BeginOne shown x.views) same one
-
-  pub read_all : (shown : List DeviceView) (at : ℕ) (ends : List (ClientEnd J C A h)) → length ends ≤ at → ReadBefore shown at ends → AllViewsRead shown ends
-  read_all shown at ends past is = record {
-    each = λ i e here. is.each i e (omega (arith, past, slice_get_within ends i e here)) here;
-    early = λ i e here few. (is.each i e (omega (arith, past, slice_get_within ends i e here)) here).early (omega (arith, few, e.run_is));
-  }

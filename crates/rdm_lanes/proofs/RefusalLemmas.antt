@@ -18,7 +18,7 @@ use Rattle.rdm_log.specs.log.Refusals.{submit_fault_at, ask_fault_at}
 use Rattle.rdm_log.specs.log.LogState.{LogState, is_full_log}
 use Rattle.rdm_log.specs.promises.Blocks.{GrowsBy, SubmitLogs, SubmitAdds, DiscoverLogs, DiscoverAdds}
 use Rattle.rdm_lanes.specs.declared.call.ClientCall.TheVariants.{Submit, Discover}
-use Rattle.rdm_lanes.specs.declared.lane.Lane.{Lane}
+use Rattle.rdm_lanes.specs.declared.worker.lane.Lane.{Lane}
 use Rattle.rdm_lanes.specs.Lanes.{FitsBut}
 use Rattle.rdm_lanes.specs.body.Serving.{MayTell, MayMake}
 use Rattle.rdm_lanes.proofs.LineLemmas.{AllRightly}

@@ -1,27 +1,13 @@
--- What a client of a session over a simulated line is told, by the runs in the session's log.
-use Rattle.std.proofs.Common.{◌≡◌, ◌≢◌, ℕ, zero, suc, true, List, [], ◌∷◌, ◌++◌, map, length, replicate, Option, Some, None, refl, sym, ap, ◌∙◌, subst, slice_get, inl, inr}
-use Rattle.std.specs.Prelude.{◌⊎◌}
-use Rattle.std.specs.List.{AllByRecursion}
-use Rattle.std.proofs.lemmas.List.{length-map}
-use Rattle.rdm_wire.specs.Lists.{EachAfter}
+-- What a client of a session over a simulated line is told of discoveries, by the laws of the session's log.
+use Rattle.std.proofs.Common.{◌≡◌, ℕ, Bool, true, false, true≢false, List, [], ◌∷◌, ◌++◌, length, ◌≤◌, Option, Some, None, refl, sym, ap, ◌∙◌, subst, inl, inr, append-nil, append_assoc, arith}
+use Rattle.std.specs.Prelude.{◌⊎◌, ◌||◌, ◌==◌, option_map, nat_le, if◌then◌else◌}
+use Rattle.std.proofs.lemmas.Bool.{and_parts, eqb-true}
 use Rattle.rdm_wire.specs.Uid.{has}
 use Rattle.rdm_wire.specs.Devices.{uids_of}
 use Rattle.rdm_wire.specs.declared.device.Device.{Device}
-use Rattle.rdm_wire.specs.Honest.{Seen, HonestTrace}
-use Rattle.rdm_wire.specs.Honest.Heard.{Failed}
-use Rattle.rdm_wire.specs.HonestOver.{HonestOver}
-use Rattle.rdm_wire.proofs.HonestOverLemmas.{trace-over}
-use Rattle.rdm_join.specs.Exchange.{seen_event}
 use Rattle.rdm_agent.specs.declared.fault.AgentFault.{AgentFault}
-use Rattle.rdm_agent.specs.Statements.{IsInEach, IsInOne}
-use Rattle.rdm_line.specs.Events.{Exchange, Makes}
-use Rattle.rdm_line.specs.Scenes.{Stays, present_at, uids_of_scene}
-use Rattle.rdm_line.specs.Sim.{SimState, SimStep}
-use Rattle.rdm_line.specs.SimRuns.{Step, NoFiveSuccessive, KeepsScene, present_in, seen_in}
-use Rattle.rdm_line.proofs.KeepsLemmas.{run_keeps, each_keeps, made_run, run_sound}
-use Rattle.rdm_line.proofs.HonestRuns.{honest_run}
-use Rattle.rdm_line.proofs.LossLemmas.{few_losses}
-use Rattle.rdm_line.proofs.PresenceLemmas.{all_present}
+use Rattle.rdm_line.specs.Scenes.{uids_of_scene}
+use Rattle.rdm_line.specs.Sim.{SimState}
 use Rattle.rdm_log.specs.declared.config.Setup.{Setup}
 use Rattle.rdm_log.specs.declared.entry.Call.{Call}
 use Rattle.rdm_log.specs.declared.entry.Call.TheVariants as calls
@@ -29,223 +15,145 @@ use Rattle.rdm_log.specs.declared.entry.Cause.{Cause}
 use Rattle.rdm_log.specs.declared.entry.ClientId.{ClientId}
 use Rattle.rdm_log.specs.declared.entry.Opening.{Opening}
 use Rattle.rdm_log.specs.declared.entry.Entry.{Entry}
-use Rattle.rdm_log.specs.declared.entry.Entry.TheVariants.{Join, Refuse, Accept, Ask, Send, Came, Finish, Answer, Collect, Pause, Resume, Close}
-use Rattle.rdm_log.specs.log.Runs.{run_exchanges, answer_devices}
+use Rattle.rdm_log.specs.declared.entry.Entry.TheVariants.{Refuse, Answer}
+use Rattle.rdm_log.specs.declared.fault.AskFault.TheVariants as ask_faults
+use Rattle.rdm_log.specs.log.Clients.{outstanding_discoveries}
+use Rattle.rdm_log.specs.log.History.{is_closed, places, next_ask}
+use Rattle.rdm_log.specs.log.Refusals.{ask_fault_at, number_of_ask_fault, IsRefused}
 use Rattle.rdm_log.specs.log.LogState.{LogState}
-use Rattle.rdm_log.specs.log.Legal.{MayFollow}
-use Rattle.rdm_log.specs.promises.Discoveries.{TellsTheLine}
-use Rattle.rdm_log.specs.promises.Outcomes.{OutcomeValue, Discovered, discovered_by, never_begun, refused_outcome, outcome_of, told}
+use Rattle.rdm_log.specs.log.Runs.{answer_devices}
+use Rattle.rdm_log.specs.promises.Outcomes.{Discovered, is_closed_refusal, is_client, never_begun, refused_outcome, outcome_of}
 use Rattle.rdm_log.specs.promises.Outcomes.OutcomeValue.{DiscoveryValue}
-use Rattle.rdm_log.proofs.LogLemmas.Places.{slice_get-append_left}
-use Rattle.rdm_log.proofs.PromiseLemmas.StableResults.{filter_has}
-use Rattle.rdm_log.proofs.PromiseLemmas.OwnDiscoveries.{discoveries_promised}
-use Rattle.rdm_lanes.specs.declared.history.ViewHistory.{Ghosts}
-use Rattle.rdm_lanes.specs.declared.ends.ClientEnd.{ClientEnd}
-use Rattle.rdm_lanes.specs.Lines.{exchanges}
-use Rattle.rtrb.specs.Ring.{known_items}
-use Rattle.rdm_lanes.specs.Told.{told_values, uncollected_values, values_in, TellsAll}
-use Rattle.rdm_lanes.specs.Ends.{end_got, Agrees}
-use Rattle.rdm_lanes.specs.OverThreads.{IsLossyScene, IsStayingScene, HasGot, IsEndOver, TellsTheDevices, TellsTheChanging}
+use Rattle.rdm_log.proofs.PromiseLemmas.NothingAfterClose.{closed_more}
+use Rattle.rdm_scenes.specs.Scenes.{IsLossyScene, IsStayingScene, IsCalmScene}
+use Rattle.rdm_scenes.specs.Reports.{IsLogOver, AnswersAreTheDevices, AnswersFollowTheDevices, FaultsFollowAClose}
+use Rattle.rdm_scenes.proofs.SceneLemmas.{are_the_devices, follow_the_devices}
+use Rattle.rdm_scenes.proofs.CalmLemmas.{faults_follow, follow_by_default}
+use Rattle.rdm_lanes.specs.declared.views.history.ViewHistory.{Ghosts}
+use Rattle.rdm_lanes.specs.declared.client.ends.ClientEnd.{ClientEnd}
+use Rattle.rdm_lanes.specs.OverThreads.{IsEnough, IsByDefault, HasGot, IsEndOver, TellsTheDevices, TellsNoFault, TellsTheChanging}
 use Rattle.rdm_lanes.proofs.GrowthLemmas.{tells}
-use Rattle.rdm_lanes.proofs.EndLemmas.{get_map, map_get}
-use Rattle.rdm_lanes.proofs.PartLemmas.{run_part}
+use Rattle.rdm_lanes.proofs.ToldLemmas.{IsToldBy, told_by, IsAnswered, IsRefusedByClose, discovery_of}
 
--- the steps of a line in parts
-makes_split : {L : Type 0} (step : L → Exchange → L → Type 0) (xs ys : List Exchange) (a d : L) → Makes L step a (xs ++ ys) d → (b : L) × Makes L step a xs b × Makes L step b ys d
-makes_split step [] ys a d m = (a, refl, m)
-makes_split step (x ∷ xs) ys a d m = let rest = makes_split step xs ys m.0 d m.2 in (rest.0, (m.0, m.1, rest.1), rest.2)
+-- a queue that was closed stays so
+closed_stays : (o : Opening) (h more : List Entry) → is_closed o h ≡ true → is_closed o (h ++ more) ≡ true
+closed_stays o h [] closed = subst (λ (l : List Entry). is_closed o l ≡ true) (sym (append-nil h)) closed
+closed_stays o h (e ∷ more) closed = subst (λ (l : List Entry). is_closed o l ≡ true) (append_assoc h (e ∷ []) more) (closed_stays o (h ++ e ∷ []) more (closed_more o h e closed))
 
--- the exchanges of a run, with the devices present at each
-pub record HonestRunOf (s : SimState) (x : List Seen) : Type 0 where
-  pub steps : List Step
-  pub keeps : AllByRecursion (λ (y : Step). (i : ℕ) → present_at y.before.devices i ≡ present_at s.devices i) steps
-  pub seen : map seen_in steps ≡ x
-  pub honest : HonestOver (map present_in steps) x
-  pub sound : s.fails ≡ [] → AllByRecursion (λ (y : Step). (seen_in y).heard ≢ Failed) steps
-
-each_present : (s first : SimState) (ys : List Step) → KeepsScene s first → AllByRecursion (λ (y : Step). KeepsScene first y.before) ys → AllByRecursion (λ (y : Step). (i : ℕ) → present_at y.before.devices i ≡ present_at s.devices i) ys
-each_present s first [] k all = tt
-each_present s first (y ∷ ys) k all = ((λ i. all.0.present i ∙ k.present i), each_present s first ys k all.1)
-
-seen_steps : (ys : List Step) → map seen_in ys ≡ map seen_event (map (λ (y : Step). y.exchange) ys)
-seen_steps [] = refl
-seen_steps (y ∷ ys) = ap (λ (xs : List Seen). seen_event y.exchange ∷ xs) (seen_steps ys)
-
-honest_part : (s t : SimState) (before during after : List Exchange) → NoFiveSuccessive s.losses → Makes SimState SimStep s (before ++ (during ++ after)) t → HonestRunOf s (map seen_event during)
-honest_part s t before during after few made =
-    let first = makes_split SimStep before (during ++ after) s t made in
-    let second = makes_split SimStep during after first.0 t first.2 in
-    let earlier = made_run s first.0 before first.1 in
-    let kept : KeepsScene s first.0 = run_keeps s first.0 earlier.0 earlier.1 in
-    let run = made_run first.0 second.0 during second.1 in
-    let seen : map seen_in run.0 ≡ map seen_event during = seen_steps run.0 ∙ ap (map seen_event) run.2 in
-    record {
-      steps = run.0;
-      keeps = each_present s first.0 run.0 kept (each_keeps first.0 second.0 run.0 run.1);
-      seen = seen;
-      sound = λ none. run_sound first.0 second.0 run.0 run.1 (kept.fails ∙ none);
-      honest = subst (HonestOver (map present_in run.0)) seen (honest_run first.0 second.0 run.0 run.1 (few_losses first.0 second.0 run.0 run.1 (subst NoFiveSuccessive (sym kept.losses) few)));
-    }
-
-pub honest_in_log : (o : Opening) (h : List Entry) (s t : SimState) (r : ℕ) → EachAfter (MayFollow o) h → NoFiveSuccessive s.losses → Makes SimState SimStep s (exchanges h) t → HonestRunOf s (run_exchanges r h)
-honest_in_log o h s t r each few made =
-    let part = run_part o h each r in
-    subst (HonestRunOf s) (sym part.own) (honest_part s t part.before part.during part.after few (subst (λ (xs : List Exchange). Makes SimState SimStep s xs t) part.whole made))
-
--- where the devices stay
-same_sets : (s : SimState) (ys : List Step) → AllByRecursion Stays s.devices → AllByRecursion (λ (y : Step). (i : ℕ) → present_at y.before.devices i ≡ present_at s.devices i) ys → map present_in ys ≡ replicate (length ys) (uids_of_scene s.devices)
-same_sets s [] stay all = refl
-same_sets s (y ∷ ys) stay all = cons (all.0 y.before.exchanges ∙ all_present s.devices y.before.exchanges stay) (same_sets s ys stay all.1)
+-- a discover that was refused by a close came after one
+ask_closed : (b : Bool) (ps : List ℕ) (outstanding next c : ℕ) → option_map number_of_ask_fault (ask_fault_at b ps outstanding next c) ≡ Some 1 → b ≡ true
+ask_closed true ps outstanding next c is = refl
+ask_closed false ps outstanding next c is = absurd (other (nat_le (length ps) c) (nat_le 4 outstanding || nat_le 18446744073709551614 next) is)
   where
-    cons : {p q : List ℕ} {ps qs : List (List ℕ)} → p ≡ q → ps ≡ qs → p ∷ ps ≡ q ∷ qs
-    cons a b = rw (a, b) refl
+    other : (x y : Bool) → option_map number_of_ask_fault (if x then Some ask_faults.UnknownClient else (if y then Some ask_faults.Full else None)) ≡ Some 1 → ⊥
+    other true y e = cc
+    other false true e = cc
+    other false false e = cc
 
-pub staying_trace : (s : SimState) (x : List Seen) → IsStayingScene s → HonestRunOf s x → HonestTrace (uids_of_scene s.devices) x
-staying_trace s x is run =
-    (trace-over (uids_of_scene s.devices) x is.lossy.scene.uids).1
-    (subst (λ (n : ℕ). HonestOver (replicate n (uids_of_scene s.devices)) x) (sym (length-map run.steps seen_in) ∙ ap length run.seen)
-    (subst (λ (sets : List (List ℕ)). HonestOver sets x) (same_sets s run.steps is.stay run.keeps) run.honest))
-
--- the entry of an outcome that a client got
-pub record IsToldBy (o : Opening) (h : List Entry) (c : ℕ) (v : OutcomeValue) : Type 0 where
-  pub entry : Entry
-  pub front : List Entry
-  pub back : List Entry
-  pub whole : h ≡ front ++ entry ∷ back
-  pub is : outcome_of h entry ≡ Some v
-  pub own : tells o c h entry ≡ true
-
-pub split_at : {X : Type 0} (xs : List X) (i : ℕ) (x : X) → slice_get xs i ≡ Some x → (front : List X) × (back : List X) × (xs ≡ front ++ x ∷ back)
-split_at [] i x e = absurd (no_item e)
+refused_closed : (o : Opening) (front : List Entry) (c : ℕ) (client : Option ClientId) (call : Call) (cause : Cause) (number : Option ℕ) (done : Discovered) → is_closed_refusal c (Refuse client call cause) ≡ true
+    → refused_outcome call ≡ Some (DiscoveryValue number done) → IsRefused o front client call cause.0 → is_closed o front ≡ true
+refused_closed o front c (Some d) (calls.Discover kind) cause number done own is refused =
+    let one : cause.0 ≡ 1 = eqb-true cause.0 1 (and_parts (cause.0 == 1) (is_client c (Some d)) own).0 in
+    ask_closed (is_closed o front) (places o front) (outstanding_discoveries o d.0 front) (next_ask o front) d.0 (refused ∙ ap (λ (n : ℕ). Some n) one)
+refused_closed o front c None (calls.Discover kind) cause number done own is refused = absurd refused
+refused_closed o front c client (calls.Submit request) cause number done own is refused = absurd (no_ask is)
   where
-    no_item : None ≡ Some x → ⊥
-    no_item e = cc
-split_at (y ∷ xs) zero x e = let same : y ≡ x = cc in ([], xs, ap (λ (z : _). z ∷ xs) same)
-split_at (y ∷ xs) (suc i) x e = let rest = split_at xs i x e in (y ∷ rest.0, rest.1, ap (λ (zs : List _). y ∷ zs) rest.2)
-
-pub told_in : (o : Opening) (h : List Entry) (c : ℕ) (values : List OutcomeValue) (v : OutcomeValue) (i : ℕ) → TellsAll o c h values → slice_get values i ≡ Some v → IsToldBy o h c v
-unfolding told_values
-told_in o h c values v i tells_all at =
-    let some = get_map (λ (v : OutcomeValue). Some v) values i v at in
-    let all = slice_get-append_left (map (λ (v : OutcomeValue). Some v) values) (uncollected_values o c h) i (Some v) some in
-    let in_told : slice_get (told_values o c h) i ≡ Some (Some v) = ap (λ (vs : List (Option OutcomeValue)). slice_get vs i) (sym tells_all) ∙ all in
-    let found = map_get (outcome_of h) (told o c h) i (Some v) (values_are o c h i (Some v) in_told) in
-    let place = filter_has (tells o c h) h i found.0 found.1 in
-    let parts = split_at h place.0 found.0 place.1 in
-    record { entry = found.0; front = parts.0; back = parts.1; whole = parts.2; is = found.2; own = place.2 }
+    no_ask : refused_outcome (calls.Submit request) ≡ Some (DiscoveryValue number done) → ⊥
+    no_ask e = cc
+refused_closed o front c client (calls.Join n) cause number done own is refused = absurd (no_ask is)
   where
-    values_are : (o : Opening) (c : ℕ) (h : List Entry) (i : ℕ) (v : Option OutcomeValue) → slice_get (told_values o c h) i ≡ Some v → slice_get (map (outcome_of h) (told o c h)) i ≡ Some v
-    values_are o c h i v at = at
+    no_ask : refused_outcome (calls.Join n) ≡ Some (DiscoveryValue number done) → ⊥
+    no_ask e = cc
 
-pub told_by : {J : Type 0} {h : Ghosts J} {C A : Type 0} (k : LogState) (c : ℕ) (e : ClientEnd J C A h) (v : OutcomeValue) (i : ℕ) → Agrees c k e → slice_get (end_got e) i ≡ Some v → IsToldBy k.opening k.entries c v
-told_by k c e v i agrees at = told_in k.opening k.entries c (end_got e ++ values_in (known_items e.replies)) v i agrees.got_are (slice_get-append_left (end_got e) (values_in (known_items e.replies)) i v at)
+-- the session's log is one over the line, and a client's end
+module _ {J : Type 0} {h : Ghosts J} {C A : Type 0} (setup : Setup) (room : ℕ) (ps : List ℕ) (s t : SimState) (k : LogState) (c : ℕ) (e : ClientEnd J C A h) (over : IsEndOver setup room ps s t k c e) where
+  log_over : IsLogOver s t k
+  log_over = record { legal = over.session.legal; steps = over.session.steps }
 
--- it is an Answer, or the refusal of a discovery by a close
-pub record IsAnswered (h front back : List Entry) (e : Entry) (number : Option ℕ) (done : Discovered) : Type 0 where
-  pub n : ℕ
-  pub run : ℕ
-  pub is : e ≡ Answer n run done.fault
-  pub run_is : done.run ≡ run
-  pub devices : done.devices ≡ answer_devices run h
+  told_of : (number : Option ℕ) (done : Discovered) → HasGot e number done → IsToldBy k.opening k.entries c (DiscoveryValue number done)
+  told_of number done got = told_by k c e (DiscoveryValue number done) got.0 over.agrees got.1
 
-pub record IsRefusedByClose (e : Entry) (done : Discovered) : Type 0 where
-  pub client : Option ClientId
-  pub call : Call
-  pub cause : Cause
-  pub is : e ≡ Refuse client call cause
-  pub never : done ≡ never_begun
+  -- an outcome of a discovery is that of an Answer, or of a discovery that was never begun
+  by_outcome : {X : Type 0} (number : Option ℕ) (done : Discovered) → HasGot e number done
+      → ((front back : List Entry) (n r : ℕ) → k.entries ≡ front ++ Answer n r done.fault ∷ back → done.devices ≡ answer_devices r k.entries → X) → (done ≡ never_begun → X) → X
+  by_outcome {X} number done got answered never = by_kind (discovery_of k.entries told.front told.back told.entry number done told.is)
+    where
+      told : IsToldBy k.opening k.entries c (DiscoveryValue number done)
+      told = told_of number done got
 
-by_refusal : (c : Option ClientId) (call : Call) (cause : Cause) (number : Option ℕ) (done : Discovered) → refused_outcome call ≡ Some (DiscoveryValue number done) → IsRefusedByClose (Refuse c call cause) done
-by_refusal c (calls.Submit request) cause number done is = cc
-by_refusal c (calls.Discover kind) cause number done is = record { client = c; call = calls.Discover kind; cause = cause; is = refl; never = cc }
-by_refusal c (calls.Join places) cause number done is = cc
+      by_kind : IsAnswered k.entries told.front told.back told.entry number done ⊎ IsRefusedByClose told.entry done → X
+      by_kind (inl a) = answered told.front told.back a.n a.run (told.whole ∙ ap (λ (x : Entry). told.front ++ x ∷ told.back) a.is) a.devices
+      by_kind (inr a) = never a.never
 
-pub discovery_of : (h front back : List Entry) (e : Entry) (number : Option ℕ) (done : Discovered) → outcome_of h e ≡ Some (DiscoveryValue number done) → IsAnswered h front back e number done ⊎ IsRefusedByClose e done
-discovery_of h front back (Answer n r fault) number done is =
-    let same : discovered_by r fault h ≡ done = cc in
-    inl (record { n = n; run = r; is = ap (λ (f : Option AgentFault). Answer n r f) (ap (λ (d : Discovered). d.fault) same); run_is = ap (λ (d : Discovered). d.run) (sym same); devices = ap (λ (d : Discovered). d.devices) (sym same) })
-discovery_of h front back (Refuse c call cause) number done is = inr (by_refusal c call cause number done is)
-discovery_of h front back (Finish n status len) number done is = cc
-discovery_of h front back (Join c n) number done is = cc
-discovery_of h front back (Accept c n request) number done is = cc
-discovery_of h front back (Ask c n kind) number done is = cc
-discovery_of h front back (Send owner frame) number done is = cc
-discovery_of h front back (Came event) number done is = cc
-discovery_of h front back (Collect c) number done is = cc
-discovery_of h front back Pause number done is = cc
-discovery_of h front back Resume number done is = cc
-discovery_of h front back Close number done is = cc
+  begun : (done : Discovered) → done.fault ≡ None → done ≡ never_begun → ⊥
+  begun done fault never = aborted (sym fault ∙ ap (λ (d : Discovered). d.fault) never)
+    where
+      aborted : None ≡ never_begun.fault → ⊥
+      aborted e = cc
 
--- exactly the devices
-pub tells_devices : {J : Type 0} {h : Ghosts J} {C A : Type 0} (setup : Setup) (room : ℕ) (places : List ℕ) (s t : SimState) (k : LogState) (c : ℕ) (e : ClientEnd J C A h) → IsEndOver setup room places s t k c e → IsStayingScene s → TellsTheDevices s e
-tells_devices setup room places s t k c e over is number done got fault = by_kind (discovery_of k.entries told.front told.back told.entry number done told.is)
-  where
-    told : IsToldBy k.opening k.entries c (DiscoveryValue number done)
-    told = told_by k c e (DiscoveryValue number done) got.0 over.agrees got.1
+  without_fault : (front back : List Entry) (n r : ℕ) (fault : Option AgentFault) → fault ≡ None → k.entries ≡ front ++ Answer n r fault ∷ back → k.entries ≡ front ++ Answer n r None ∷ back
+  without_fault front back n r fault none whole = whole ∙ ap (λ (f : Option AgentFault). front ++ Answer n r f ∷ back) none
 
-    line : TellsTheLine k.opening k.entries
-    line = (discoveries_promised k.opening k.entries over.session.legal).tells_the_line
+  -- exactly the devices
+  pub tells_devices : IsStayingScene s → TellsTheDevices s e
+  tells_devices is number done got fault = by_outcome number done got
+      (λ front back n r whole devices. ap uids_of devices ∙ exact.exactly front back n r (without_fault front back n r done.fault fault whole))
+      (λ never. absurd (begun done fault never))
+    where
+      exact : AnswersAreTheDevices s k
+      exact = are_the_devices s t k log_over is
 
-    by_kind : IsAnswered k.entries told.front told.back told.entry number done ⊎ IsRefusedByClose told.entry done → uids_of done.devices ≡ uids_of_scene s.devices
-    by_kind (inl a) =
-        let whole = told.whole ∙ ap (λ (x : Entry). told.front ++ x ∷ told.back) (a.is ∙ ap (λ (f : Option AgentFault). Answer a.n a.run f) fault) in
-        let trace = staying_trace s (run_exchanges a.run k.entries) is (honest_in_log k.opening k.entries s t a.run over.session.legal.each is.lossy.few_losses over.session.steps) in
-        ap uids_of a.devices ∙ line.exactly told.front told.back a.n a.run (uids_of_scene s.devices) whole trace
-    by_kind (inr a) = absurd (aborted (sym fault ∙ ap (λ (d : Discovered). d.fault) a.never))
-      where
-        aborted : None ≡ never_begun.fault → ⊥
-        aborted e = cc
+  -- those that are always there, and none that never is
+  pub tells_changing : IsLossyScene s → TellsTheChanging s e
+  tells_changing is = record {
+    staying = λ number done u got fault always. by_outcome number done got
+        (λ front back n r whole devices. ap (λ (ds : List Device). has (uids_of ds) u) devices ∙ follow.staying front back n r u (without_fault front back n r done.fault fault whole) always)
+        (λ never. absurd (begun done fault never));
+    no_stranger = λ number done u got there. by_outcome number done got
+        (λ front back n r whole devices. follow.no_stranger front back n r done.fault u whole (sym (ap (λ (ds : List Device). has (uids_of ds) u) devices) ∙ there))
+        (λ never. absurd (nobody u (sym (ap (λ (d : Discovered). has (uids_of d.devices) u) never) ∙ there)));
+  }
+    where
+      follow : AnswersFollowTheDevices s k
+      follow = follow_the_devices s t k log_over is
 
--- those that are always there, and none that never is
-in_each : (s : SimState) (u : ℕ) (ys : List Step) → AllByRecursion (λ (y : Step). (i : ℕ) → present_at y.before.devices i ≡ present_at s.devices i) ys → ((i : ℕ) → has (present_at s.devices i) u ≡ true) → IsInEach u (map present_in ys)
-in_each s u [] all always = tt
-in_each s u (y ∷ ys) all always = (ap (λ (us : List ℕ). has us u) (all.0 y.before.exchanges) ∙ always y.before.exchanges, in_each s u ys all.1 always)
+      nobody : (u : ℕ) → has (uids_of never_begun.devices) u ≡ true → ⊥
+      nobody u e = cc
 
-in_one : (s : SimState) (u : ℕ) (ys : List Step) → AllByRecursion (λ (y : Step). (i : ℕ) → present_at y.before.devices i ≡ present_at s.devices i) ys → IsInOne u (map present_in ys) → (i : ℕ) × (has (present_at s.devices i) u ≡ true)
-in_one s u [] all one = absurd one
-in_one s u (y ∷ ys) all (inl here) = (y.before.exchanges, sym (ap (λ (us : List ℕ). has us u) (all.0 y.before.exchanges)) ∙ here)
-in_one s u (y ∷ ys) all (inr later) = in_one s u ys all.1 later
+  -- Nobody closes a session in threads. So no outcome has a fault, if only a close causes one.
+  tells_no_other : FaultsFollowAClose k → TellsNoFault e
+  tells_no_other follow number done got = by_kind (discovery_of k.entries told.front told.back told.entry number done told.is)
+    where
+      told : IsToldBy k.opening k.entries c (DiscoveryValue number done)
+      told = told_of number done got
 
-pub tells_changing : {J : Type 0} {h : Ghosts J} {C A : Type 0} (setup : Setup) (room : ℕ) (places : List ℕ) (s t : SimState) (k : LogState) (c : ℕ) (e : ClientEnd J C A h) → IsEndOver setup room places s t k c e → IsLossyScene s → TellsTheChanging s e
-tells_changing setup room places s t k c e over is = record { staying = staying; no_stranger = no_stranger }
-  where
-    h : List Entry
-    h = k.entries
+      open_ : (front back : List Entry) (x : Entry) → k.entries ≡ front ++ x ∷ back → is_closed k.opening front ≡ true → ⊥
+      open_ front back x whole closed = true≢false (sym (subst (λ (l : List Entry). is_closed k.opening l ≡ true) (sym whole) (closed_stays k.opening front (x ∷ back) closed)) ∙ over.session.not_closed)
 
-    line : TellsTheLine k.opening h
-    line = (discoveries_promised k.opening h over.session.legal).tells_the_line
+      by_fault : (n r : ℕ) (fault : Option AgentFault) → k.entries ≡ told.front ++ Answer n r fault ∷ told.back → fault ≡ None
+      by_fault n r None whole = refl
+      by_fault n r (Some fault) whole = absurd (open_ told.front told.back (Answer n r (Some fault)) whole (follow told.front told.back n r fault whole))
 
-    run_of : (r : ℕ) → HonestRunOf s (run_exchanges r h)
-    run_of r = honest_in_log k.opening h s t r over.session.legal.each is.few_losses over.session.steps
+      by_kind : IsAnswered k.entries told.front told.back told.entry number done ⊎ IsRefusedByClose told.entry done → done.fault ≡ None
+      by_kind (inl a) = by_fault a.n a.run done.fault (told.whole ∙ ap (λ (x : Entry). told.front ++ x ∷ told.back) a.is)
+      by_kind (inr a) =
+          let entry : Entry = Refuse a.client a.call a.cause in
+          let whole : k.entries ≡ told.front ++ entry ∷ told.back = told.whole ∙ ap (λ (x : Entry). told.front ++ x ∷ told.back) a.is in
+          let own : is_closed_refusal c entry ≡ true = subst (λ (x : Entry). tells k.opening c k.entries x ≡ true) a.is told.own in
+          let outcome : refused_outcome a.call ≡ Some (DiscoveryValue number done) = subst (λ (x : Entry). outcome_of k.entries x ≡ Some (DiscoveryValue number done)) a.is told.is in
+          absurd (open_ told.front told.back entry whole (refused_closed k.opening told.front c a.client a.call a.cause number done own outcome (over.session.legal.each told.front told.back entry whole).1))
 
-    staying : (number : Option ℕ) (done : Discovered) (u : ℕ) → HasGot e number done → done.fault ≡ None → ((i : ℕ) → has (present_at s.devices i) u ≡ true) → has (uids_of done.devices) u ≡ true
-    staying number done u got fault always = by_kind (discovery_of h told.front told.back told.entry number done told.is)
-      where
-        told : IsToldBy k.opening h c (DiscoveryValue number done)
-        told = told_by k c e (DiscoveryValue number done) got.0 over.agrees got.1
+  -- no device is known when a session begins
+  few : length (uids_of k.opening.devices) ≤ length (uids_of_scene s.devices)
+  few =
+      let nobody : length (uids_of k.opening.devices) ≡ 0 = ap (λ (o : Opening). length (uids_of o.devices)) over.session.opening_is in
+      omega (arith, nobody)
 
-        by_kind : IsAnswered h told.front told.back told.entry number done ⊎ IsRefusedByClose told.entry done → has (uids_of done.devices) u ≡ true
-        by_kind (inl a) =
-            let whole = told.whole ∙ ap (λ (x : Entry). told.front ++ x ∷ told.back) (a.is ∙ ap (λ (f : Option AgentFault). Answer a.n a.run f) fault) in
-            let run = run_of a.run in
-            ap (λ (ds : List Device). has (uids_of ds) u) a.devices ∙ line.staying told.front told.back a.n a.run (map present_in run.steps) u whole run.honest (in_each s u run.steps run.keeps always)
-        by_kind (inr a) = absurd (aborted (sym fault ∙ ap (λ (d : Discovered). d.fault) a.never))
-          where
-            aborted : None ≡ never_begun.fault → ⊥
-            aborted e = cc
+  budget_is : k.opening.budget ≡ setup.config.budget
+  budget_is = ap (λ (o : Opening). o.budget) over.session.opening_is
 
-    no_stranger : (number : Option ℕ) (done : Discovered) (u : ℕ) → HasGot e number done → has (uids_of done.devices) u ≡ true → (i : ℕ) × (has (present_at s.devices i) u ≡ true)
-    no_stranger number done u got there = by_kind (discovery_of h told.front told.back told.entry number done told.is)
-      where
-        told : IsToldBy k.opening h c (DiscoveryValue number done)
-        told = told_by k c e (DiscoveryValue number done) got.0 over.agrees got.1
+  pub tells_no_fault : IsCalmScene s → IsEnough setup s → TellsNoFault e
+  tells_no_fault is enough = tells_no_other (faults_follow s t k log_over is over.session.promised.in_bound (record { few = few; budgeted = rw (over.session.search_is, budget_is) enough }))
 
-        by_kind : IsAnswered h told.front told.back told.entry number done ⊎ IsRefusedByClose told.entry done → (i : ℕ) × (has (present_at s.devices i) u ≡ true)
-        by_kind (inl a) =
-            let whole = told.whole ∙ ap (λ (x : Entry). told.front ++ x ∷ told.back) a.is in
-            let run = run_of a.run in
-            in_one s u run.steps run.keeps (line.no_stranger told.front told.back a.n a.run done.fault (map present_in run.steps) u whole run.honest (sym (ap (λ (ds : List Device). has (uids_of ds) u) a.devices) ∙ there))
-        by_kind (inr a) = absurd (nobody (sym (ap (λ (d : Discovered). has (uids_of d.devices) u) a.never) ∙ there))
-          where
-            nobody : has (uids_of never_begun.devices) u ≡ true → ⊥
-            nobody e = cc
+  pub tells_none_by_default : IsCalmScene s → IsByDefault setup → TellsNoFault e
+  tells_none_by_default is default = tells_no_other (follow_by_default s t k log_over is over.session.promised.in_bound (record { few = few; budget = budget_is ∙ default.0; search = over.session.search_is ∙ default.1 }))

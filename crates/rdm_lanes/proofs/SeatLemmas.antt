@@ -4,11 +4,11 @@ use Rattle.std.specs.Prelude.{slice_index_or}
 use Rattle.std.specs.declared.alloc.Global.{Global}
 use Rattle.std.proofs.lemmas.List.{map-append, length-map}
 use Rattle.std.proofs.lemmas.Option.{slice_get_within, get_or_from_slice_get, slice_get-get_or}
-use Rattle.rdm_lanes.specs.declared.history.ViewHistory.{Ghosts}
-use Rattle.rdm_lanes.specs.declared.seat.Seat.{Seat}
-use Rattle.rdm_lanes.specs.declared.lane.Lane.{Lane}
+use Rattle.rdm_lanes.specs.declared.views.history.ViewHistory.{Ghosts}
+use Rattle.rdm_lanes.specs.declared.opening.seat.Seat.{Seat}
+use Rattle.rdm_lanes.specs.declared.worker.lane.Lane.{Lane}
 use Rattle.rdm_lanes.specs.declared.client.RingClient.{RingClient}
-use Rattle.rdm_lanes.specs.declared.ends.ClientEnd.{ClientEnd}
+use Rattle.rdm_lanes.specs.declared.client.ends.ClientEnd.{ClientEnd}
 use Rattle.rdm_lanes.specs.Clients.{SameClient}
 use Rattle.rdm_lanes.specs.Lanes.{SameLane, SameLanes}
 use Rattle.rdm_lanes.specs.Ends.{end_rings}
@@ -23,12 +23,6 @@ remove_first (y ∷ xs) x rest some is left = rw (is, left) refl
 
 -- the rings are still pairs once the bodies and the worker have run
 module _ {J : Type 0} {h : Ghosts J} {C A : Type 0} where
-  pub same_client_join : (a b c : RingClient J C A h) → SameClient a b → SameClient b c → SameClient a c
-  same_client_join a b c s t = (
-    ((t.0.0.0 ∙ s.0.0.0, t.0.0.1 ∙ s.0.0.1, t.0.0.2 ∙ s.0.0.2, t.0.0.3 ∙ s.0.0.3), t.0.1 ∙ s.0.1),
-    ((t.1.0.0 ∙ s.1.0.0, t.1.0.1 ∙ s.1.0.1, t.1.0.2 ∙ s.1.0.2, t.1.0.3 ∙ s.1.0.3), t.1.1 ∙ s.1.1),
-  )
-
   rings_kept : (a b : RingClient J C A h) (l m : Lane) → ArePair (client_rings a) l → SameClient a b → SameLane l m → ArePair (client_rings b) m
   rings_kept a b l m p s t = (
     (t.0.0.0 ∙ p.0.0 ∙ sym s.0.0.0, t.0.0.1 ∙ p.0.1 ∙ sym s.0.0.1, t.0.0.2 ∙ p.0.2 ∙ sym s.0.0.2, t.0.0.3 ∙ p.0.3 ∙ sym s.0.0.3),

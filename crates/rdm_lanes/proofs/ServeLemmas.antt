@@ -9,7 +9,7 @@ use Rattle.rtrb.specs.Ring.{sent as pushed, received as popped}
 use Rattle.rdm_log.specs.log.LogState.{LogState}
 use Rattle.rdm_lanes.specs.declared.call.ClientCall.{ClientCall}
 use Rattle.rdm_lanes.specs.declared.call.ClientCall.TheVariants.{Submit, Discover, Leave}
-use Rattle.rdm_lanes.specs.declared.lane.Lane.{Lane}
+use Rattle.rdm_lanes.specs.declared.worker.lane.Lane.{Lane}
 use Rattle.rdm_lanes.specs.Calls.{is_work, work_in}
 use Rattle.rdm_lanes.specs.Lanes.{FitsBut, Fits, is_leave}
 use Rattle.rdm_lanes.specs.body.Serving.{LooksForSlot}

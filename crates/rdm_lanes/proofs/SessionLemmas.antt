@@ -7,8 +7,9 @@ use Rattle.rdm_log.specs.log.History.{is_closed, is_paused}
 use Rattle.rdm_log.specs.log.LogState.{LogState}
 use Rattle.rdm_log.specs.log.Legal.{Legal}
 use Rattle.rdm_log.specs.promises.Promised.{Promised}
-use Rattle.rdm_lanes.specs.declared.lane.Lane.{Lane}
-use Rattle.rdm_lanes.specs.Lines.{exchanges, exchange_count, Exchanged, SameSwitches, IsBetweenTurns}
+use Rattle.rdm_lanes.specs.declared.worker.lane.Lane.{Lane}
+use Rattle.rdm_scenes.specs.Exchanges.{exchanges}
+use Rattle.rdm_lanes.specs.Lines.{exchange_count, Exchanged, SameSwitches, IsBetweenTurns}
 use Rattle.rdm_lanes.specs.Lanes.{AllFit}
 use Rattle.rdm_lanes.specs.Opened.{opened_with}
 use Rattle.rdm_lanes.specs.Sessions.{SessionOver}

@@ -10,7 +10,7 @@ use Rattle.rdm_client.specs.declared.told.Told.{Told}
 use Rattle.rdm_client.specs.declared.told.AskTold.{AskTold}
 use Rattle.rdm_client.specs.declared.told.Collected.{Collected}
 use Rattle.rdm_client.specs.Desks.{settled, without_oldest, Called}
-use Rattle.rdm_lanes.specs.declared.history.ViewHistory.{Ghosts}
+use Rattle.rdm_lanes.specs.declared.views.history.ViewHistory.{Ghosts}
 use Rattle.rdm_lanes.specs.declared.call.ClientCall.{ClientCall}
 use Rattle.rdm_lanes.specs.declared.fault.RingFault.{RingFault}
 use Rattle.rdm_lanes.specs.declared.fault.RingFault.TheVariants.{Full, Left}

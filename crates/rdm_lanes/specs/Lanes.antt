@@ -7,7 +7,7 @@ use Rattle.rdm_log.specs.log.History.{places}
 use Rattle.rdm_log.specs.log.Clients.{outstanding_requests, outstanding_discoveries}
 use Rattle.rdm_lanes.specs.declared.call.ClientCall.{ClientCall}
 use Rattle.rdm_lanes.specs.declared.call.ClientCall.TheVariants.{Leave}
-use Rattle.rdm_lanes.specs.declared.lane.Lane.{Lane}
+use Rattle.rdm_lanes.specs.declared.worker.lane.Lane.{Lane}
 use Rattle.rdm_lanes.specs.Calls.{work_in, calls_by}
 use Rattle.rdm_lanes.specs.Told.{values_in, TellsAll}
 

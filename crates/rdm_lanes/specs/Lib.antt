@@ -14,4 +14,5 @@ pub mod Ends
 pub mod Opened
 pub mod Sessions
 pub mod OverThreads
+pub mod Ended
 pub mod body

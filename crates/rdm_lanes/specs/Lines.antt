@@ -1,5 +1,5 @@
--- The exchanges in a log, and the steps of the line that made them.
-use Rattle.std.specs.Prelude.{◌≡◌, ℕ, Bool, true, false, ◌||◌, List, ◌∷◌, ◌++◌, length, map, Option, nat_le}
+-- How a log grows by the steps of its line, and what stays the same in it.
+use Rattle.std.specs.Prelude.{◌≡◌, ℕ, Bool, true, false, ◌||◌, List, ◌∷◌, ◌++◌, length, Option, nat_le}
 use Rattle.rdm_line.specs.Events.{Exchange, Makes}
 use Rattle.rdm_log.specs.declared.entry.Call.{Call}
 use Rattle.rdm_log.specs.declared.entry.Cause.{Cause}
@@ -7,18 +7,11 @@ use Rattle.rdm_log.specs.declared.entry.ClientId.{ClientId}
 use Rattle.rdm_log.specs.declared.entry.Opening.{Opening}
 use Rattle.rdm_log.specs.declared.entry.Entry.{Entry}
 use Rattle.rdm_log.specs.declared.entry.Entry.TheVariants.{Refuse}
-use Rattle.rdm_log.specs.log.Entries.{Traded, traded, joins}
+use Rattle.rdm_log.specs.log.Entries.{joins}
 use Rattle.rdm_log.specs.log.History.{awaited, is_closed, is_paused, next_request, next_ask}
 use Rattle.rdm_log.specs.log.LogState.{LogState, grown}
+use Rattle.rdm_scenes.specs.Exchanges.{exchanges}
 use Rattle.rdm_lanes.specs.Operators.{switches}
-
--- a frame and what came for it
-abbrev pub exchange_of : Traded → Exchange
-exchange_of t = (t.frame, t.event)
-
--- each frame that was sent, with what came for it, in order
-unfoldable pub exchanges : List Entry → List Exchange
-exchanges h = map exchange_of (traded h)
 
 -- how many exchanges a log has
 abbrev pub exchange_count : LogState → ℕ

@@ -1,38 +1,21 @@
 -- What a client of a session over a simulated line is told of discoveries.
-use Rattle.std.specs.Prelude.{◌≡◌, ◌≤◌, ℕ, true, List, [], Option, Some, None, slice_get}
-use Rattle.std.specs.List.{AllByRecursion}
+use Rattle.std.specs.Prelude.{◌≡◌, ◌≤◌, ℕ, true, List, Option, Some, None, slice_get}
 use Rattle.rdm_agent.specs.Bound.{enough_by}
 use Rattle.rdm_agent.specs.declared.search.Search.TheVariants.{Steady}
 use Rattle.rdm_agent.specs.declared.kind.Kind.TheVariants.{Incremental}
 use Rattle.rdm_agent.specs.declared.limits.TheConstants.{DEFAULT_BUDGET}
 use Rattle.rdm_wire.specs.Uid.{has}
 use Rattle.rdm_wire.specs.Devices.{uids_of}
-use Rattle.rdm_line.specs.Scenes.{IsScene, Stays, present_at, uids_of_scene}
+use Rattle.rdm_line.specs.Scenes.{present_at, uids_of_scene}
 use Rattle.rdm_line.specs.Sim.{SimState, SimStep}
-use Rattle.rdm_line.specs.SimRuns.{NoFiveSuccessive}
 use Rattle.rdm_log.specs.declared.config.Setup.{Setup}
 use Rattle.rdm_log.specs.log.LogState.{LogState}
 use Rattle.rdm_log.specs.promises.Outcomes.{Discovered}
 use Rattle.rdm_log.specs.promises.Outcomes.OutcomeValue.{DiscoveryValue}
-use Rattle.rdm_lanes.specs.declared.history.ViewHistory.{Ghosts}
-use Rattle.rdm_lanes.specs.declared.ends.ClientEnd.{ClientEnd}
+use Rattle.rdm_lanes.specs.declared.views.history.ViewHistory.{Ghosts}
+use Rattle.rdm_lanes.specs.declared.client.ends.ClientEnd.{ClientEnd}
 use Rattle.rdm_lanes.specs.Ends.{end_got, Agrees}
 use Rattle.rdm_lanes.specs.Sessions.{SessionOver}
-
--- a simulated line of which no five successive exchanges are lost
-pub record IsLossyScene (s : SimState) : Type 0 where
-  pub scene : IsScene s.devices
-  pub few_losses : NoFiveSuccessive s.losses
-
--- one whose devices stay, too
-pub record IsStayingScene (s : SimState) : Type 0 where
-  pub lossy : IsLossyScene s
-  pub stay : AllByRecursion Stays s.devices
-
--- one on which no exchange fails, either
-pub record IsCalmScene (s : SimState) : Type 0 where
-  pub staying : IsStayingScene s
-  pub no_fails : s.fails ≡ []
 
 -- the budget is at least as large as this search's bound on frames asks, where all the scene's devices are known
 abbrev pub IsEnough : Setup → SimState → Type 0

@@ -7,9 +7,10 @@ use Rattle.rdm_log.specs.log.History.{awaited, is_closed, is_paused}
 use Rattle.rdm_log.specs.log.Legal.{Legal}
 use Rattle.rdm_log.specs.log.LogState.{LogState, opened}
 use Rattle.rdm_log.specs.promises.Promised.{Promised}
+use Rattle.rdm_scenes.specs.Exchanges.{exchanges}
 use Rattle.rdm_lanes.specs.Calls.{calls_by}
 use Rattle.rdm_lanes.specs.Operators.{switches}
-use Rattle.rdm_lanes.specs.Lines.{NoCallLost, exchanges}
+use Rattle.rdm_lanes.specs.Lines.{NoCallLost}
 
 -- A session over a line, from its start to its end. The log has the opening and the search of this set-up, and this
 -- room. One client joined with each of these places, in order, and nobody else called anything. Nobody paused, resumed

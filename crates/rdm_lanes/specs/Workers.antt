@@ -7,13 +7,13 @@ use Rattle.rtrb.specs.declared.consumer.Consumer.{Consumer}
 use Rattle.rtrb.specs.Ring.{sent as pushed, received as popped, IsPair}
 use Rattle.rdm_log.specs.log.LogState.{LogState}
 use Rattle.rdm_lanes.specs.declared.call.OperatorCall.{OperatorCall}
-use Rattle.rdm_lanes.specs.declared.lane.Lane.{Lane}
-use Rattle.rdm_lanes.specs.declared.operator.Operator.{Operator}
+use Rattle.rdm_lanes.specs.declared.worker.lane.Lane.{Lane}
+use Rattle.rdm_lanes.specs.declared.worker.operator.Operator.{Operator}
 use Rattle.left_right.specs.declared.Absorb.{Ghosts as Absorbs}
-use Rattle.rdm_lanes.specs.declared.history.ViewHistory.{Ghosts}
-use Rattle.rdm_lanes.specs.declared.publishing.Shown.{Shown}
-use Rattle.rdm_lanes.specs.declared.view_worker.ViewWorker.{ViewWorker}
-use Rattle.rdm_lanes.specs.declared.history.BlankHistory.{BlankHistory}
+use Rattle.rdm_lanes.specs.declared.views.history.ViewHistory.{Ghosts}
+use Rattle.rdm_lanes.specs.declared.views.publishing.Shown.{Shown}
+use Rattle.rdm_lanes.specs.declared.worker.view_worker.ViewWorker.{ViewWorker}
+use Rattle.rdm_lanes.specs.declared.views.history.BlankHistory.{BlankHistory}
 use Rattle.rdm_client.specs.declared.view.DeviceView.{DeviceView}
 use Rattle.rdm_lanes.specs.Views.{all_views}
 

@@ -7,10 +7,15 @@ ghost use Rattle.rdm_lanes.specs.Callbacks.{HoldsItsOwn};
 ghost use Rattle.rdm_lanes.specs.Told.{values_in};
 ghost use Rattle.rdm_lanes.specs.Views.{last_found};
 
+pub(crate) mod calls;
+pub(crate) mod ends;
+pub(crate) mod found;
+pub(crate) mod settle;
+
 use crate::call::ClientCall;
-use crate::history::ViewHistory;
-use crate::reading::ViewReader;
 use crate::ring_outcome::RingOutcome;
+use crate::views::history::ViewHistory;
+use crate::views::reading::ViewReader;
 use rdm_client::{AskCallback, Callback, Desk, DeviceView};
 use rtrb::{Consumer, Producer};
 use std::alloc::Global;

@@ -3,12 +3,12 @@ ghost use Rattle.std.specs.Prelude.{ℕ, List};
 ghost use Rattle.rdm_line.specs.Sim.{SimState};
 ghost use Rattle.rdm_log.specs.declared.config.Setup.{Setup};
 ghost use Rattle.rdm_log.specs.log.LogState.{LogState};
-ghost use Rattle.rdm_lanes.specs.declared.ends.ClientEnd.{ClientEnd};
-ghost use Rattle.rdm_lanes.specs.OverThreads.{IsLossyScene, IsStayingScene, IsEndOver};
-ghost use Rattle.rdm_lanes.specs.OverThreads.{TellsTheDevices, TellsTheChanging};
-ghost use Rattle.rdm_lanes.specs.OverThreads.{IsCalmScene, IsEnough, IsByDefault, TellsNoFault};
+ghost use Rattle.rdm_lanes.specs.declared.client.ends.ClientEnd.{ClientEnd};
+ghost use Rattle.rdm_scenes.specs.Scenes.{IsLossyScene, IsStayingScene, IsCalmScene};
+ghost use Rattle.rdm_lanes.specs.OverThreads.{IsEndOver, TellsTheDevices, TellsTheChanging};
+ghost use Rattle.rdm_lanes.specs.OverThreads.{IsEnough, IsByDefault, TellsNoFault};
 
-use crate::history::ViewHistory;
+use crate::views::history::ViewHistory;
 
 /// Each discovery's outcome without fault that a client got has exactly the simulated line's devices. The premises: the
 /// line loses no five exchanges with successive numbers, and its devices stay. A session of

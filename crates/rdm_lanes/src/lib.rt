@@ -1,50 +1,36 @@
 //! Clients that never wait. Each has a ring for its calls and a ring for its outcomes. A worker has their other ends,
 //! and publishes device views, which each client reads.
+//!
+//! - `opening` makes the clients, the operator and the worker, and `session` runs all of them in threads.
+//! - `client` has one end of each ring, and `worker` the other. `call` and `ring_outcome` are what goes through them.
+//! - `views` has the device views that the worker publishes and the clients read.
 #![tactic(auto)]
 
-mod body;
 mod call;
 mod client;
-mod client_calls;
-mod compared;
-mod comparing;
-mod ends;
 mod fault;
-mod found;
-mod history;
-mod lane;
 pub mod laws;
-mod moving;
-mod open;
 mod opening;
-mod operating;
-mod operator;
-mod publishing;
-mod reading;
 mod ring_outcome;
-mod rooms;
-mod seat;
-mod serve;
-mod session_run;
-mod settle;
-mod threads;
-mod together;
-mod view_turns;
-mod view_worker;
+mod session;
+mod views;
 mod worker;
-mod working;
 
-pub use body::{Body, Gate, WORKER_STOPPED};
+// What a program calls, and what that answers.
 pub use client::RingClient;
-pub use compared::Compared;
-pub use ends::ClientEnd;
+pub use client::ends::ClientEnd;
 pub use fault::{OpenFault, RingFault, RingFull};
-pub use history::{BlankHistory, ViewHistory};
-pub use open::{Lanes, open_lanes, open_lanes_with};
-pub use operator::Operator;
-pub use publishing::{Publisher, Shown};
+pub use opening::{Lanes, open_lanes, open_lanes_with};
 pub use rdm_client::WorkerEnd;
-pub use reading::ViewReader;
-pub use session_run::{run_session, run_session_with};
-pub use together::LanesEnd;
-pub use view_worker::ViewWorker;
+pub use session::body::{Body, Gate, WORKER_STOPPED};
+pub use session::together::LanesEnd;
+pub use session::{run_session, run_session_with};
+pub use worker::compared::Compared;
+pub use worker::operator::Operator;
+pub use worker::view_worker::ViewWorker;
+
+// What the types above are made of. A program names the history by `ViewHistory`, begins it by `BlankHistory`, and
+// writes `Shown` as the worker's published value. Only measurements call a publisher and a reader of their own.
+pub use views::history::{BlankHistory, ViewHistory};
+pub use views::publishing::{Publisher, Shown};
+pub use views::reading::ViewReader;

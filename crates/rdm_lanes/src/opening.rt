@@ -1,193 +1,135 @@
-//! The steps by which clients, an operator and a worker are opened.
-ghost use Rattle.std.specs.Prelude.{◌≡◌, [], ◌∷◌, length, OnOk, IfOk, IfErr, IfSome, ◌≤◌, sum, false};
-ghost use Rattle.rdm_log.specs.log.Config.{IsConfig};
-ghost use Rattle.rdm_log.specs.log.Legal.{Legal};
+//! How clients, an operator and a worker are opened.
+ghost use Rattle.std.specs.Prelude.{◌≡◌, IfOk, IfErr};
+ghost use Rattle.rdm_log.specs.log.Config.{steady};
 ghost use Rattle.rdm_log.specs.log.LogState.{blank_log};
-ghost use Rattle.rdm_lanes.specs.Opened.{opened_with, join_entries};
-ghost use Rattle.rdm_lanes.specs.body.Opening.{IsNewWith, AreNewWith, HoldNothing};
-ghost use Rattle.rdm_lanes.specs.Opened.{IsFullFor, IsLaterFault};
-ghost use Rattle.rdm_lanes.specs.Views.{opening_view};
+ghost use Rattle.rdm_lanes.specs.Opened.{places_fault, MayOpen, IsOpened, HasFirstFault};
+ghost use Rattle.rdm_lanes.specs.Workers.{book_of};
+
+pub(crate) mod rooms;
+pub(crate) mod seat;
+pub(crate) mod steps;
 
 use crate::client::RingClient;
-use crate::comparing::shows_legal;
 use crate::fault::OpenFault;
-use crate::history::ViewHistory;
-use crate::lane::Lane;
-use crate::publishing::{Publisher, Shown};
-use rdm_client::{Desk, DeviceView, Tells, TellsAsk};
-use rdm_queue::{JoinFault, Log, Session, Setup};
-use rdm_wire::DeviceSet;
+use crate::opening::steps::{discard, joined, open_clients, total};
+use crate::views::history::{BlankHistory, ViewHistory};
+use crate::views::publishing::{Publisher, Shown};
+use crate::worker::Worker;
+use crate::worker::operator::Operator;
+use crate::worker::view_worker::ViewWorker;
+use left_right::Absorb;
+use rdm_client::{AskCallback, Callback, DeviceView, Tells, TellsAsk};
+use rdm_queue::{Config, Log, MOST_CLIENTS, Setup};
 use rtrb::RingBuffer;
 use std::alloc::Global;
 use std::sync::Wait;
 
-/// The sum of the places of at most sixteen clients.
-pub fn total(places: &[u8]) -> u16
-    requires { length places.now ≤ 16 }
-    ensures { result ≡ sum places.now }
-{
-    let mut all = 0;
-    for n in places {
-        all += u16::from(*n);
-    }
-    all
+/// The clients of a session, its operator and its worker (profile of this project). `T` is `Shown<J>`.
+pub struct Lanes<
+    J: ViewHistory,
+    T: Absorb<Shown<J>, State = [DeviceView; 0]> + Drop,
+    R: Wait + Drop,
+    C = Callback,
+    A = AskCallback,
+> {
+    /// The clients, in the order of their places.
+    pub clients: Vec<RingClient<J, C, A>>,
+    /// The operator.
+    pub operator: Operator,
+    /// The worker, which has the session.
+    pub worker: ViewWorker<J, T, R>,
 }
 
-/// A client with this many places, and its lane. None: there was no memory.
-#[tactic(auto, using(crate::proofs::OpenLemmas::counted_new))]
-pub fn open_client<J: ViewHistory, C: Tells, A: TellsAsk, R: Wait + Drop>(
+/// A session with a client for each of these places, an operator and a worker (profile of this project). Its runs
+/// search steadily. Each client has a ring of this many slots for its calls and one for its outcomes, and the operator
+/// one for its calls. The memory of the rings is taken here, with that of what each client finds. A view takes its own
+/// when it is published. `J` is the history of the views that the worker publishes. The worker keeps the runtime, to
+/// wait for readers when it publishes; this call waits for nobody.
+///
+/// The conditions are these:
+/// - the controller's UID isn't broadcast;
+/// - there are at most [`MOST_PLACES`](rdm_queue::MOST_PLACES) places;
+/// - the budget is at least 1;
+/// - the log has no entries;
+/// - a ring has at least one slot.
+///
+/// Err: the first fault that stands. The log comes back without entries, as a new one with the same room, and the blank
+/// history as it was. So the same call can be made again, with more memory or with a larger log.
+pub fn open_lanes<J: ViewHistory, C: Tells, A: TellsAsk, R: Wait + Drop>(
+    rt: R,
     alloc: Global,
-    publisher: &Publisher<J, Shown<J>, R>,
-    ring: u8,
-    places: u8,
-) -> Option<(RingClient<J, C, A>, Lane)>
-    requires { publisher.now.shown ≡ opening_view ∷ [] }
-    ensures { IfSome result (λ r. IsNewWith ring places r.0 r.1) }
-{
-    let Ok(views) = publisher.reader() else {
-        return None;
-    };
-    let Some(found) = opening_found(alloc) else {
-        return None;
-    };
-    let Ok((calls, heard)) = RingBuffer::new(alloc, usize::from(ring)) else {
-        return None;
-    };
-    let Ok((told, replies)) = RingBuffer::new(alloc, usize::from(ring)) else {
-        return None;
-    };
-    let Ok(desk) = Desk::new(alloc, places) else {
-        return None;
-    };
-    let client = RingClient {
-        desk,
-        calls,
-        replies,
-        views,
-        found,
-        sent: 0,
-        collected: 0,
-        left: false,
-    };
-    let lane = Lane {
-        calls: heard,
-        replies: told,
-        places: usize::from(places),
-        requests: 0,
-        asks: 0,
-        left: false,
-    };
-    Some((client, lane))
-}
-
-// What a client knows of devices at first, in memory of its own. It isn't inlined, so that only it holds a set.
-#[inline(never)]
-fn opening_found(alloc: Global) -> Option<Box<DeviceView>>
-    ensures { IfSome result (λ found. found.value ≡ opening_view) }
-{
-    Box::new(
-        alloc,
-        DeviceView {
-            run: 0,
-            set: DeviceSet::new(),
-        },
-    )
-    .ok()
-}
-
-/// A client with its lane for each of these places. None: there was no memory.
-pub fn open_clients<J: ViewHistory, C: Tells, A: TellsAsk, R: Wait + Drop>(
-    alloc: Global,
-    publisher: &Publisher<J, Shown<J>, R>,
+    history: BlankHistory,
+    config: Config,
+    log: Log,
     ring: u8,
     places: &[u8],
-) -> Option<(Vec<RingClient<J, C, A>>, Vec<Lane>)>
-    requires { publisher.now.shown ≡ opening_view ∷ [] }
-    ensures { IfSome result (λ r. AreNewWith ring places.now r.0.items r.1.items) }
+) -> Result<Lanes<J, Shown<J>, R, C, A>, (OpenFault, Log, BlankHistory)>
+    requires may_open { MayOpen J.book history config log ring }
+    ensures opened { IfOk result (IsOpened (steady config) log.room ring places.now) }
+    ensures fault { HasFirstFault config.places log.room places.now (λ e. e.0) result }
+    ensures back { IfErr result (λ e. (e.1 ≡ blank_log log.room) × (book_of e.2 ≡ J.book)) }
 {
-    let Ok(mut lanes) = Vec::with_capacity(alloc, places.len()) else {
-        return None;
-    };
-    let Ok(mut clients) = Vec::with_capacity(alloc, places.len()) else {
-        return None;
-    };
-    for n in places {
-        let Some((client, lane)) = open_client(alloc, publisher, ring, *n) else {
-            discard(clients);
-            return None;
-        };
-        clients.push_reserved(client);
-        lanes.push_reserved(lane);
-    }
-    Some((clients, lanes))
+    open_lanes_with(rt, alloc, history, Setup::steady(config), log, ring, places)
 }
 
-/// Ends clients that hold no callbacks.
-pub fn discard<J: ViewHistory, C: Tells, A: TellsAsk>(clients: Vec<RingClient<J, C, A>>)
-    requires { HoldNothing clients.items }
-{
-    let mut clients = clients;
-    while let Some(client) = clients.pop() {
-        let RingClient {
-            desk,
-            calls: _,
-            replies: _,
-            views: _,
-            found: _,
-            sent: _,
-            collected: _,
-            left: _,
-        } = client;
-        desk.end().close_empty();
-    }
-    clients.destroy_empty();
-}
-
-/// A session with this set-up, in which a client has joined with each of these places.
-/// Err: there was no memory, or the log is full; it comes back as a new one with the same room.
-pub fn joined(
+/// The same under the same conditions and with the same errors, with a set-up that also says how runs search.
+pub fn open_lanes_with<J: ViewHistory, C: Tells, A: TellsAsk, R: Wait + Drop>(
+    rt: R,
     alloc: Global,
+    history: BlankHistory,
     setup: Setup,
     log: Log,
+    ring: u8,
     places: &[u8],
-) -> Result<Session, (OpenFault, Log)>
-    requires config_is { IsConfig setup.config }
-    requires empty { log.entries ≡ [] }
-    ensures session { IfOk result (λ session. session ≡ opened_with setup log.room places.now) }
-    ensures legal { IfOk result (λ session. Legal session.opening session.entries) }
-    ensures fits { OnOk result (IsFullFor log.room places.now → ⊥) }
-    ensures fault { IfErr result (λ e. IsLaterFault log.room places.now e.0) }
-    ensures back { IfErr result (λ e. e.1 ≡ blank_log log.room) }
+) -> Result<Lanes<J, Shown<J>, R, C, A>, (OpenFault, Log, BlankHistory)>
+    requires may_open { MayOpen J.book history setup.config log ring }
+    ensures opened { IfOk result (IsOpened setup log.room ring places.now) }
+    ensures fault { HasFirstFault setup.config.places log.room places.now (λ e. e.0) result }
+    ensures back { IfErr result (λ e. (e.1 ≡ blank_log log.room) × (book_of e.2 ≡ J.book)) }
 {
-    let mut session = match Session::new_with(alloc, setup, log) {
-        Ok(session) => session,
-        Err((_, log)) => return Err((OpenFault::NoMemory, log.cleared())),
+    if let Some(fault) = fault_of_places(&setup.config, places) {
+        return Err((fault, log.cleared(), history));
+    }
+    let Ok((calls, heard)) = RingBuffer::new(alloc, usize::from(ring)) else {
+        return Err((OpenFault::NoMemory, log.cleared(), history));
     };
-    match join_all(alloc, &mut session, places) {
-        Ok(()) => {
-            shows_legal(&session);
-            Ok(session)
+    let views = match Publisher::new(alloc, rt, history, places.len().max(1)) {
+        Ok(views) => views,
+        Err(history) => return Err((OpenFault::NoMemory, log.cleared(), history)),
+    };
+    let Some((clients, lanes)) = open_clients(alloc, &views, ring, places) else {
+        return Err((OpenFault::NoMemory, log.cleared(), views.into_blank()));
+    };
+    match joined(alloc, setup, log, places) {
+        Ok(session) => Ok(Lanes {
+            clients,
+            operator: Operator { calls, left: false },
+            worker: ViewWorker {
+                server: Worker {
+                    session,
+                    lanes,
+                    operator: heard,
+                    operator_left: false,
+                },
+                views,
+            },
+        }),
+        Err((fault, log)) => {
+            discard(clients);
+            Err((fault, log, views.into_blank()))
         }
-        Err(fault) => Err((fault, session.end().1.cleared())),
     }
 }
 
-// Lets a client join with each of these places.
-fn join_all(alloc: Global, session: &mut Session, places: &[u8]) -> Result<(), OpenFault>
-    requires empty { session.old.entries ≡ [] }
-    requires no_clients { session.old.opening.places.items ≡ [] }
-    requires not_closed { session.old.opening.closed ≡ false }
-    ensures joined { OnOk result (session.new ≡ record session.old { entries = join_entries 0 places.now }) }
-    ensures room { session.new.room ≡ session.old.room }
-    ensures fits { OnOk result (IsFullFor session.old.room places.now → ⊥) }
-    ensures fault { IfErr result (IsLaterFault session.old.room places.now) }
+/// The first fault that the places show: there are too many clients, or their places together are more than there are.
+pub fn fault_of_places(config: &Config, places: &[u8]) -> Option<OpenFault>
+    ensures { result ≡ places_fault config.now.places places.now }
 {
-    for n in places {
-        match session.join_client(alloc, *n) {
-            Ok(_) => {}
-            Err(JoinFault::LogFull) => return Err(OpenFault::LogFull),
-            Err(_) => return Err(OpenFault::NoMemory),
-        }
+    if places.len() > MOST_CLIENTS {
+        return Some(OpenFault::TooManyClients);
     }
-    Ok(())
+    if total(places) > config.places {
+        return Some(OpenFault::NoPlaces);
+    }
+    None
 }

@@ -5,8 +5,19 @@ ghost use Rattle.rdm_lanes.specs.Lines.{IsBetweenTurns};
 ghost use Rattle.rdm_lanes.specs.body.Operated.{IsOperated};
 ghost use Rattle.rdm_lanes.specs.Lanes.{AllFit};
 
+pub(crate) mod compared;
+pub(crate) mod comparing;
+pub(crate) mod lane;
+pub(crate) mod moving;
+pub(crate) mod operating;
+pub(crate) mod operator;
+pub(crate) mod serve;
+pub(crate) mod view_turns;
+pub(crate) mod view_worker;
+pub(crate) mod working;
+
 use crate::call::OperatorCall;
-use crate::lane::Lane;
+use crate::worker::lane::Lane;
 use rdm_queue::Session;
 use rtrb::Consumer;
 use std::alloc::Global;

@@ -4,7 +4,7 @@ use Rattle.rtrb.specs.Ring.{received as popped, known_free, known_items}
 use Rattle.rdm_log.specs.declared.outcome.OutcomeKind.TheVariants as kinds
 use Rattle.rdm_log.specs.log.LogState.{LogState, is_full_log}
 use Rattle.rdm_log.specs.promises.Outcomes.{oldest_kind}
-use Rattle.rdm_lanes.specs.declared.lane.Lane.{Lane}
+use Rattle.rdm_lanes.specs.declared.worker.lane.Lane.{Lane}
 use Rattle.rdm_lanes.specs.body.Serving.{MayMake}
 
 -- Nothing more of what client c is told can be moved to its ring. No slot is known to be free, or its oldest outcome

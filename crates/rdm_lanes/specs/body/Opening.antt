@@ -2,9 +2,9 @@
 use Rattle.std.specs.Prelude.{◌≡◌, ℕ, false, List, [], length, Some}
 use Rattle.std.specs.Prelude.{slice_get}
 use Rattle.rtrb.specs.Ring.{sent as pushed, received as popped}
-use Rattle.rdm_lanes.specs.declared.history.ViewHistory.{Ghosts}
+use Rattle.rdm_lanes.specs.declared.views.history.ViewHistory.{Ghosts}
 use Rattle.rdm_lanes.specs.declared.client.RingClient.{RingClient}
-use Rattle.rdm_lanes.specs.declared.lane.Lane.{Lane}
+use Rattle.rdm_lanes.specs.declared.worker.lane.Lane.{Lane}
 use Rattle.rdm_lanes.specs.Pairs.{ArePair, client_rings}
 use Rattle.rdm_lanes.specs.Opened.{IsNew}
 

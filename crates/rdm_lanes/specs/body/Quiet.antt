@@ -6,7 +6,7 @@ use Rattle.rdm_log.specs.declared.entry.Entry.TheVariants.{Collect}
 use Rattle.rdm_log.specs.log.Entries.{joins}
 use Rattle.rdm_log.specs.log.LogState.{LogState, grown}
 use Rattle.rdm_lanes.specs.Views.{views_found}
-use Rattle.rdm_lanes.specs.Lines.{exchanges}
+use Rattle.rdm_scenes.specs.Exchanges.{exchanges}
 
 -- the log grew; the line was asked nothing, nobody joined, and no view was added
 pub record NoExchange (old new : LogState) : Type 0 where

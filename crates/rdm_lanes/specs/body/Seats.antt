@@ -1,9 +1,9 @@
 -- Clients beside their bodies, and the rings that they keep.
 use Rattle.std.specs.Prelude.{◌≡◌, ℕ, ◌<◌, List, length, map, Some, slice_get, slice_index_or}
 use Rattle.rtrb.specs.Ring.{SameProducer, SameConsumer}
-use Rattle.rdm_lanes.specs.declared.history.ViewHistory.{Ghosts}
-use Rattle.rdm_lanes.specs.declared.lane.Lane.{Lane}
-use Rattle.rdm_lanes.specs.declared.seat.Seat.{Seat}
+use Rattle.rdm_lanes.specs.declared.views.history.ViewHistory.{Ghosts}
+use Rattle.rdm_lanes.specs.declared.worker.lane.Lane.{Lane}
+use Rattle.rdm_lanes.specs.declared.opening.seat.Seat.{Seat}
 use Rattle.rdm_lanes.specs.Clients.{SameClient}
 use Rattle.rdm_lanes.specs.Pairs.{Rings, RingsPair, client_rings}
 

@@ -1,4 +1,4 @@
-use Rattle.rdm_lanes.proofs.CalmLemmas.{tells_no_fault, tells_none_by_default}
+use Rattle.rdm_lanes.proofs.SceneLemmas.{tells_no_fault, tells_none_by_default}
 use Rattle.rdm_lanes.proofs.laws.clients_get_no_fault.Goals as goal
 
 pub returns-clause-enough : goal.returns-clause-enough

@@ -1,7 +1,0 @@
-use Rattle.std.proofs.Common.{◌≡◌, length, take, vec_capacity}
-use Rattle.rdm_lanes.specs.body.Opening.{AreNewWith}
-use Rattle.rdm_lanes.proofs.opening.open_clients.Given as goal
-
-abbrev pub invariant-loop-n : goal.invariant-loop-n
-invariant-loop-n g l =
-    AreNewWith l.ring (take l.n-index l.places) l.clients.items l.lanes.items × (vec_capacity l.clients ≡ length l.places) × (vec_capacity l.lanes ≡ length l.places)

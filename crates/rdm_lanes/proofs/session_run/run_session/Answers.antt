@@ -1,4 +1,0 @@
-use Rattle.rdm_lanes.proofs.session_run.run_session.Goals as goal
-
-pub returns-clause-fault : goal.returns-clause-fault
-returns-clause-fault g c = rw c.steady.ensures at c.run_session_with.ensures.fault

@@ -1,0 +1,133 @@
+//! A whole session: clients, each with what it does, and a worker over a line, in threads.
+ghost use Rattle.std.specs.Prelude.{◌≡◌, ◌≤◌, length, IfOk, IfErr};
+ghost use Rattle.rdm_log.specs.log.Config.{steady};
+ghost use Rattle.rdm_log.specs.log.LogState.{blank_log};
+ghost use Rattle.rdm_client.specs.declared.worker_end.WorkerEnd.TheVariants.{Turns};
+ghost use Rattle.rdm_lanes.specs.Ended.{IsEnded};
+ghost use Rattle.rdm_lanes.specs.Lines.{exchange_count};
+ghost use Rattle.rdm_lanes.specs.Opened.{MayOpen, HasFirstFault};
+ghost use Rattle.rdm_lanes.specs.Sessions.{SessionOver};
+ghost use Rattle.rdm_lanes.specs.Workers.{book_of};
+
+pub(crate) mod body;
+pub(crate) mod threads;
+pub(crate) mod together;
+
+use crate::fault::OpenFault;
+use crate::opening::rooms::rooms_for;
+use crate::opening::{fault_of_places, open_lanes_with};
+use crate::session::body::{Body, Gate};
+use crate::session::together::{LanesEnd, run_lanes};
+use crate::views::history::{BlankHistory, ViewHistory};
+use rdm_client::{Tells, TellsAsk};
+use rdm_line::Line;
+use rdm_queue::{Config, Log, Setup};
+use std::alloc::Global;
+use std::sync::Wait;
+use std::thread::Threads;
+
+/// Runs a session (profile of this project): opens a client for each of these places, and runs its body in a thread of
+/// its own, beside the worker with this many turns. There is no operator, so nobody pauses or closes. Where a thread
+/// can't be made its work is done in one that there is, after the other work there. `J` is the history of the views
+/// that the worker publishes. What was published, and what each client has read of it, is compared at the end too. The
+/// callbacks that a client left over are those of its own calls without an outcome.
+///
+/// The conditions are those of [`open_lanes`](crate::open_lanes), and there are as many bodies as places. Once the
+/// worker has stopped its clients' ends are compared, as at a [`ViewWorker::end`](crate::ViewWorker::end).
+/// It waits for its threads.
+///
+/// Err: the first of the faults of `open_lanes` that stands, before any body ran. The log comes back as a new one with
+/// the same room, and the bodies, the line and the blank history as they were. So the same call can be made again, with
+/// more memory or with a larger log.
+pub fn run_session<
+    J: ViewHistory + Send + Sync,
+    B: Body<C, A> + Send,
+    C: Tells + Send,
+    A: TellsAsk + Send,
+    G: Gate + Sync,
+    X: Line + Send,
+    R: Threads + Wait + Sync,
+>(
+    rt: &R,
+    alloc: Global,
+    history: BlankHistory,
+    config: Config,
+    log: Log,
+    ring: u8,
+    places: &[u8],
+    bodies: Vec<B>,
+    gate: &G,
+    line: X,
+    turns: u64,
+) -> Result<LanesEnd<J, B, X, C, A>, (OpenFault, Log, Vec<B>, X, BlankHistory)>
+    requires may_open { MayOpen J.book history config log ring }
+    requires one_each { length bodies.items ≡ length places.now }
+    ensures session { IfOk result (λ end. SessionOver X.step (steady config) log.room places.now line
+        end.line end.session) }
+    ensures ended { IfOk result (IsEnded (length places.now)) }
+    ensures turns { IfOk result (λ end. (exchange_count end.session ≤ turns) × (turns ≡ 0 → end.worker ≡ Turns)) }
+    ensures fault { HasFirstFault config.places log.room places.now (λ e. e.0) result }
+    ensures back { IfErr result (λ e. (e.1 ≡ blank_log log.room) × (e.2 ≡ bodies) × (e.3 ≡ line)
+        × (book_of e.4 ≡ J.book)) }
+{
+    run_session_with(
+        rt,
+        alloc,
+        history,
+        Setup::steady(config),
+        log,
+        ring,
+        places,
+        bodies,
+        gate,
+        line,
+        turns,
+    )
+}
+
+/// The same under the same conditions and with the same errors, with a set-up that also says how runs search.
+pub fn run_session_with<
+    J: ViewHistory + Send + Sync,
+    B: Body<C, A> + Send,
+    C: Tells + Send,
+    A: TellsAsk + Send,
+    G: Gate + Sync,
+    X: Line + Send,
+    R: Threads + Wait + Sync,
+>(
+    rt: &R,
+    alloc: Global,
+    history: BlankHistory,
+    setup: Setup,
+    log: Log,
+    ring: u8,
+    places: &[u8],
+    bodies: Vec<B>,
+    gate: &G,
+    line: X,
+    turns: u64,
+) -> Result<LanesEnd<J, B, X, C, A>, (OpenFault, Log, Vec<B>, X, BlankHistory)>
+    requires may_open { MayOpen J.book history setup.config log ring }
+    requires one_each { length bodies.items ≡ length places.now }
+    ensures session { IfOk result (λ end. SessionOver X.step setup log.room places.now line
+        end.line end.session) }
+    ensures ended { IfOk result (IsEnded (length places.now)) }
+    ensures turns { IfOk result (λ end. (exchange_count end.session ≤ turns) × (turns ≡ 0 → end.worker ≡ Turns)) }
+    ensures fault { HasFirstFault setup.config.places log.room places.now (λ e. e.0) result }
+    ensures back { IfErr result (λ e. (e.1 ≡ blank_log log.room) × (e.2 ≡ bodies) × (e.3 ≡ line)
+        × (book_of e.4 ≡ J.book)) }
+{
+    if let Some(fault) = fault_of_places(&setup.config, places) {
+        return Err((fault, log.cleared(), bodies, line, history));
+    }
+    let Some(rooms) = rooms_for(alloc, bodies.len()) else {
+        return Err((OpenFault::NoMemory, log.cleared(), bodies, line, history));
+    };
+    match open_lanes_with(rt, alloc, history, setup, log, ring, places) {
+        Ok(lanes) => Ok(run_lanes(rt, alloc, lanes, rooms, bodies, gate, line, turns)),
+        Err((fault, log, history)) => {
+            rooms.give_up();
+            Err((fault, log, bodies, line, history))
+        }
+    }
+}

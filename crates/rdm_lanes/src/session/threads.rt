@@ -1,0 +1,91 @@
+//! The worker and the bodies in threads.
+ghost use Rattle.std.specs.Prelude.{◌≡◌, ◌≢◌, ◌≤◌, ◌+◌, true, false};
+ghost use Rattle.rdm_log.specs.log.LogState.{is_full_log};
+ghost use Rattle.rdm_log.specs.log.MaySend.{NoSend};
+ghost use Rattle.rdm_client.specs.declared.worker_end.WorkerEnd.TheVariants.{AllLeft, Turns, LogFull as FullLog};
+ghost use Rattle.rdm_lanes.specs.Lines.{Exchanged, SameSwitches, exchange_count};
+ghost use Rattle.rdm_lanes.specs.Lanes.{SameLanes, AllHaveLeft};
+ghost use Rattle.rdm_lanes.specs.body.Seats.{SameSeats};
+ghost use Rattle.rdm_lanes.specs.Workers.{session_of, lanes_of, operator_has_left, HasPublishedAll};
+
+use crate::opening::seat::Seat;
+use crate::session::body::{Body, Gate, WORKER_STOPPED};
+use crate::views::history::ViewHistory;
+use crate::views::publishing::Shown;
+use crate::worker::view_worker::ViewWorker;
+use rdm_client::WorkerEnd;
+use rdm_line::Line;
+use rdm_queue::MOST_CLIENTS;
+use std::alloc::Global;
+use std::sync::Wait;
+use std::thread;
+use std::thread::Threads;
+
+/// Runs each body in a thread of its own, where one can be made.
+pub fn run_bodies<
+    J: ViewHistory + Send + Sync,
+    B: Body<C, A> + Send,
+    C: Send,
+    A: Send,
+    G: Gate + Sync,
+    R: Threads + Sync,
+>(rt: &R, seats: &mut [Seat<J, B, C, A>], gate: &G)
+    ensures { SameSeats seats.old seats.new }
+{
+    thread::for_each_mut(
+        rt,
+        seats,
+        MOST_CLIENTS,
+        &|_, seat| seat.body.run(&mut seat.client, gate),
+    );
+}
+
+/// Runs the worker beside the bodies, and waits for all of them. The worker arrives at its point once it has stopped.
+#[tactic(auto, using(crate::proofs::SeatLemmas::same_seats_in))]
+pub fn run_together<
+    J: ViewHistory + Send + Sync,
+    B: Body<C, A> + Send,
+    C: Send,
+    A: Send,
+    G: Gate + Sync,
+    X: Line + Send,
+    R: Threads + Sync,
+    W: Wait + Drop + Send,
+>(
+    rt: &R,
+    alloc: Global,
+    worker: ViewWorker<J, Shown<J>, W>,
+    seats: Vec<Seat<J, B, C, A>>,
+    gate: &G,
+    line: X,
+    turns: u64,
+) -> (
+    ViewWorker<J, Shown<J>, W>,
+    Vec<Seat<J, B, C, A>>,
+    X,
+    WorkerEnd,
+)
+    ensures lanes { SameLanes (lanes_of worker) (lanes_of result.0) }
+    ensures seats { SameSeats seats.items result.1.items }
+    ensures exchanged { Exchanged X.step line (session_of worker) result.2 (session_of result.0) }
+    ensures all_left { result.3 ≡ AllLeft → AllHaveLeft (lanes_of result.0)
+        × NoSend (session_of result.0).opening (session_of result.0).entries }
+    ensures published { result.3 ≢ Turns → HasPublishedAll result.0 }
+    ensures full { result.3 ≡ FullLog → is_full_log (session_of result.0) ≡ true }
+    ensures turns { (exchange_count (session_of result.0) ≤ exchange_count (session_of worker) + turns)
+        × (turns ≡ 0 → result.3 ≡ Turns) }
+    ensures switches { operator_has_left worker ≡ true → SameSwitches (session_of worker) (session_of result.0) }
+{
+    let mut worker = worker;
+    let mut seats = seats;
+    let mut line = line;
+    let mut serve = || {
+        let end = worker.work(alloc, &mut line, turns);
+        gate.arrive(WORKER_STOPPED);
+        end
+    };
+    let all = seats.as_mut_slice();
+    let mut play = || run_bodies(rt, all, gate);
+    let (end, _) = thread::join_mut(rt, &mut serve, &mut play);
+    (worker, seats, line, end)
+}

@@ -1,0 +1,171 @@
+//! How the worker makes a client's calls.
+ghost use Rattle.std.specs.Prelude.{◌≡◌, ◌≢◌, ℕ, [], ◌∷◌, MatchOption, slice_get, ⊤, true, false, length, ◌<◌, Some};
+ghost use Rattle.rtrb.specs.Ring.{known_items};
+ghost use Rattle.rdm_log.specs.log.History.{places};
+ghost use Rattle.rdm_log.specs.log.LogState.{is_full_log};
+ghost use Rattle.rdm_lanes.specs.declared.call.ClientCall.TheVariants.{Submit, Discover};
+ghost use Rattle.rdm_lanes.specs.body.Doing.{IsServed, MayNotMakeNext};
+ghost use Rattle.rdm_lanes.specs.body.Quiet.{NoExchange};
+ghost use Rattle.rdm_lanes.specs.Lines.{SameSwitches, IsBetweenTurns};
+ghost use Rattle.rdm_lanes.specs.Lanes.{Fits, FitsBut, SameLane};
+ghost use Rattle.rdm_lanes.specs.body.Serving.{IsOnlyTold, MayTell, MayMake, LooksForSlot};
+ghost use Rattle.rdm_lanes.specs.body.Serving.{AfterSubmit, AfterDiscover, CanTakeSubmit, CanTakeDiscover};
+
+use crate::call::ClientCall;
+use crate::ring_outcome::RingOutcome;
+use crate::worker::lane::Lane;
+use rdm_agent::{AgentFault, Kind};
+use rdm_join::Status;
+use rdm_queue::{
+    AskFault, ClientId, Completion, LEAST_FREE, MOST_DISCOVERIES, Session, SubmitFault,
+};
+use rdm_wire::Request;
+use std::alloc::Global;
+
+/// Makes the oldest call of a client's ring, if it has one that may be made now.
+#[tactic(auto, using(crate::proofs::LineLemmas::line_same))]
+pub fn serve_call(alloc: Global, session: &mut Session, client: ClientId, lane: &mut Lane)
+    requires known { slice_get (places session.old.opening session.old.entries) client.0 ≡ Some lane.old.places }
+    requires fits { Fits client.0 session.old lane.old }
+    requires served { IsBetweenTurns session.old }
+    ensures fits { Fits client.0 session.new lane.new }
+    ensures served { IsBetweenTurns session.new }
+    ensures others { (c : ℕ) → c ≢ client.0 → IsOnlyTold c session.old session.new }
+    ensures line { NoExchange session.old session.new }
+    ensures switches { SameSwitches session.old session.new }
+    ensures lane { SameLane lane.old lane.new }
+    ensures made { IsServed client.0 session.new lane.old lane.new }
+{
+    if lane.calls.slots() == 0 || session.free() < LEAST_FREE {
+        return;
+    }
+    if !may_make(session, client, lane) {
+        return;
+    }
+    match lane.calls.pop_known() {
+        ClientCall::Submit(request) => make_submit(alloc, session, client, lane, request),
+        ClientCall::Discover(kind) => make_discover(session, client, lane, kind),
+        ClientCall::Leave => lane.left = true,
+    }
+}
+
+// Whether the oldest call of the client's ring may be made. A submit waits for a place of the client, and a discover
+// until fewer than four are outstanding. After a close both wait until all earlier outcomes are on the client's ring
+// and a slot is free: their own outcomes are put there at once. A leave waits for nothing.
+fn may_make(session: &Session, client: ClientId, lane: &mut Lane) -> bool
+    requires { 0 < length (known_items lane.old.calls) }
+    ensures may { result ≡ true → MatchOption (slice_get (known_items lane.new.calls) 0) ⊤
+        (MayMake client.0 session.now lane.new) }
+    ensures may_not { result ≡ false → MayNotMakeNext client.0 session.now lane.new }
+    ensures lane { LooksForSlot lane.old lane.new }
+{
+    let closed = session.is_closed();
+    let told = may_tell(session, client, lane);
+    match lane.calls.peek_known() {
+        ClientCall::Leave => true,
+        ClientCall::Submit(_) => if closed {
+            told
+        } else {
+            lane.requests < lane.places
+        },
+        ClientCall::Discover(_) => if closed {
+            told
+        } else {
+            lane.asks < MOST_DISCOVERIES
+        },
+    }
+}
+
+// Whether all that the client is told is on its ring, and that has a free slot.
+#[tactic(auto, using(crate::proofs::ServeLemmas::nothing_uncollected))]
+fn may_tell(session: &Session, client: ClientId, lane: &mut Lane) -> bool
+    ensures may { result ≡ true → MayTell client.0 session.now lane.new }
+    ensures may_not { result ≡ false → MayTell client.0 session.now lane.new → ⊥ }
+    ensures lane { LooksForSlot lane.old lane.new }
+{
+    lane.replies.slots() > 0 && session.oldest(client).is_none()
+}
+
+// Makes a submit. One that a close refuses is told at once.
+fn make_submit(
+    alloc: Global,
+    session: &mut Session,
+    client: ClientId,
+    lane: &mut Lane,
+    request: Request,
+)
+    requires known { slice_get (places session.old.opening session.old.entries) client.0 ≡ Some lane.old.places }
+    requires fits { FitsBut (Submit request ∷ []) client.0 session.old lane.old }
+    requires served { IsBetweenTurns session.old }
+    requires free { is_full_log session.old ≡ false }
+    requires may { MayMake client.0 session.old lane.old (Submit request) }
+    ensures fits { Fits client.0 session.new lane.new }
+    ensures served { IsBetweenTurns session.new }
+    ensures others { (c : ℕ) → c ≢ client.0 → IsOnlyTold c session.old session.new }
+    ensures line { NoExchange session.old session.new }
+    ensures switches { SameSwitches session.old session.new }
+    ensures lane { SameLane lane.old lane.new }
+    ensures calls { lane.new.calls ≡ lane.old.calls }
+{
+    let answer = session.submit(client, request);
+    take_submit(alloc, lane, answer);
+}
+
+// Counts a request that was accepted, or tells of one that a close refused.
+fn take_submit(alloc: Global, lane: &mut Lane, answer: Result<u64, (SubmitFault, Request)>)
+    requires { CanTakeSubmit lane.old answer }
+    ensures after { AfterSubmit lane.old answer lane.new }
+    ensures lane { SameLane lane.old lane.new }
+    ensures calls { lane.new.calls ≡ lane.old.calls }
+{
+    match answer {
+        Ok(_) => lane.requests += 1,
+        Err((SubmitFault::Closed, _)) => lane.replies.push_reserved(RingOutcome::Request {
+            number: None,
+            done: Completion {
+                status: Status::FailedToSend,
+                reply: None,
+                bytes: Vec::new(alloc),
+            },
+        }),
+        Err(_) => {}
+    }
+}
+
+// Makes a discover. One that a close refuses is told at once.
+fn make_discover(session: &mut Session, client: ClientId, lane: &mut Lane, kind: Kind)
+    requires known { slice_get (places session.old.opening session.old.entries) client.0 ≡ Some lane.old.places }
+    requires fits { FitsBut (Discover kind ∷ []) client.0 session.old lane.old }
+    requires served { IsBetweenTurns session.old }
+    requires free { is_full_log session.old ≡ false }
+    requires may { MayMake client.0 session.old lane.old (Discover kind) }
+    ensures fits { Fits client.0 session.new lane.new }
+    ensures served { IsBetweenTurns session.new }
+    ensures others { (c : ℕ) → c ≢ client.0 → IsOnlyTold c session.old session.new }
+    ensures line { NoExchange session.old session.new }
+    ensures switches { SameSwitches session.old session.new }
+    ensures lane { SameLane lane.old lane.new }
+    ensures calls { lane.new.calls ≡ lane.old.calls }
+{
+    let answer = session.discover(client, kind);
+    take_discover(lane, answer);
+}
+
+// Counts a discovery that was accepted, or tells of one that a close refused.
+fn take_discover(lane: &mut Lane, answer: Result<u64, AskFault>)
+    requires { CanTakeDiscover lane.old answer }
+    ensures after { AfterDiscover lane.old answer lane.new }
+    ensures lane { SameLane lane.old lane.new }
+    ensures calls { lane.new.calls ≡ lane.old.calls }
+{
+    match answer {
+        Ok(_) => lane.asks += 1,
+        Err(AskFault::Closed) => lane.replies.push_reserved(RingOutcome::Discovery {
+            number: None,
+            run: 0,
+            fault: Some(AgentFault::Aborted),
+            set: None,
+        }),
+        Err(_) => {}
+    }
+}

@@ -1,0 +1,236 @@
+//! What the worker does in its turns. It publishes a view of the devices after each exchange that ends a run without
+//! fault, and before it moves that run's answers out.
+ghost use Rattle.std.specs.Prelude.{◌≡◌, ◌≢◌, ◌≤◌, ◌+◌, true, false, Some, None, IfSome};
+ghost use mathlib.Core.List.{IsPrefix};
+ghost use Rattle.rtrb.specs.Ring.{SameConsumer};
+ghost use Rattle.rdm_log.specs.log.LogState.{is_full_log};
+ghost use Rattle.rdm_log.specs.log.MaySend.{NoSend};
+ghost use Rattle.rdm_lanes.specs.Lines.{Exchanged, SameSwitches, exchange_count};
+ghost use Rattle.rdm_lanes.specs.body.Quiet.{NoExchange, OnlyCollects};
+ghost use Rattle.rdm_lanes.specs.Lanes.{SameLanes, AllHaveLeft};
+ghost use Rattle.rdm_lanes.specs.Views.{all_views};
+ghost use Rattle.rdm_lanes.specs.body.Showing.{Publishes, AllPublished};
+ghost use Rattle.rdm_lanes.specs.Operators.{switches, effective};
+ghost use Rattle.rdm_lanes.specs.Workers.{session_of, lanes_of, operator_has_left, published_by, HasPublishedAll};
+ghost use Rattle.rdm_lanes.specs.Workers.{operator_ring, received_by};
+ghost use Rattle.rdm_client.specs.declared.worker_end.WorkerEnd.TheVariants.{AllLeft, Turns, LogFull as FullLog};
+ghost use Rattle.rdm_lanes.specs.declared.worker.working.Attempt.TheVariants.{NothingToSend, LogFull as NoRoom};
+
+use crate::views::history::ViewHistory;
+use crate::views::publishing::{Publisher, Shown};
+use crate::worker::comparing::shows_legal;
+use crate::worker::view_worker::ViewWorker;
+use crate::worker::working::Attempt;
+use rdm_client::WorkerEnd;
+use rdm_line::Line;
+use rdm_queue::Session;
+use std::alloc::Global;
+use std::sync::Wait;
+
+impl<J: ViewHistory, R: Wait + Drop> ViewWorker<J, Shown<J>, R> {
+    /// Works for this many turns at most. In one turn it does these, in order:
+    /// - it publishes a view whose publication was refused;
+    /// - it takes at most one call from each client's ring, in the clients' order, and then one from the operator's;
+    /// - it makes at most one exchange, and publishes the devices that it found;
+    /// - it moves outcomes to the clients' rings, while they have free slots.
+    ///
+    /// It stops early once all have left, or once the log is full.
+    ///
+    /// It looks at a ring's front first. While fewer than three entries of the log are free it takes no call. A submit
+    /// waits for a place of its client in the session, and a discover until fewer than four of its client's are
+    /// outstanding there. After a close a client's call waits until that client's earlier outcomes are on its ring, and
+    /// a slot is free: it is refused, and told at once, with status FailedToSend, or Aborted and run 0, and no number.
+    ///
+    /// Memory is taken for these:
+    /// - joined data;
+    /// - the set of each discovery's outcome, which waits where memory is refused;
+    /// - each view.
+    ///
+    /// It waits for reads that are under way when it publishes.
+    ///
+    /// A publication that is refused changes nothing, and is tried again in the next turn. Until it is made, no call is
+    /// taken, no exchange is made, no outcome is moved, and the work doesn't end because all have left.
+    pub fn work<X: Line>(&mut self, alloc: Global, line: &mut X, turns: u64) -> WorkerEnd
+        ensures exchanged { Exchanged X.step line.old (session_of self.old) line.new (session_of self.new) }
+        ensures lanes { SameLanes (lanes_of self.old) (lanes_of self.new) }
+        ensures turns { (exchange_count (session_of self.new) ≤ exchange_count (session_of self.old) + turns)
+            × (turns ≡ 0 → result ≡ Turns) }
+        ensures all_left { result ≡ AllLeft → AllHaveLeft (lanes_of self.new) × (operator_has_left self.new ≡ true)
+            × NoSend (session_of self.new).opening (session_of self.new).entries }
+        ensures published { result ≢ Turns → HasPublishedAll self.new }
+        ensures views { IsPrefix (published_by self.old) (published_by self.new) }
+        ensures full { result ≡ FullLog → is_full_log (session_of self.new) ≡ true }
+        ensures operator { operator_has_left self.old ≡ true → (operator_has_left self.new ≡ true)
+            × SameSwitches (session_of self.old) (session_of self.new) }
+        ensures operated { switches (session_of self.new).entries ≡ effective (received_by self.new) }
+        ensures ring { SameConsumer (operator_ring self.old) (operator_ring self.new) }
+    {
+        for _turn in 0..turns {
+            if let Some(end) = self.turn(alloc, line) {
+                return end;
+            }
+        }
+        WorkerEnd::Turns
+    }
+
+    // One turn. Some: the worker stops.
+    fn turn<X: Line>(&mut self, alloc: Global, line: &mut X) -> Option<WorkerEnd>
+        ensures exchanged { Exchanged X.step line.old self.old.server.session line.new self.new.server.session }
+        ensures lanes { SameLanes self.old.server.lanes.items self.new.server.lanes.items }
+        ensures one { exchange_count self.new.server.session ≤ exchange_count self.old.server.session + 1 }
+        ensures all_left { result ≡ Some AllLeft → AllHaveLeft self.new.server.lanes.items
+            × (self.new.server.operator_left ≡ true)
+            × NoSend self.new.server.session.opening self.new.server.session.entries }
+        ensures published { IfSome result (λ _. AllPublished self.new.server.session self.new.views) }
+        ensures views { IsPrefix self.old.views.shown self.new.views.shown }
+        ensures full { result ≡ Some FullLog → is_full_log self.new.server.session ≡ true }
+        ensures operator { self.old.server.operator_left ≡ true → (self.new.server.operator_left ≡ true)
+            × SameSwitches self.old.server.session self.new.server.session }
+        ensures ring { SameConsumer self.old.server.operator self.new.server.operator }
+    {
+        match self.serve_all(alloc, line) {
+            None => None,
+            Some(Attempt::Exchanged) => None,
+            Some(Attempt::NothingToSend) if self.server.have_all_left() => Some(WorkerEnd::AllLeft),
+            Some(Attempt::NothingToSend) => None,
+            Some(Attempt::LogFull) => Some(WorkerEnd::LogFull),
+        }
+    }
+
+    // All that is done in a turn, and what its attempt at an exchange came to. None: a publication was refused, and
+    // nothing was done after that. A view that was refused before comes first, since a call that is taken after a close
+    // is told at once.
+    fn serve_all<X: Line>(&mut self, alloc: Global, line: &mut X) -> Option<Attempt>
+        ensures exchanged { Exchanged X.step line.old self.old.server.session line.new self.new.server.session }
+        ensures lanes { SameLanes self.old.server.lanes.items self.new.server.lanes.items }
+        ensures one { exchange_count self.new.server.session ≤ exchange_count self.old.server.session + 1 }
+        ensures nothing { result ≡ Some NothingToSend
+            → NoSend self.new.server.session.opening self.new.server.session.entries }
+        ensures published { IfSome result (λ _. AllPublished self.new.server.session self.new.views) }
+        ensures views { IsPrefix self.old.views.shown self.new.views.shown }
+        ensures full { result ≡ Some NoRoom → is_full_log self.new.server.session ≡ true }
+        ensures operator { self.old.server.operator_left ≡ true → (self.new.server.operator_left ≡ true)
+            × SameSwitches self.old.server.session self.new.server.session }
+        ensures ring { SameConsumer self.old.server.operator self.new.server.operator }
+    {
+        if !self.publish(alloc) {
+            return None;
+        }
+        self.serve_calls(alloc);
+        let attempt = self.exchange(alloc, line);
+        if !self.publish(alloc) {
+            return None;
+        }
+        self.move_all(alloc);
+        shows_legal(&self.server.session);
+        Some(attempt)
+    }
+
+    // Makes at most one call of each client and of the operator.
+    fn serve_calls(&mut self, alloc: Global)
+        requires { AllPublished self.old.server.session self.old.views }
+        ensures published { AllPublished self.new.server.session self.new.views }
+        ensures views { self.new.views ≡ self.old.views }
+        ensures line { NoExchange self.old.server.session self.new.server.session }
+        ensures lanes { SameLanes self.old.server.lanes.items self.new.server.lanes.items }
+        ensures operator { self.old.server.operator_left ≡ true → (self.new.server.operator_left ≡ true)
+            × SameSwitches self.old.server.session self.new.server.session }
+        ensures ring { SameConsumer self.old.server.operator self.new.server.operator }
+    {
+        self.server.serve_clients(alloc);
+        self.server.serve_operator();
+    }
+
+    // Publishes what is still to be published, and says whether all is published.
+    fn publish(&mut self, alloc: Global) -> bool
+        ensures made { result ≡ true → AllPublished self.new.server.session self.new.views }
+        ensures views { IsPrefix self.old.views.shown self.new.views.shown }
+        ensures server { self.new.server ≡ self.old.server }
+    {
+        let ViewWorker { server, views } = self;
+        publish_next(alloc, &server.session, views)
+    }
+
+    // Makes an exchange with the line, if there is a frame to send. What it found is still to be published.
+    fn exchange<X: Line>(&mut self, alloc: Global, line: &mut X) -> Attempt
+        requires { AllPublished self.old.server.session self.old.views }
+        ensures exchanged { Exchanged X.step line.old self.old.server.session line.new self.new.server.session }
+        ensures switches { SameSwitches self.old.server.session self.new.server.session }
+        ensures one { exchange_count self.new.server.session ≤ exchange_count self.old.server.session + 1 }
+        ensures nothing { result ≡ NothingToSend
+            → NoSend self.new.server.session.opening self.new.server.session.entries }
+        ensures full { result ≡ NoRoom → is_full_log self.new.server.session ≡ true }
+        ensures lanes { self.new.server.lanes ≡ self.old.server.lanes }
+        ensures operator { self.new.server.operator_left ≡ self.old.server.operator_left }
+        ensures ring { self.new.server.operator ≡ self.old.server.operator }
+        ensures views { self.new.views ≡ self.old.views }
+    {
+        self.server.exchange(alloc, line)
+    }
+
+    // Moves the outcomes of each client, once all views are published.
+    fn move_all(&mut self, alloc: Global)
+        requires { AllPublished self.old.server.session self.old.views }
+        ensures collects { OnlyCollects self.old.server.session self.new.server.session }
+        ensures lanes { SameLanes self.old.server.lanes.items self.new.server.lanes.items }
+        ensures operator { self.new.server.operator_left ≡ self.old.server.operator_left }
+        ensures ring { self.new.server.operator ≡ self.old.server.operator }
+        ensures published { AllPublished self.new.server.session self.new.views }
+        ensures views { self.new.views ≡ self.old.views }
+    {
+        self.server.move_all(alloc);
+    }
+
+    /// The same worker, whose operator has left.
+    pub(crate) fn without_operator(self) -> ViewWorker<J, Shown<J>, R>
+        ensures same { (result.server.session ≡ self.server.session) × (result.server.lanes ≡ self.server.lanes) }
+        ensures left { result.server.operator_left ≡ true }
+    {
+        let mut worker = self;
+        worker.server.operator_left = true;
+        worker
+    }
+}
+
+// Adds the view that is lacking, if one is, and publishes the last one. It says whether all are published.
+#[tactic(auto, using(crate::proofs::ShowingLemmas::publishes_still, crate::proofs::ShowingLemmas::publishes_shown, crate::proofs::ShowingLemmas::all_published))]
+fn publish_next<J: ViewHistory, R: Wait + Drop>(
+    alloc: Global,
+    session: &Session,
+    views: &mut Publisher<J, Shown<J>, R>,
+) -> bool
+    requires publishes { Publishes session.now views.old }
+    ensures made { result ≡ true → AllPublished session.now views.new }
+    ensures refused { result ≡ false → views.new.shown ≡ views.old.shown }
+    ensures publishes { Publishes session.now views.new }
+{
+    if !add_next(alloc, session, views) {
+        return false;
+    }
+    if !views.show() {
+        return false;
+    }
+    true
+}
+
+// Adds the view that is lacking, if one is, and says whether all views are added.
+#[tactic(auto, using(crate::proofs::ShowingLemmas::publishes_still, crate::proofs::ShowingLemmas::publishes_next, crate::proofs::ShowingLemmas::added_all, crate::proofs::ShowingLemmas::added_next))]
+fn add_next<J: ViewHistory, R: Wait + Drop>(
+    alloc: Global,
+    session: &Session,
+    views: &mut Publisher<J, Shown<J>, R>,
+) -> bool
+    requires publishes { Publishes session.now views.old }
+    ensures added { result ≡ true → views.new.added ≡ all_views session.now.entries }
+    ensures shown { views.new.shown ≡ views.old.shown }
+    ensures publishes { Publishes session.now views.new }
+{
+    let run = session.devices_run();
+    if run <= views.run() {
+        return true;
+    }
+    if !views.add(alloc, run, session.devices()) {
+        return false;
+    }
+    true
+}
