@@ -82,9 +82,10 @@ pub fn answers_follow_the_devices()
     ensures { (s t : SimState) (k : LogState) → IsLogOver s t k → IsLossyScene s → AnswersFollowTheDevices s k }
 {}
 
-/// Where no exchange is to fail, either, a discovery is answered with a fault only after the queue was closed. The
-/// budget has to be at least the search's bound on frames. The default budget is, for a steady search. `Session::log`
-/// promises `InBound`, within `Promised`.
+/// Where no exchange is to fail, either, a discovery is answered with a fault only after the queue was closed. At the
+/// log's opening no more devices may be known than the scene has: a session begins with none, and a rotated one with
+/// those of its last run. The budget has to be at least the search's bound on frames. The default budget is, for a
+/// steady search. `Session::log` promises `InBound`, within `Promised`.
 pub fn answers_have_no_fault()
     ensures enough { (s t : SimState) (k : LogState) → IsLogOver s t k → IsCalmScene s → InBound k → IsEnough s k
         → FaultsFollowAClose k }
