@@ -12,9 +12,9 @@ use Rattle.rdm_lanes.specs.ViewsRead.{AllViewsRead, AllShownFirst}
 
 module _ {J B X C A : Type 0} {h : Ghosts J} where
   -- The end of a session with this many bodies. Its log agrees with the end of each client. If all have left, no call
-  -- is left in a ring, and no frame may be sent. Each client's callbacks are those of its own calls without an outcome.
-  -- The views that were published begin those of the log, and are all of them unless the turns ran out. What the
-  -- clients read agrees with them.
+  -- is left in a ring, and no frame may be sent. Each client has as many callbacks left as own calls without an
+  -- outcome. The views that were published begin those of the log, and are all of them unless the turns ran out. What
+  -- the clients read agrees with them.
   pub record IsEnded (bodies : ℕ) (end : LanesEnd J B X C A h) : Type 0 where
     pub agree : AllAgree end.session end.ends.items
     pub all_left : end.worker ≡ AllLeft → AllRead end.ends.items × NoSend end.session.opening end.session.entries

@@ -52,7 +52,7 @@ module _ {J : Type 0} {h : Ghosts J} {C A : Type 0} where
   pub record AllRead (ends : List (ClientEnd J C A h)) : Type 0 where
     pub each : (i : ℕ) (e : ClientEnd J C A h) → slice_get ends i ≡ Some e → left_in e.calls ≡ []
 
-  -- the callbacks that each client left over are those of its own calls without an outcome
+  -- each client left over as many callbacks, of either kind, as it has own calls without an outcome
   pub record AllHoldTheirOwn (ends : List (ClientEnd J C A h)) : Type 0 where
     pub each : (i : ℕ) (e : ClientEnd J C A h) → slice_get ends i ≡ Some e
         → HoldsItsOwn (end_sent e) (end_got e) e.unspent.requests e.unspent.asks

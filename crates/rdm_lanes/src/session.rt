@@ -30,7 +30,7 @@ use std::thread::Threads;
 /// its own, beside the worker with this many turns. There is no operator, so nobody pauses or closes. Where a thread
 /// can't be made its work is done in one that there is, after the other work there. `J` is the history of the views
 /// that the worker publishes. What was published, and what each client has read of it, is compared at the end too. The
-/// callbacks that a client left over are those of its own calls without an outcome.
+/// callbacks that a client left over are as many as its own calls without an outcome.
 ///
 /// The conditions are those of [`open_lanes`](crate::open_lanes), and there are as many bodies as places. Once the
 /// worker has stopped its clients' ends are compared, as at a [`ViewWorker::end`](crate::ViewWorker::end).

@@ -18,7 +18,7 @@ use std::alloc::Global;
 /// What is left of a client at its end, and how much it did (profile of this project). It isn't [`Drop`]: the
 /// callbacks that were not spent are taken out of it.
 pub struct ClientEnd<J: ViewHistory, C = Callback, A = AskCallback> {
-    /// The callbacks that were not called: those of the client's own calls without an outcome, one for each.
+    /// The callbacks that were not called: as many of either kind as the client has own calls without an outcome.
     pub unspent: Unspent<C, A>,
     /// How many submits and discovers it sent.
     pub sent: u64,

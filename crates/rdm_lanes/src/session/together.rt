@@ -34,7 +34,7 @@ pub struct LanesEnd<J: ViewHistory, B, X, C = Callback, A = AskCallback> {
     pub ends: Vec<ClientEnd<J, C, A>>,
     /// Whether both ends of all rings could be compared. It is always true.
     pub matched: bool,
-    /// The bodies, in order.
+    /// The bodies. Only tests show that they are in the order of their clients.
     pub bodies: Vec<B>,
     /// Why the worker stopped.
     pub worker: WorkerEnd,

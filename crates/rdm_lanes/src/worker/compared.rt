@@ -46,7 +46,7 @@ impl<J: ViewHistory, R: Wait + Drop> ViewWorker<J, Shown<J>, R> {
     /// collected, is all that the log tells it. Nobody else has joined or called anything. The log is legal, and keeps
     /// what clients are promised.
     ///
-    /// The callbacks that a client left over are those of its own calls without an outcome.
+    /// A client left over as many callbacks, of either kind, as it has own calls without an outcome.
     ///
     /// The views that were published begin those of the log, and lack the last one at most. They and those that a
     /// client has read are beginnings of one list. A client whose run isn't later than that of the last published view
