@@ -32,7 +32,7 @@ pub trait TellsAsk {
 
 /// A boxed closure that is called once with a discovery's completion (profile of this project).
 ///
-/// It is neither [`Clone`] nor [`Drop`]: it is called, cancelled or handed on, as a [`Callback`](crate::Callback) is.
+/// It is neither [`Clone`] nor [`Drop`]: it is called, cancelled or passed on, as a [`Callback`](crate::Callback) is.
 pub struct AskCallback {
     tag: u64,
     run: Box<dyn FnOnce(AskCompletion) -> AskTold + Send>,
@@ -43,6 +43,7 @@ pub struct AskCallback {
 impl AskCallback {
     /// A callback with this tag. The closure has to accept any completion whose numbers are in the ranges of their
     /// types, with at most 1,024 devices. It has to return `AskTold { tag, done }` with this tag and that completion.
+    /// No test can show this: it is proved from the closure's code.
     pub fn new(tag: u64, run: Box<dyn FnOnce(AskCompletion) -> AskTold + Send>) -> AskCallback
         requires callable { (c : AskCompletion) → AskFits c → pre run c }
         requires tells { (c : AskCompletion) (t : AskTold) → AskFits c → post run c t → t ≡ ask_told tag c }

@@ -10,7 +10,7 @@ use rdm_queue::Completion;
 use std::alloc::Global;
 
 /// A request's callback: it is called once with how the request ended, and returns its tag and that completion
-/// (profile of this project). [`Callback`] is a boxed closure. A program with one kind of callback may bring a type of
+/// (profile of this project). [`Callback`] is a boxed closure. A program with one kind of callback may use a type of
 /// its own, without a box.
 ///
 /// A type that isn't [`Drop`] can't be forgotten. `spend` and `cancel` take it by value, so it is called once.
@@ -36,7 +36,7 @@ pub trait Tells {
 
 /// A boxed closure that is called once with a request's completion (profile of this project).
 ///
-/// It is neither [`Clone`] nor [`Drop`]: it is called, cancelled or handed on. The compiler refuses each of these:
+/// It is neither [`Clone`] nor [`Drop`]: it is called, cancelled or passed on. The compiler refuses each of these:
 ///
 /// ```text
 /// fn forget(callback: Callback) {}
@@ -61,7 +61,8 @@ pub struct Callback {
 
 impl Callback {
     /// A callback with this tag. The closure has to accept any completion whose numbers are in the ranges of their
-    /// types. It has to return `Told { tag, done }` with this tag and that completion.
+    /// types. It has to return `Told { tag, done }` with this tag and that completion. No test can show this: it is
+    /// proved from the closure's code.
     pub fn new(tag: u64, run: Box<dyn FnOnce(Completion) -> Told + Send>) -> Callback
         requires callable { (c : Completion) → Fits c → pre run c }
         requires tells { (c : Completion) (t : Told) → Fits c → post run c t → t ≡ told tag c }

@@ -92,7 +92,7 @@ impl<C: Tells, A: TellsAsk> Desk<C, A> {
     }
 
     /// Holds the callback of a request, after those that are held already. [`Full`]: as many are held as the queue
-    /// depth says; the callback is returned, and the desk is unchanged.
+    /// depth allows; the callback is returned, and the desk is unchanged.
     pub fn hold(&mut self, callback: C) -> Result<(), (Full, C)>
         ensures held { OnOk result (self.new ≡ record self.old { requests = self.old.requests ++ callback ∷ [] }) }
         ensures had_a_place { OnOk result (length self.old.requests < self.old.places) }
@@ -154,8 +154,8 @@ impl<C: Tells, A: TellsAsk> Desk<C, A> {
         Ok(self.spend_oldest_ask(done))
     }
 
-    // Calls the oldest discovery's callback. It isn't inlined: LLVM would split a set that two arms move into thousands
-    // of pieces, and take minutes.
+    // Calls the oldest discovery's callback. It isn't inlined. If two arms moved one set, LLVM would split it into
+    // thousands of pieces, and take minutes.
     #[inline(never)]
     fn spend_oldest_ask(&mut self, done: AskCompletion) -> AskTold
         requires { 0 < length self.old.asks }

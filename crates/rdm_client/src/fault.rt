@@ -1,7 +1,7 @@
 //! Why a call on a desk is refused.
 use thiserror::Error;
 
-/// The desk has no place for another callback of that kind, and nothing has changed (profile of this project).
+/// The desk can't hold another callback of that kind, and nothing has changed (profile of this project).
 #[derive(Clone, Copy, Debug, PartialEq, Eq, Error)]
 #[error("the desk is full")]
 pub struct Full;

@@ -10,7 +10,7 @@ use std::marker::Model;
 /// The callbacks that a desk held at its end, oldest first (profile of this project). Contracts see the requests'
 /// callbacks and the discoveries'.
 ///
-/// It isn't [`Drop`]: its callbacks are taken out and called, cancelled or handed on. Then it is closed.
+/// It isn't [`Drop`]: its callbacks are taken out and called, cancelled or passed on. Then it is closed.
 pub struct Unspent<C = Callback, A = AskCallback> {
     requests: VecDeque<C>,
     asks: VecDeque<A>,

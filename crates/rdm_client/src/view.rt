@@ -12,5 +12,5 @@ pub struct DeviceView {
     pub set: DeviceSet,
 }
 
-// What the docs say of its size.
+// The size that the docs state.
 const _: () = prove!(size_of::<DeviceView>() == 32 * 1024 + 16);

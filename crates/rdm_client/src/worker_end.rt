@@ -8,7 +8,7 @@ pub enum WorkerEnd {
     /// left. With ring buffers: all clients and the operator have left, and their rings of calls are empty; outcomes
     /// may still wait for a free slot of their client's ring, or for memory.
     AllLeft,
-    /// It made as many turns as it was to make.
+    /// It has made all its turns.
     Turns,
     /// The log has fewer than three free entries.
     LogFull,

@@ -2,21 +2,21 @@
 use rdm_agent::Search;
 use rdm_wire::Uid;
 
-/// The greatest number of places for all clients together: sixteen clients with 255 each (profile of this project).
+/// The greatest value of [`Config::places`]: a queue depth of 255 for each of sixteen clients (profile of this
+/// project).
 pub const MOST_PLACES: u16 = 4080;
 
 /// How a controller is set up (profile of this project).
 #[derive(Clone, Copy, Debug)]
 pub struct Config {
-    /// The controller's own UID, which isn't broadcast.
+    /// The controller's own UID, which must not be broadcast.
     pub source: Uid,
     /// The greatest sum of the clients' queue depths: 0 to [`MOST_PLACES`].
     pub places: u16,
-    /// How many frames a discovery may take, from 1.
+    /// How many frames a discovery run may send: at least 1.
     pub budget: u64,
 }
 
-/// How a session is set up: the configuration of its controller, and how the discovery runs search (profile of this
 impl Config {
     ghost use Rattle.std.specs.Prelude.{◌≡◌, ◌↔◌, true};
     ghost use Rattle.rdm_log.specs.log.Config.{IsConfig};
@@ -31,6 +31,7 @@ impl Config {
     }
 }
 
+/// How a session is set up: the configuration of its controller, and how the discovery runs search (profile of this
 /// project).
 #[derive(Clone, Copy, Debug)]
 pub struct Setup {
