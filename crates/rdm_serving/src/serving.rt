@@ -4,6 +4,7 @@ ghost use Rattle.std.specs.Bool.{OnTrue};
 ghost use Rattle.rdm_wire.specs.Uid.{IsDevice};
 ghost use Rattle.rdm_log.specs.log.Config.{IsConfig};
 ghost use Rattle.rdm_client.specs.declared.told.Told.{Told};
+ghost use Rattle.rdm_serving.specs.Serving.{MayServe};
 ghost use Rattle.rdm_serving.specs.LoggedOutcomes.{IsLogOf};
 ghost use Rattle.rdm_serving.specs.LoggedCalls.{HasCalls};
 ghost use Rattle.rdm_serving.specs.SessionReport.{AllSettled, IsSettled, is_request, is_ask, places_of};
@@ -83,12 +84,7 @@ pub fn serve<L: Ledger + Send + Sync, P: Progress + Send, R: Threads + Wait + Sy
     file: SessionFile,
     progress: &mut P,
 ) -> Result<Served, ServeFault>
-    requires name { blank.name ≡ L.name }
-    requires parts { (blank.parts ≡ L.parts) × (L.parts ≡ 17) }
-    requires source { IsDevice file.scene.scene.source }
-    requires budget { 1 ≤ file.scene.budget }
-    requires ring { 1 ≤ file.ring }
-    requires log { file.log ≤ 1000000 }
+    requires may_serve { MayServe L.name L.parts blank file.scene.scene.source file.scene.budget file.ring file.log }
     ensures settled { IfOk result (λ s. AllSettled file.clients.items s.outcomes.items) }
     ensures logged { IfOk result (λ s. IsLogOf s.session.opening s.session.entries s.outcomes.items) }
     ensures called { IfOk result (λ s. HasCalls s.session.entries file.clients.items) }
@@ -132,12 +128,7 @@ pub fn serve_on_line<
     line: X,
     progress: &mut P,
 ) -> Result<Served, ServeFault>
-    requires name { blank.name ≡ L.name }
-    requires parts { (blank.parts ≡ L.parts) × (L.parts ≡ 17) }
-    requires source { IsDevice file.source }
-    requires budget { 1 ≤ file.budget }
-    requires ring { 1 ≤ file.ring }
-    requires log { file.log ≤ 1000000 }
+    requires may_serve { MayServe L.name L.parts blank file.source file.budget file.ring file.log }
     ensures settled { IfOk result (λ s. AllSettled file.clients.items s.outcomes.items) }
     ensures logged { IfOk result (λ s. IsLogOf s.session.opening s.session.entries s.outcomes.items) }
     ensures called { IfOk result (λ s. HasCalls s.session.entries file.clients.items) }
