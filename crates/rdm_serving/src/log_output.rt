@@ -48,6 +48,13 @@ impl<W: Write> LogOutput<W> {
         }
     }
 
+    /// Whether it is open.
+    pub fn is_open(&self) -> bool
+        ensures { result ≡ self.now.is_open }
+    {
+        self.is_open
+    }
+
     /// The first error of the writer; none if everything was written.
     pub fn failure(&self) -> Option<ErrorKind>
         ensures { is_some result ≡ self.now.is_failed }
