@@ -49,6 +49,9 @@ pub enum Unopened<'a> {
 ///
 /// What is promised for a simulated line holds here with the line's own steps. The caller has to know whether the line
 /// is honest.
+///
+/// At most 1,024 UIDs may be known. The log must not be open yet ([`LogOutput::is_open`]), and must not have failed
+/// ([`LogOutput::failure`]).
 pub fn carry_out_on_line<'a, L: Line + Drop, O: Opens<L>, G: OpensLog, W: Write, P: Progress>(
     alloc: Global,
     job: &LineDiscovery<'a>,
@@ -77,6 +80,8 @@ pub fn carry_out_on_line<'a, L: Line + Drop, O: Opens<L>, G: OpensLog, W: Write,
 ///
 /// What is promised for a session on a simulated line holds here. A line that always fails ends each request with
 /// FailedToSend, and each discovery with its fault.
+///
+/// The log must not be open yet ([`LogOutput::is_open`]), and must not have failed ([`LogOutput::failure`]).
 pub fn run_on_line<
     'a,
     L: Line + Send + Drop,

@@ -59,6 +59,8 @@ pub fn perform<R: Read, W: Write, T: Threads + Wait + Sync>(
 /// discovery's exchanges are written as they are made, and a session's log after its end. If the log's writer fails, it
 /// has a prefix of the text, and the status is 1. The progress first receives what people should know about a file, and
 /// then how many exchanges its session or discovery has made.
+///
+/// The log must not be open yet ([`LogOutput::is_open`]), and must not have failed ([`LogOutput::failure`]).
 pub fn carry_out<'a, R: Read, G: OpensLog, W: Write, P: Progress + Send, T: Threads + Wait + Sync>(
     rt: &T,
     alloc: Global,
