@@ -1,4 +1,4 @@
-//! The calls of C on a run of discovery alone. Each is the library's call of that name, on what the handle holds.
+//! C's calls on a discovery run without a queue. Each is the library's call with that name, on what the handle holds.
 ghost use Rattle.std.specs.Prelude.{◌≡◌, ◌≢◌, ◌++◌, ◌∷◌, ◌+◌, ◌%◌, ◌^◌, ◌⊎◌, ◌==◌, [], length, take, map};
 ghost use Rattle.std.specs.Prelude.{true, false};
 ghost use Rattle.std.specs.Prelude.{Some, None, nat_lt, if◌then◌else◌};
@@ -19,7 +19,7 @@ use rdm_handles::status::{
 use rdm_handles::{AgentHandle, DeviceForC, StartForC, agents, controllers};
 use std::alloc::Global;
 
-/// Opens a handle: a run that begins so, which knows devices of these UIDs.
+/// Opens a handle: a run that begins like this, and knows these UIDs.
 #[unsafe(no_mangle)]
 pub extern "C" fn wurst_agent_start(
     alloc: Global,
@@ -54,7 +54,7 @@ pub extern "C" fn wurst_agent_start(
     DONE
 }
 
-/// Ends the run of an open handle and frees its memory; the handle is closed then. Without effect on a closed one.
+/// Ends the run of an open handle, frees its memory, and closes the handle. No effect on a closed one.
 #[unsafe(no_mangle)]
 pub extern "C" fn wurst_agent_dispose(alloc: Global, handle: &mut AgentHandle)
     ensures closed { handle.new.is_open ≡ false }
@@ -62,8 +62,8 @@ pub extern "C" fn wurst_agent_dispose(alloc: Global, handle: &mut AgentHandle)
     drop(handle.take(alloc));
 }
 
-/// Writes what the run asks next, 0 an unmute of all, 1 a mute, 2 a branch, and its frame at the front of a buffer of
-/// 257 bytes.
+/// Writes what the run asks next, 0 for an unmute of all, 1 for a mute, 2 for a branch, and its frame at the front of a
+/// buffer of 257 bytes.
 #[unsafe(no_mangle)]
 pub extern "C" fn wurst_agent_next(
     alloc: Global,
@@ -92,7 +92,7 @@ pub extern "C" fn wurst_agent_next(
     status
 }
 
-/// Takes the bytes that the line answered to the frame that the run asks; none are silence.
+/// Takes the bytes that the line answered to the run's frame. No bytes are silence.
 #[unsafe(no_mangle)]
 pub extern "C" fn wurst_agent_hear(alloc: Global, handle: &mut AgentHandle, reply: &[u8]) -> u32
     ensures not_open { handle.old.is_open ≡ false → result ≡ NOT_OPEN }
@@ -119,7 +119,7 @@ pub extern "C" fn wurst_agent_hear(alloc: Global, handle: &mut AgentHandle, repl
     status
 }
 
-/// Takes it that the line failed, which ends the run.
+/// Records that the line failed, which ends the run.
 #[unsafe(no_mangle)]
 pub extern "C" fn wurst_agent_fail(alloc: Global, handle: &mut AgentHandle) -> u32
     ensures not_open { handle.old.is_open ≡ false → result ≡ NOT_OPEN }
@@ -146,7 +146,7 @@ pub extern "C" fn wurst_agent_fail(alloc: Global, handle: &mut AgentHandle) -> u
     status
 }
 
-/// Ends the run, as aborted. Without effect where it has ended.
+/// Ends the run, as aborted. No effect if it has ended.
 #[unsafe(no_mangle)]
 pub extern "C" fn wurst_agent_stop(alloc: Global, handle: &mut AgentHandle) -> u32
     ensures not_open { handle.old.is_open ≡ false → result ≡ NOT_OPEN }
@@ -196,7 +196,7 @@ pub extern "C" fn wurst_agent_devices(
     status
 }
 
-/// Writes why the run ended early: its number, 0 where it didn't, and the UID that it names, or 0.
+/// Writes why the run ended early: the fault's number, or 0 if it has none, and the fault's UID, or 0.
 #[unsafe(no_mangle)]
 pub extern "C" fn wurst_agent_fault(
     alloc: Global,

@@ -1,4 +1,4 @@
-//! The calls of C on controllers. Each is the library's call of that name, on what the handle holds.
+//! C's calls on controllers. Each is the library's call with that name, on what the handle holds.
 ghost use Rattle.std.specs.Prelude.{◌≡◌, ◌≢◌, ◌≤◌, ◌<◌, ◌↔◌, ◌⊎◌, ℕ, length, take, map, true, false, Some};
 ghost use Rattle.std.specs.Prelude.{None, Ok};
 ghost use Rattle.std.specs.Prelude.{if◌then◌else◌, nat_lt, List, option_map};
@@ -31,7 +31,7 @@ use rdm_handles::{
 use rdm_join::LineEvent;
 use std::alloc::Global;
 
-/// Opens a handle: a controller that is set up so, without clients.
+/// Opens a handle: a controller with this set-up, without clients.
 #[unsafe(no_mangle)]
 pub extern "C" fn wurst_controller_open(
     alloc: Global,
@@ -62,8 +62,7 @@ pub extern "C" fn wurst_controller_open(
     DONE
 }
 
-/// Ends the controller of an open handle and frees its memory; the handle is closed then. Without effect on a closed
-/// one.
+/// Ends the controller of an open handle, frees its memory, and closes the handle. No effect on a closed one.
 #[unsafe(no_mangle)]
 pub extern "C" fn wurst_controller_dispose(alloc: Global, handle: &mut ControllerHandle)
     ensures closed { handle.new.is_open ≡ false }
@@ -71,7 +70,7 @@ pub extern "C" fn wurst_controller_dispose(alloc: Global, handle: &mut Controlle
     drop(handle.take(alloc));
 }
 
-/// Lets a client join with this many places, and writes its number.
+/// Lets a client join with this queue depth, and writes its number.
 #[unsafe(no_mangle)]
 pub extern "C" fn wurst_controller_join(
     alloc: Global,
@@ -233,7 +232,7 @@ pub extern "C" fn wurst_controller_take(
     status
 }
 
-/// Takes the bytes that the line answered to the last frame; none are silence.
+/// Takes the bytes that the line answered to the last frame. No bytes are silence.
 #[unsafe(no_mangle)]
 pub extern "C" fn wurst_controller_deliver(
     alloc: Global,
@@ -259,7 +258,7 @@ pub extern "C" fn wurst_controller_deliver(
     status
 }
 
-/// Takes it that the line failed at the last frame.
+/// Records that the line failed at the last frame.
 #[unsafe(no_mangle)]
 pub extern "C" fn wurst_controller_fail(alloc: Global, handle: &mut ControllerHandle) -> u32
     ensures not_open { handle.old.is_open ≡ false → (result ≡ NOT_OPEN) }
@@ -279,7 +278,7 @@ pub extern "C" fn wurst_controller_fail(alloc: Global, handle: &mut ControllerHa
     status
 }
 
-/// Writes of which kind a client's oldest outcome is: 0 a request's, 1 a discovery's.
+/// Writes the kind of a client's oldest outcome: 0 for a request's, 1 for a discovery's.
 #[unsafe(no_mangle)]
 pub extern "C" fn wurst_controller_oldest(
     alloc: Global,
@@ -304,7 +303,7 @@ pub extern "C" fn wurst_controller_oldest(
     status
 }
 
-/// Collects a client's oldest outcome where that is a request's, and writes how it ended, with its data at the front of
+/// Collects a client's oldest outcome if it is a request's, and writes how it ended, with its data at the front of
 /// a buffer. `BUFFER_TOO_SMALL` writes how many bytes it needs into `len`.
 #[unsafe(no_mangle)]
 pub extern "C" fn wurst_controller_next_completion(
@@ -342,7 +341,7 @@ pub extern "C" fn wurst_controller_next_completion(
     status
 }
 
-/// Collects a client's oldest outcome where that is a discovery's, and writes how it ended, with its devices at the
+/// Collects a client's oldest outcome if it is a discovery's, and writes how it ended, with its devices at the
 /// front of a buffer. `BUFFER_TOO_SMALL` writes how many devices it needs into `count`.
 #[unsafe(no_mangle)]
 pub extern "C" fn wurst_controller_next_discovery(
@@ -427,7 +426,7 @@ pub extern "C" fn wurst_controller_devices_run(
     DONE
 }
 
-/// Writes whether nothing waits, is under way, is asked or is uncollected.
+/// Writes whether the queue is idle: no call waits or is being served, and no outcome is uncollected.
 #[unsafe(no_mangle)]
 pub extern "C" fn wurst_controller_is_idle(
     alloc: Global,

@@ -1,7 +1,7 @@
 //! The calls that C makes. `bindings/c/wurstlinen.h` declares each.
 //!
-//! Each call has those clauses of the library's call of that name that fix the result, the state and the status, over
-//! what its handle holds. Nothing is asked of an argument but its type: each range is tested, and answered by a status.
+//! Each call has the clauses of the library's call with that name that fix the result, the state and the status, for
+//! what its handle holds. An argument needs only its type: each range is tested, and has a status.
 #![tactic(auto)]
 
 ghost use Rattle.std.specs.Prelude.{◌≡◌};

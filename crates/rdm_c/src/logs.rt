@@ -1,4 +1,4 @@
-//! The calls of C on the logs of sessions: how many entries there are and are free, each entry, and a fresh log.
+//! C's calls on the logs of sessions: how many entries there are, how many are free, each entry, and a new log.
 ghost use Rattle.std.specs.Prelude.{◌≡◌, ◌≢◌, ◌+◌, ◌⊎◌, [], length, take, true, false, Some, slice_get};
 ghost use Rattle.rdm_log.specs.declared.entry.Entry.{Entry};
 ghost use Rattle.rdm_log.specs.log.LogState.{free_entries, opening_after};
@@ -13,8 +13,7 @@ use rdm_handles::status::{
 use rdm_handles::{EntryForC, LogHandle, SessionHandle, entries, sessions};
 use std::alloc::Global;
 
-/// Writes how many entries of the log are free: those that it has room for, less those that it has and those that are
-/// reserved.
+/// Writes how many entries of the log are free: neither used nor reserved.
 #[unsafe(no_mangle)]
 pub extern "C" fn wurst_session_free_entries(
     alloc: Global,
@@ -56,8 +55,8 @@ pub extern "C" fn wurst_session_entry_count(
     DONE
 }
 
-/// Writes the log's entry of this index, from 0, with its bytes at the front of a buffer. `BUFFER_TOO_SMALL` writes how
-/// many bytes it needs into `len`.
+/// Writes the log's entry with this index, from 0, with its bytes at the front of a buffer. `BUFFER_TOO_SMALL` writes
+/// how many bytes it needs into `len`.
 #[unsafe(no_mangle)]
 pub extern "C" fn wurst_session_entry(
     alloc: Global,
@@ -87,7 +86,7 @@ pub extern "C" fn wurst_session_entry(
     status
 }
 
-/// Goes on with a fresh log with room for this many entries, and opens a closed handle of the old one.
+/// Continues with a new log of this many entries, and opens a closed handle with the old one.
 #[unsafe(no_mangle)]
 pub extern "C" fn wurst_session_rotate(
     alloc: Global,
@@ -133,7 +132,7 @@ pub extern "C" fn wurst_session_rotate(
     }
 }
 
-/// Frees the log of an open handle; the handle is closed then. Without effect on a closed one.
+/// Frees the log of an open handle, and closes the handle. No effect on a closed one.
 #[unsafe(no_mangle)]
 pub extern "C" fn wurst_log_dispose(alloc: Global, handle: &mut LogHandle)
     ensures closed { handle.new.is_open ≡ false }
@@ -161,7 +160,7 @@ pub extern "C" fn wurst_log_entry_count(
     DONE
 }
 
-/// Writes the log's entry of this index, as `wurst_session_entry` does.
+/// Writes the log's entry with this index, as `wurst_session_entry` does.
 #[unsafe(no_mangle)]
 pub extern "C" fn wurst_log_entry(
     alloc: Global,

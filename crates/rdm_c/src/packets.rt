@@ -1,4 +1,4 @@
-//! The calls of C that read and write UIDs and packets.
+//! C's calls that read and write UIDs and packets.
 ghost use Rattle.std.specs.Prelude.{◌≡◌, ◌≢◌, ◌≤◌, ◌↔◌, ◌^◌, ℕ, [], length, take, Some, Ok, IfOk, IfErr, nat_lt};
 ghost use Rattle.std.specs.Prelude.{if◌then◌else◌, ◌⊎◌, slice_index};
 ghost use Rattle.std.specs.Str.{IsUtf8};
@@ -46,7 +46,7 @@ pub extern "C" fn wurst_uid_read(text: &[u8], uid: &mut u64) -> u32
         (result ≡ UID_SEPARATOR) ↔ ((length text.now ≡ 13) × (slice_index text.now 4 ≢ colon)) }
     ensures text { IsUtf8 text.now → result ≢ NOT_TEXT }
     ensures not_text { (IsUtf8 text.now → ⊥) → result ≡ NOT_TEXT }
-    // Any other fault is of the digits.
+    // Any other fault is that of the digits.
     ensures statuses { (result ≡ DONE) ⊎ ((result ≡ NOT_TEXT) ⊎ ((result ≡ UID_LENGTH)
         ⊎ ((result ≡ UID_SEPARATOR) ⊎ (result ≡ UID_DIGIT)))) }
     ensures unchanged { result ≢ DONE → uid.new ≡ uid.old }
@@ -82,7 +82,7 @@ pub extern "C" fn wurst_uid_write(uid: u64, text: &mut [u8]) -> u32
     DONE
 }
 
-/// Reads what came after a branch: 0 silence, 1 a device's reply with its UID, 2 a collision.
+/// Reads the bytes after a branch: 0 for silence, 1 for a device's reply with its UID, 2 for a collision.
 #[unsafe(no_mangle)]
 pub extern "C" fn wurst_branch_reply_read(bytes: &[u8], kind: &mut u32, uid: &mut u64) -> u32
     ensures done { result ≡ DONE }
@@ -132,7 +132,7 @@ pub extern "C" fn wurst_branch_reply_write(
     DONE
 }
 
-// Writes a reply at the front of a buffer, and tells how many bytes it has.
+// Writes a reply at the front of a buffer. Returns how many bytes it has.
 fn put_reply(bytes: &mut [u8], reply: &ArrayVec<u8, LONGEST_BRANCH_REPLY>) -> usize
     requires { 24 ≤ length bytes.old }
     ensures front { take result bytes.new ≡ reply.now.items }

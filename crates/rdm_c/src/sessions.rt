@@ -1,4 +1,4 @@
-//! The calls of C on sessions. Each is the library's call of that name, on what the handle holds.
+//! C's calls on sessions. Each is the library's call with that name, on what the handle holds.
 ghost use Rattle.std.specs.Prelude.{◌≡◌, ◌≢◌, ◌≤◌, ◌<◌, ◌+◌, ◌⊎◌, ℕ, length, take, map, true, false, Some, None, Ok};
 ghost use Rattle.std.specs.Prelude.{if◌then◌else◌, nat_lt, List, ◌↔◌, option_map};
 ghost use Rattle.arrayvec.specs.ArrayVec.{ArrayVec as Bytes};
@@ -33,7 +33,7 @@ use rdm_handles::{
 use rdm_join::LineEvent;
 use std::alloc::Global;
 
-/// Opens a handle: a session that is set up so, without clients, with a log with room for this many entries.
+/// Opens a handle: a session with this set-up, without clients, and with a log of this many entries.
 #[unsafe(no_mangle)]
 pub extern "C" fn wurst_session_open(
     alloc: Global,
@@ -66,8 +66,8 @@ pub extern "C" fn wurst_session_open(
     DONE
 }
 
-/// Ends the session of an open handle and frees its memory, its log's too; the handle is closed then. Without effect
-/// on a closed one.
+/// Ends the session of an open handle, frees its memory and that of its log, and closes the handle. No effect on a
+/// closed one.
 #[unsafe(no_mangle)]
 pub extern "C" fn wurst_session_dispose(alloc: Global, handle: &mut SessionHandle)
     ensures closed { handle.new.is_open ≡ false }
@@ -75,7 +75,7 @@ pub extern "C" fn wurst_session_dispose(alloc: Global, handle: &mut SessionHandl
     drop(handle.take(alloc));
 }
 
-/// Lets a client join with this many places, and writes its number.
+/// Lets a client join with this queue depth, and writes its number.
 #[unsafe(no_mangle)]
 pub extern "C" fn wurst_session_join(
     alloc: Global,
@@ -244,7 +244,7 @@ pub extern "C" fn wurst_session_take(
     status
 }
 
-/// Takes the bytes that the line answered to the last frame; none are silence.
+/// Takes the bytes that the line answered to the last frame. No bytes are silence.
 #[unsafe(no_mangle)]
 pub extern "C" fn wurst_session_deliver(
     alloc: Global,
@@ -271,7 +271,7 @@ pub extern "C" fn wurst_session_deliver(
     status
 }
 
-/// Takes it that the line failed at the last frame.
+/// Records that the line failed at the last frame.
 #[unsafe(no_mangle)]
 pub extern "C" fn wurst_session_fail(alloc: Global, handle: &mut SessionHandle) -> u32
     ensures not_open { handle.old.is_open ≡ false → (result ≡ NOT_OPEN) }
@@ -291,7 +291,7 @@ pub extern "C" fn wurst_session_fail(alloc: Global, handle: &mut SessionHandle) 
     status
 }
 
-/// Writes of which kind a client's oldest outcome is: 0 a request's, 1 a discovery's.
+/// Writes the kind of a client's oldest outcome: 0 for a request's, 1 for a discovery's.
 #[unsafe(no_mangle)]
 pub extern "C" fn wurst_session_oldest(
     alloc: Global,
@@ -317,7 +317,7 @@ pub extern "C" fn wurst_session_oldest(
     status
 }
 
-/// Collects a client's oldest outcome where that is a request's, and writes how it ended, with its data at the front of
+/// Collects a client's oldest outcome if it is a request's, and writes how it ended, with its data at the front of
 /// a buffer. `BUFFER_TOO_SMALL` writes how many bytes it needs into `len`.
 #[unsafe(no_mangle)]
 pub extern "C" fn wurst_session_next_completion(
@@ -355,7 +355,7 @@ pub extern "C" fn wurst_session_next_completion(
     status
 }
 
-/// Collects a client's oldest outcome where that is a discovery's, and writes how it ended, with its devices at the
+/// Collects a client's oldest outcome if it is a discovery's, and writes how it ended, with its devices at the
 /// front of a buffer. `BUFFER_TOO_SMALL` writes how many devices it needs into `count`.
 #[unsafe(no_mangle)]
 pub extern "C" fn wurst_session_next_discovery(
@@ -442,7 +442,7 @@ pub extern "C" fn wurst_session_devices_run(
     DONE
 }
 
-/// Writes whether nothing waits, is under way, is asked or is uncollected.
+/// Writes whether the queue is idle: no call waits or is being served, and no outcome is uncollected.
 #[unsafe(no_mangle)]
 pub extern "C" fn wurst_session_is_idle(
     alloc: Global,

@@ -9,7 +9,7 @@ use Rattle.rdm_files.specs.declared.kind.FileKind.TheVariants.{Scene, Session, L
 abbrev pub has_key : List ℕ → Data → Bool
 has_key key d = is_some (get key d)
 
--- a file that has clients, a source, a scene
+-- the kind of a file, by whether it has the keys `clients`, `source` and `scene`
 abbrev pub kind_with : Bool → Bool → Bool → Option FileKind
 kind_with true true false = Some LineSession
 kind_with true true true = Some Session

@@ -1,4 +1,4 @@
--- What the keys and values of a scene file say.
+-- What the keys and values of a scene file mean.
 use Rattle.std.specs.Prelude.{◌≡◌, ℕ, ◌+◌, ◌*◌, ◌≤◌, Bool, true, false, List, [], ◌∷◌, length, Option, Some, None}
 use Rattle.std.specs.Prelude.{Result, Ok, Err, MatchOption, option_and_then, ⊤}
 use Rattle.hex.specs.Hex.{decode_of}
@@ -9,13 +9,13 @@ use Rattle.rdm_wire.specs.UidText.{UidText}
 use Rattle.rdm_files.specs.declared.scene.fault.SceneFault.{SceneFault}
 use Rattle.rdm_files.specs.declared.scene.fault.SceneFault.TheVariants.{Mismatch, NoMemory}
 
--- whether a fault is that memory ran out
+-- whether a fault is NoMemory
 abbrev pub is_memory : SceneFault → Bool
 is_memory NoMemory = true
 is_memory (Mismatch m) = false
 
--- what a reader gives: something that P holds of; or a fault, which means that P holds of nothing, unless memory was
--- refused
+-- what a reader returns: something for which P holds, or a fault. A fault other than NoMemory means that P holds for
+-- nothing
 abbrev pub Reads : {A : Type 0} → Result A SceneFault → (A → Type 0) → Type 0
 Reads (Ok x) P = P x
 Reads {A} (Err fault) P = is_memory fault ≡ false → (x : A) → P x → ⊥
@@ -54,7 +54,7 @@ pub record IsBytesText (least most : ℕ) (d : Data) (bytes : List ℕ) : Type 0
   pub at_least : least ≤ length bytes
   pub at_most : length bytes ≤ most
 
--- P holds of each item and the element at its index
+-- P holds for each item and the element at its index
 abbrev pub Each : {A : Type 0} → (Data → A → Type 0) → Items → List A → Type 0
 Each P no_items [] = ⊤
 Each P no_items (x ∷ xs) = ⊥
@@ -69,14 +69,14 @@ pub record IsListOf (A : Type 0) (P : Data → A → Type 0) (least most : ℕ) 
   pub at_least : least ≤ length xs
   pub at_most : length xs ≤ most
 
--- an object's key that must be there
+-- a key that an object must have
 abbrev pub Has : {A : Type 0} → List ℕ → (Data → A → Type 0) → Data → A → Type 0
 Has key P d x = MatchOption (get key d) ⊥ (λ v. P v x)
 
--- one that may be absent, with what it means then
+-- a key that may be absent, with a default
 abbrev pub MayHave : {A : Type 0} → List ℕ → (Data → A → Type 0) → A → Data → A → Type 0
 MayHave key P default d x = MatchOption (get key d) (x ≡ default) (λ v. P v x)
 
--- one that may be absent, and gives nothing then
+-- a key that may be absent, without a default
 abbrev pub MayGive : {A : Type 0} → List ℕ → (Data → A → Type 0) → Data → Option A → Type 0
 MayGive key P d o = MatchOption (get key d) (o ≡ None) (λ v. MatchOption o ⊥ (P v))

@@ -1,4 +1,4 @@
--- Session files for a line of the caller's own: what each key says, and what holds if it is absent.
+-- Session files for a line of the caller's own: what each key means, and its default.
 use Rattle.std.specs.Prelude.{◌≡◌, None, codes}
 use Rattle.serde_json.specs.Data.{Data}
 use Rattle.serde_json.specs.Find.{get}
@@ -8,7 +8,8 @@ use Rattle.rdm_files.specs.SessionFiles.{IsClient, IsSearch}
 use Rattle.rdm_files.specs.declared.session.client.ClientFile.{ClientFile}
 use Rattle.rdm_files.specs.declared.session.line_file.LineSessionFile.{LineSessionFile}
 
--- the whole file: as one on a scene, with the controller's UID and the budget of discoveries in place of the scene
+-- the whole file: like that of a session on a scene, with the controller's UID and the budget of discovery runs in
+-- place of the scene
 pub record IsLineSessionFile (d : Data) (f : LineSessionFile) : Type 0 where
   pub no_scene : get (codes "scene") d ≡ None
   pub source : Has (codes "source") IsOwnUid d f.source

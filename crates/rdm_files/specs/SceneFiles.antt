@@ -1,4 +1,4 @@
--- Scene files: what each key says, and what holds if it is absent.
+-- Scene files: what each key means, and its default.
 use Rattle.std.specs.Prelude.{◌≡◌, ℕ, Bool, false, nat_le, List, [], ◌∷◌, fold, Option, Some, None, codes}
 use Rattle.arrayvec.specs.ArrayVec.{ArrayVec}
 use Rattle.serde_json.specs.Data.{Data}
@@ -16,7 +16,7 @@ use Rattle.rdm_files.specs.declared.scene.file.SceneFile.{SceneFile}
 abbrev pub IsPart : Data → ArrayVec ℕ → Type 0
 IsPart d part = IsBytesText 0 231 d part.items
 
--- a parameter of a device, of which the first part is to be sent next
+-- a parameter of a device; its first part is sent next
 pub record IsParameter (d : Data) (p : ParameterState) : Type 0 where
   pub pid : Has (codes "pid") IsFourDigits d p.pid
   pub parts : Has (codes "parts") (IsListOf (ArrayVec ℕ) IsPart 1 512) d p.parts
@@ -51,14 +51,14 @@ AllDiffer (u ∷ us) = (has us u ≡ false) × AllDiffer us
 abbrev pub in_place : List SceneDevice → List SceneDevice
 in_place devices = fold (λ placed d. with_scene_device d placed) [] devices
 
--- the devices, at most 1,024 and no two with one UID, in any order
+-- the devices, at most 1,024, in any order, no two with the same UID
 pub record AreDevices (d : Data) (devices : List SceneDevice) : Type 0 where
   pub listed : List SceneDevice
   pub list : IsListOf SceneDevice IsDeviceOf 0 1024 d listed
   pub differ : AllDiffer (uids_of_scene listed)
   pub placed : devices ≡ in_place listed
 
--- what comes of a collision
+-- what results from a collision
 abbrev pub IsCollision : Data → Collision → Type 0
 IsCollision d Or = as_str d ≡ Some (codes "or")
 IsCollision d (Uid u) = Has (codes "uid") IsUid d u × (get (codes "bytes") d ≡ None)

@@ -1,4 +1,4 @@
--- Session files: what each key says, and what holds if it is absent.
+-- Session files: what each key means, and its default.
 use Rattle.std.specs.Prelude.{◌≡◌, ℕ, List, [], None, Some, codes}
 use Rattle.serde_json.specs.Data.{Data}
 use Rattle.serde_json.specs.Find.{get, as_str}

@@ -15,11 +15,11 @@ pub enum FileFault {
     TooLong,
     /// A read failed with an error of this kind.
     Unreadable(ErrorKind),
-    /// Memory ran out.
+    /// There was no memory.
     NoMemory,
 }
 
-/// The bytes that a reader has, [`MOST_BYTES`] at most. Err: the first fault that is met.
+/// The bytes that a reader has, [`MOST_BYTES`] at most. Err: the first fault.
 pub fn read_file<R: Read>(alloc: Global, reader: &mut R) -> Result<Vec<u8>, FileFault>
     ensures content { IfOk result (λ bytes. IsContent (R.remaining reader.old) bytes.items) }
     ensures too_long { result ≡ Err FileFault.TooLong

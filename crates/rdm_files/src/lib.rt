@@ -5,7 +5,7 @@
 //! [`read_file`] returns a file's bytes. [`read_scene`], [`read_session`] and [`read_line_session`] read its JSON.
 //! [`discovery_command`] finds a call that no client may make. For people there are these:
 //! - a [`Mismatch`] says where a file has something else than was expected;
-//! - a [`Remark`] says what they should know of a file that is read all the same;
+//! - a [`Remark`] says what they should know about a file that is read anyway;
 //! - [`looks_like`] says which kind of file it seems to be.
 #![tactic(auto)]
 

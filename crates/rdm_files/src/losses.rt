@@ -8,10 +8,11 @@ ghost use Rattle.rdm_files.specs.body.Losses.{has_five};
 
 use std::alloc::{AllocError, Global};
 
-/// The first of five consecutive numbers that are all among these, which may come in any order and with repeats. Of
-/// several the least is returned. None: no five are consecutive, so a line with these losses is honest.
+/// The first of five consecutive numbers that are all among these. They may be in any order, and have repeats. If there
+/// are several such numbers, the least is returned. None: no five are consecutive, so a line with these losses is
+/// honest.
 ///
-/// Err: memory ran out.
+/// Err: there was no memory.
 pub fn five_losses(alloc: Global, losses: &[u64]) -> Result<Option<u64>, AllocError>
     ensures some { IfOk result (λ found. IfSome found (IsFirstOfFive losses.now)) }
     ensures none { IfOk result (λ found. IfNone found (NoFiveSuccessive losses.now)) }
@@ -43,7 +44,7 @@ fn first_of_five(sorted: &[u64]) -> Option<u64>
     None
 }
 
-// The first of the five numbers that end with this one, if all are there.
+// The first of the five consecutive numbers that end with this one, if all are in the list.
 fn five_to(sorted: &[u64], end: u64) -> Option<u64>
     requires { IsNonDecreasing sorted.now }
     ensures some { IfSome result (λ first. (first + 4 ≡ end) × (has_five sorted.now first ≡ true)) }
@@ -60,7 +61,7 @@ fn five_to(sorted: &[u64], end: u64) -> Option<u64>
     }
 }
 
-// Whether five consecutive numbers from this one are all there.
+// Whether the five consecutive numbers from this one on are all in the list.
 fn has_five(sorted: &[u64], first: u64) -> bool
     requires sorted { IsNonDecreasing sorted.now }
     requires fits { first + 4 < 18446744073709551616 }

@@ -1,17 +1,17 @@
-//! What people should know of a file before its work begins.
+//! What people should know about a file before its work begins.
 use crate::scene::UnknownKey;
 use std::fmt;
 
-/// What people should know of a file that is read all the same.
+/// What people should know about a file that is read anyway.
 #[derive(Debug, Drop)]
 pub enum Remark {
-    /// A key isn't known, and is left out.
+    /// A key isn't known, and is ignored.
     UnknownKey(UnknownKey),
-    /// The scene loses five exchanges in a row. Then a report may leave a device out without a fault.
+    /// The scene loses five exchanges in a row. Then a report may miss a device without a fault.
     FiveLosses {
-        /// The path of the key that has their numbers.
+        /// The path of the key with their numbers.
         path: &'static str,
-        /// The first one's number.
+        /// The number of the first one.
         first: u64,
     },
 }

@@ -1,4 +1,4 @@
-//! Scene files: a line to be simulated, as JSON. Unknown keys are left out, and the first one is reported to people.
+//! Scene files: a line to be simulated, as JSON. Unknown keys are ignored, and the first one is reported to people.
 
 mod collision;
 mod device;

@@ -1,5 +1,5 @@
 //! Session files: the calls of clients as JSON, with a line to be simulated, or the controller's UID on the caller's
-//! own line. Unknown keys are left out, and the first one is reported to people.
+//! own line. Unknown keys are ignored, and the first one is reported to people.
 
 mod call;
 mod client;

@@ -1,4 +1,4 @@
--- How a run of discovery alone begins for C, and what it asks.
+-- How a discovery run without a queue begins for C, and what it asks.
 use Rattle.std.specs.Prelude.{ℕ, List, [], ◌∷◌, length, Option, ◌==◌, nat_lt, if◌then◌else◌}
 use Rattle.rdm_wire.specs.Uid.{has, with_uid}
 use Rattle.rdm_wire.specs.Frames.{heard_in}
@@ -19,27 +19,27 @@ start_status s =
     first_of (uid_status s.source) (if nat_lt 1 s.kind then status.bad_kind
     else (if nat_lt 1 s.search then status.bad_search else status.done))
 
--- whether there is room for another device
+-- the status of a set that another device must fit into
 abbrev pub room_status : List ℕ → ℕ → ℕ
 room_status set u =
     if has set u then status.done
     else (if length set == 1024 then status.too_many_devices else status.done)
 
--- the fault of a UID that is put into a set: its own, then that the set is full
+-- the fault of adding a UID to a set: first that of the UID, then that the set is full
 abbrev pub added_status : List ℕ → ℕ → ℕ
 added_status set u = first_of (uid_status u) (room_status set u)
 
--- the first fault of UIDs that are put into a set one after another
+-- the first fault of adding these UIDs to a set, in order
 abbrev pub known_status : List ℕ → List ℕ → ℕ
 known_status set [] = status.done
 known_status set (u ∷ us) = first_of (added_status set u) (known_status (with_uid u set) us)
 
--- the set with them
+-- the set with these UIDs added
 abbrev pub known_set : List ℕ → List ℕ → List ℕ
 known_set set [] = set
 known_set set (u ∷ us) = known_set (with_uid u set) us
 
--- whether there is an operation
+-- the status of writing an operation: done, or nothing at the end
 abbrev pub operation_status : Op → ℕ
 operation_status ops.End = status.nothing
 operation_status _ = status.done
@@ -51,6 +51,6 @@ operation_of (ops.Mute u) = 1
 operation_of (ops.Branch range) = 2
 operation_of ops.End = 3
 
--- the run after what came to the frame that it asks; None: the line failed
+-- the run after the reply to its frame; None: the line failed
 unfoldable pub heard_of : Discovery → Option (List ℕ) → AgentState
 heard_of d answer = fed d.agent (heard_in (op_frame (next_op d.agent) d.source d.tn) answer)

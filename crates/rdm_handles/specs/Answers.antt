@@ -1,4 +1,4 @@
--- What a status says a call of the queue has answered, and which status a collect answers.
+-- The result of a call of the queue in a status, and the status of a collect.
 use Rattle.std.specs.Prelude.{ℕ, List, Option, Some, None, Result, Ok, Err, ◌==◌, nat_le, nat_lt, unwrap_or}
 use Rattle.std.specs.Prelude.{if◌then◌else◌}
 use Rattle.rdm_wire.specs.declared.request.Request.{Request}
@@ -18,7 +18,7 @@ use Rattle.rdm_log.specs.promises.Outcomes.{oldest_kind}
 use Rattle.rdm_queue.specs.promises.Lengths.{oldest_length}
 use Rattle.rdm_handles.specs.Statuses as status
 
--- the fault of a join that a status names
+-- the fault of a join with this status
 abbrev pub join_fault_of : ℕ → Option JoinFault
 join_fault_of s =
     if s == status.closed then Some joins.Closed
@@ -27,7 +27,7 @@ join_fault_of s =
     else (if s == status.out_of_memory then Some joins.NoMemory
     else (if s == status.log_full then Some joins.LogFull else None))))
 
--- the fault of a submit that a status names
+-- the fault of a submit with this status
 abbrev pub submit_fault_of : ℕ → Option SubmitFault
 submit_fault_of s =
     if s == status.closed then Some submits.Closed
@@ -35,7 +35,7 @@ submit_fault_of s =
     else (if s == status.full then Some submits.Full
     else (if s == status.log_full then Some submits.LogFull else None)))
 
--- the fault of a discover that a status names
+-- the fault of a discover with this status
 abbrev pub ask_fault_of : ℕ → Option AskFault
 ask_fault_of s =
     if s == status.closed then Some asks.Closed
@@ -43,56 +43,57 @@ ask_fault_of s =
     else (if s == status.full then Some asks.Full
     else (if s == status.log_full then Some asks.LogFull else None)))
 
--- the fault if there is one, else the value
+-- the fault if there is one, or else the value
 abbrev pub ok_or : {E : Type 0} {A : Type 0} → Option E → A → Result A E
 ok_or None x = Ok x
 ok_or (Some fault) x = Err fault
 
--- what a join of this status answered: its fault, or else the client of this number
+-- the result of a join with this status: its fault, or else the client with this number
 abbrev pub join_answer : ℕ → ℕ → Result ClientId JoinFault
 join_answer s client = ok_or (join_fault_of s) (record { 0 = client })
 
--- the fault with the request, if there is a fault; else the number
+-- the fault with the request if there is a fault, or else the number
 abbrev pub with_request : Request → Option SubmitFault → ℕ → Result ℕ (SubmitFault × Request)
 with_request request None number = Ok number
 with_request request (Some fault) number = Err (fault, request)
 
--- what a submit of this status answered: its fault with the request, or else this number
+-- the result of a submit with this status: its fault with the request, or else this number
 abbrev pub submit_answer : ℕ → ℕ → Request → Result ℕ (SubmitFault × Request)
 submit_answer s number request = with_request request (submit_fault_of s) number
 
--- what a discover of this status answered: its fault, or else this number
+-- the result of a discover with this status: its fault, or else this number
 abbrev pub ask_answer : ℕ → ℕ → Result ℕ AskFault
 ask_answer s number = ok_or (ask_fault_of s) number
 
--- 0 a request's, 1 a discovery's
+-- the number of an outcome's kind: 0 for a request's, 1 for a discovery's
 abbrev pub number_of_outcome_kind : OutcomeKind → ℕ
 number_of_outcome_kind kinds.Request = 0
 number_of_outcome_kind kinds.Discovery = 1
 
--- of a call that looks at a client's oldest outcome: no such client, no outcome, or there is one
+-- the status of a call that reads a client's oldest outcome: no such client, no outcome, or done
 abbrev pub status_of_some : {A : Type 0} → Option A → ℕ
 status_of_some None = status.nothing
 status_of_some (Some x) = status.done
 
--- of a call that asks which kind a client's oldest outcome is
+-- the status of a call that returns the kind of a client's oldest outcome
 abbrev pub oldest_status : Opening → List Entry → ℕ → ℕ
 oldest_status o h c =
     if nat_le (next_client o h) c then status.unknown_client else status_of_some (oldest_kind o h c)
 
--- of a collect of the first kind, where the oldest is of the second
+-- the status of a collect of the first kind, if the oldest outcome is of the second
 abbrev pub status_of_kind : OutcomeKind → OutcomeKind → ℕ → ℕ
 status_of_kind kinds.Request kinds.Request s = s
 status_of_kind kinds.Discovery kinds.Discovery s = s
 status_of_kind _ _ s = status.other_outcome
 
--- of a collect of this kind, with room for this many bytes or devices: nothing is there, or another kind, or more
+-- the status of a collect of this kind, if this many bytes or devices fit: there is no outcome, it is of the other
+-- kind, or it has more
 abbrev pub status_of_oldest : OutcomeKind → Option OutcomeKind → ℕ → ℕ → ℕ
 status_of_oldest kind None needed room = status.nothing
 status_of_oldest kind (Some oldest) needed room =
     status_of_kind kind oldest (if nat_lt room needed then status.buffer_too_small else status.done)
 
--- of a collect for this client of this kind, with room for this many bytes or devices
+-- the status of a collect of this kind for this client, if this many bytes or devices fit
 abbrev pub collect_status : Opening → List Entry → ℕ → OutcomeKind → ℕ → ℕ
 collect_status o h c kind room =
     if nat_le (next_client o h) c then status.unknown_client

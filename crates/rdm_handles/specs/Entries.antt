@@ -1,4 +1,4 @@
--- What an entry of a log looks like in C, and how it is read back.
+-- The form of a log's entries in C, and how it is read back.
 use Rattle.std.specs.Prelude.{ℕ, true, false, List, [], length, Option, Some, None, ◌==◌, nat_lt, slice_get}
 use Rattle.std.specs.Prelude.{if◌then◌else◌}
 use Rattle.rdm_wire.specs.declared.request.Request.{Request}
@@ -24,7 +24,7 @@ use Rattle.rdm_handles.specs.Packets.{number_of_request}
 use Rattle.rdm_handles.specs.Statuses as status
 use Rattle.rdm_handles.specs.declared.forms.EntryForC.{EntryForC}
 
--- an entry of this kind, of which nothing else is said
+-- an entry of this kind without other fields
 abbrev pub plain_entry : ℕ → EntryForC
 plain_entry kind = record {
   number = 0;
@@ -79,7 +79,7 @@ entry_with_call (calls.Join n) e = record e { call = 0; places = n }
 entry_with_call (calls.Submit r) e = entry_with_request r (record e { call = 1 })
 entry_with_call (calls.Discover kind) e = record e { call = 2; discovery = number_of_kind kind }
 
--- the entry with whose frame it is: 0 a request's, 1 a run's
+-- the entry with the owner of its frame: 0 for a request, 1 for a run
 abbrev pub entry_with_owner : Owner → EntryForC → EntryForC
 entry_with_owner (owners.Request n) e = record e { owner = 0; number = n }
 entry_with_owner (owners.Run r) e = record e { owner = 1; run = r }
@@ -89,7 +89,7 @@ abbrev pub entry_with_event : LineEvent → EntryForC → EntryForC
 entry_with_event (events.Reply reply) e = record e { len = length reply.items }
 entry_with_event events.Failed e = record e { has_failed = true }
 
--- An entry but its bytes. What its kind doesn't have is 0.
+-- An entry without its bytes. Fields that its kind doesn't have are 0.
 abbrev pub form_of_entry : Entry → EntryForC
 form_of_entry (Join c n) = record (entry_with_client c (plain_entry 0)) { places = n }
 form_of_entry (Refuse c call cause) =
@@ -126,17 +126,17 @@ bytes_of_entry (Send owner frame) = frame.items
 bytes_of_entry (Came event) = bytes_of_event event
 bytes_of_entry _ = []
 
--- of a read of the entry with this index, into a buffer with room for this many bytes
+-- the status of reading the entry with this index into a buffer of this many bytes
 abbrev pub status_of_entry : Option Entry → ℕ → ℕ
 status_of_entry None room = status.no_entry
 status_of_entry (Some e) room =
     if nat_lt room (length (bytes_of_entry e)) then status.buffer_too_small else status.done
 
--- of a read of an entry of this log
+-- the status of reading an entry of this log
 abbrev pub entry_status : List Entry → ℕ → ℕ → ℕ
 entry_status h i room = status_of_entry (slice_get h i) room
 
--- Each entry is read back from its form and its bytes, so no two entries look alike.
+-- Each entry is read back from its form and its bytes, so no two entries have the same.
 
 -- the client that an entry names, if it names one
 abbrev pub caller_in : EntryForC → Option ClientId
@@ -158,15 +158,15 @@ call_in e bytes =
     if e.call == 0 then calls.Join e.places
     else (if e.call == 1 then calls.Submit (request_in e bytes) else calls.Discover (kind_of e.discovery))
 
--- what an entry's frame was sent for: a request or a run
+-- the owner of an entry's frame: a request or a run
 abbrev pub owner_in : EntryForC → Owner
 owner_in e = if e.owner == 0 then owners.Request e.number else owners.Run e.run
 
--- what an entry says of the line: a reply, or that it failed
+-- the line's event in an entry: a reply, or that the line failed
 abbrev pub event_in : EntryForC → List ℕ → LineEvent
 event_in e bytes = if e.has_failed then events.Failed else events.Reply (record { items = bytes })
 
--- the status of this number, where there is one
+-- the status with this number, if there is one
 abbrev pub status_in : ℕ → Status
 status_in n =
     if n == 0 then ends.Completed
@@ -188,7 +188,7 @@ status_in n =
     else (if n == 16 then ends.DestMismatch
     else (if n == 17 then ends.ClassMismatch else ends.NoMemory)))))))))))))))))
 
--- the fault of this number, where there is one
+-- the fault with this number, if there is one
 abbrev pub fault_in : EntryForC → Option AgentFault
 fault_in e =
     if e.fault == 0 then None
@@ -197,7 +197,7 @@ fault_in e =
     else (if e.fault == 3 then Some faults.Exhausted
     else (if e.fault == 4 then Some faults.LineFailed else Some faults.Aborted))))
 
--- the entry that a form and its bytes spell
+-- the entry that a form and its bytes encode
 abbrev pub entry_in : EntryForC → List ℕ → Entry
 entry_in e bytes =
     if e.kind == 0 then Join (record { 0 = e.client }) e.places

@@ -1,4 +1,4 @@
--- What the structs of C say, and which status a call answers where one says nothing.
+-- The meaning of C's structs, and the status of a call with one that has none.
 use Rattle.std.specs.Prelude.{ℕ, ◌^◌, true, false, List, length, Option, Some, None, ◌==◌, is_some, nat_lt}
 use Rattle.std.specs.Prelude.{if◌then◌else◌}
 use Rattle.rdm_wire.specs.Uid.{is_broadcast}
@@ -29,19 +29,19 @@ use Rattle.rdm_handles.specs.declared.forms.CompletionForC.{CompletionForC}
 use Rattle.rdm_handles.specs.declared.forms.EndForC.{EndForC}
 use Rattle.rdm_handles.specs.declared.forms.DeviceForC.{DeviceForC}
 
--- 0 a steady search, 1 a quick one
+-- the search with this number: 0 steady, 1 quick
 abbrev pub search_of : ℕ → Search
 search_of n = if n == 0 then searches.Steady else searches.Quick
 
--- 0 a full discovery, 1 an incremental one
+-- the kind of discovery with this number: 0 full, 1 incremental
 abbrev pub kind_of : ℕ → Kind
 kind_of n = if n == 0 then kinds.Full else kinds.Incremental
 
--- 0 a GET, 1 a SET
+-- the class with this number: 0 GET, 1 SET
 abbrev pub class_of : ℕ → ReqClass
 class_of n = if n == 0 then requests.Get else requests.Set
 
--- the UID of a device or a controller: its own
+-- the status of a UID that must be a device's or a controller's own
 abbrev pub uid_status : ℕ → ℕ
 uid_status u = if nat_lt u (2 ^ 48) then (if is_broadcast u then status.broadcast_uid else status.done) else
     status.bad_uid
@@ -55,7 +55,7 @@ setup_status s =
     else (if nat_lt 1 s.search then status.bad_search else status.done)))
     else uid_status s.source
 
--- the setup that these numbers give, if they have no fault
+-- the setup with these numbers, if they have no fault
 abbrev pub setup_of : SetupForC → Setup
 setup_of s = record {
   config = record { source = s.source; places = s.places; budget = s.budget };
@@ -70,7 +70,7 @@ request_status r bytes =
     else (if nat_lt 231 (length bytes) then status.data_too_long else status.done))
     else status.bad_uid
 
--- the request that these numbers and data give, if they have no fault
+-- the request with these numbers and data, if they have no fault
 abbrev pub request_of : RequestForC → List ℕ → Request
 request_of r bytes = record {
   target = r.target;
@@ -93,7 +93,7 @@ number_of_class responses.Discovery = 0
 number_of_class responses.Get = 1
 number_of_class responses.Set = 2
 
--- how a request of this number ended; without a head its fields are 0
+-- how the request with this number ended; without a head its fields are 0
 abbrev pub form_with_head : ℕ → ℕ → ℕ → Option ReplyHead → CompletionForC
 form_with_head number len status None = record {
   number = number;
@@ -116,7 +116,7 @@ form_with_head number len status (Some head) = record {
   has_head = true;
 }
 
--- how a request ended, but its data
+-- how a request ended, without its data
 abbrev pub form_of_completion : ℕ → Completion → CompletionForC
 form_of_completion number done =
     form_with_head number (length done.bytes.items) (number_of_status done.status) done.reply
@@ -126,17 +126,17 @@ abbrev pub number_of_fault : Option AgentFault → ℕ
 number_of_fault None = 0
 number_of_fault (Some fault) = fault_number fault
 
--- the UID that a fault names: the one of a corrupt branch; else 0
+-- the UID in a fault: that of a corrupt branch, or else 0
 abbrev pub uid_of_fault : AgentFault → ℕ
 uid_of_fault (faults.Corrupt u) = u
 uid_of_fault _ = 0
 
--- the UID that a run's fault names; 0 without one
+-- the UID in a run's fault; 0 without a fault
 abbrev pub corrupt_uid : Option AgentFault → ℕ
 corrupt_uid None = 0
 corrupt_uid (Some fault) = uid_of_fault fault
 
--- how a discovery ended, with this many devices, but the devices
+-- how a discovery with this many devices ended, without the devices
 abbrev pub form_of_end : DiscoveryEnd → ℕ → EndForC
 form_of_end end count = record {
   number = end.number;
@@ -146,12 +146,12 @@ form_of_end end count = record {
   fault = number_of_fault end.fault;
 }
 
--- the number of a UID that may be missing, else 0
+-- the number of a UID that may be missing; 0 if it is
 abbrev pub number_or_0 : Option ℕ → ℕ
 number_or_0 None = 0
 number_or_0 (Some u) = u
 
--- a device with its control field and the UID that it is bound to
+-- a device with its control field and its binding UID
 abbrev pub form_of_device : Device → DeviceForC
 form_of_device d = record {
   uid = d.uid;

@@ -1,4 +1,4 @@
--- What a handle of C owns.
+-- What a handle in C owns.
 use Rattle.std.specs.Prelude.{Bool, true, false}
 use mir.Syntax.{Ty}
 use base.Fml.{Fml, ftrue}
@@ -8,7 +8,7 @@ use Rattle.std.specs.declared.alloc.Global.{Global}
 use Rattle.std.specs.contracts.impls.GlobalAllocator.TheImpl.{ghosts}
 use Rattle.std_alloc.specs.Box.Ownership.{box_owns}
 
--- the C library's heap, of which there is one
+-- the C library's heap; there is only one
 abbrev pub heap : Global
 heap = record { memory = record { seal = tt } }
 

@@ -1,4 +1,4 @@
--- Packets for C: what its structs say, and which status a call answers where they say nothing.
+-- Packets for C: the meaning of its structs, and the status of a call with one that has none.
 use Rattle.std.specs.Prelude.{ℕ, ◌^◌, Bool, true, false, List, [], length, Option, Some, None, Result, Ok}
 use Rattle.std.specs.Prelude.{Err, ◌==◌, is_some}
 use Rattle.std.specs.Prelude.{nat_lt, nat_le, if◌then◌else◌}
@@ -24,23 +24,23 @@ use Rattle.rdm_handles.specs.declared.forms.DeviceForC.{DeviceForC}
 use Rattle.rdm_handles.specs.declared.forms.MuteAckForC.{MuteAckForC}
 use Rattle.rdm_handles.specs.declared.forms.ResponseForC.{ResponseForC}
 
--- the first status that isn't DONE, else the second
+-- the first status if it isn't DONE, or else the second
 abbrev pub first_of : ℕ → ℕ → ℕ
 first_of s t = if s == 0 then t else s
 
--- any UID, broadcast ones too
+-- the status of a number that must be a UID; it may be broadcast
 abbrev pub number_status : ℕ → ℕ
 number_status u = if nat_lt u (2 ^ 48) then status.done else status.bad_uid
 
--- whether there is room for any frame
+-- the status of a buffer of this many bytes, into which any frame must fit
 abbrev pub frame_status : ℕ → ℕ
 frame_status room = if nat_lt room 257 then status.buffer_too_small else status.done
 
--- whether there is room for any packet's data
+-- the status of a buffer of this many bytes, into which any packet's data must fit
 abbrev pub data_status : ℕ → ℕ
 data_status room = if nat_lt room 231 then status.buffer_too_small else status.done
 
--- whether two bounds are in order
+-- the status of two bounds that must be in order
 abbrev pub range_status : ℕ → ℕ → ℕ
 range_status lo hi = if nat_le lo hi then status.done else status.bad_range
 
@@ -61,17 +61,17 @@ uid_fault_status texts.Length = status.uid_length
 uid_fault_status texts.Separator = status.uid_separator
 uid_fault_status texts.Digit = status.uid_digit
 
--- what a read of bytes as a response answers
+-- the status of reading bytes as a response
 abbrev pub read_status : Result Response PacketFault → ℕ → ℕ
 read_status (Ok r) room = data_status room
 read_status (Err fault) room = packet_status fault
 
--- what a read answers that finds something or nothing
+-- the status of reading something that may be absent
 abbrev pub found_status : {A : Type 0} → Option A → ℕ
 found_status (Some x) = status.done
 found_status None = status.nothing
 
--- a response but its data
+-- a response without its data
 abbrev pub form_of_response : Response → ResponseForC
 form_of_response r = record {
   source = r.source;
@@ -85,11 +85,11 @@ form_of_response r = record {
   count = r.count;
 }
 
--- the response type of this number, where there is one
+-- the response type with this number, if there is one
 abbrev pub ack_of : ℕ → AckType
 ack_of n = if n == 0 then acks.Ack else (if n == 1 then acks.Timer else (if n == 2 then acks.Nack else acks.Overflow))
 
--- the response class of this number, where there is one
+-- the response class with this number, if there is one
 abbrev pub reply_class_of : ℕ → RespClass
 reply_class_of n = if n == 0 then responses.Discovery else (if n == 1 then responses.Get else responses.Set)
 
@@ -101,7 +101,7 @@ response_status r bytes =
     else (if nat_lt 2 r.response_class then status.bad_class
     else (if nat_lt 231 (length bytes) then status.data_too_long else status.done))))
 
--- the response that these numbers and data give, if they have no fault
+-- the response with these numbers and data, if they have no fault
 abbrev pub response_of : ResponseForC → List ℕ → Response
 response_of r bytes = record {
   source = r.source;
@@ -119,16 +119,16 @@ response_of r bytes = record {
 abbrev pub form_of_ack : MuteAck → MuteAckForC
 form_of_ack a = record { binding = number_or_0 a.binding; control = a.control; has_binding = is_some a.binding }
 
--- the UID that a device is bound to, if there is one
+-- a device's binding UID, if there is one
 abbrev pub binding_of : Bool → ℕ → Option ℕ
 binding_of true u = Some u
 binding_of false u = None
 
--- the first fault of a device: its own UID, and the other UID even if it isn't there
+-- the first fault of a device: that of its own UID, or that of the binding UID, which is tested even if it is absent
 abbrev pub device_status : DeviceForC → ℕ
 device_status d = first_of (uid_status d.uid) (number_status d.binding)
 
--- the device that these numbers give, if they have no fault
+-- the device with these numbers, if they have no fault
 abbrev pub device_of : DeviceForC → Device
 device_of d = record { uid = d.uid; control = d.control; binding = binding_of d.has_binding d.binding }
 
@@ -137,7 +137,7 @@ abbrev pub number_of_request : ReqClass → ℕ
 number_of_request requests.Get = 0
 number_of_request requests.Set = 1
 
--- a command but its data: what its kind doesn't have is 0
+-- a command without its data; fields that its kind doesn't have are 0
 abbrev pub form_of_command : Command → ℕ → ℕ → CommandForC
 form_of_command commands.Unmute source tn = record {
   source = source;

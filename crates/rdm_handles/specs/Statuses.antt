@@ -5,7 +5,7 @@ use Rattle.std.specs.Prelude.{ℕ}
 abbrev pub done : ℕ
 done = 0
 
--- there is nothing to give: no frame, no outcome, no acknowledgement, no command, or the run has ended
+-- there is nothing to return: no frame, no outcome, no acknowledgement, no command, or the run has ended
 abbrev pub nothing : ℕ
 nothing = 1
 
@@ -13,7 +13,7 @@ nothing = 1
 abbrev pub not_open : ℕ
 not_open = 2
 
--- the handle is open, where the call opens it
+-- the handle is open, but the call would open it
 abbrev pub already_open : ℕ
 already_open = 3
 
@@ -21,11 +21,11 @@ already_open = 3
 abbrev pub bad_uid : ℕ
 bad_uid = 4
 
--- a UID is broadcast, where a device's or a controller's own is asked for
+-- a UID is broadcast, but must be a device's or a controller's own
 abbrev pub broadcast_uid : ℕ
 broadcast_uid = 5
 
--- the places are more than 4,080
+-- the greatest sum of the queue depths is more than 4,080
 abbrev pub too_many_places : ℕ
 too_many_places = 6
 
@@ -53,11 +53,11 @@ data_too_long = 11
 abbrev pub reply_too_long : ℕ
 reply_too_long = 12
 
--- the entries that the log is to have room for are more than 1,000,000
+-- the log would have more than 1,000,000 entries
 abbrev pub too_many_entries : ℕ
 too_many_entries = 13
 
--- the buffer is too small for what is to be written
+-- the buffer is too small for the result
 abbrev pub buffer_too_small : ℕ
 buffer_too_small = 14
 
@@ -77,11 +77,11 @@ unknown_client = 17
 abbrev pub too_many_clients : ℕ
 too_many_clients = 18
 
--- the places of all clients together would be more than there are
+-- the sum of the queue depths would be too great
 abbrev pub no_places : ℕ
 no_places = 19
 
--- the client's places are taken, or it has four discoveries outstanding, or the numbers have run out
+-- the client's queue is full, or it has four discoveries outstanding, or the numbers have run out
 abbrev pub full : ℕ
 full = 20
 
@@ -101,7 +101,7 @@ other_outcome = 23
 abbrev pub not_idle : ℕ
 not_idle = 24
 
--- the log has no entry of this index
+-- the log has no entry with this index
 abbrev pub no_entry : ℕ
 no_entry = 25
 
@@ -109,7 +109,7 @@ no_entry = 25
 abbrev pub bad_range : ℕ
 bad_range = 26
 
--- the devices are more than 1,024
+-- there are more than 1,024 devices
 abbrev pub too_many_devices : ℕ
 too_many_devices = 27
 
@@ -137,7 +137,7 @@ uid_length = 32
 abbrev pub uid_separator : ℕ
 uid_separator = 33
 
--- another byte of a UID's text is no hexadecimal digit
+-- another byte of a UID's text isn't a hexadecimal digit
 abbrev pub uid_digit : ℕ
 uid_digit = 34
 
@@ -169,7 +169,7 @@ wrong_checksum = 40
 abbrev pub invalid_class : ℕ
 invalid_class = 41
 
--- a packet's response type is none that there is
+-- a packet's response type doesn't exist
 abbrev pub invalid_response_type : ℕ
 invalid_response_type = 42
 

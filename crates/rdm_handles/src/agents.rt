@@ -1,4 +1,4 @@
-//! What calls of C ask of a run of discovery alone, with the statuses that they answer.
+//! C's calls on a discovery run without a queue, with their statuses.
 ghost use Rattle.std.specs.Prelude.{◌≡◌, ◌≢◌, ◌++◌, ◌∷◌, ℕ, [], length, take, true, false, IfOk, IfErr, if◌then◌else◌};
 ghost use Rattle.std.specs.Prelude.{◌%◌, ◌^◌, ◌+◌, ◌==◌, option_copied, Some};
 ghost use Rattle.rdm_agent.specs.Machine.{fed, fault_of};
@@ -21,8 +21,8 @@ use crate::status::{BAD_KIND, BAD_SEARCH, DONE, HAS_ENDED, NOT_ENDED, NOTHING, T
 use rdm_agent::{Agent, Op};
 use rdm_wire::{Uid, UidSet};
 
-/// A run that begins so, which knows devices of these UIDs.
-/// Err: the status of the first fault, of the start before those of the UIDs.
+/// A run that begins like this, and knows these UIDs.
+/// Err: the status of the first fault. Those of the start come before those of the UIDs.
 pub fn start(start: &StartForC, known: &[u64]) -> Result<Discovery, u32>
     ensures begun { IfOk result (λ d. (first_of (start_status start.now) (known_status [] known.now) ≡ 0)
         × (d.source ≡ start.now.source) × (d.tn ≡ start.now.tn)
@@ -64,7 +64,7 @@ fn source_of(start: &StartForC) -> Result<Uid, u32>
     Ok(source)
 }
 
-// Puts the UIDs into the set, one after another, up to the first fault; its status.
+// Adds the UIDs to the set, in order, up to the first fault. Returns its status.
 fn add_known(set: &mut UidSet, known: &[u64]) -> u32
     ensures status { result ≡ known_status set.old known.now }
     ensures added { result ≡ DONE → set.new ≡ known_set set.old known.now }
@@ -78,7 +78,7 @@ fn add_known(set: &mut UidSet, known: &[u64]) -> u32
     DONE
 }
 
-// Puts a UID into the set; its status.
+// Adds a UID to the set. Returns the status.
 fn add_uid(set: &mut UidSet, number: u64) -> u32
     ensures status { result ≡ added_status set.old number }
     ensures added { result ≡ DONE → set.new ≡ with_uid number set.old }
@@ -93,8 +93,8 @@ fn add_uid(set: &mut UidSet, number: u64) -> u32
     }
 }
 
-/// Writes what the run asks next, 0 an unmute of all, 1 a mute, 2 a branch, and its frame at the front of a buffer of
-/// 257 bytes.
+/// Writes what the run asks next, 0 for an unmute of all, 1 for a mute, 2 for a branch, and its frame at the front of a
+/// buffer of 257 bytes.
 pub fn next(discovery: &Discovery, operation: &mut u32, frame: &mut [u8], len: &mut usize) -> u32
     ensures status { result ≡ first_of (operation_status (next_op discovery.now.agent))
         (frame_status (length frame.old)) }
@@ -127,7 +127,7 @@ fn operation_of(op: &Op) -> u32
     }
 }
 
-/// Takes the bytes that the line answered; none are silence.
+/// Takes the bytes that the line answered. No bytes are silence.
 pub fn hear_reply(discovery: &mut Discovery, reply: &[u8]) -> u32
     ensures status { result ≡ (if operation_status (next_op discovery.old.agent) == 0 then DONE else HAS_ENDED) }
     ensures heard { result ≡ DONE → discovery.new.agent ≡ heard_of discovery.old (Some reply.now) }
@@ -142,7 +142,7 @@ pub fn hear_reply(discovery: &mut Discovery, reply: &[u8]) -> u32
     hear(discovery, Some(reply))
 }
 
-/// Takes the bytes that the line answered, or None where it failed.
+/// Takes the bytes that the line answered, or None if it failed.
 pub fn hear(discovery: &mut Discovery, answer: Option<&[u8]>) -> u32
     ensures status { result ≡ (if operation_status (next_op discovery.old.agent) == 0 then DONE else HAS_ENDED) }
     ensures heard { result ≡ DONE → discovery.new.agent ≡ heard_of discovery.old (option_copied answer.entry) }
@@ -164,7 +164,7 @@ pub fn hear(discovery: &mut Discovery, answer: Option<&[u8]>) -> u32
     DONE
 }
 
-/// Writes why the run ended early: its number, 0 where it didn't, and the UID that it names, or 0.
+/// Writes why the run ended early: the fault's number, or 0 if it has none, and the fault's UID, or 0.
 pub fn fault(discovery: &Discovery, fault: &mut u32, corrupt: &mut u64) -> u32
     ensures status { result ≡ (if operation_status (next_op discovery.now.agent) == 0 then NOT_ENDED else DONE) }
     ensures fault { result ≡ DONE → (fault.new ≡ number_of_fault (fault_of discovery.now.agent.phase))

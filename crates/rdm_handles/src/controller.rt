@@ -13,7 +13,7 @@ use std::ptr::null_mut;
 
 /// A controller that C holds. All bytes 0 is a closed handle.
 ///
-/// It is let go without a call only when it is closed: what an open one holds would never be freed.
+/// It may be dropped only when it is closed. What an open one holds would never be freed.
 #[repr(C)]
 #[derive(Drop)]
 pub struct ControllerHandle {
@@ -24,7 +24,7 @@ pub struct ControllerHandle {
     pub ghost value: { QueueState } by { controller_row.coded },
 }
 
-// What the header says of its size.
+// The size that the header states.
 const _: () = prove!(size_of::<ControllerHandle>() == 16);
 
 impl Model for ControllerHandle {
@@ -42,7 +42,7 @@ impl ControllerHandle {
         }
     }
 
-    // A handle of what the pointer owns.
+    // A handle that owns what the pointer owns.
     fn of(held: Loose<Controller, Global>) -> ControllerHandle
         ensures open { result.is_open ≡ true }
         ensures value { result.value ≡ held.value }
@@ -68,7 +68,7 @@ impl ControllerHandle {
         }
     }
 
-    /// Takes the controller out of an open handle, which is closed then. None: it is closed.
+    /// Takes the controller out of an open handle, and closes it. None: it is closed already.
     pub fn take(&mut self, alloc: Global) -> Option<Box<Controller>>
         ensures some { IfSome result (λ held. (self.old.is_open ≡ true) × (held.value ≡ self.old.value)) }
         ensures none { IfNone result (self.old.is_open ≡ false) }

@@ -1,4 +1,4 @@
-//! What calls of C ask of a controller, with the statuses that they answer.
+//! C's calls on a controller, with their statuses.
 ghost use Rattle.std.specs.Prelude.{◌≡◌, ◌≢◌, ◌≤◌, ◌<◌, ◌↔◌, List, [], length, take, map, Some, None, Ok, IfOk, IfErr};
 ghost use Rattle.std.specs.Prelude.{if◌then◌else◌, ◌==◌, ◌⊎◌, nat_lt, ℕ, false, option_map};
 ghost use Rattle.arrayvec.specs.ArrayVec.{ArrayVec as Bytes};
@@ -34,7 +34,7 @@ use rdm_queue::Controller;
 use rdm_wire::{DeviceSet, MOST_FRAME_BYTES};
 use std::alloc::Global;
 
-/// A controller that is set up so.
+/// A controller with this set-up.
 /// Err: the status of the setup's first fault, or `OUT_OF_MEMORY`.
 pub fn open(alloc: Global, setup: &SetupForC) -> Result<Controller, u32>
     ensures opened { IfOk result (λ c. (setup_status setup.now ≡ 0) × IsSetUp (setup_of setup.now) c) }
@@ -134,7 +134,7 @@ pub fn take(controller: &mut Controller, frame: &mut [u8], len: &mut usize) -> u
     }
 }
 
-/// Takes the bytes that the line answered; none are silence.
+/// Takes the bytes that the line answered. No bytes are silence.
 pub fn deliver(controller: &mut Controller, alloc: Global, reply: &[u8]) -> u32
     ensures long { 257 < length reply.now → result ≡ REPLY_TOO_LONG }
     ensures statuses { length reply.now ≤ 257 → (result ≡ DONE) ⊎ (result ≡ NOT_ASKED) }
@@ -151,7 +151,7 @@ pub fn deliver(controller: &mut Controller, alloc: Global, reply: &[u8]) -> u32
     hear(controller, alloc, LineEvent::Reply(bytes))
 }
 
-/// Takes what the line answered, or that it failed.
+/// Takes the line's reply, or its failure.
 pub fn hear(controller: &mut Controller, alloc: Global, event: LineEvent) -> u32
     ensures heard { result ≡ DONE → AddsToEach controller.old (λ k.
         DeliverAdds k event (Ok tt)) controller.new }
@@ -165,7 +165,7 @@ pub fn hear(controller: &mut Controller, alloc: Global, event: LineEvent) -> u32
     }
 }
 
-/// Writes of which kind a client's oldest outcome is: 0 a request's, 1 a discovery's.
+/// Writes the kind of a client's oldest outcome: 0 for a request's, 1 for a discovery's.
 pub fn oldest(controller: &Controller, client: u8, kind: &mut u32) -> u32
     ensures status { ForEachLog controller.now (λ o h. result ≡ oldest_status o h client) }
     ensures kind { result ≡ DONE → ForEachLog controller.now (λ o h.
@@ -188,7 +188,7 @@ pub fn oldest(controller: &Controller, client: u8, kind: &mut u32) -> u32
     }
 }
 
-/// Collects a client's oldest outcome where that is a request's, and writes how it ended, with its data at the front of
+/// Collects a client's oldest outcome if it is a request's, and writes how it ended, with its data at the front of
 /// a buffer. `BUFFER_TOO_SMALL` writes how many bytes it needs into `len`.
 pub fn next_completion(
     controller: &mut Controller,
@@ -231,7 +231,7 @@ pub fn next_completion(
     DONE
 }
 
-/// Collects a client's oldest outcome where that is a discovery's, and writes how it ended, with its devices at the
+/// Collects a client's oldest outcome if it is a discovery's, and writes how it ended, with its devices at the
 /// front of a buffer. `BUFFER_TOO_SMALL` writes how many devices it needs into `count`.
 pub fn next_discovery(
     controller: &mut Controller,

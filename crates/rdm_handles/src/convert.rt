@@ -1,4 +1,4 @@
-//! What the structs of C say, and what they are written from.
+//! The meaning of C's structs, and how they are written.
 ghost use Rattle.std.specs.Prelude.{◌≡◌, ◌≢◌, ◌≤◌, List, length, take, map, IfOk, IfErr, Some};
 ghost use Rattle.rdm_log.specs.log.Config.{IsConfig};
 ghost use Rattle.rdm_handles.specs.Forms.{setup_status, setup_of, search_of, uid_status, request_status, request_of};
@@ -17,7 +17,7 @@ use rdm_log::{
 };
 use rdm_wire::{AckType, Device, MOST_PARAMETER_BYTES, ReqClass, Request, RespClass, Uid};
 
-/// The UID of a device's or a controller's own with this number.
+/// The UID with this number, which must be a device's or a controller's own.
 /// Err: its status.
 pub fn own_uid(number: u64) -> Result<Uid, u32>
     ensures ok { IfOk result (λ u. (u ≡ number) × (uid_status number ≡ 0)) }
@@ -33,7 +33,7 @@ pub fn own_uid(number: u64) -> Result<Uid, u32>
     }
 }
 
-/// How a controller is set up.
+/// The set-up of a controller.
 /// Err: the status of its first fault.
 pub fn setup_of(setup: &SetupForC) -> Result<Setup, u32>
     ensures ok { IfOk result (λ s. (s ≡ setup_of setup.now) × IsConfig s.config × (setup_status setup.now ≡ 0)) }
@@ -59,7 +59,7 @@ pub fn setup_of(setup: &SetupForC) -> Result<Setup, u32>
     })
 }
 
-/// The search of this number: 0 steady, any other quick.
+/// The search with this number: 0 steady, any other quick.
 pub fn search_of(number: u32) -> Search
     ensures { result ≡ search_of number }
 {
@@ -70,7 +70,7 @@ pub fn search_of(number: u32) -> Search
     }
 }
 
-/// The kind of discovery of this number: 0 full, any other incremental.
+/// The kind of discovery with this number: 0 full, any other incremental.
 pub fn kind_of(number: u32) -> Kind
     ensures { result ≡ kind_of number }
 {
@@ -108,7 +108,7 @@ pub fn request_of(request: &RequestForC, param_bytes: &[u8]) -> Result<Request, 
     })
 }
 
-// The command class of this number: 0 GET, any other SET.
+// The command class with this number: 0 GET, any other SET.
 fn class_of(number: u32) -> ReqClass
     ensures { result ≡ class_of number }
 {
@@ -159,7 +159,7 @@ pub fn status_of_ask(fault: AskFault) -> u32
     }
 }
 
-/// How a request of this number ended.
+/// How the request with this number ended.
 pub fn completion_for_c(number: u64, done: &Completion) -> CompletionForC
     ensures { result ≡ form_of_completion number done.now }
 {
@@ -171,7 +171,7 @@ pub fn completion_for_c(number: u64, done: &Completion) -> CompletionForC
     )
 }
 
-// The same of its parts; without a head its fields are 0.
+// The same from its parts; without a head its fields are 0.
 fn form_with_head(number: u64, len: usize, status: u32, head: Option<ReplyHead>) -> CompletionForC
     ensures { result ≡ form_with_head number len status head }
 {
@@ -222,7 +222,7 @@ pub fn number_of_class(class: RespClass) -> u32
     }
 }
 
-/// How a discovery ended that found this many devices.
+/// How a discovery that found this many devices ended.
 pub fn end_for_c(end: &DiscoveryEnd, count: usize) -> EndForC
     ensures { result ≡ form_of_end end.now count }
 {
@@ -245,7 +245,7 @@ pub fn number_of_fault(fault: Option<AgentFault>) -> u32
     }
 }
 
-/// The UID that a fault names; 0 for none.
+/// The UID in a fault; 0 without a fault.
 pub fn corrupt_uid(fault: Option<AgentFault>) -> u64
     ensures { result ≡ corrupt_uid fault }
 {
@@ -255,7 +255,7 @@ pub fn corrupt_uid(fault: Option<AgentFault>) -> u64
     }
 }
 
-// The UID that a fault names; 0 where it names none.
+// The UID in a fault; 0 if it has none.
 fn uid_of_fault(fault: AgentFault) -> u64
     ensures { result ≡ uid_of_fault fault }
 {
@@ -290,7 +290,7 @@ pub fn number_or_0(uid: Option<Uid>) -> u64
     }
 }
 
-/// Writes bytes at the front of a buffer, as many as it has room for, and tells how many.
+/// Writes bytes at the front of a buffer, as many as fit. Returns how many these are.
 pub fn put_bytes(buffer: &mut [u8], bytes: &[u8]) -> usize
     ensures len { length buffer.new ≡ length buffer.old }
     ensures all { length bytes.now ≤ length buffer.old → result ≡ length bytes.now }
@@ -301,7 +301,7 @@ pub fn put_bytes(buffer: &mut [u8], bytes: &[u8]) -> usize
     len
 }
 
-/// Writes devices at the front of a buffer, as many as it has room for.
+/// Writes devices at the front of a buffer, as many as fit.
 pub fn put_devices(buffer: &mut [DeviceForC], devices: &[Device])
     ensures len { length buffer.new ≡ length buffer.old }
     ensures front { length devices.now ≤ length buffer.old →

@@ -1,13 +1,13 @@
-//! A run of discovery alone, with what its frames need.
+//! A discovery run without a queue, with what its frames need.
 use rdm_agent::Agent;
 use rdm_wire::Uid;
 
-/// A run of discovery alone, on a line of the caller's own (profile of this project).
+/// A discovery run without a queue, on a line of the caller's own (profile of this project).
 #[derive(Debug, Drop)]
 pub struct Discovery {
     /// The run, between an exchange and the next.
     pub agent: Agent,
-    /// The controller whose frames they are.
+    /// The controller that sends the frames.
     pub source: Uid,
     /// The transaction number of the next frame.
     pub tn: u8,

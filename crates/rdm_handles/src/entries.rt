@@ -17,8 +17,8 @@ use rdm_join::{LineEvent, Status};
 use rdm_log::{Call, Cause, ClientId, Entry, Log, Owner};
 use rdm_wire::Request;
 
-/// Writes the entry of this index, from 0, with its bytes at the front of a buffer. `BUFFER_TOO_SMALL` writes how many
-/// bytes it needs into `len`.
+/// Writes the entry with this index, from 0, with its bytes at the front of a buffer. `BUFFER_TOO_SMALL` writes how
+/// many bytes it needs into `len`.
 pub fn read(log: &Log, index: usize, form: &mut EntryForC, buffer: &mut [u8]) -> u32
     ensures status { result ≡ entry_status log.now.entries index (length buffer.old) }
     ensures needed { (e : Entry) → slice_get log.now.entries index ≡ Some e → result ≡ BUFFER_TOO_SMALL →
@@ -41,7 +41,7 @@ pub fn read(log: &Log, index: usize, form: &mut EntryForC, buffer: &mut [u8]) ->
     DONE
 }
 
-/// Each entry can be read back from its form and its bytes. So no two entries look alike.
+/// Each entry can be read back from its form and its bytes. So no two entries have the same.
 pub fn entries_can_be_read()
     ensures { (e : Entry) → entry_in (form_of_entry e) (bytes_of_entry e) ≡ e }
 {}
@@ -77,7 +77,7 @@ fn bytes_of_event(event: &LineEvent) -> &[u8]
     }
 }
 
-// An entry but its bytes.
+// An entry without its bytes.
 fn entry_for_c(entry: &Entry) -> EntryForC
     ensures { result ≡ form_of_entry entry.now }
 {
@@ -113,7 +113,7 @@ fn entry_for_c(entry: &Entry) -> EntryForC
     }
 }
 
-// An entry of this kind, of which nothing else is said.
+// An entry of this kind without other fields.
 fn plain(kind: u32) -> EntryForC
     ensures { result ≡ plain_entry kind }
 {
@@ -226,7 +226,7 @@ fn with_caller(client: Option<ClientId>, form: EntryForC) -> EntryForC
     }
 }
 
-// The entry with a request but its parameter data.
+// The entry with a request without its parameter data.
 fn with_request(request: &Request, mut form: EntryForC) -> EntryForC
     ensures { result ≡ entry_with_request request.now form }
 {
@@ -260,7 +260,7 @@ fn with_call(call: &Call, mut form: EntryForC) -> EntryForC
     }
 }
 
-// The entry with whose frame it is.
+// The entry with the owner of its frame.
 fn with_owner(owner: Owner, mut form: EntryForC) -> EntryForC
     ensures { result ≡ entry_with_owner owner form }
 {
@@ -277,7 +277,7 @@ fn with_owner(owner: Owner, mut form: EntryForC) -> EntryForC
     form
 }
 
-// The entry with what came, but its bytes.
+// The entry with what came, without its bytes.
 fn with_event(event: &LineEvent, mut form: EntryForC) -> EntryForC
     ensures { result ≡ entry_with_event event.now form }
 {

@@ -1,4 +1,4 @@
-//! The structs that C and Rattle hand one another. They hold numbers and flags.
+//! The structs that C and Rattle pass to each other. They hold numbers and flags.
 use std::mem::size_of;
 
 /// How a controller or a session is set up.
@@ -7,15 +7,15 @@ use std::mem::size_of;
 pub struct SetupForC {
     /// The controller's own UID, which isn't broadcast.
     pub source: u64,
-    /// How many frames a discovery may take, from 1.
+    /// How many frames a discovery run may send, from 1.
     pub budget: u64,
-    /// How its runs search: 0 steadily, 1 quickly.
+    /// How its runs search: 0 steady, 1 quick.
     pub search: u32,
-    /// The places of all clients together, 0 to 4,080.
+    /// The greatest sum of the clients' queue depths: 0 to 4,080.
     pub places: u16,
 }
 
-/// A request but its parameter data.
+/// A request without its parameter data.
 #[repr(C)]
 #[derive(Clone, Copy)]
 pub struct RequestForC {
@@ -29,7 +29,7 @@ pub struct RequestForC {
     pub pid: u16,
 }
 
-/// How a request ended, but its data.
+/// How a request ended, without its data.
 #[repr(C)]
 #[derive(Clone, Copy)]
 pub struct CompletionForC {
@@ -39,25 +39,25 @@ pub struct CompletionForC {
     pub len: usize,
     /// How it ended: the number of its status, 0 to 18.
     pub status: u32,
-    /// Of the last reply, 0 ACK, 1 ACK_TIMER, 2 NACK, 3 ACK_OVERFLOW; 0 where there is no head.
+    /// The last reply's type: 0 ACK, 1 ACK_TIMER, 2 NACK, 3 ACK_OVERFLOW; 0 if there is no head.
     pub ack: u32,
-    /// Of the last reply, 0 discovery, 1 GET, 2 SET; 0 where there is no head.
+    /// The last reply's class: 0 discovery, 1 GET, 2 SET; 0 if there is no head.
     pub response_class: u32,
-    /// The last reply's sub-device; 0 where there is no head.
+    /// The last reply's sub-device; 0 if there is no head.
     pub sub_device: u16,
-    /// The last reply's parameter; 0 where there is no head.
+    /// The last reply's parameter; 0 if there is no head.
     pub pid: u16,
-    /// Whether there is a last reply: with status 0 alone.
+    /// Whether there is a head: only with status 0.
     pub has_head: bool,
 }
 
-/// How a discovery ended, but its devices.
+/// How a discovery ended, without its devices.
 #[repr(C)]
 #[derive(Clone, Copy)]
 pub struct EndForC {
     /// The discovery's number.
     pub number: u64,
-    /// The run that served it; 0 where none was begun for it.
+    /// The run that served it; 0 if none was begun for it.
     pub run: u64,
     /// The UID of fault 1; else 0.
     pub corrupt: u64,
@@ -67,13 +67,13 @@ pub struct EndForC {
     pub fault: u32,
 }
 
-/// A device, with what it said of itself.
+/// A device, with its control field and its binding UID.
 #[repr(C)]
 #[derive(Clone, Copy)]
 pub struct DeviceForC {
     /// Its UID.
     pub uid: u64,
-    /// Its binding UID; 0 where it gave none.
+    /// Its binding UID; 0 if it gave none.
     pub binding: u64,
     /// Its control field.
     pub control: u16,
@@ -81,7 +81,7 @@ pub struct DeviceForC {
     pub has_binding: bool,
 }
 
-/// A response but its parameter data.
+/// A response without its parameter data.
 #[repr(C)]
 #[derive(Clone, Copy)]
 pub struct ResponseForC {
@@ -105,7 +105,7 @@ pub struct ResponseForC {
     pub count: u8,
 }
 
-/// A command but its parameter data. What its kind doesn't have is 0.
+/// A command without its parameter data. Fields that its kind doesn't have are 0.
 #[repr(C)]
 #[derive(Clone, Copy)]
 pub struct CommandForC {
@@ -121,7 +121,7 @@ pub struct CommandForC {
     pub len: usize,
     /// 0 unmute, 1 branch, 2 mute, 3 request.
     pub kind: u32,
-    /// Of a request, 0 GET, 1 SET.
+    /// A request's class: 0 GET, 1 SET.
     pub command_class: u32,
     /// A request's sub-device.
     pub sub_device: u16,
@@ -131,11 +131,11 @@ pub struct CommandForC {
     pub tn: u8,
 }
 
-/// What a device says when it acknowledges a mute.
+/// The data with which a device acknowledges a mute.
 #[repr(C)]
 #[derive(Clone, Copy)]
 pub struct MuteAckForC {
-    /// Its binding UID; 0 where it gave none.
+    /// Its binding UID; 0 if it gave none.
     pub binding: u64,
     /// Its control field.
     pub control: u16,
@@ -143,29 +143,29 @@ pub struct MuteAckForC {
     pub has_binding: bool,
 }
 
-/// How a run of discovery alone begins.
+/// How a discovery run without a queue begins.
 #[repr(C)]
 #[derive(Clone, Copy)]
 pub struct StartForC {
-    /// The UID of the controller whose frames they are, which isn't broadcast.
+    /// The UID of the controller that sends the frames. It must not be broadcast.
     pub source: u64,
     /// How many exchanges the run may make.
     pub budget: u64,
     /// 0 full, 1 incremental.
     pub kind: u32,
-    /// How it searches: 0 steadily, 1 quickly.
+    /// How it searches: 0 steady, 1 quick.
     pub search: u32,
     /// The transaction number of its first frame.
     pub tn: u8,
 }
 
-/// An entry of a log but its bytes. What its kind doesn't have is 0.
+/// An entry of a log without its bytes. Fields that its kind doesn't have are 0.
 #[repr(C)]
 #[derive(Clone, Copy)]
 pub struct EntryForC {
     /// The request's number, or the discovery's.
     pub number: u64,
-    /// The number of the run that was sent a frame for, or that served a discovery; 0 where none was begun for it.
+    /// The number of the run that sent a frame, or that served a discovery; 0 if none was begun for it.
     pub run: u64,
     /// The UID of fault 1; else 0.
     pub corrupt: u64,
@@ -179,7 +179,7 @@ pub struct EntryForC {
     pub kind: u32,
     /// What was refused: 0 a join, 1 a submit, 2 a discover.
     pub call: u32,
-    /// Whose frame it is: 0 a request's, 1 a run's.
+    /// The owner of a frame: 0 a request, 1 a run.
     pub owner: u32,
     /// What a discovery asks for: 0 full, 1 incremental.
     pub discovery: u32,
@@ -195,7 +195,7 @@ pub struct EntryForC {
     pub pid: u16,
     /// The client.
     pub client: u8,
-    /// The places of a client that joined or was refused.
+    /// The queue depth of a client that joined or was refused.
     pub places: u8,
     /// Why a call was refused: the number of its fault, from 1.
     pub cause: u8,
@@ -205,7 +205,7 @@ pub struct EntryForC {
     pub has_failed: bool,
 }
 
-// What the header says of their sizes.
+// The sizes that the header states.
 const _: () = prove!(size_of::<SetupForC>() == 24);
 
 const _: () = prove!(size_of::<RequestForC>() == 16);

@@ -1,4 +1,4 @@
-//! What C holds and hands over: handles of controllers, sessions, logs and runs of discovery, and structs of numbers.
+//! What C holds and passes: handles of controllers, sessions, logs and discovery runs, and structs of numbers.
 //!
 //! A handle is 16 bytes in the memory of its C program. It owns a value on the heap while it is open.
 #![tactic(auto)]

@@ -1,4 +1,4 @@
-//! Packets for C: what its structs say, and what they are written from.
+//! Packets for C: the meaning of its structs, and how they are written.
 ghost use Rattle.std.specs.Prelude.{◌≡◌, ◌≢◌, ◌≤◌, length, take, IfOk, IfErr, Some, None};
 ghost use Rattle.rdm_handles.specs.Packets.{number_status, frame_status, response_status, response_of};
 ghost use Rattle.rdm_handles.specs.Packets.{ack_of, reply_class_of};
@@ -15,7 +15,7 @@ use rdm_wire::{
     ReqClass, RespClass, Response, Uid, UidFault,
 };
 
-/// The UID with this number, broadcast ones too.
+/// The UID with this number. It may be broadcast.
 /// Err: its status.
 pub fn any_uid(number: u64) -> Result<Uid, u32>
     ensures ok { IfOk result (λ u. (u ≡ number) × (number_status number ≡ 0)) }
@@ -68,7 +68,7 @@ pub fn status_of_text(fault: UidFault) -> u32
     }
 }
 
-/// A response but its parameter data.
+/// A response without its parameter data.
 pub fn response_for_c(response: &Response) -> ResponseForC
     ensures { result ≡ form_of_response response.now }
 {
@@ -118,7 +118,7 @@ pub fn response_of(response: &ResponseForC, param_bytes: &[u8]) -> Result<Respon
     })
 }
 
-// The response type of this number.
+// The response type with this number.
 fn ack_of(number: u32) -> AckType
     ensures { result ≡ ack_of number }
 {
@@ -130,7 +130,7 @@ fn ack_of(number: u32) -> AckType
     }
 }
 
-// The response class of this number.
+// The response class with this number.
 fn reply_class_of(number: u32) -> RespClass
     ensures { result ≡ reply_class_of number }
 {
@@ -167,14 +167,14 @@ pub fn device_of(device: &DeviceForC) -> Result<Device, u32>
     })
 }
 
-// A binding UID where there is one.
+// The binding UID, if there is one.
 fn binding_of(is_there: bool, uid: Uid) -> Option<Uid>
     ensures { result ≡ binding_of is_there uid }
 {
     if is_there { Some(uid) } else { None }
 }
 
-/// A command but a request's parameter data.
+/// A command without a request's parameter data.
 pub fn command_for_c(command: &Command, source: Uid, tn: u8) -> CommandForC
     ensures { result ≡ form_of_command command.now source tn }
 {
@@ -223,7 +223,7 @@ pub(crate) fn number_of_request(class: ReqClass) -> u32
     }
 }
 
-/// Writes a request's parameter data at the front of a buffer of 231 bytes; of other commands nothing.
+/// Writes a request's parameter data at the front of a buffer of 231 bytes. Other commands have none.
 pub fn put_data(buffer: &mut [u8], command: &Command) -> u32
     ensures status { result ≡ data_status (length buffer.old) }
     ensures written { result ≡ DONE →

@@ -1,4 +1,4 @@
-//! What calls of C ask of a session, with the statuses that they answer.
+//! C's calls on a session, with their statuses.
 ghost use Rattle.std.specs.Prelude.{◌≡◌, ◌≢◌, ◌≤◌, ◌<◌, ◌↔◌, ◌+◌, List, [], length, take, map, Some, None, Ok, IfOk};
 ghost use Rattle.std.specs.Prelude.{IfErr, if◌then◌else◌, ◌==◌, ◌⊎◌, nat_lt, ℕ, true, false, option_map};
 ghost use Rattle.arrayvec.specs.ArrayVec.{ArrayVec as Bytes};
@@ -38,7 +38,7 @@ use rdm_wire::{DeviceSet, MOST_FRAME_BYTES, Uid};
 use std::alloc::Global;
 use std::mem::replace;
 
-/// A session that is set up so, with a log with room for this many entries.
+/// A session with this set-up, and with a log of this many entries.
 /// Err: the status of the setup's first fault, `TOO_MANY_ENTRIES` or `OUT_OF_MEMORY`.
 pub fn open(alloc: Global, setup: &SetupForC, entries: usize) -> Result<Session, u32>
     ensures opened { IfOk result (λ s. (open_status setup.now entries ≡ 0)
@@ -175,7 +175,7 @@ pub fn take(session: &mut Session, frame: &mut [u8], len: &mut usize) -> u32
     }
 }
 
-/// Takes the bytes that the line answered; none are silence.
+/// Takes the bytes that the line answered. No bytes are silence.
 pub fn deliver(session: &mut Session, alloc: Global, reply: &[u8]) -> u32
     ensures long { 257 < length reply.now → result ≡ REPLY_TOO_LONG }
     ensures statuses { length reply.now ≤ 257 → (result ≡ DONE) ⊎ (result ≡ NOT_ASKED) }
@@ -193,7 +193,7 @@ pub fn deliver(session: &mut Session, alloc: Global, reply: &[u8]) -> u32
     hear(session, alloc, LineEvent::Reply(bytes))
 }
 
-/// Takes what the line answered, or that it failed.
+/// Takes the line's reply, or its failure.
 pub fn hear(session: &mut Session, alloc: Global, event: LineEvent) -> u32
     ensures heard { result ≡ DONE → GrowsBy session.old (DeliverAdds session.old event (Ok tt)) session.new }
     ensures not_asked { result ≡ NOT_ASKED → awaited session.old.entries ≡ false }
@@ -207,7 +207,7 @@ pub fn hear(session: &mut Session, alloc: Global, event: LineEvent) -> u32
     }
 }
 
-/// Writes of which kind a client's oldest outcome is: 0 a request's, 1 a discovery's.
+/// Writes the kind of a client's oldest outcome: 0 for a request's, 1 for a discovery's.
 pub fn oldest(session: &Session, client: u8, kind: &mut u32) -> u32
     ensures status { result ≡ oldest_status session.now.opening session.now.entries client }
     ensures kind { result ≡ DONE →
@@ -231,7 +231,7 @@ pub fn oldest(session: &Session, client: u8, kind: &mut u32) -> u32
     }
 }
 
-/// Collects a client's oldest outcome where that is a request's, and writes how it ended, with its data at the front of
+/// Collects a client's oldest outcome if it is a request's, and writes how it ended, with its data at the front of
 /// a buffer. `BUFFER_TOO_SMALL` writes how many bytes it needs into `len`.
 pub fn next_completion(
     session: &mut Session,
@@ -274,7 +274,7 @@ pub fn next_completion(
     DONE
 }
 
-/// Collects a client's oldest outcome where that is a discovery's, and writes how it ended, with its devices at the
+/// Collects a client's oldest outcome if it is a discovery's, and writes how it ended, with its devices at the
 /// front of a buffer. `BUFFER_TOO_SMALL` writes how many devices it needs into `count`.
 pub fn next_discovery(
     session: &mut Session,
@@ -317,8 +317,8 @@ pub fn next_discovery(
     DONE
 }
 
-/// Goes on with a fresh log with room for this many entries, and hands back the old one.
-/// Err: the status of the first fault, or `OUT_OF_MEMORY`; the session is as it was.
+/// Continues with a new log of this many entries, and returns the old one.
+/// Err: the status of the first fault, or `OUT_OF_MEMORY`. Then the session is unchanged.
 pub fn rotate(session: &mut Session, alloc: Global, entries: usize) -> Result<Box<Log>, u32>
     ensures rotated { IfOk result (λ old. (rotate_status session.old entries ≡ 0) × (old.value ≡ session.old)
         × (session.new ≡ record {
@@ -355,8 +355,8 @@ pub fn rotate(session: &mut Session, alloc: Global, entries: usize) -> Result<Bo
     }
 }
 
-// What a rotation needs memory for, so that none can lack once it has begun: the fresh log, with room for this many
-// entries, a session in place of the one that rotates, and where the old log will lie.
+// What a rotation needs memory for. It is allocated before, so that the rotation can't run out of memory: the new log
+// of this many entries, a session in place of the one that rotates, and the box of the old log.
 fn places_of_a_rotation(alloc: Global, entries: usize) -> Result<(Log, Session, Box<Log>), NoMemory>
     requires { entries ≤ 1000000 }
     ensures { IfOk result (λ r. r.0 ≡ blank_log (entries + 1)) }

@@ -3,22 +3,22 @@
 /// It is done.
 pub const DONE: u32 = 0;
 
-/// There is nothing to give: no frame, no outcome, no acknowledgement, no command, or the run has ended.
+/// There is nothing to return: no frame, no outcome, no acknowledgement, no command, or the run has ended.
 pub const NOTHING: u32 = 1;
 
 /// The handle is closed.
 pub const NOT_OPEN: u32 = 2;
 
-/// The handle is open, where the call opens it.
+/// The handle is open, but the call would open it.
 pub const ALREADY_OPEN: u32 = 3;
 
 /// A UID is 2^48 or more.
 pub const BAD_UID: u32 = 4;
 
-/// A UID is broadcast, where a device's or a controller's own is asked for.
+/// A UID is broadcast, but must be a device's or a controller's own.
 pub const BROADCAST_UID: u32 = 5;
 
-/// The places are more than 4,080.
+/// The greatest sum of the queue depths is more than 4,080.
 pub const TOO_MANY_PLACES: u32 = 6;
 
 /// The budget is 0.
@@ -39,10 +39,10 @@ pub const DATA_TOO_LONG: u32 = 11;
 /// The reply has more than 257 bytes.
 pub const REPLY_TOO_LONG: u32 = 12;
 
-/// The entries that the log is to have room for are more than 1,000,000.
+/// The log would have more than 1,000,000 entries.
 pub const TOO_MANY_ENTRIES: u32 = 13;
 
-/// The buffer is too small for what is to be written.
+/// The buffer is too small for the result.
 pub const BUFFER_TOO_SMALL: u32 = 14;
 
 /// There is no memory.
@@ -57,10 +57,10 @@ pub const UNKNOWN_CLIENT: u32 = 17;
 /// Sixteen clients have joined.
 pub const TOO_MANY_CLIENTS: u32 = 18;
 
-/// The places of all clients together would be more than there are.
+/// The sum of the queue depths would be too great.
 pub const NO_PLACES: u32 = 19;
 
-/// The client's places are taken, or it has four discoveries outstanding, or the numbers have run out.
+/// The client's queue is full, or it has four discoveries outstanding, or the numbers have run out.
 pub const FULL: u32 = 20;
 
 /// The log has fewer than three free entries.
@@ -75,13 +75,13 @@ pub const OTHER_OUTCOME: u32 = 23;
 /// The session isn't idle.
 pub const NOT_IDLE: u32 = 24;
 
-/// The log has no entry of this index.
+/// The log has no entry with this index.
 pub const NO_ENTRY: u32 = 25;
 
 /// The lower bound of a range is above the upper one.
 pub const BAD_RANGE: u32 = 26;
 
-/// The devices are more than 1,024.
+/// There are more than 1,024 devices.
 pub const TOO_MANY_DEVICES: u32 = 27;
 
 /// The preamble has more than 7 bytes.
@@ -102,7 +102,7 @@ pub const UID_LENGTH: u32 = 32;
 /// The fifth byte of a UID's text isn't a colon.
 pub const UID_SEPARATOR: u32 = 33;
 
-/// Another byte of a UID's text is no hexadecimal digit.
+/// Another byte of a UID's text isn't a hexadecimal digit.
 pub const UID_DIGIT: u32 = 34;
 
 /// A packet has fewer than 26 bytes.
@@ -126,7 +126,7 @@ pub const WRONG_CHECKSUM: u32 = 40;
 /// A packet's command class isn't a response's.
 pub const INVALID_CLASS: u32 = 41;
 
-/// A packet's response type is none that there is.
+/// A packet's response type doesn't exist.
 pub const INVALID_RESPONSE_TYPE: u32 = 42;
 
 /// The bytes aren't a text in UTF-8.

@@ -1,4 +1,4 @@
--- What is said of words that fit no command.
+-- What is said about arguments that fit no command.
 use Rattle.std.specs.Prelude.{◌≡◌, ◌≢◌, ◌⊎◌, ℕ, List, [], ◌∷◌, Some, None, false, ⊤, codes, Contains}
 use Rattle.std.specs.Borrow.{Bor}
 use Rattle.clap.specs.Words.{Text}
@@ -11,23 +11,23 @@ use Rattle.rdm_port.specs.declared.complaint.Complaint.TheVariants.{NoValue, NoO
 use Rattle.rdm_port.specs.declared.complaint.Complaint.TheVariants.{UnknownBudget}
 use Rattle.rdm_port.specs.LineWords.{IsBudget}
 
--- the text is no command's name
+-- the text isn't the name of a command
 pub record IsNoCommand (text : Text) : Type 0 where
   pub decode : text ≢ codes "decode"
   pub encode : text ≢ codes "encode"
   pub discover : text ≢ codes "discover"
   pub run : text ≢ codes "run"
 
--- one of the words is this text
+-- one of the arguments is this text
 abbrev pub HasWord : List (Bor Text) → Text → Type 0
 HasWord words text = (word : Bor Text) × Contains words word × (word.now ≡ text)
 
--- the first one is
+-- the first argument is this text
 abbrev pub BeginsWith : List (Bor Text) → Text → Type 0
 BeginsWith [] text = ⊥
 BeginsWith (word ∷ words) text = word.now ≡ text
 
--- what is said of the words after a command's name is true of them; a word that is named is one of them
+-- what is said about the arguments after a command's name is true of them; an argument that is named is one of them
 abbrev pub IsTrueAfter : Text → List (Bor Text) → Complaint → Type 0
 IsTrueAfter name words (UnknownOption command option) =
     (command.now ≡ name) × Contains words option × (is_plain option.now ≡ false)
@@ -45,12 +45,12 @@ IsTrueAfter name words TooManyKnown = ⊤
 IsTrueAfter name words (UnknownBudget text) = (budget : ℕ) → IsBudget (Some text.now) budget → ⊥
 IsTrueAfter name words _ = ⊥
 
--- the same of all words, of which the first is a command's name
+-- the same for all arguments; the first one is a command's name
 abbrev pub IsTrueOfCommand : List (Bor Text) → Complaint → Type 0
 IsTrueOfCommand [] complaint = ⊥
 IsTrueOfCommand (word ∷ words) complaint = ¬ IsNoCommand word.now × IsTrueAfter word.now words complaint
 
--- what is said of words that fit no command is true of them
+-- what is said about arguments that fit no command is true of them
 abbrev pub IsTrueOf : List (Bor Text) → Complaint → Type 0
 IsTrueOf words Help =
     BeginsWith words (codes "help") ⊎ HasWord words (codes "-h") ⊎ HasWord words (codes "--help")

@@ -1,4 +1,4 @@
--- Faults of a command line: when each occurs, and the line that reports it.
+-- Faults of a command: when each occurs, and the line that reports it.
 use Rattle.std.specs.Prelude.{◌≡◌, ◌⊎◌, ℕ, true, false, List, Option, Some, None, codes}
 use Rattle.std.specs.Prelude.{Result, Ok, Err, ⊤, IsErr, IsUtf8}
 use Rattle.hex.specs.Hex.{decode_of}
@@ -32,7 +32,7 @@ fault_line Log = codes "fault: log"
 fault_line Turns = codes "fault: turns"
 fault_line Memory = codes "fault: memory"
 
--- the program's status with it
+-- the program's status with this fault
 abbrev pub fault_status : Fault → ℕ
 fault_status CommandLine = 2
 fault_status Hex = 1
@@ -45,79 +45,80 @@ fault_status Log = 1
 fault_status Turns = 1
 fault_status Memory = 1
 
--- the fault of words that ask for nothing
+-- the fault of arguments that fit no command
 abbrev pub fault_of_words : WordsFault → Fault
 fault_of_words Words = CommandLine
 fault_of_words NoMemory = Memory
 
--- digits that aren't decoded; only this takes memory
+-- the faults of digits that aren't decoded; only decoding allocates memory
 abbrev pub IsDecodeFault : List ℕ → Fault → Type 0
 IsDecodeFault digits Hex = IsErr (decode_of digits)
 IsDecodeFault digits Memory = ⊤
 IsDecodeFault digits _ = ⊥
 
--- a text that is no UID
+-- the fault of a text that is no UID
 abbrev pub IsEncodeFault : List ℕ → Fault → Type 0
 IsEncodeFault text Uid = (u : ℕ) → UidText text u → ⊥
 IsEncodeFault text _ = ⊥
 
--- the bytes say this scene
+-- the bytes encode this scene
 pub record SaysScene (bytes : List ℕ) (file : SceneFile) : Type 0 where
   pub value : Data
   pub json : read bytes ≡ Some value
   pub scene : IsSceneFile value file
 
--- the reader's file says it
+-- the reader's file encodes this scene
 pub record ReadsScene (known : Option (List ℕ)) (file : SceneFile) : Type 0 where
   pub bytes : List ℕ
   pub content : IsContent known bytes
   pub says : SaysScene bytes file
 
--- bytes that are JSON, but no scene's
+-- the bytes are JSON, but not that of a scene
 pub record IsNoScene (bytes : List ℕ) : Type 0 where
   pub value : Data
   pub json : read bytes ≡ Some value
   pub none : (file : SceneFile) → IsSceneFile value file → ⊥
 
--- bytes that say no scene
+-- the faults of bytes that encode no scene
 abbrev pub IsTextFault : List ℕ → Fault → Type 0
 IsTextFault bytes Json = IsUtf8 bytes → read bytes ≡ None
 IsTextFault bytes Scene = IsNoScene bytes
 IsTextFault bytes Memory = ⊤
 IsTextFault bytes _ = ⊥
 
--- a file that says none; each may be unreadable, and so may the log that is opened after it
+-- the faults of a file with such bytes. Any file may be unreadable, and so may the log that is opened after it
 abbrev pub IsFileFault : Option (List ℕ) → Fault → Type 0
 IsFileFault known File = ⊤
 IsFileFault known fault = (bytes : List ℕ) × IsContent known bytes × IsTextFault bytes fault
 
--- the bytes say this session, without a discovery command; P is what JSON says of a session
+-- the bytes encode this session, without a discovery command; P relates JSON to sessions
 pub record SaysSession (F : Type 0) (P : Data → F → Type 0) (bytes : List ℕ) (file : F) : Type 0 where
   pub value : Data
   pub json : read bytes ≡ Some value
   pub no_command : has_discovery_command value ≡ false
   pub session : P value file
 
--- the reader's file says it
+-- the reader's file encodes this session
 pub record ReadsSession (F : Type 0) (P : Data → F → Type 0) (known : Option (List ℕ)) (file : F) : Type 0 where
   pub bytes : List ℕ
   pub content : IsContent known bytes
   pub says : SaysSession F P bytes file
 
--- bytes that are JSON, with a discovery command
+-- the bytes are JSON with a discovery command
 pub record IsCommandText (bytes : List ℕ) : Type 0 where
   pub value : Data
   pub json : read bytes ≡ Some value
   pub command : has_discovery_command value ≡ true
 
--- bytes that are JSON, without a discovery command, but no session's
+-- the bytes are JSON without a discovery command, but not that of a session
 pub record IsNoSession (F : Type 0) (P : Data → F → Type 0) (bytes : List ℕ) : Type 0 where
   pub value : Data
   pub json : read bytes ≡ Some value
   pub no_command : has_discovery_command value ≡ false
   pub none : (file : F) → P value file → ⊥
 
--- bytes that say no session: they are no JSON, or else have a discovery command, or else are no session's
+-- the faults of bytes that encode no session: they are no JSON, or else have a discovery command, or else aren't those
+-- of a session
 abbrev pub IsSessionTextFault : (F : Type 0) → (Data → F → Type 0) → List ℕ → Fault → Type 0
 IsSessionTextFault F P bytes Json = IsUtf8 bytes → read bytes ≡ None
 IsSessionTextFault F P bytes DiscoveryCommand = IsCommandText bytes
@@ -125,12 +126,12 @@ IsSessionTextFault F P bytes Scene = IsNoSession F P bytes
 IsSessionTextFault F P bytes Memory = ⊤
 IsSessionTextFault F P bytes _ = ⊥
 
--- a file that says none; each may be unreadable, and so may each stream and each log that is opened after it
+-- the faults of a file with such bytes. Any file may be unreadable, and so may each stream and log opened after it
 abbrev pub IsSessionFileFault : (F : Type 0) → (Data → F → Type 0) → Option (List ℕ) → Fault → Type 0
 IsSessionFileFault F P known File = ⊤
 IsSessionFileFault F P known fault = (bytes : List ℕ) × IsContent known bytes × IsSessionTextFault F P bytes fault
 
--- what may happen while the session of a file is served
+-- the faults that may occur while the session of a file is served
 abbrev pub IsServeFault : (F : Type 0) → (Data → F → Type 0) → Option (List ℕ) → Fault → Type 0
 IsServeFault F P known Log = (file : F) × ReadsSession F P known file
 IsServeFault F P known Turns = (file : F) × ReadsSession F P known file
@@ -141,14 +142,14 @@ IsServeFault F P known _ = ⊥
 abbrev pub IsRunFault : (F : Type 0) → (Data → F → Type 0) → Option (List ℕ) → Fault → Type 0
 IsRunFault F P known fault = IsServeFault F P known fault ⊎ IsSessionFileFault F P known fault
 
--- the faults of a job, whose file has these bytes, where they are known
+-- the faults of a job whose file has these bytes, if they are known
 abbrev pub HasFault : Job → Option (List ℕ) → Fault → Type 0
 HasFault (Decode digits) known fault = IsDecodeFault digits.now fault
 HasFault (Encode uid) known fault = IsEncodeFault uid.now fault
 HasFault (Discover file incremental quick log) known fault = (fault ≡ Memory) ⊎ IsFileFault known fault
 HasFault (Run file port log) known fault = IsRunFault SessionFile IsSessionFile known fault
 
--- the faults of a command line
+-- the faults of a command
 abbrev pub IsFaultOf : Result Job WordsFault → Option (List ℕ) → Fault → Type 0
 IsFaultOf (Ok job) known fault = HasFault job known fault
 IsFaultOf (Err refusal) known fault = fault ≡ fault_of_words refusal

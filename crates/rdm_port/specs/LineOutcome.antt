@@ -25,7 +25,7 @@ use Rattle.rdm_serving.specs.Report.{line_of, report_text, report_status}
 abbrev pub SpellsDevice : List ℕ → ℕ → Type 0
 SpellsDevice text u = UidText text u × (is_broadcast u ≡ false)
 
--- each text spells the UID at its place
+-- each text spells the UID at the same index
 abbrev pub SpellDevices : List (Bor (List ℕ)) → List ℕ → Type 0
 SpellDevices [] [] = ⊤
 SpellDevices [] (u ∷ us) = ⊥
@@ -39,12 +39,11 @@ pub record SaysValues (job : LineDiscovery) (values : LineValues) : Type 0 where
   pub spelled : SpellDevices job.known.items listed
   pub known : values.known ≡ set_of listed
 
--- the path of the stream for replies, which is that for frames if no other is given
+-- the path of the stream for replies: that for frames if no other is given
 abbrev pub replies_path : Bor Text → Option (Bor Text) → Text
 replies_path out replies = unwrap_or (path_text replies) out.now
 
--- the texts report a run on a line with these steps, and its exchanges. The line is as it was opened by the paths of
--- its streams
+-- the texts report a run on a line with these steps, and its exchanges. The line was opened by the paths of its streams
 pub record DiscoversOnLine (L : Type 0) (step : L → Exchange → L → Type 0) (opens : Text → Text → L → Type 0)
     (job : LineDiscovery) (text logged : List ℕ) (status : ℕ) : Type 0 where
   pub values : LineValues
@@ -62,14 +61,14 @@ pub record DiscoversOnLine (L : Type 0) (step : L → Exchange → L → Type 0)
   pub ends : status ≡ report_status found
 
 -- The faults of a discovery on a line: a text that spells no device's UID, or else a stream or a log that can't be
--- opened. Any of these may be such a one.
+-- opened. Any stream or log may be one that can't be opened.
 abbrev pub IsLineFault : LineDiscovery → Fault → Type 0
 IsLineFault job Uid = (values : LineValues) → SaysValues job values → ⊥
 IsLineFault job File = (values : LineValues) × SaysValues job values
 IsLineFault job Memory = ⊤
 IsLineFault job _ = ⊥
 
--- the texts and the status that a discovery on a line is answered with
+-- the texts and the status that answer a discovery on a line
 abbrev pub IsLineOutcome : (L : Type 0) → (L → Exchange → L → Type 0) → (Text → Text → L → Type 0) → LineDiscovery
     → List ℕ → List ℕ → ℕ → Type 0
 IsLineOutcome L step opens job text logged status =
@@ -77,8 +76,8 @@ IsLineOutcome L step opens job text logged status =
     ⊎ ((fault : Fault) × IsLineFault job fault × (text ≡ line_of (fault_line fault))
     × IsLoggedWith fault logged × (status ≡ fault_status fault))
 
--- the texts have the outcomes and the log of the session that the file's bytes say, and a line was opened by the paths
--- of its streams
+-- the texts have the outcomes and the log of the session that the file's bytes encode, and a line was opened by the
+-- paths of its streams
 pub record RunsOnLine (L : Type 0) (opens : Text → Text → L → Type 0) (job : LineRun) (known : Option (List ℕ))
     (text logged : List ℕ) (status : ℕ) : Type 0 where
   pub line : L
@@ -87,7 +86,7 @@ pub record RunsOnLine (L : Type 0) (opens : Text → Text → L → Type 0) (job
   pub reads : ReadsSession LineSessionFile IsLineSessionFile known file
   pub served : HasServed file.clients.items text logged status
 
--- the texts and the status that a session on a line is answered with
+-- the texts and the status that answer a session on a line
 abbrev pub IsLineRunOutcome : (L : Type 0) → (Text → Text → L → Type 0) → LineRun → Option (List ℕ)
     → List ℕ → List ℕ → ℕ → Type 0
 IsLineRunOutcome L opens job known text logged status =

@@ -1,4 +1,4 @@
--- What arguments ask for on a line of the caller's own, as `clap` reads them.
+-- The commands that arguments give on a line of the caller's own, as `clap` reads them.
 use Rattle.std.specs.Prelude.{◌≡◌, ◌≤◌, ℕ, List, [], Option, Some, None, codes, length, unwrap_or, true}
 use Rattle.std.specs.Str.Parse.{IsNumeral, digits_value, without_leading_plus}
 use Rattle.clap.specs.Words.{App, Row, Text, new_app, new_rule, with_rule, with_subcommand, subcommand_of, first_of}
@@ -10,7 +10,7 @@ use Rattle.rdm_port.specs.declared.line_job.LineRun.{LineRun}
 use Rattle.rdm_port.specs.declared.line_job.LineJob.{LineJob}
 use Rattle.rdm_port.specs.declared.line_job.LineJob.TheVariants.{Discover, Run}
 
--- a command with the streams of a line, of which the one for replies may be left out
+-- a command with the streams of a line; the one for replies may be left out
 abbrev pub line_streams : Text → App
 line_streams name =
     with_rule
@@ -56,21 +56,21 @@ line_run =
 abbrev pub line_commands : App
 line_commands = with_subcommand (with_subcommand bare line_discover.top) line_run.top
 
--- the values of an option that may be given often, in order
+-- the values of an option that may be given several times, in order
 abbrev pub texts_given : Text → List Row → List Text
 texts_given name given = unwrap_or (all_of name given) []
 
--- the text is this whole number, in decimal digits, which a plus may precede
+-- the text is this whole number in decimal digits, perhaps after a plus
 abbrev pub IsNumber : Text → ℕ → Type 0
 IsNumber text n =
     IsNumeral 10 (without_leading_plus text) × (n ≡ digits_value 10 (without_leading_plus text))
 
--- the budget that is given, from 1 to 1,000,000,000; if none is, the default
+-- the budget that is given, from 1 to 1,000,000,000, or the default
 abbrev pub IsBudget : Option Text → ℕ → Type 0
 IsBudget None budget = budget ≡ 384008
 IsBudget (Some text) budget = IsNumber text budget × (1 ≤ budget) × (budget ≤ 1000000000)
 
--- the arguments say this discovery
+-- the arguments give this discovery
 pub record IsDiscoveryOf (given : List Row) (job : LineDiscovery) : Type 0 where
   pub out : first_of (codes "line") given ≡ Some job.out.now
   pub replies : first_of (codes "replies") given ≡ path_text job.replies
@@ -82,7 +82,7 @@ pub record IsDiscoveryOf (given : List Row) (job : LineDiscovery) : Type 0 where
   pub budget : IsBudget (first_of (codes "budget") given) job.budget
   pub log : first_of (codes "log") given ≡ path_text job.log
 
--- the arguments say this session
+-- the arguments give this session
 pub record IsRunOf (given : List Row) (job : LineRun) : Type 0 where
   pub file : first_of (codes "file") given ≡ Some job.file.now
   pub out : first_of (codes "line") given ≡ Some job.out.now
@@ -96,12 +96,12 @@ IsGivenOnLine None job = ⊥
 IsGivenOnLine (Some command) (Discover job) = (command.0 ≡ codes "discover") × IsDiscoveryOf command.1 job
 IsGivenOnLine (Some command) (Run job) = (command.0 ≡ codes "run") × IsRunOf command.1 job
 
--- the words ask for the job
+-- the arguments give this job
 abbrev pub AsksOnLine : List Text → LineJob → Type 0
 AsksOnLine words job =
     (fault_of line_commands words ≡ []) × IsGivenOnLine (subcommand_of line_commands words) job
 
--- the words ask for none
+-- the arguments give no job
 abbrev pub AsksNothingOnLine : List Text → Type 0
 AsksNothingOnLine words = (job : LineJob) → AsksOnLine words job → ⊥
 

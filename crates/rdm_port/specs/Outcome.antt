@@ -1,4 +1,4 @@
--- What is printed for a command line, and the status.
+-- What is printed for a command, and the status.
 use Rattle.std.specs.Prelude.{◌≡◌, ◌⊎◌, [], ℕ, Bool, true, false, List, Option, codes, Result, Ok, Err}
 use Rattle.std.specs.Io.KnownBytes.{Appends, Keeps}
 use Rattle.hex.specs.Hex.{decode_of, encode_lower}
@@ -61,7 +61,7 @@ abbrev pub search_of : Bool → Search
 search_of false = Steady
 search_of true = Quick
 
--- the texts report a run on the line of the scene that the file's bytes say, and the run's exchanges
+-- the texts report a run on the line of the scene that the file's bytes encode, and the run's exchanges
 pub record Discovers (incremental quick : Bool) (known : Option (List ℕ)) (text logged : List ℕ) (status : ℕ)
     : Type 0 where
   pub file : SceneFile
@@ -69,15 +69,15 @@ pub record Discovers (incremental quick : Bool) (known : Option (List ℕ)) (tex
   pub found : Result (List Device) (AgentFault × List Device)
   pub frames : ℕ
   pub run : IsSceneDiscovery file.scene (search_of quick) (kind_of incremental) file.known file.budget found frames
-  -- as long as no five exchanges are lost in a row, it finds the devices
+  -- if no five exchanges are lost in a row, it finds the devices
   pub honest : NoFiveSuccessive file.scene.losses.items
       → IsHonestReport file.scene (search_of quick) (kind_of incremental) file.known file.budget found frames
   pub prints : text ≡ report_text found frames
   pub logs : logged ≡ exchanges_text run.discovery.driven.exchanges
   pub ends : status ≡ report_status found
 
--- The text has the outcomes of all calls of these clients, and they ended as a legal log says, which has exactly these
--- clients and calls. The other text is that log's. In which order the threads made the calls isn't said.
+-- The text has the outcomes of all calls of these clients. They agree with a legal log, which has exactly these clients
+-- and calls. The other text is that log's. The order in which the threads made the calls isn't stated.
 pub record HasServed (clients : List ClientFile) (text logged : List ℕ) (status : ℕ) : Type 0 where
   pub outcomes : List Outcomes
   pub settled : AllSettled clients outcomes
@@ -89,13 +89,13 @@ pub record HasServed (clients : List ClientFile) (text logged : List ℕ) (statu
   pub logs : logged ≡ log_text entries
   pub ends : status ≡ 0
 
--- the texts have the outcomes and the log of the session that the file's bytes say
+-- the texts have the outcomes and the log of the session that the file's bytes encode
 pub record Runs (known : Option (List ℕ)) (text logged : List ℕ) (status : ℕ) : Type 0 where
   pub file : SessionFile
   pub reads : ReadsSession SessionFile IsSessionFile known file
   pub served : HasServed file.clients.items text logged status
 
--- the texts and the status answer the job, whose file has these bytes, where they are known; the second text is for the
+-- the texts and the status answer the job, whose file has these bytes, if they are known. The second text is for the
 -- log, if the job has one
 abbrev pub Answers : Job → Option (List ℕ) → List ℕ → List ℕ → ℕ → Type 0
 Answers (Decode digits) known text logged status = Decodes digits.now text × (status ≡ 0)
@@ -104,11 +104,11 @@ Answers (Discover file incremental quick log) known text logged status =
     Discovers incremental quick known text logged status
 Answers (Run file port log) known text logged status = Runs known text logged status
 
--- with a fault nothing is logged; but a discovery has logged its exchanges before its report finds no memory
+-- with a fault nothing is logged, except that a discovery has logged its exchanges if there is no memory for its report
 abbrev pub IsLoggedWith : Fault → List ℕ → Type 0
 IsLoggedWith fault logged = (logged ≡ []) ⊎ (fault ≡ Memory)
 
--- the texts and the status that a command line is answered with
+-- the texts and the status that answer a command
 abbrev pub IsOutcome : Result Job WordsFault → Option (List ℕ) → List ℕ → List ℕ → ℕ → Type 0
 IsOutcome command known text logged status =
     ((job : Job) × (command ≡ Ok job) × Answers job known text logged status)
@@ -120,7 +120,7 @@ abbrev pub has_log : Result Job WordsFault → Bool
 has_log (Ok job) = keeps_log job
 has_log (Err refusal) = false
 
--- the text is written, and the result is its status; or the writer failed before the text's end, and the result is 1
+-- the text is written, and the result is its status, or the writer failed before the text's end, and the result is 1
 abbrev pub IsPrinted : Option (List ℕ) → Option (List ℕ) → List ℕ → ℕ → ℕ → Type 0
 IsPrinted old new text status result =
     ((result ≡ status) × Appends old new text) ⊎ ((result ≡ 1) × IsCutShort old new text)

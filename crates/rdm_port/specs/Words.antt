@@ -1,4 +1,4 @@
--- What the words of a command line ask for, as `clap` reads them.
+-- The commands that arguments give, as `clap` reads them.
 use Rattle.std.specs.Prelude.{◌≡◌, ◌==◌, Bool, not, List, [], ◌∷◌, Option, Some, None, bytes_eq, codes, map}
 use Rattle.std.specs.Prelude.{is_some, option_map, option_and_then, if◌then◌else◌, true, false}
 use Rattle.std.specs.Borrow.{Bor}
@@ -18,7 +18,7 @@ one_argument name argument =
     (record (new_app name) { top = record (new_app name).top { disable_help_flag = true } })
     (record (new_rule argument) { required = true })
 
--- the program's command line, before its commands
+-- the program for `clap`, without its commands
 abbrev pub bare : App
 bare = record (new_app (codes "wurstlinen")) {
   top = record (new_app (codes "wurstlinen")).top {
@@ -62,11 +62,11 @@ reply_commands =
 abbrev pub commands : App
 commands = with_subcommand (with_subcommand reply_commands discover_words.top) run_words.top
 
--- the argument of the command of this name, if that was given
+-- the argument of the command with this name, if that was given
 abbrev pub value_of : Text → Text → Text × List Row → Option Text
 value_of name argument given = if bytes_eq given.0 name then first_of argument given.1 else None
 
--- the option of the command of this name, which may be absent, if that command was given
+-- the option of the command with this name, which may be absent, if that command was given
 abbrev pub option_of : Text → Text → Text × List Row → Option (Option Text)
 option_of name option given = if bytes_eq given.0 name then Some (first_of option given.1) else None
 
@@ -74,21 +74,21 @@ option_of name option given = if bytes_eq given.0 name then Some (first_of optio
 abbrev pub is_set : Text → List Row → Bool
 is_set flag given = option_map_or (λ text. bytes_eq text (codes "true")) (first_of flag given) false
 
--- whether the command of this name was given with the flag
+-- whether the command with this name was given with the flag
 abbrev pub flag_of : Text → Text → Text × List Row → Option Bool
 flag_of name flag given = if bytes_eq given.0 name then Some (is_set flag given.1) else None
 
--- the port of this name
+-- the port with this name
 abbrev pub port_named : Text → Option PortKind
 port_named name =
     if bytes_eq name (codes "locked") then Some Locked
     else (if bytes_eq name (codes "rings") then Some Rings else None)
 
--- the port that is named, or else the locked one
+-- the port that is named, or the locked one by default
 abbrev pub port_in : List Row → Option PortKind
 port_in given = option_map_or port_named (first_of (codes "port") given) (Some Locked)
 
--- the port of the command of this name, if that was given
+-- the port of the command with this name, if that was given
 abbrev pub port_of : Text → Text × List Row → Option PortKind
 port_of name given = if bytes_eq given.0 name then port_in given.1 else None
 
@@ -135,15 +135,15 @@ log_of (Run file port log) = path_text log
 abbrev pub texts_of : List (Bor Text) → List Text
 texts_of words = map (λ word. word.now) words
 
--- the words ask for the job
+-- the arguments give this job
 abbrev pub Asks : List Text → Job → Type 0
 Asks words job = (fault_of commands words ≡ []) × IsGiven (subcommand_of commands words) job
 
--- the words ask for no job
+-- the arguments give no job
 abbrev pub AsksNothing : List Text → Type 0
 AsksNothing words = (job : Job) → Asks words job → ⊥
 
--- the word doesn't begin with a hyphen (45), as options do
+-- the argument doesn't begin with a hyphen (45), as options do
 abbrev pub is_plain : Text → Bool
 is_plain [] = true
 is_plain (x ∷ xs) = not (x == 45)

@@ -8,7 +8,7 @@ use crate::reason::Reason;
 use arrayvec::ArrayVec;
 use rdm_wire::LONGEST_BRANCH_REPLY;
 
-/// How many characters one line has at most, its end not counted: those of a reply in hexadecimal.
+/// How many characters one line has at most, without its end: those of a reply in hexadecimal.
 pub const LONGEST_TEXT: usize = 2 * LONGEST_BRANCH_REPLY;
 
 const LONGEST_LINE: usize = LONGEST_TEXT + 1;
@@ -16,7 +16,7 @@ const LONGEST_LINE: usize = LONGEST_TEXT + 1;
 /// What is printed, with the ends of its lines.
 #[derive(Debug, Drop)]
 pub enum Answer {
-    /// One line, which takes no memory.
+    /// One line, without allocated memory.
     Line(ArrayVec<u8, LONGEST_LINE>),
     /// Lines.
     Lines(Vec<u8>),
@@ -45,22 +45,22 @@ impl Answer {
     }
 }
 
-/// Why a command line has no answer: its fault, and the reason for people; none if memory ran out.
+/// Why a command has no answer: its fault, and the reason for people. There is no reason if memory ran out.
 pub type Refused<'a> = (Fault, Option<Reason<'a>>);
 
-/// What answers a command line, with its status, and what is said to people.
+/// What answers a command, with its status, and what is said to people.
 #[derive(Debug, Drop)]
 pub struct Answered<'a> {
     /// What is printed.
     pub text: Answer,
     /// 0: done. 1: a run had a fault.
     pub status: u8,
-    /// The reason of the fault, or what people should know of the answer.
+    /// The reason for the fault, or what people should know about the answer.
     pub reason: Option<Reason<'a>>,
 }
 
 impl<'a> Answered<'a> {
-    /// Done, with nothing more to tell.
+    /// Done, with nothing more to say.
     pub fn done(text: Answer) -> Answered<'a>
         ensures text { result.text ≡ text }
         ensures status { result.status ≡ 0 }

@@ -11,7 +11,7 @@ use crate::line_job::budget_named;
 use rdm_wire::MOST_DEVICES;
 use std::mem;
 
-/// What is wrong with the arguments after a command's name: the first that is.
+/// The first thing that is wrong with the arguments after a command's name.
 pub(crate) fn complaint_after<'a>(command: Command, words: &[&'a str]) -> Complaint<'a>
     ensures { IsTrueAfter (command_name command) words.now result }
 {
@@ -50,7 +50,7 @@ enum Choice {
 }
 
 impl Command {
-    /// The command of this name with these arguments after it.
+    /// The command with this name, and these arguments after it.
     pub(crate) fn named(name: &str, words: &[&str]) -> Option<Command>
         ensures some { IfSome result (λ command. command_name command ≡ name.now) }
         ensures none { IfNone result (IsNoCommand name.now) }
@@ -78,7 +78,7 @@ impl Command {
         }
     }
 
-    // What its argument is called; none if it has none.
+    // The name of its argument; none if it has no argument.
     fn argument(self) -> Option<&'static str> {
         match self {
             Command::Decode => Some("HEX"),
@@ -225,14 +225,14 @@ fn name_of<'a>(word: &'a str) -> &'a str {
     }
 }
 
-// Whether a word is no argument. A hyphen alone is one.
+// Whether a word isn't an argument. A hyphen alone is one.
 fn is_option(word: &str) -> bool
     ensures { IsTrue result → is_plain word.now ≡ false }
 {
     word.starts_with('-') && word != "-"
 }
 
-// What was given to a command until now.
+// What was given to a command so far.
 #[derive(Drop)]
 struct Given {
     command: Command,
@@ -330,7 +330,7 @@ impl Given {
         }
     }
 
-    // Notes an option, or says what is wrong if it was given too often.
+    // Records an option, or says what is wrong if it was given too often.
     fn note<'a>(&mut self, choice: Choice) -> Option<Complaint<'a>>
         ensures told { (command : Text) (words : List (Bor Text)) → IfSome result (IsTrueAfter command words) }
         ensures kept { self.new.command ≡ self.old.command }

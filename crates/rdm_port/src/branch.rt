@@ -1,4 +1,4 @@
-//! The replies to a branch: what they say, and how they are written.
+//! The replies to a branch: what they mean, and how they are written.
 ghost use Rattle.std.specs.Prelude.{◌≡◌, ◌≤◌, IfOk, IfErr, length};
 ghost use Rattle.hex.specs.Hex.{encode_lower};
 ghost use Rattle.rdm_port.specs.Fault.{IsDecodeFault, IsEncodeFault};
@@ -15,7 +15,7 @@ use rdm_wire::{
 };
 use std::alloc::Global;
 
-/// Says what the bytes that answered a branch mean.
+/// Says what the bytes after a branch mean.
 pub fn decode<'a>(alloc: Global, digits: &'a str) -> Result<Answered<'a>, Refused<'a>>
     ensures ok { IfOk result (λ a. Decodes digits.now (answer_bytes a.text)) }
     ensures status { IfOk result (λ a. a.status ≡ 0) }

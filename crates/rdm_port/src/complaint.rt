@@ -1,4 +1,4 @@
-//! What is wrong with words that fit no command, for people.
+//! What is wrong with arguments that fit no command, for people.
 ghost use Rattle.std.specs.Prelude.{IfSome};
 ghost use Rattle.rdm_port.specs.Complaints.{IsTrueOf};
 
@@ -7,28 +7,27 @@ use crate::usage::{USAGE, VERSION};
 use rdm_wire::MOST_DEVICES;
 use std::fmt;
 
-/// What is wrong with words that fit no command, or what they ask for instead. What it prints has how the program is
-/// used.
+/// What is wrong with arguments that fit no command, or what they ask for instead. It is printed with the usage.
 #[derive(Clone, Copy, Debug, PartialEq, Eq)]
 pub enum Complaint<'a> {
-    /// Nothing: they ask how the program is used.
+    /// Nothing: they ask for the usage.
     Help,
     /// Nothing: they ask for the program's version.
     Version,
     /// There are none.
     NoCommand,
-    /// The first one is no command.
+    /// The first one isn't a command.
     UnknownCommand(&'a str),
     /// The command has no such option.
     UnknownOption {
         /// The command's name.
         command: &'static str,
-        /// The word.
+        /// The argument.
         option: &'a str,
     },
     /// This option is given twice.
     Repeated(&'static str),
-    /// This option has a value, and takes none.
+    /// This option has a value, but takes none.
     HasValue(&'static str),
     /// `--port` has no value.
     NoPort,
@@ -38,7 +37,7 @@ pub enum Complaint<'a> {
     NoArgument {
         /// The command's name.
         command: &'static str,
-        /// What the argument is called.
+        /// The argument's name.
         argument: &'static str,
     },
     /// This one is one too many.
@@ -58,14 +57,14 @@ pub enum Complaint<'a> {
     TooManyKnown,
     /// `--budget` has this value.
     UnknownBudget(&'a str),
-    /// One of them is no text.
+    /// One of them isn't text.
     NoText,
     /// Anything else.
     Words,
 }
 
-/// What is wrong with words that fit no command. Words for help or for the version go first; else it is the first thing
-/// that is wrong. What it says is true of the words, but it needn't be all that can be said.
+/// What is wrong with arguments that fit no command. Requests for help or for the version come first, and then the
+/// first thing that is wrong. What it says is true of the arguments, but there may be more to say.
 pub fn complaint_of<'a>(words: &[&'a str]) -> Complaint<'a>
     ensures { IsTrueOf words.now result }
 {
@@ -81,7 +80,7 @@ pub fn complaint_of<'a>(words: &[&'a str]) -> Complaint<'a>
     }
 }
 
-// What words for help or for the version ask.
+// The complaint for an argument that asks for help or for the version.
 fn asked<'a>(words: &[&'a str]) -> Option<Complaint<'a>>
     ensures { IfSome result (IsTrueOf words.now) }
 {

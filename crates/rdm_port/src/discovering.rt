@@ -22,9 +22,10 @@ use serde_json::{Category, Value};
 use std::alloc::Global;
 use std::io::Read;
 
-/// What a run reports of the scene in the reader's file, which is the one at the path. The run's exchanges go to the
-/// log, if its path is given. The progress hears what people should know of the scene, and then how far it is.
-// It isn't inlined: a run's values are large, and no other answer is to have stack for them.
+/// What a run reports about the scene in the reader's file, which is the one at the path. The run's exchanges are
+/// written to the log, if its path is given. The progress receives what people should know about the scene, and then
+/// how many exchanges were made.
+// It isn't inlined: a run's values are large, and no other answer should use stack for them.
 #[inline(never)]
 pub fn answer_discover<'a, R: Read, G: OpensLog, P: Progress>(
     alloc: Global,
@@ -101,7 +102,7 @@ fn scene_file<'a, R: Read, P: Progress>(
     scene_of(alloc, &bytes, progress)
 }
 
-// The scene that the bytes of a file say, and remarks on it.
+// The scene that the bytes of a file encode, and remarks on it.
 fn scene_of<'a, P: Progress>(
     alloc: Global,
     bytes: &[u8],
@@ -128,7 +129,7 @@ fn scene_of<'a, P: Progress>(
     }
 }
 
-// Some editors put it before a text. No person sees it.
+// Some editors put it before a text, where it is invisible.
 const BYTE_ORDER_MARK: &[u8] = b"\xef\xbb\xbf";
 
 /// Why bytes weren't read as JSON.
@@ -155,7 +156,7 @@ fn cut_short<'a>(bytes: &[u8]) -> Reason<'a> {
     }
 }
 
-/// What is printed of a run; with a fault, what it found until then is the reason.
+/// What is printed for a run. With a fault, the reason has what it found until then.
 pub(crate) fn answered<'a>(alloc: Global, run: &Discovery) -> Result<Answered<'a>, Refused<'a>>
     ensures text { IfOk result (λ a. answer_bytes a.text ≡ report_text run.now.found run.now.frames) }
     ensures status { IfOk result (λ a. a.status ≡ report_status run.now.found) }

@@ -4,10 +4,10 @@ ghost use Rattle.rdm_port.specs.Fault.{fault_line, fault_status};
 
 use crate::job::WordsFault;
 
-/// Why a command line has no answer.
+/// Why a command has no answer.
 #[derive(Clone, Copy, Debug, PartialEq, Eq)]
 pub enum Fault {
-    /// The words fit no command.
+    /// The arguments fit no command.
     CommandLine,
     /// The bytes aren't given as pairs of hexadecimal digits.
     Hex,
@@ -15,17 +15,17 @@ pub enum Fault {
     Uid,
     /// The file can't be opened or read, or has more than 1,048,576 bytes.
     File,
-    /// The file is no JSON.
+    /// The file isn't JSON.
     Json,
     /// A client's call has the key of a discovery command.
     DiscoveryCommand,
-    /// The file's JSON is no scene, or no session.
+    /// The file's JSON isn't a scene, or isn't a session.
     Scene,
     /// The log is full.
     Log,
     /// A client or the worker has made all its turns.
     Turns,
-    /// Memory ran out.
+    /// There was no memory.
     Memory,
 }
 
@@ -48,7 +48,7 @@ impl Fault {
         }
     }
 
-    /// The program's status with it: 2 for words that fit no command, 1 for all else.
+    /// The program's status with it: 2 for arguments that fit no command, 1 for all others.
     pub fn status(self) -> u8
         ensures { result ≡ fault_status self }
     {

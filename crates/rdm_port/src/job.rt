@@ -1,4 +1,4 @@
-//! What the words of a command line ask for.
+//! The jobs that arguments give.
 ghost use Rattle.std.specs.Prelude.{◌≡◌, ◌≢◌, IfOk, IfSome, IfNone, Err, false, option_map};
 ghost use Rattle.clap.specs.Words.{app_of, with_subcommand, found_of, rows_of, subcommand_rows_of, kind_of};
 ghost use Rattle.clap.specs.declared.builder.command.Command.TheViews.{out-Command as fields_of};
@@ -11,14 +11,14 @@ use clap::{Arg, ArgAction, ArgMatches, Command, Error};
 use rdm_serving::PortKind;
 use std::alloc::{AllocError, Global};
 
-/// What a command line asks for.
+/// The job that arguments give.
 #[derive(Clone, Copy, Debug, PartialEq, Eq)]
 pub enum Job<'a> {
-    /// Tell what these bytes, which answered a branch, say. They are given in hexadecimal.
+    /// Say what these bytes mean, which answered a branch. They are given in hexadecimal.
     Decode(&'a str),
     /// Write the reply of the device with this UID to a branch.
     Encode(&'a str),
-    /// Tell which devices a run finds on the line of this file's scene.
+    /// Report which devices a run finds on the line of this file's scene.
     Discover {
         /// The file's path.
         file: &'a str,
@@ -33,7 +33,7 @@ pub enum Job<'a> {
     Run {
         /// The file's path.
         file: &'a str,
-        /// What stands between its clients and its worker.
+        /// How its clients and its worker share the session.
         port: PortKind,
         /// The path of the session's log, if one is kept.
         log: Option<&'a str>,
@@ -64,20 +64,20 @@ impl<'a> Job<'a> {
     }
 }
 
-/// Why a command line asks for nothing.
+/// Why arguments give no job.
 #[derive(Clone, Copy, Debug, PartialEq, Eq, thiserror::Error)]
 pub enum WordsFault {
-    /// The words fit no command.
+    /// The arguments fit no command.
     #[error("the words fit no command")]
     Words,
-    /// Memory ran out.
+    /// There was no memory.
     #[error("out of memory")]
     NoMemory,
 }
 
-/// What the words after the program's name ask for, as `clap` reads them: a command's name and its argument. A word
-/// that begins with `-` and isn't `-` alone is an argument only after a word `--`. Err: the
-/// words fit no command, or memory ran out, whichever is met first.
+/// The job that the arguments after the program's name give, as `clap` reads them: a command's name and its arguments.
+/// A value that begins with `-` and isn't `-` alone has to come after `--`. Err: the arguments fit no command, or there
+/// was no memory, whichever is found first.
 pub fn parse_words<'a>(alloc: Global, words: &'a [&'a str]) -> Result<Job<'a>, WordsFault>
     ensures job { IfOk result (λ job. Asks (texts_of words.now) job) }
     ensures words { result ≡ Err WordsFault.Words → AsksNothing (texts_of words.now) }
@@ -111,7 +111,7 @@ fn reply_commands<'a>(alloc: Global) -> Result<Command<'a>, AllocError>
     with_command(command, encode)
 }
 
-/// The command line with one more command.
+/// The program for `clap`, with one more command.
 pub(crate) fn with_command<'a>(
     line: Command<'a>,
     command: Command<'a>,
@@ -122,7 +122,7 @@ pub(crate) fn with_command<'a>(
     line.subcommand(command)
 }
 
-/// The program's command line, before its commands.
+/// The program for `clap`, without its commands.
 pub(crate) fn bare<'a>(alloc: Global) -> Command<'a>
     ensures app { app_of result ≡ bare }
     ensures local { (fields_of result).has_globals ≡ false }
@@ -208,7 +208,7 @@ fn given<'a>(matches: &ArgMatches<'a>) -> Option<Job<'a>>
     }
 }
 
-/// Whether a flag was given: `clap` gives it the text of a truth value.
+/// Whether a flag was given: `clap` returns it as the text of a truth value.
 pub(crate) fn has_flag(given: &ArgMatches<'_>, flag: &str) -> bool
     ensures { result ≡ is_set flag.now (rows_of (found_of given.now)) }
 {
@@ -218,7 +218,7 @@ pub(crate) fn has_flag(given: &ArgMatches<'_>, flag: &str) -> bool
     }
 }
 
-/// The port that was given, or the locked one where none was. None: there is no such port.
+/// The port that was given, or the locked one by default. None: there is no such port.
 pub(crate) fn port_of(given: &ArgMatches<'_>) -> Option<PortKind>
     ensures { result ≡ port_in (rows_of (found_of given.now)) }
 {
@@ -238,7 +238,7 @@ fn port_named(name: &str) -> Option<PortKind>
     }
 }
 
-/// Why words weren't taken.
+/// Why arguments weren't accepted.
 pub(crate) fn fault_of(error: &Error) -> WordsFault
     ensures words { result ≡ WordsFault.Words → kind_of error.now ≢ ErrorKind.OutOfMemory }
     ensures memory { result ≡ WordsFault.NoMemory → kind_of error.now ≡ ErrorKind.OutOfMemory }

@@ -1,4 +1,4 @@
-//! Laws of words and of runs, each the contract of a function that does nothing. The definitions are in `specs`.
+//! Laws of arguments and of runs, each the contract of a function that does nothing. The definitions are in `specs`.
 ghost use Rattle.std.specs.Prelude.{◌≡◌, ℕ, List, [], ◌∷◌, true, codes};
 ghost use Rattle.std.specs.Borrow.{Bor};
 ghost use Rattle.rdm_port.specs.Words.{Asks, AsksNothing, is_plain};
@@ -6,8 +6,8 @@ ghost use Rattle.rdm_port.specs.Words.{Asks, AsksNothing, is_plain};
 use crate::job::Job;
 pub use rdm_serving::laws::few_losses_are_honest;
 
-/// A command's name and a word that doesn't begin with a hyphen ask for that command, and after `--` any word may
-/// stand. No words, a command's name alone, and words for help ask for nothing.
+/// A command's name and an argument that doesn't begin with a hyphen give that command. After `--` the argument may be
+/// any text. No arguments, a command's name alone, and requests for help give no job.
 pub fn what_words_ask()
     ensures decode { (digits : Bor (List ℕ)) → is_plain digits.now ≡ true
         → Asks (codes "decode" ∷ digits.now ∷ []) (Job.Decode digits) }

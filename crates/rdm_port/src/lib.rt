@@ -1,14 +1,14 @@
 //! What the program `wurstlinen` does. It reads and writes the replies of RDM devices to a branch of the discovery
 //! tree. It discovers devices, and runs sessions of clients, on a simulated line or on one that another program serves.
-//! What is marked as the profile of this project is a rule or a limit of this program, and none of E1.20.
+//! What is marked as the profile of this project is a rule or a limit of this program, not of E1.20.
 //!
-//! [`parse_words`] finds the [`Job`] that a command line asks for, and [`perform`] prints its answer; [`carry_out`]
-//! also keeps its log. [`parse_line_words`] finds a [`LineJob`], which [`carry_out_on_line`] or [`run_on_line`] does. A
-//! session file is read by [`read_session`] and served by [`serve`]; [`session_text`] says what is printed of it. For
+//! [`parse_words`] finds the [`Job`] that arguments give, and [`perform`] prints its answer. [`carry_out`] also keeps
+//! its log. [`parse_line_words`] finds a [`LineJob`], which [`carry_out_on_line`] or [`run_on_line`] does. A session
+//! file is read by [`read_session`] and served by [`serve`]. [`session_text`] returns what is printed for it. For
 //! people there are these:
 //! - a [`Reason`] says why something isn't done;
-//! - a [`Remark`] says what they should know of a file before its work begins;
-//! - a [`Complaint`] says what is wrong with words that ask for nothing.
+//! - a [`Remark`] says what they should know about a file before its work begins;
+//! - a [`Complaint`] says what is wrong with arguments that fit no command.
 #![tactic(auto)]
 
 mod answer;

@@ -1,4 +1,4 @@
-//! What arguments ask for on a line of the caller's own.
+//! The jobs that arguments give on a line of the caller's own.
 ghost use Rattle.std.specs.Prelude.{◌≡◌, ◌≤◌, ◌<◌, ℕ, IfOk, IfErr, IfSome, IfNone, Some, None, Err, false, codes};
 ghost use Rattle.std.specs.Prelude.{length, option_map};
 ghost use Rattle.clap.specs.Words.{app_of, found_of, rows_of, subcommand_rows_of, first_of};
@@ -18,16 +18,16 @@ use std::alloc::{AllocError, Global};
 /// The greatest budget that arguments may give.
 const MOST_BUDGET: u64 = 1_000_000_000;
 
-/// What arguments ask for on a line that is reached by streams of text.
+/// The job that arguments give on a line that is reached by streams of text.
 #[derive(Debug, Drop, PartialEq, Eq)]
 pub enum LineJob<'a> {
-    /// Tell which devices a run finds.
+    /// Report which devices a run finds.
     Discover(LineDiscovery<'a>),
     /// Run the session of a file.
     Run(LineRun<'a>),
 }
 
-/// A session on such a line, as the arguments say it.
+/// A session on such a line, from the arguments.
 #[derive(Clone, Copy, Debug, PartialEq, Eq)]
 pub struct LineRun<'a> {
     /// The path of the session file.
@@ -36,13 +36,13 @@ pub struct LineRun<'a> {
     pub out: &'a str,
     /// The path of the stream that replies come from; `None` if it is the same.
     pub replies: Option<&'a str>,
-    /// What stands between the clients and the worker.
+    /// How the clients and the worker share the session.
     pub port: PortKind,
     /// The path of the session's log, if one is kept.
     pub log: Option<&'a str>,
 }
 
-/// A discovery on such a line, as the arguments say it. The UIDs aren't read yet.
+/// A discovery on such a line, from the arguments. The UIDs aren't parsed yet.
 #[derive(Debug, Drop, PartialEq, Eq)]
 pub struct LineDiscovery<'a> {
     /// The path of the stream that frames go to.
@@ -75,8 +75,8 @@ impl<'a> LineJob<'a> {
     }
 }
 
-/// What the arguments after the program's name ask for on a line, as `clap` reads them. Err: they ask for nothing
-/// there, or there was no memory, whichever is met first.
+/// The job that the arguments after the program's name give on a line, as `clap` reads them. Err: they give none, or
+/// there was no memory, whichever is found first.
 pub fn parse_line_words<'a>(alloc: Global, words: &'a [&'a str]) -> Result<LineJob<'a>, WordsFault>
     ensures job { IfOk result (AsksOnLine (texts_of words.now)) }
     ensures words { result ≡ Err WordsFault.Words → AsksNothingOnLine (texts_of words.now) }
@@ -179,7 +179,7 @@ fn given_on_line<'a>(alloc: Global, matches: &ArgMatches<'a>) -> Result<LineJob<
     }
 }
 
-// The session that these arguments say. None: they say none.
+// The session that these arguments give. None: they give none.
 fn run_of<'a>(given: &ArgMatches<'a>) -> Option<LineRun<'a>>
     ensures some { IfSome result (IsRunOf (rows_of (found_of given.now))) }
     ensures none { IfNone result ((job : LineRun) → IsRunOf (rows_of (found_of given.now)) job → ⊥) }
@@ -200,7 +200,7 @@ fn run_of<'a>(given: &ArgMatches<'a>) -> Option<LineRun<'a>>
     })
 }
 
-// The discovery that these arguments say. Err: they say none, or there was no memory.
+// The discovery that these arguments give. Err: they give none, or there was no memory.
 fn discovery_of<'a>(alloc: Global, given: &ArgMatches<'a>) -> Result<LineDiscovery<'a>, WordsFault>
     ensures ok { IfOk result (IsDiscoveryOf (rows_of (found_of given.now))) }
     ensures words { result ≡ Err WordsFault.Words
@@ -232,7 +232,7 @@ fn discovery_of<'a>(alloc: Global, given: &ArgMatches<'a>) -> Result<LineDiscove
     }
 }
 
-// The value of an option that has to be given. Err: it isn't.
+// The value of an option that has to be given. Err: it wasn't given.
 fn text_of<'a>(given: &ArgMatches<'a>, name: &str) -> Result<&'a str, WordsFault>
     ensures ok { IfOk result (λ text. first_of name.now (rows_of (found_of given.now)) ≡ Some text.now) }
     ensures none { IfErr result (λ _. first_of name.now (rows_of (found_of given.now)) ≡ None) }
@@ -243,7 +243,7 @@ fn text_of<'a>(given: &ArgMatches<'a>, name: &str) -> Result<&'a str, WordsFault
     }
 }
 
-// The budget that was given, or the default. None: it is no whole number from 1 to 1,000,000,000.
+// The budget that was given, or the default. None: it isn't a whole number from 1 to 1,000,000,000.
 fn budget_of(given: &ArgMatches<'_>) -> Option<u64>
     ensures some { IfSome result (IsBudget (first_of (codes "budget") (rows_of (found_of given.now)))) }
     ensures none { IfNone result ((budget : ℕ)
@@ -255,7 +255,7 @@ fn budget_of(given: &ArgMatches<'_>) -> Option<u64>
     }
 }
 
-/// The budget that a text says. None: it is no whole number from 1 to 1,000,000,000.
+/// The budget in a text. None: it isn't a whole number from 1 to 1,000,000,000.
 pub(crate) fn budget_named(text: &str) -> Option<u64>
     ensures some { IfSome result (IsBudget (Some text.now)) }
     ensures none { IfNone result ((budget : ℕ) → IsBudget (Some text.now) budget → ⊥) }
@@ -268,7 +268,7 @@ pub(crate) fn budget_named(text: &str) -> Option<u64>
     }
 }
 
-// The known UIDs that were given, as they stand. Err: there are more than 1,024, or there was no memory.
+// The texts of the known UIDs that were given. Err: there are more than 1,024, or there was no memory.
 fn known_of<'a>(alloc: Global, given: &ArgMatches<'a>) -> Result<Vec<&'a str>, WordsFault>
     ensures ok { IfOk result (λ known.
         texts_given (codes "known") (rows_of (found_of given.now)) ≡ texts_of known.items) }

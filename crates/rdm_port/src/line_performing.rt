@@ -1,4 +1,4 @@
-//! What is printed of a discovery or a session on a line, its status, and the reason of what isn't done.
+//! What is printed for a discovery or a session on a line, its status, and the reason if it isn't done.
 ghost use Rattle.std.specs.Prelude.{◌≡◌, ◌⊎◌, ◌≤◌, ℕ, List, IfOk, IfErr, false, is_some, length};
 ghost use Rattle.rdm_port.specs.LineOutcome.{DiscoversOnLine, IsLineFault, IsLineOutcome, IsLineRunOutcome};
 ghost use Rattle.rdm_port.specs.Outcome.{IsLogged, IsLoggedWith, IsPrinted};
@@ -24,7 +24,7 @@ use std::thread::Threads;
 
 /// Opens lines, each by the paths of its two streams.
 pub trait Opens<L> {
-    /// The line is as this opener opens it by these paths, for frames and for replies.
+    /// The line is one that this opener opens by these paths, for frames and for replies.
     ghost opens: { Self → List ℕ → List ℕ → L → Type 0 };
 
     /// A line that sends frames to the stream at `out`, and reads replies from the one at `replies`. The two may be the
@@ -43,12 +43,15 @@ pub enum Unopened<'a> {
 }
 
 /// Prints what a discovery on a line finds, and returns its status and, if it isn't done, the reason. The status is as
-/// for a discovery on a simulated line. The first fault is printed: `fault: uid`, then `fault: file`; `fault: memory`
-/// where it is met. The line and then the log, if there is one, are opened before the first frame, and the line is
-/// dropped at the end. Exchanges are written to the log as they are made. Progress is reported.
+/// for a discovery on a simulated line. The first fault is printed: `fault: uid`, then `fault: file`, or
+/// `fault: memory` when it occurs. The line and then the log, if there is one, are opened before the first frame. The
+/// line is dropped at the end. Exchanges are written to the log as they are made. Progress is reported.
 ///
-/// What is promised of a simulated line holds here with the line's own steps. Whether the line is honest is for the
-/// caller to know.
+/// What is promised for a simulated line holds here with the line's own steps. The caller has to know whether the line
+/// is honest.
+///
+/// At most 1,024 UIDs may be known. The log must not be open yet ([`LogOutput::is_open`]), and must not have failed
+/// ([`LogOutput::failure`]).
 pub fn carry_out_on_line<'a, L: Line + Drop, O: Opens<L>, G: OpensLog, W: Write, P: Progress>(
     alloc: Global,
     job: &LineDiscovery<'a>,
@@ -75,8 +78,10 @@ pub fn carry_out_on_line<'a, L: Line + Drop, O: Opens<L>, G: OpensLog, W: Write,
 /// the log are opened once the file is read, and the line is dropped at the end. The session's log is written after its
 /// end.
 ///
-/// What is promised of a session on a simulated line holds here. A line that fails for good ends each request with
+/// What is promised for a session on a simulated line holds here. A line that always fails ends each request with
 /// FailedToSend, and each discovery with its fault.
+///
+/// The log must not be open yet ([`LogOutput::is_open`]), and must not have failed ([`LogOutput::failure`]).
 pub fn run_on_line<
     'a,
     L: Line + Send + Drop,

@@ -29,9 +29,9 @@ use std::sync::Wait;
 use std::sync::ledger::Blank;
 use std::thread::Threads;
 
-/// What is printed of the session in the reader's file, on a line that is opened once the file is read. The session's
-/// log goes to the log, if the job has one. Progress is reported.
-// It isn't inlined, as `answer_run`.
+/// What is printed for the session in the reader's file, on a line that is opened once the file is read. The session's
+/// log is written to the log, if the job has one. Progress is reported.
+// It isn't inlined, for the same reason as `answer_run`.
 #[inline(never)]
 pub fn answer_run_on_line<
     'a,
@@ -99,7 +99,7 @@ fn line_session_file<'a, R: Read, P: Progress>(
     line_session_of(alloc, &bytes, progress)
 }
 
-// The session that the bytes of a file say, and remarks on it.
+// The session that the bytes of a file encode, and remarks on it.
 fn line_session_of<'a, P: Progress>(
     alloc: Global,
     bytes: &[u8],

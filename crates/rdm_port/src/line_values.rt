@@ -14,7 +14,7 @@ use rdm_wire::{MOST_DEVICES, Uid, UidSet};
 pub struct LineValues {
     /// The controller's.
     pub source: Uid,
-    /// Those that an incremental run mutes first.
+    /// The UIDs that an incremental run mutes first.
     pub known: UidSet,
 }
 
@@ -44,7 +44,7 @@ fn devices_of<'a>(option: &'static str, texts: &[&'a str]) -> Result<UidSet, Ref
     'texts: for i in 0..texts.len() {
         match device_of(option, texts[i]) {
             Ok(uid) => {
-                // A set has room for all of them.
+                // All of them fit into a set.
                 let _ = known.insert(uid);
             }
             Err(refused) => return Err(refused),

@@ -31,7 +31,7 @@ pub(crate) fn open_log<'a, G: OpensLog>(
     }
 }
 
-/// The same answer; but if the log at this path has failed, the status and the reason report that.
+/// The same answer. If the log at this path has failed, the status and the reason report that.
 pub(crate) fn after_log<'a, G: Write>(
     answered: Answered<'a>,
     log: &LogOutput<G>,

@@ -1,4 +1,4 @@
-//! What a command line prints, its status, and the reason of what isn't done.
+//! What is printed for a command, its status, and the reason if it isn't done.
 ghost use Rattle.std.specs.Prelude.{◌≡◌, ℕ, List, None, Ok, IfOk, IfErr, false};
 ghost use Rattle.rdm_port.specs.Fault.{IsFaultOf, fault_line, fault_status};
 ghost use Rattle.rdm_serving.specs.Report.{line_of};
@@ -24,17 +24,17 @@ use std::thread::Threads;
 /// The status if a writer failed.
 pub(crate) const NOT_WRITTEN: u8 = 1;
 
-/// Prints what answers a command line, and gives its status:
+/// Prints the answer to a command, and returns its status:
 /// - 0 if it is done;
 /// - 1 if there is a fault, or the writer fails;
-/// - 2 if the words fit no command.
+/// - 2 if the arguments fit no command.
 ///
-/// Of several faults the first in this order is printed: the words; `fault: hex` or `fault: uid`; `fault: file`;
+/// Of several faults the first in this order is printed: the arguments; `fault: hex` or `fault: uid`; `fault: file`;
 /// `fault: json`; `fault: discovery command`; `fault: scene`; then those of the run, with `fault: log` before
-/// `fault: turns`. `fault: memory` is printed when it is met. If the writer fails, it has a prefix of the text.
+/// `fault: turns`. `fault: memory` is printed when it occurs. If the writer fails, it has a prefix of the text.
 ///
-/// The reader is for a command that reads a file; a reader whose reads fail is a file that can't be opened. No log is
-/// kept here: a command with one is `fault: file` once its file has been read.
+/// The reader is for a command that reads a file. A reader whose reads fail stands for a file that can't be opened. No
+/// log is kept here: a command with a log is `fault: file` once its file has been read.
 pub fn perform<R: Read, W: Write, T: Threads + Wait + Sync>(
     rt: &T,
     alloc: Global,
@@ -52,13 +52,15 @@ pub fn perform<R: Read, W: Write, T: Threads + Wait + Sync>(
     status
 }
 
-/// As [`perform`], and keeps the log that the command line names. It returns the reason too if it isn't done; a writer
-/// that fails is one.
+/// As [`perform`], and keeps the log that the arguments name. It also returns the reason if the command isn't done, for
+/// instance because a writer fails.
 ///
 /// The log is opened once the file is read, and before the first frame. If it can't be opened, that is `fault: file`. A
 /// discovery's exchanges are written as they are made, and a session's log after its end. If the log's writer fails, it
-/// has a prefix of the text, and the status is 1. The progress first hears what people should know of a file, and then
-/// how far its session or its discovery is.
+/// has a prefix of the text, and the status is 1. The progress first receives what people should know about a file, and
+/// then how many exchanges its session or discovery has made.
+///
+/// The log must not be open yet ([`LogOutput::is_open`]), and must not have failed ([`LogOutput::failure`]).
 pub fn carry_out<'a, R: Read, G: OpensLog, W: Write, P: Progress + Send, T: Threads + Wait + Sync>(
     rt: &T,
     alloc: Global,
@@ -83,8 +85,8 @@ pub fn carry_out<'a, R: Read, G: OpensLog, W: Write, P: Progress + Send, T: Thre
     print(writer, log, path, answer)
 }
 
-/// Prints an answer, or the line of its fault. The status is 1 also if the log at this path has failed, or if the
-/// writer fails; then that is the reason.
+/// Prints an answer, or the line of its fault. The status is also 1 if the log at this path has failed, or if the
+/// writer fails. Then that is the reason.
 pub(crate) fn print<'a, G: Write, W: Write>(
     writer: &mut W,
     log: &LogOutput<G>,
@@ -130,7 +132,7 @@ fn write_answer<'a, W: Write>(writer: &mut W, answered: Answered<'a>) -> (u8, Op
     }
 }
 
-/// Tells nobody anything.
+/// Reports nothing.
 #[derive(Clone, Copy, Drop)]
 pub struct Silent;
 
@@ -140,7 +142,7 @@ impl Progress for Silent {
     fn tell(&mut self, _exchanges: usize) {}
 }
 
-// What answers a command line.
+// The answer to a command.
 fn answer<'a, R: Read, G: OpensLog, P: Progress + Send, T: Threads + Wait + Sync>(
     rt: &T,
     alloc: Global,

@@ -1,7 +1,7 @@
-//! Places in a text, for people.
+//! Positions in a text, for people.
 use std::fmt;
 
-/// A place in a text: the line and the column of a character, each from 1.
+/// A position in a text: the line and the column of a character, both from 1.
 #[derive(Clone, Copy, Debug, PartialEq, Eq)]
 pub struct Place {
     /// The line.
@@ -11,7 +11,7 @@ pub struct Place {
 }
 
 impl Place {
-    /// The place of the last character of these bytes; none if they have only white space.
+    /// The position of the last character of these bytes; none if they have only white space.
     pub(crate) fn of_last(bytes: &[u8]) -> Option<Place> {
         let text = bytes.trim_ascii_end();
         let line = text.split(|byte| *byte == b'\n').last()?;
@@ -28,7 +28,7 @@ impl Place {
         })
     }
 
-    /// The place of the byte at this column of this line, both from 1.
+    /// The position of the byte at this column of this line, both from 1.
     pub(crate) fn of_byte(bytes: &[u8], line: usize, column: usize) -> Place {
         let text = bytes
             .split(|byte| *byte == b'\n')

@@ -16,14 +16,14 @@ const UID_LEN: usize = 13;
 // The index of a UID's colon.
 const COLON_AT: usize = 4;
 
-/// Why something isn't done, or what people should know of what is. It borrows the words of the command line.
+/// Why something isn't done, or what people should know about what was done. It borrows the arguments.
 #[derive(Debug, Drop)]
 pub enum Reason<'a> {
-    /// The words fit no command.
+    /// The arguments fit no command.
     Usage,
     /// The text spells no bytes.
     NoBytes(&'a str),
-    /// The text is no UID.
+    /// The text isn't a UID.
     NoUid(&'a str),
     /// A reply or the text spells a broadcast UID.
     Broadcast,
@@ -33,26 +33,26 @@ pub enum Reason<'a> {
     Unreadable(&'a str, ErrorKind),
     /// The file is empty, or has nothing but white space.
     Empty,
-    /// The file ends before its JSON does. This is its last character, white space at its end left out.
+    /// The file ends before its JSON does. This is its last character, apart from white space.
     CutShort(Place),
-    /// The file is no JSON; this is where.
+    /// The file isn't JSON from this position on.
     NoJson(Place),
-    /// The file is no JSON, since it begins with a byte order mark.
+    /// The file isn't JSON, since it begins with a byte order mark.
     ByteOrderMark,
-    /// The file's JSON is no scene, or no session.
+    /// The file's JSON isn't a scene, or isn't a session.
     NoScene(Mismatch),
     /// The same, and the file looks like one of the other kind.
     OtherKind(Mismatch, FileKind),
-    /// What the file says under this key is too little for its session.
+    /// The value under this key is too small for the session.
     TooLittle {
         /// The key.
         key: &'static str,
         /// The value.
         found: u64,
-        /// How much may be enough.
+        /// A value that may be enough.
         hint: &'static str,
     },
-    /// A run had this fault; these lines have the devices that it found until then.
+    /// A run had this fault. These lines have the devices that it found until then.
     Fault(AgentFault, Vec<u8>),
     /// Discoveries of a session's clients had faults.
     Discoveries(Vec<Outcomes>),
@@ -67,7 +67,7 @@ pub enum Reason<'a> {
 }
 
 impl<'a> Reason<'a> {
-    /// The reason for which the file at a path wasn't read; none if memory ran out.
+    /// Why the file at a path wasn't read; none if memory ran out.
     pub fn of_file(path: &'a str, fault: FileFault) -> Option<Reason<'a>> {
         match fault {
             FileFault::TooLong => Some(Reason::TooLong(path)),
@@ -76,7 +76,7 @@ impl<'a> Reason<'a> {
         }
     }
 
-    /// The reason for which a scene or a session wasn't read; none if memory ran out.
+    /// Why a scene or a session wasn't read; none if memory ran out.
     pub fn of_scene(fault: SceneFault) -> Option<Reason<'a>> {
         match fault {
             SceneFault::Mismatch(mismatch) => Some(Reason::NoScene(mismatch)),
@@ -84,7 +84,7 @@ impl<'a> Reason<'a> {
         }
     }
 
-    /// The reason for which a file wasn't read as one of this kind.
+    /// Why a file wasn't read as one of this kind.
     pub fn of_mismatch(mismatch: Mismatch, file: &Value, wanted: FileKind) -> Reason<'a> {
         match looks_like(file) {
             Some(kind) if kind != wanted => Reason::OtherKind(mismatch, kind),
@@ -92,7 +92,7 @@ impl<'a> Reason<'a> {
         }
     }
 
-    /// The reason of the faults of discoveries; none if no discovery had one.
+    /// The reason for the faults of discoveries; none if no discovery had one.
     pub fn of_discoveries(outcomes: Vec<Outcomes>) -> Option<Reason<'a>> {
         let faulty = outcomes.iter().any(|client| client
             .discoveries
@@ -105,7 +105,7 @@ impl<'a> Reason<'a> {
         }
     }
 
-    /// The reason of a run's fault; none if memory runs out.
+    /// The reason for a run's fault; none if memory runs out.
     pub fn of_fault(alloc: Global, fault: AgentFault, found: &DeviceSet) -> Option<Reason<'a>> {
         let lines = device_lines(alloc, found).ok()?;
         Some(Reason::Fault(fault, lines))
@@ -163,7 +163,7 @@ fn write_no_bytes<W: fmt::Write>(f: &mut fmt::Formatter<W>, text: &str) -> fmt::
     }
 }
 
-// What a text lacks of a UID, by its characters. One that lacks nothing is a UID.
+// Why a text isn't a UID, by its characters. If nothing is wrong, it is one.
 fn write_no_uid<W: fmt::Write>(f: &mut fmt::Formatter<W>, text: &str) -> fmt::Result {
     let count = text.chars().count();
     if count != UID_LEN {
@@ -185,7 +185,7 @@ fn write_no_uid<W: fmt::Write>(f: &mut fmt::Formatter<W>, text: &str) -> fmt::Re
     }
 }
 
-// What a text lacks of a device's UID. A UID that isn't a device's is a broadcast one.
+// Why a text isn't a device's UID. A UID that isn't a device's is broadcast.
 fn write_no_device<W: fmt::Write>(f: &mut fmt::Formatter<W>, text: &str) -> fmt::Result {
     match Uid::parse(text) {
         Ok(_) => write!(f, "a broadcast UID is no device's own"),
@@ -193,7 +193,7 @@ fn write_no_device<W: fmt::Write>(f: &mut fmt::Formatter<W>, text: &str) -> fmt:
     }
 }
 
-// The first character that is no hexadecimal digit, and its index; the one at the index of a colon doesn't count.
+// The first character that isn't a hexadecimal digit, and its index. The one at the index of the colon doesn't count.
 fn no_digit(text: &str, colon_at: Option<usize>) -> Option<(usize, char)> {
     text.chars()
         .enumerate()
@@ -252,7 +252,7 @@ fn write_fault<W: fmt::Write>(
     }
 }
 
-// One line for each discovery that had a fault. The first one's beginning is written by who prints the reason.
+// One line for each discovery that had a fault. Whoever prints the reason writes the beginning of the first line.
 fn write_discoveries<W: fmt::Write>(
     f: &mut fmt::Formatter<W>,
     outcomes: &[Outcomes],

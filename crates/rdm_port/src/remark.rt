@@ -1,4 +1,4 @@
-//! What people should know of a file before its work begins.
+//! What people should know about a file before its work begins.
 use rdm_files::{Remark, UnknownKey, five_losses};
 use rdm_serving::Progress;
 use std::alloc::Global;

@@ -34,10 +34,11 @@ use std::sync::Wait;
 use std::sync::ledger::Blank;
 use std::thread::Threads;
 
-/// What is printed of the session in the reader's file, which is the one at the path: of each client its requests in
-/// order, and then its discoveries in order. Each client has a thread, and the worker another. The session's log goes
-/// to the log, if its path is given. The progress hears what people should know of the session, and then how far it is.
-// It isn't inlined, as `answer_discover`.
+/// What is printed for the session in the reader's file, which is the one at the path: for each client its requests in
+/// order, and then its discoveries in order. Each client has a thread, and the worker another. The session's log is
+/// written to the log, if its path is given. The progress receives what people should know about the session, and then
+/// how many exchanges were made.
+// It isn't inlined, for the same reason as `answer_discover`.
 #[inline(never)]
 pub fn answer_run<'a, R: Read, G: OpensLog, P: Progress + Send, T: Threads + Wait + Sync>(
     rt: &T,
@@ -72,7 +73,7 @@ pub fn answer_run<'a, R: Read, G: OpensLog, P: Progress + Send, T: Threads + Wai
     }
 }
 
-/// What is printed of a session that was served. Its log is written. Err: memory ran out, and nothing is written.
+/// What is printed for a session that was served. Its log is written. Err: there was no memory, and nothing is written.
 pub(crate) fn answer_served<'a, G: Write>(
     alloc: Global,
     served: Served,
@@ -96,7 +97,7 @@ pub(crate) fn answer_served<'a, G: Write>(
     })
 }
 
-/// Why a session with this log and these turns isn't answered.
+/// Why a session with this log and these turns has no answer.
 pub(crate) fn refused<'a>(fault: ServeFault, log: u64, turns: u64) -> Refused<'a>
     ensures { (result.0 ≡ Fault.Memory) ⊎ (result.0 ≡ Fault.Log) ⊎ (result.0 ≡ Fault.Turns) }
 {
@@ -137,7 +138,7 @@ fn session_file<'a, R: Read, P: Progress>(
     session_of(alloc, &bytes, progress)
 }
 
-// The session that the bytes of a file say, and remarks on it.
+// The session that the bytes of a file encode, and remarks on it.
 fn session_of<'a, P: Progress>(
     alloc: Global,
     bytes: &[u8],
@@ -165,7 +166,7 @@ fn session_of<'a, P: Progress>(
     }
 }
 
-/// The JSON that the bytes of a session file are, without a discovery command.
+/// The JSON of a session file's bytes, without a discovery command.
 pub(crate) fn session_value<'a>(alloc: Global, bytes: &[u8]) -> Result<Value, Refused<'a>>
     ensures ok { IfOk result (λ v. IsSessionValue bytes.now (view v)) }
     ensures fault { IfErr result (λ e. IsNoValue bytes.now e.0) }

@@ -1,5 +1,5 @@
-//! Standard error, for people: why something isn't done, what they should know of a file, and how far a session or a
-//! discovery is.
+//! Standard error, for people: why something isn't done, what they should know about a file, and how many exchanges a
+//! session or a discovery has made.
 use crate::complaint::Complaint;
 use crate::reason::Reason;
 use rdm_files::Remark;
@@ -8,7 +8,7 @@ use std::io;
 use std::rt::Clock;
 use std::time::Instant;
 
-/// Tells a reason. Err: the error of standard error, which may have got a prefix of the line.
+/// Prints a reason. Err: the error of standard error, which may have received a prefix of the line.
 pub fn tell(rt: &impl Eprint, reason: &Reason<'_>) -> io::Result<()> {
     match reason {
         Reason::Usage => eprintln!(rt; "{reason}"),
@@ -16,8 +16,8 @@ pub fn tell(rt: &impl Eprint, reason: &Reason<'_>) -> io::Result<()> {
     }
 }
 
-/// Tells what is wrong with words that fit no command, and then how the program is used. To words that ask for that it
-/// tells nothing else. Err: the error of standard error, which may have got a prefix of the text.
+/// Prints what is wrong with arguments that fit no command, and then the usage. If they ask for the usage, it prints
+/// only that. Err: the error of standard error, which may have received a prefix of the text.
 pub fn tell_usage(rt: &impl Eprint, complaint: &Complaint<'_>) -> io::Result<()> {
     match complaint {
         Complaint::Help | Complaint::Version => eprintln!(rt; "{complaint}"),
@@ -25,7 +25,7 @@ pub fn tell_usage(rt: &impl Eprint, complaint: &Complaint<'_>) -> io::Result<()>
     }
 }
 
-// How often it is reported how far a session or a discovery is.
+// How often progress is reported.
 const SECONDS: u64 = 2;
 
 // How many exchanges are made before the clock is looked at: a simulated line makes thousands of them in a second, and
@@ -34,7 +34,7 @@ const SIMULATED: usize = 1000;
 
 const REAL: usize = 100;
 
-/// Tells each remark at once, and every two seconds how far a session or a discovery is.
+/// Prints each remark at once, and every two seconds how many exchanges a session or a discovery has made.
 #[derive(Drop)]
 pub struct Progressing<'a, R: Clock + Eprint> {
     rt: &'a R,

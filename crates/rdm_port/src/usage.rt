@@ -3,7 +3,7 @@
 /// The program's version.
 pub const VERSION: &str = "0.1.0";
 
-/// Each word that the program knows, with examples.
+/// The commands and options that the program knows, with examples.
 pub const USAGE: &str = "\
 usage: wurstlinen decode HEX
        wurstlinen encode UID

@@ -50,8 +50,7 @@ impl Controller {
     ghost use Rattle.rdm_log.specs.declared.outcome.OutcomeKind.TheVariants as kinds;
 
     /// A controller without clients, neither paused nor closed, whose numbers begin at 0, and whose runs search
-    /// steadily. Its UID isn't broadcast, there are at most [`MOST_PLACES`](crate::MOST_PLACES) places, and the budget
-    /// is at least 1.
+    /// steadily. The configuration must be valid ([`Config::is_valid`]).
     /// Err: there was no memory.
     pub fn new(alloc: Global, config: Config) -> Result<Controller, NoMemory>
         requires { IsConfig config }

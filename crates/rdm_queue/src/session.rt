@@ -55,8 +55,8 @@ impl Session {
     ghost use Rattle.rdm_queue.specs.body.Agrees.{StandsAfter};
 
     /// A session without clients, neither paused nor closed, whose numbers begin at 0, and those of its discovery runs
-    /// at 1. Its runs search steadily. It writes the log's opening. The controller's UID isn't broadcast, there are at
-    /// most [`MOST_PLACES`](crate::MOST_PLACES) places, the budget is at least 1, and the log has no entries.
+    /// at 1. Its runs search steadily. It writes the log's opening. The configuration must be valid
+    /// ([`Config::is_valid`]), and the log must have no entries ([`Log::entries`]).
     /// Err: there was no memory; the log comes back as it was.
     pub fn new(alloc: Global, config: Config, log: Log) -> Result<Session, (NoMemory, Log)>
         requires config_is { IsConfig config }

@@ -12,8 +12,8 @@ use Rattle.rdm_agent.specs.declared.fault.AgentFault.{AgentFault}
 use Rattle.rdm_agent.specs.declared.op.Op.TheVariants.{End}
 use Rattle.rdm_line.specs.Events.{Exchange}
 
--- The agent a goes on. What it asks stands in a frame from this source with this transaction number. The line makes its
--- step with that frame, and a hears what came.
+-- The agent a goes on. It sends what it asks in a frame from this source with this transaction number. The line makes
+-- its step with that frame, and a takes the reply.
 pub record GoesOn (L : Type 0) (step : L → Exchange → L → Type 0) (source tn : ℕ) (a : AgentState) (old : L)
     (b : AgentState) (new : L) : Type 0 where
   pub exchange : Exchange
@@ -23,8 +23,8 @@ pub record GoesOn (L : Type 0) (step : L → Exchange → L → Type 0) (source 
   pub steps : step old exchange new
   pub hears : b ≡ fed a (seen_event exchange).heard
 
--- the agent a makes these exchanges with the line, one after another, and becomes b; its frames are from this source
--- and numbered from n on, modulo 256
+-- the agent a makes these exchanges with the line, in order, and becomes b; its frames are from this source and are
+-- numbered from n on, modulo 256
 abbrev pub Drives : (L : Type 0) → (L → Exchange → L → Type 0) → ℕ → ℕ → AgentState → L → List Exchange → AgentState → L
     → Type 0
 Drives L step source n a old [] b new = (b ≡ a) × (new ≡ old)
@@ -32,17 +32,17 @@ Drives L step source n a old (x ∷ xs) b new =
     (after : AgentState) × (line : L) × (e : GoesOn L step source (n % 256) a old after line) × (e.exchange ≡ x)
     × Drives L step source (n + 1) after line xs b new
 
--- an agent that was started by this search with this kind, known set and budget made n exchanges with the line, whose
--- frames are numbered from 0; then the agent and the line were these
+-- an agent that was started with this search, kind, known set and budget made n exchanges with the line, with frames
+-- numbered from 0. Then the agent and the line were these
 pub record HasDriven (L : Type 0) (step : L → Exchange → L → Type 0) (source : ℕ) (search : Search) (kind : Kind)
     (known : List ℕ) (budget : ℕ) (old : L) (n : ℕ) (a : AgentState) (line : L) : Type 0 where
   pub exchanges : List Exchange
   pub many : length exchanges ≡ n
   pub drives : Drives L step source 0 (start_by search kind known budget) old exchanges a line
-  -- its exchanges, as they are seen, are a run's
+  -- its exchanges are those of a run
   pub run : HasRunBy search kind known budget false (map seen_event exchanges) a
 
--- what a run on the line reports, and after how many exchanges
+-- a run on the line reports this, after n exchanges
 pub record IsDiscovery (L : Type 0) (step : L → Exchange → L → Type 0) (source : ℕ) (search : Search) (kind : Kind)
     (known : List ℕ) (budget : ℕ) (old new : L) (found : Result (List Device) (AgentFault × List Device)) (frames : ℕ)
     : Type 0 where

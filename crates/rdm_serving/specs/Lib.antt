@@ -2,6 +2,7 @@ pub mod Discovery
 pub mod SceneDiscovery
 pub mod Report
 pub mod SessionReport
+pub mod Serving
 pub mod LoggedOutcomes
 pub mod LoggedCalls
 pub mod Writing

@@ -26,11 +26,11 @@ use Rattle.rdm_log.specs.declared.entry.Entry.TheVariants as entries
 use Rattle.rdm_wire.specs.Bytes.{two_bytes}
 use Rattle.rdm_serving.specs.SessionReport.{numbered}
 
--- a member of an object, which isn't its first: a key and a number
+-- a member of an object after its first one: a key and a number
 abbrev pub number_member : List ℕ → ℕ → List ℕ
 number_member key n = codes ",\"" ++ key ++ codes "\":" ++ decimal n
 
--- a key and a text, which has no character that JSON escapes
+-- a key and a text without characters that JSON escapes
 abbrev pub text_member : List ℕ → List ℕ → List ℕ
 text_member key text = codes ",\"" ++ key ++ codes "\":\"" ++ text ++ codes "\""
 
@@ -69,12 +69,12 @@ caller_member (Some client) = number_member (codes "client") client.0
 abbrev pub asked_members : ClientId → ℕ → List ℕ
 asked_members client number = number_member (codes "client") client.0 ++ number_member (codes "number") number
 
--- whose frame it is: a request's or a run's
+-- the owner of a frame: a request or a run
 abbrev pub owner_member : Owner → List ℕ
 owner_member (owners.Request number) = number_member (codes "request") number
 owner_member (owners.Run number) = number_member (codes "run") number
 
--- what came: the bytes, of which there are none after silence, or that the line failed
+-- what came: the bytes, none for silence, or that the line failed
 abbrev pub event_member : LineEvent → List ℕ
 event_member (Reply bytes) = bytes_member (codes "reply") bytes.items
 event_member Failed = codes ",\"failed\":true"
@@ -104,7 +104,7 @@ entry_name entries.Pause = codes "pause"
 entry_name entries.Resume = codes "resume"
 entry_name entries.Close = codes "close"
 
--- what it says
+-- the members of an entry
 abbrev pub entry_members : Entry → List ℕ
 entry_members (entries.Join client places) =
     number_member (codes "client") client.0 ++ number_member (codes "places") places
@@ -124,7 +124,7 @@ entry_members entries.Pause = []
 entry_members entries.Resume = []
 entry_members entries.Close = []
 
--- the line of an entry: an object with its name and what it says
+-- the line of an entry: an object with its name and its members
 abbrev pub entry_line : Entry → List ℕ
 entry_line entry = codes "{\"entry\":\"" ++ entry_name entry ++ codes "\"" ++ entry_members entry ++ codes "}\n"
 

@@ -1,4 +1,4 @@
--- What a session's log says of the outcomes that its clients were told of.
+-- The clients' outcomes, compared with a session's log.
 use Rattle.std.specs.Prelude.{◌≡◌, ℕ, ◌+◌, List, [], ◌∷◌, Option, Some, None, if◌then◌else◌, map, filter_map, length}
 use Rattle.rdm_join.specs.declared.status.Status.{Status}
 use Rattle.rdm_agent.specs.declared.fault.AgentFault.{AgentFault}
@@ -12,16 +12,16 @@ use Rattle.rdm_log.specs.promises.Promised.{LegalPromised}
 use Rattle.rdm_serving.specs.declared.outcomes.Outcomes.{Outcomes}
 use Rattle.rdm_serving.specs.declared.outcomes.Discovered.{Discovered}
 
--- how a request ended: its status, and how many bytes of data it was told
+-- how a request ended: its status, and how many bytes of data its callback received
 abbrev pub end_told : Told → Status × ℕ
 end_told told = (told.done.status, length told.done.bytes.items)
 
--- how a request of the client ended, as its Finish says it
+-- how a request of the client ended, by its Finish
 abbrev pub end_logged : Opening → ℕ → List Entry → Entry → Option (Status × ℕ)
 end_logged o c h (Finish n status len) = if is_client_of c (client_of_request o h n) then Some (status, len) else None
 end_logged o c h _ = None
 
--- with which fault a discovery of the client ended, if with one, as its Answer says it
+-- the fault with which a discovery of the client ended, if any, by its Answer
 abbrev pub fault_logged : Opening → ℕ → List Entry → Entry → Option (Option AgentFault)
 fault_logged o c h (Answer n run fault) = if is_client_of c (client_of_discovery o h n) then Some fault else None
 fault_logged o c h _ = None
@@ -34,18 +34,19 @@ ends_logged o c h = filter_map (end_logged o c h) h
 abbrev pub faults_logged : Opening → ℕ → List Entry → List (Option AgentFault)
 faults_logged o c h = filter_map (fault_logged o c h) h
 
--- the client was told of all its requests and discoveries that ended, in order, each with the end that the log says
+-- the client received the outcomes of all its requests and discoveries that ended, in order, and each ended like this
+-- in the log
 pub record AreLogged (o : Opening) (h : List Entry) (c : ℕ) (told : Outcomes) : Type 0 where
   pub requests : ends_logged o c h ≡ map end_told told.requests.items
   pub discoveries : faults_logged o c h ≡ map (λ (d : Discovered). d.fault) told.discoveries.items
 
--- the same of each of these clients, which are numbered from c on
+-- the same for each of these clients, which are numbered from c on
 abbrev pub AllLogged : Opening → List Entry → ℕ → List Outcomes → Type 0
 AllLogged o h c [] = Unit {0}
 AllLogged o h c (told ∷ later) = AreLogged o h c told × AllLogged o h (c + 1) later
 
--- the log is legal, it keeps all that clients are promised of one, and each of these clients, numbered from 0, was told
--- of all its requests and discoveries that ended in it
+-- the log is legal, and keeps all that clients are promised of a legal log. Each of these clients, numbered from 0,
+-- received the outcomes of all its requests and discoveries that ended in it
 pub record IsLogOf (opening : Opening) (entries : List Entry) (told : List Outcomes) : Type 0 where
   pub legal : Legal opening entries
   pub promised : LegalPromised opening entries

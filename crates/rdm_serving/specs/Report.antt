@@ -1,4 +1,4 @@
--- What is printed of a discovery run.
+-- What is printed for a discovery run.
 use Rattle.std.specs.Prelude.{ℕ, List, [], ◌∷◌, ◌++◌, Option, Some, None, Result, Ok, Err, codes, decimal, flat_map}
 use Rattle.std.specs.Prelude.{◌==◌, if◌then◌else◌}
 use Rattle.hex.specs.Hex.{encode_lower}
@@ -16,12 +16,12 @@ line_of text = text ++ 10 ∷ []
 abbrev pub four_digits : ℕ → List ℕ
 four_digits n = encode_lower (two_bytes n)
 
--- what a device says of itself: nothing if its control field is 0 and it is bound to none
+-- a device's control field and binding UID; nothing if the control field is 0 and there is no binding UID
 abbrev pub details : ℕ → Option ℕ → List ℕ
 details control None = if control == 0 then [] else 32 ∷ four_digits control
 details control (Some binding) = (32 ∷ four_digits control) ++ (32 ∷ uid_text binding)
 
--- the line of a device: its UID, and what it says of itself
+-- the line of a device: its UID, its control field and its binding UID
 abbrev pub device_line : Device → List ℕ
 device_line d = line_of (uid_text d.uid ++ details d.control d.binding)
 

@@ -26,7 +26,7 @@ pub record IsStartOf (scene : Scene) (s : SimState) : Type 0 where
   pub exchanges : s.exchanges ≡ 0
   pub failures : s.failures ≡ 0
 
--- what a run on a line of this scene reports, and after how many exchanges
+-- a run on a line of this scene reports this, after n exchanges
 pub record IsSceneDiscovery (scene : Scene) (search : Search) (kind : Kind) (known : List ℕ) (budget : ℕ)
     (found : Result (List Device) (AgentFault × List Device)) (frames : ℕ) : Type 0 where
   pub before : SimState
@@ -34,7 +34,7 @@ pub record IsSceneDiscovery (scene : Scene) (search : Search) (kind : Kind) (kno
   pub after : SimState
   pub discovery : IsDiscovery SimState SimStep scene.source search kind known budget before after found frames
   pub countable : frames < 2 ^ 64
-  -- the run's exchanges are the line's steps
+  -- the run's exchanges are those of the line's steps
   pub steps : List Step
   pub runs : IsRun before steps after
   pub exchanges : map (λ (x : Step). x.exchange) steps ≡ discovery.driven.exchanges
@@ -47,26 +47,26 @@ IsAlwaysPresent devices n u = (i : ℕ) → i < n → has (present_at devices i)
 abbrev pub WasPresent : List SceneDevice → ℕ → ℕ → Type 0
 WasPresent devices n u = (i : ℕ) × (i < n) × (has (present_at devices i) u ≡ true)
 
--- a report after n exchanges holds each device that was always present, and only devices that were present; with a
--- fault too, only devices that were present
+-- a report after n exchanges has each device that was always present, and only devices that were present. With a fault
+-- it also has only devices that were present
 pub record IsTrueReport (devices : List SceneDevice) (n : ℕ)
     (found : Result (List Device) (AgentFault × List Device)) : Type 0 where
   pub finds_staying : (u : ℕ) → IsAlwaysPresent devices n u → IfOk found (λ s. has (uids_of s) u ≡ true)
   pub no_stranger : (u : ℕ) → IfOk found (λ s. has (uids_of s) u ≡ true → WasPresent devices n u)
   pub no_stranger_in_fault : (u : ℕ) → IfErr found (λ e. has (uids_of e.1) u ≡ true → WasPresent devices n u)
 
--- where all devices stay, a report without fault holds exactly them
+-- if all devices stay, a report without fault has exactly these devices
 abbrev pub FindsAllOf : List SceneDevice → Result (List Device) (AgentFault × List Device) → Type 0
 FindsAllOf devices found = AllByRecursion Stays devices → IfOk found (λ s. uids_of s ≡ uids_of_scene devices)
 
--- where all devices stay, nothing fails and the budget suffices, there is no fault
+-- if all devices stay, no exchange fails and the budget suffices, there is no fault
 abbrev pub HasNoFault : Scene → Search → Kind → List ℕ → ℕ → Result (List Device) (AgentFault × List Device) → Type 0
 HasNoFault scene search kind known budget found =
     AllByRecursion Stays scene.devices → scene.fails.items ≡ []
     → enough_by search (uids_of_scene scene.devices) kind known ≤ budget
     → IsOkAnd found (λ s. uids_of s ≡ uids_of_scene scene.devices)
 
--- what a report on a line that loses few replies is worth
+-- what a report shows if the line loses few replies
 pub record IsHonestReport (scene : Scene) (search : Search) (kind : Kind) (known : List ℕ) (budget : ℕ)
     (found : Result (List Device) (AgentFault × List Device)) (n : ℕ) : Type 0 where
   pub devices : IsTrueReport scene.devices n found

@@ -1,4 +1,4 @@
--- What is printed of a session.
+-- What is printed for a session.
 use Rattle.std.specs.Prelude.{◌≡◌, ℕ, ◌+◌, Bool, true, false, List, [], ◌∷◌}
 use Rattle.std.specs.Prelude.{◌++◌, Option, Some, None, map, if◌then◌else◌}
 use Rattle.std.specs.Prelude.{codes, decimal, flat_map}
@@ -20,7 +20,7 @@ use Rattle.rdm_files.specs.declared.session.call.ClientCall.{ClientCall}
 use Rattle.rdm_files.specs.declared.session.call.ClientCall.TheVariants.{Submit, Discover}
 use Rattle.rdm_files.specs.declared.session.client.ClientFile.{ClientFile}
 
--- whose outcome it is: of the client with this number, and of its request or discovery with that number
+-- the owner of an outcome: the client with this number, and its request or discovery with that number
 abbrev pub whose : ℕ → List ℕ → ℕ → List ℕ
 whose client kind number = codes "client " ++ decimal client ++ kind ++ decimal number ++ codes ": "
 
@@ -31,25 +31,25 @@ type_text Timer = codes " 01 "
 type_text Nack = codes " 02 "
 type_text Overflow = codes " 03 "
 
--- data in hexadecimal, or a hyphen where there are none
+-- data in hexadecimal, or a hyphen if there are none
 abbrev pub data_text : List ℕ → List ℕ
 data_text [] = codes "-"
 data_text (byte ∷ bytes) = encode_lower (byte ∷ bytes)
 
--- of a request that is completed, its reply's type and data
+-- the type and the data of the reply, if the request is completed
 abbrev pub reply_told : Status → Option ReplyHead → List ℕ → List ℕ
 reply_told Completed (Some head) bytes = type_text head.ack ++ data_text bytes
 reply_told _ _ bytes = []
 
--- a request's status, and what was replied
+-- a request's status, and the reply
 abbrev pub completion_text : Completion → List ℕ
 completion_text done = decimal (number_of_status done.status) ++ reply_told done.status done.reply done.bytes.items
 
--- the line of a request: its client, its number, its status and what was replied
+-- the line of a request: its client, its number, its status and the reply
 abbrev pub request_line : ℕ → ℕ → Told → List ℕ
 request_line client number told = line_of (whose client (codes " request ") number ++ completion_text told.done)
 
--- a blank and the UID, for each
+-- for each UID a blank and its text
 abbrev pub uids_text : List ℕ → List ℕ
 uids_text uids = flat_map (λ u. 32 ∷ uid_text u) uids
 
@@ -76,11 +76,11 @@ request_lines client requests = numbered (request_line client) 0 requests
 abbrev pub discovery_lines : ℕ → List Discovered → List ℕ
 discovery_lines client discoveries = numbered (discovery_line client) 0 discoveries
 
--- the lines of a client: its requests and then its discoveries
+-- the lines of a client: those of its requests, and then those of its discoveries
 abbrev pub client_text : ℕ → Outcomes → List ℕ
 client_text client o = request_lines client o.requests.items ++ discovery_lines client o.discoveries.items
 
--- the clients, numbered from 0
+-- the lines of all clients, which are numbered from 0
 abbrev pub session_text : List Outcomes → List ℕ
 session_text outcomes = numbered client_text 0 outcomes
 
@@ -94,20 +94,20 @@ abbrev pub is_ask : ClientCall → Bool
 is_ask (Submit request) = false
 is_ask (Discover kind) = true
 
--- the places, from n on, of the calls of one kind
+-- the indices of the calls of one kind, counted from n
 abbrev pub places_of : (ClientCall → Bool) → ℕ → List ClientCall → List ℕ
 places_of is_of_kind n [] = []
 places_of is_of_kind n (call ∷ calls) =
     if is_of_kind call then n ∷ places_of is_of_kind (n + 1) calls
     else places_of is_of_kind (n + 1) calls
 
--- Each request has one outcome, in the order of the calls, with its callback's tag; and so has each discovery. A
--- callback's tag is the place of its call.
+-- Each request has one outcome, in the order of the calls, with its callback's tag. So has each discovery. A callback's
+-- tag is the index of its call.
 pub record IsSettled (calls : List ClientCall) (o : Outcomes) : Type 0 where
   pub requests : map (λ (t : Told). t.tag) o.requests.items ≡ places_of is_request 0 calls
   pub discoveries : map (λ (d : Discovered). d.tag) o.discoveries.items ≡ places_of is_ask 0 calls
 
--- there are outcomes of each client, and each is settled
+-- there are outcomes for each client, and each client is settled
 abbrev pub AllSettled : List ClientFile → List Outcomes → Type 0
 AllSettled [] [] = Unit {0}
 AllSettled [] (o ∷ os) = ⊥

@@ -33,9 +33,9 @@ pub struct Discovery {
     pub frames: u64,
 }
 
-/// Makes a discovery run with this search on a line, from the controller `source`: the agent's frames, numbered from 0,
-/// go over the line, and the agent hears what came, until it asks nothing more. Each exchange is written to the log
-/// when it has been made, and every hundredth is reported.
+/// Makes a discovery run with this search on a line, from the controller `source`. The agent's frames, numbered from 0,
+/// are sent on the line, and the agent takes the replies, until it asks nothing more. Each exchange is written to the
+/// log when it has been made, and every hundredth is reported.
 pub fn discover<L: Line, P: Progress, W: Write>(
     alloc: Global,
     line: &mut L,
@@ -69,7 +69,7 @@ pub fn discover<L: Line, P: Progress, W: Write>(
     }
 }
 
-// The agent asks what it asks next, and hears what came. The exchange is written to the log.
+// The agent sends its next frame, and takes the reply. The exchange is written to the log.
 fn ask<L: Line, W: Write>(
     alloc: Global,
     agent: &mut Agent,
@@ -103,11 +103,12 @@ fn read(op: Op, source: Uid, tn: u8, answer: &Result<LineReply, LineFault>) -> O
     }
 }
 
-/// Makes a discovery run on a simulated line of this scene. A run's fault is in the answer. [`NoMemory`]: memory
-/// ran out, and no run was made; the scene isn't returned, and nothing is written to the log.
+/// Makes a discovery run on a simulated line of this scene. A run's fault is in the result. [`NoMemory`]: there was no
+/// memory, and no run was made. The scene isn't returned, and nothing is written to the log.
 ///
-/// It finds each device that is on the line throughout, and none that never is. The premise: no five replies of a kind
-/// are lost in a row. Each exchange is written to the log, and every hundredth is reported.
+/// A run without fault finds each device that is on the line throughout, and no run finds one that never is. The
+/// premise: no five replies of a kind are lost in a row. Each exchange is written to the log, and every hundredth is
+/// reported.
 pub fn discover_in<P: Progress, W: Write>(
     alloc: Global,
     scene: Scene,

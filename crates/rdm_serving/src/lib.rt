@@ -1,9 +1,9 @@
 //! Discovery runs and sessions of clients on a line, and the texts that report them.
 //!
-//! [`discover_in`] makes a run on the line of a scene, and [`report`] returns what is printed of it. [`serve`] serves
-//! the clients of a session file, each in a thread of its own, and [`session_text`] returns what is printed of them.
-//! [`discover`] and [`serve_on_line`] do the same on any line. A [`Progress`] hears how far they are. A [`LogOutput`]
-//! gets each exchange of a discovery, or, by [`write_entries`], the log of a session. All of it is the profile of this
+//! [`discover_in`] makes a run on the line of a scene, and [`report`] returns what is printed for it. [`serve`] serves
+//! the clients of a session file, each in a thread of its own, and [`session_text`] returns what is printed for them.
+//! [`discover`] and [`serve_on_line`] do the same on any line. They report to a [`Progress`]. A [`LogOutput`] receives
+//! each exchange of a discovery, or, by [`write_entries`], the log of a session. All of it is the profile of this
 //! project.
 #![tactic(auto)]
 

@@ -48,6 +48,13 @@ impl<W: Write> LogOutput<W> {
         }
     }
 
+    /// Whether it is open.
+    pub fn is_open(&self) -> bool
+        ensures { result ≡ self.now.is_open }
+    {
+        self.is_open
+    }
+
     /// The first error of the writer; none if everything was written.
     pub fn failure(&self) -> Option<ErrorKind>
         ensures { is_some result ≡ self.now.is_failed }
@@ -71,7 +78,7 @@ impl<W: Write> LogOutput<W> {
         self.is_open && self.failure.is_none()
     }
 
-    /// Writes a text, or nothing to a log that takes nothing.
+    /// Writes a text. Nothing is written if the log isn't open or has failed.
     pub(crate) fn write(&mut self, text: &[u8])
         ensures { Logs self.old self.new text.now }
     {
@@ -83,7 +90,7 @@ impl<W: Write> LogOutput<W> {
         }
     }
 
-    /// Notes that a text couldn't be made, since memory ran out.
+    /// Makes the log fail, because there was no memory for a text.
     pub(crate) fn fail(&mut self)
         requires is_open { self.old.is_open ≡ true }
         requires is_failed { self.old.is_failed ≡ false }
@@ -120,7 +127,7 @@ pub fn write_all<W: Write>(writer: &mut W, bytes: &[u8]) -> Result<(), ErrorKind
 {
     let mut written = 0;
     let mut failure = ErrorKind::WriteZero;
-    // A loop has to end: this bound is one that no writer reaches. A write that was interrupted is tried again.
+    // A loop has to end, and no writer reaches this bound. A write that was interrupted is tried again.
     'writing: for _ in 0..u64::MAX {
         if written == bytes.len() {
             break;

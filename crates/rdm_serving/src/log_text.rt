@@ -126,7 +126,7 @@ fn entry_name(entry: &Entry) -> &'static [u8]
     }
 }
 
-// What an entry says.
+// The members of an entry.
 fn write_members(alloc: Global, text: &mut Vec<u8>, entry: &Entry) -> Result<(), AllocError>
     ensures { OnOk result (text.new.items ≡ text.old.items ++ entry_members entry.now) }
 {

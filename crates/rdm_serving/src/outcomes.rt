@@ -1,4 +1,4 @@
-//! What came of clients' calls, and what is printed of it.
+//! The outcomes of clients' calls, and what is printed for them.
 ghost use Rattle.std.specs.Prelude.{◌≡◌, ◌++◌, [], IfOk, OnOk};
 ghost use Rattle.rdm_wire.specs.Devices.{uids_of};
 ghost use Rattle.rdm_serving.specs.SessionReport.{session_text, client_text, request_lines, discovery_lines};
@@ -13,7 +13,7 @@ use rdm_join::{ReplyHead, Status};
 use rdm_wire::{AckType, Uid};
 use std::alloc::{AllocError, Global};
 
-/// What came of a client's calls: of its requests and of its discoveries, each as its callback told it.
+/// The outcomes of a client's calls, those of its requests and of its discoveries, each as its callback returned it.
 #[derive(Debug, Drop)]
 pub struct Outcomes {
     /// How its requests ended.
@@ -22,7 +22,7 @@ pub struct Outcomes {
     pub discoveries: Vec<Discovered>,
 }
 
-/// What a discovery's callback told. It has memory for the UIDs of these devices, and not for a whole set.
+/// What a discovery's callback returned. It has memory only for the UIDs of these devices, not for a whole set.
 #[derive(Debug, Drop)]
 pub struct Discovered {
     /// The callback's tag.
@@ -47,7 +47,7 @@ impl Outcomes {
 }
 
 impl Discovered {
-    /// What a discovery's callback told. Err: memory ran out.
+    /// What a discovery's callback returned. Err: there was no memory.
     pub fn new(alloc: Global, told: &AskTold) -> Result<Discovered, AllocError>
         ensures tag { IfOk result (λ d. d.tag ≡ told.now.tag) }
         ensures fault { IfOk result (λ d. d.fault ≡ told.now.done.fault) }
@@ -65,7 +65,7 @@ impl Discovered {
     }
 }
 
-/// The lines of all clients, in their order: of each its requests, and then its discoveries. Err: memory ran out.
+/// The lines of all clients, in their order: for each its requests, and then its discoveries. Err: there was no memory.
 pub fn session_text(alloc: Global, outcomes: &[Outcomes]) -> Result<Vec<u8>, AllocError>
     ensures { IfOk result (λ text. text.items ≡ session_text outcomes.now) }
 {
@@ -150,7 +150,7 @@ fn write_discovery(
     Ok(())
 }
 
-// Whose outcome it is.
+// The owner of an outcome.
 fn write_whose(
     text: &mut Vec<u8>,
     client: usize,
@@ -199,7 +199,7 @@ fn type_text(ack: AckType) -> &'static [u8]
     }
 }
 
-// A blank and the UID, for each.
+// For each UID a blank and its text.
 fn write_uids(text: &mut Vec<u8>, uids: &[Uid]) -> Result<(), AllocError>
     ensures { OnOk result (text.new.items ≡ text.old.items ++ uids_text uids.now) }
 {

@@ -4,9 +4,9 @@ use rdm_files::Remark;
 // How many exchanges are made before the next report.
 const OFTEN: usize = 100;
 
-/// Hears what people should know of a file, and how far its session or its discovery is.
+/// Receives what people should know about a file, and how many exchanges its session or discovery has made.
 pub trait Progress {
-    /// People should know this of the file, whose work hasn't begun.
+    /// People should know this about the file. Its work hasn't begun yet.
     fn remark(&mut self, remark: &Remark);
 
     /// This many exchanges were made.

@@ -1,4 +1,4 @@
-//! What is printed of a discovery run.
+//! What is printed for a discovery run.
 ghost use Rattle.std.specs.Prelude.{◌≡◌, ◌++◌, ◌∷◌, IfOk, OnOk, flat_map};
 ghost use Rattle.rdm_wire.specs.UidText.{uid_text};
 ghost use Rattle.rdm_serving.specs.Report.{report_text, found_text, fault_text, device_line, details, four_digits};
@@ -10,8 +10,8 @@ use rdm_agent::AgentFault;
 use rdm_wire::{Device, DeviceSet, Uid};
 use std::alloc::{AllocError, Global};
 
-/// The lines of a report: each device, ascending by UID, or the fault; and the count of frames. Err: memory was
-/// refused.
+/// The lines of a report: each device, ascending by UID, or the fault; and the count of frames. Err: there was no
+/// memory.
 pub fn report(alloc: Global, discovery: &Discovery) -> Result<Vec<u8>, AllocError>
     ensures { IfOk result (λ text. text.items ≡ report_text discovery.now.found discovery.now.frames) }
 {
@@ -26,7 +26,7 @@ pub fn report(alloc: Global, discovery: &Discovery) -> Result<Vec<u8>, AllocErro
     Ok(text)
 }
 
-/// The lines of these devices, ascending by UID, as a report has them. Err: memory ran out.
+/// The lines of these devices in a report, ascending by UID. Err: there was no memory.
 pub fn device_lines(alloc: Global, devices: &DeviceSet) -> Result<Vec<u8>, AllocError>
     ensures { IfOk result (λ text. text.items ≡ flat_map device_line devices.now) }
 {
@@ -53,7 +53,7 @@ fn write_device(text: &mut Vec<u8>, device: &Device) -> Result<(), AllocError>
     Ok(())
 }
 
-// What a device says of itself, unless it is nothing.
+// A device's control field and binding UID, unless the field is 0 and there is no binding UID.
 fn write_details(text: &mut Vec<u8>, control: u16, binding: Option<Uid>) -> Result<(), AllocError>
     ensures { OnOk result (text.new.items ≡ text.old.items ++ details control binding) }
 {

@@ -4,6 +4,7 @@ ghost use Rattle.std.specs.Bool.{OnTrue};
 ghost use Rattle.rdm_wire.specs.Uid.{IsDevice};
 ghost use Rattle.rdm_log.specs.log.Config.{IsConfig};
 ghost use Rattle.rdm_client.specs.declared.told.Told.{Told};
+ghost use Rattle.rdm_serving.specs.Serving.{MayServe};
 ghost use Rattle.rdm_serving.specs.LoggedOutcomes.{IsLogOf};
 ghost use Rattle.rdm_serving.specs.LoggedCalls.{HasCalls};
 ghost use Rattle.rdm_serving.specs.SessionReport.{AllSettled, IsSettled, is_request, is_ask, places_of};
@@ -40,7 +41,7 @@ use std::thread::Threads;
 /// Why not all calls of a session are settled.
 #[derive(Clone, Copy, Debug, PartialEq, Eq)]
 pub enum ServeFault {
-    /// Memory ran out.
+    /// There was no memory.
     Memory,
     /// The log is full.
     Log,
@@ -48,7 +49,7 @@ pub enum ServeFault {
     Turns,
 }
 
-/// How a session is begun.
+/// How a session is set up.
 #[derive(Drop)]
 pub struct SetUp {
     /// How its discoveries search.
@@ -64,17 +65,21 @@ pub struct SetUp {
 /// What is left of a session.
 #[derive(Drop)]
 pub struct Served {
-    /// What came of each client's calls, in the order of the clients.
+    /// The outcomes of each client's calls, in the order of the clients.
     pub outcomes: Vec<Outcomes>,
     /// The session, with its log.
     pub session: Session,
 }
 
-/// Serves a session on the line of its scene, and returns what came of each client's calls, with the session and its
-/// log. The log has exactly the file's clients and calls. Each outcome has its call's tag, and ended as that log says:
-/// its status and how many bytes it has, or its fault.
+/// Serves a session on the line of its scene, and returns the outcomes of each client's calls, with the session and its
+/// log. The log has exactly the file's clients and calls. Each outcome has its call's tag. It agrees with that log in
+/// its status and the number of its bytes, or in its fault.
 ///
-/// Err: memory ran out; or else the log is full; or else a client or the worker has made all its turns.
+/// The file's fields must be in their ranges: the source isn't broadcast ([`Uid::is_broadcast`]), the budget and the
+/// ring are at least 1, and the log is at most [`MOST_FREE_ENTRIES`](rdm_queue::MOST_FREE_ENTRIES). Those of a file
+/// that was read are.
+///
+/// Err: there was no memory; or else the log is full; or else a client or the worker has made all its turns.
 pub fn serve<L: Ledger + Send + Sync, P: Progress + Send, R: Threads + Wait + Sync>(
     rt: &R,
     alloc: Global,
@@ -83,12 +88,7 @@ pub fn serve<L: Ledger + Send + Sync, P: Progress + Send, R: Threads + Wait + Sy
     file: SessionFile,
     progress: &mut P,
 ) -> Result<Served, ServeFault>
-    requires name { blank.name ≡ L.name }
-    requires parts { (blank.parts ≡ L.parts) × (L.parts ≡ 17) }
-    requires source { IsDevice file.scene.scene.source }
-    requires budget { 1 ≤ file.scene.budget }
-    requires ring { 1 ≤ file.ring }
-    requires log { file.log ≤ 1000000 }
+    requires may_serve { MayServe L.name L.parts blank file.scene.scene.source file.scene.budget file.ring file.log }
     ensures settled { IfOk result (λ s. AllSettled file.clients.items s.outcomes.items) }
     ensures logged { IfOk result (λ s. IsLogOf s.session.opening s.session.entries s.outcomes.items) }
     ensures called { IfOk result (λ s. HasCalls s.session.entries file.clients.items) }
@@ -132,12 +132,7 @@ pub fn serve_on_line<
     line: X,
     progress: &mut P,
 ) -> Result<Served, ServeFault>
-    requires name { blank.name ≡ L.name }
-    requires parts { (blank.parts ≡ L.parts) × (L.parts ≡ 17) }
-    requires source { IsDevice file.source }
-    requires budget { 1 ≤ file.budget }
-    requires ring { 1 ≤ file.ring }
-    requires log { file.log ≤ 1000000 }
+    requires may_serve { MayServe L.name L.parts blank file.source file.budget file.ring file.log }
     ensures settled { IfOk result (λ s. AllSettled file.clients.items s.outcomes.items) }
     ensures logged { IfOk result (λ s. IsLogOf s.session.opening s.session.entries s.outcomes.items) }
     ensures called { IfOk result (λ s. HasCalls s.session.entries file.clients.items) }
@@ -173,8 +168,8 @@ pub fn serve_on_line<
 }
 
 // What is left of the session, if each call has an outcome. A log with fewer than three free entries would have
-// refused the worker's next frame, so it is full, even if no frame was left. Outcomes that the log doesn't have never
-// come, and it has no other calls than the file's.
+// refused the worker's next frame, so it is full, even if no frame was left. It never happens that the log lacks an
+// outcome, or has other calls than the file's.
 fn settled(alloc: Global, clients: &[ClientFile], served: Served) -> Result<Served, ServeFault>
     ensures settled { IfOk result (λ s. AllSettled clients.now s.outcomes.items) }
     ensures logged { IfOk result (λ s. IsLogOf s.session.opening s.session.entries s.outcomes.items) }
@@ -195,7 +190,7 @@ fn settled(alloc: Global, clients: &[ClientFile], served: Served) -> Result<Serv
     }
 }
 
-// The largest queue has the sum of the clients' queue depths.
+// The configuration whose places are the sum of the clients' queue depths.
 fn config_of(source: Uid, budget: u64, clients: &[ClientFile]) -> Config
     requires source { IsDevice source }
     requires budget { 1 ≤ budget }

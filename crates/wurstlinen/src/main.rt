@@ -1,6 +1,6 @@
 //! Reads and writes the replies of RDM devices to a branch of the discovery tree. Discovers devices, and runs sessions
-//! of clients, on a simulated line or on streams of text. What it prints is the work of `rdm_port`; here are the words
-//! of the process, its files and its streams.
+//! of clients, on a simulated line or on streams of text. `rdm_port` decides what is printed. Here are the arguments of
+//! the process, its files and its streams.
 #![tactic(auto)]
 
 ghost use Rattle.std.specs.Prelude.{◌≡◌, ◌≤◌, IfOk, length, map, string_bytes};
@@ -44,7 +44,7 @@ fn obey<T: Runtime + Threads + Wait + Sync + Files<File = File>>(
     }
 }
 
-// Words that fit no command on a simulated line may fit one on a line of the caller's own.
+// Arguments that fit no command on a simulated line may fit one on a line of the caller's own.
 fn obey_words<T: Runtime + Threads + Wait + Sync + Files<File = File>>(
     rt: &T,
     alloc: Global,
@@ -60,7 +60,7 @@ fn obey_words<T: Runtime + Threads + Wait + Sync + Files<File = File>>(
     }
 }
 
-// Prints the answer of a discovery on a line on standard output, and the reason of what isn't done on standard error.
+// Prints the answer to a discovery on a line on standard output, and the reason if it isn't done on standard error.
 fn discover_on_line<T: Runtime + Files<File = File>>(
     rt: &T,
     alloc: Global,
@@ -83,7 +83,7 @@ fn discover_on_line<T: Runtime + Files<File = File>>(
     status
 }
 
-// The same of a session on a line, whose file is opened first.
+// The same for a session on a line, whose file is opened first.
 fn open_and_run_on_line<T: Runtime + Threads + Wait + Sync + Files<File = File>>(
     rt: &T,
     alloc: Global,
@@ -126,8 +126,8 @@ fn tell_if_any(rt: &impl Eprint, reason: Option<Reason<'_>>) {
     };
 }
 
-// Prints the answer on standard output, and the reason of what isn't done on standard error: the complaint, if the
-// words fit no command.
+// Prints the answer on standard output, and the reason if it isn't done on standard error: the complaint, if the
+// arguments fit no command.
 fn print<T: Runtime + Threads + Wait + Sync + Files<File = File>>(
     rt: &T,
     alloc: Global,
@@ -181,7 +181,7 @@ impl Read for Unopened {
     }
 }
 
-// The words after the program's name. One that is no text fits no command.
+// The arguments after the program's name. One that isn't text fits no command.
 fn args(rt: &HostRuntime) -> Result<Vec<String>, WordsFault> {
     let args = env::args(rt).map_err(|error| match error.kind() {
         io::ErrorKind::OutOfMemory => WordsFault::NoMemory,

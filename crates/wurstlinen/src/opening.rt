@@ -27,11 +27,11 @@ impl<'r, R> FileOpener<'r, R> {
 }
 
 impl<R: Files<File = File>> Opens<TextLine> for FileOpener<'_, R> {
-    // What a file gives or takes isn't known.
+    // No contract says what a file returns or accepts.
     ghost opens = { λ opener out replies line. line.failures ≡ 0 };
 
-    // The streams are looked at first: to open a FIFO to read it takes until its other end is opened, and that may never
-    // be, if the other stream is missing.
+    // Both streams are checked first. Opening a FIFO for reading waits until its other end is opened. That may never
+    // happen if the other stream is missing.
     fn open<'a>(&mut self, out: &'a str, replies: &'a str) -> Result<TextLine, Unopened<'a>> {
         for path in [out, replies] {
             if let Err(error) = look_at(self.rt, path) {
@@ -61,7 +61,7 @@ fn look_at<R: Files>(rt: &R, path: &str) -> io::Result<()> {
     Ok(())
 }
 
-// To open a FIFO to read and write it doesn't wait for its other end. So the far end may open the two in either order.
+// Opening a FIFO for reading and writing doesn't wait for its other end. So the far end may open the two in any order.
 fn open_out<R: Files<File = File>>(rt: &R, path: &str) -> io::Result<File> {
     OpenOptions::new().read(true).append(true).open(rt, path)
 }

@@ -11,7 +11,7 @@ use Rattle.rdm_files.specs.declared.session.call.ClientCall.{ClientCall}
 use Rattle.rdm_files.specs.declared.session.call.ClientCall.TheVariants.{Submit, Discover}
 use Rattle.rdm_files.specs.SessionFiles.{IsRequestTo, IsKind}
 
--- the device is added, ascending by UID; no other has its UID
+-- the device is added, ascending by UID, and no other has its UID
 pub record IsAdded (d : Data) (old new : List SceneDevice) : Type 0 where
   pub device : SceneDevice
   pub read : IsDeviceOf d device

@@ -1,4 +1,4 @@
-//! What comes of a scene's collisions.
+//! What results from a scene's collisions.
 ghost use Rattle.std.specs.Prelude.{◌≡◌, None, codes, false};
 ghost use Rattle.serde_json.specs.Find.{get, as_str};
 ghost use Rattle.serde_json.specs.View.{view};
@@ -18,13 +18,13 @@ const EXPECTED: &str = "\"or\", or an object with either a uid or bytes";
 
 const KEYS: &[&str] = &["uid", "bytes"];
 
-// The bytes that come of a collision.
+// The bytes that result from a collision.
 const BYTES: Bytes<MOST_FRAME_BYTES> = Bytes {
     least: 1,
     expected: "hexadecimal digits of 1 to 257 bytes",
 };
 
-/// What comes of a collision: the replies over one another, the text of a UID, or bytes.
+/// What results from a collision: the OR of the replies, the text of a UID, or other bytes.
 #[derive(Clone, Copy, Drop)]
 pub(crate) struct CollisionForm;
 
@@ -52,7 +52,7 @@ impl Form for CollisionForm {
     }
 }
 
-// Why a value is no collision that is no text, and doesn't have one of the keys alone.
+// Why a value is no collision: it isn't a text, and doesn't have exactly one of the keys.
 fn no_collision(value: &Value) -> SceneFault
     ensures { is_memory result ≡ false }
 {

@@ -46,7 +46,7 @@ const KEYS: &[&str] = &[
     "uid", "preamble", "params", "control", "binding", "from", "until",
 ];
 
-/// A device, with what it says of itself and when it is on the line.
+/// A device, with the data of its acknowledgements, and the exchanges at which it is on the line.
 #[derive(Clone, Copy, Drop)]
 pub(crate) struct DeviceForm;
 
@@ -93,7 +93,7 @@ impl Keyed for DeviceForm {
     }
 }
 
-// The device of this value leaves before it comes, or as it comes.
+// The device of this value leaves before it comes, or at that exchange.
 fn leaves_too_soon(value: &Value) -> SceneFault
     ensures { is_memory result ≡ false }
 {
@@ -104,7 +104,7 @@ fn leaves_too_soon(value: &Value) -> SceneFault
     }
 }
 
-// Whether a device leaves before it comes, or as it comes.
+// Whether a device leaves before it comes, or at that exchange.
 fn leaves_first(from: u64, until: Option<u64>) -> bool
     ensures { result ≡ leaves_first from until }
 {
@@ -147,7 +147,7 @@ impl Form for DevicesForm {
     }
 }
 
-// Reads a device and puts it among the others.
+// Reads a device and adds it to the others.
 fn add(alloc: Global, devices: &mut SceneDevices, value: &Value) -> Result<(), SceneFault>
     ensures added { OnOk result (IsAdded (view value.now) devices.old devices.new) }
     ensures refused { IfErr result (λ fault. is_memory fault ≡ false → (d : SceneDevice) →
@@ -163,7 +163,7 @@ fn add(alloc: Global, devices: &mut SceneDevices, value: &Value) -> Result<(), S
     }
 }
 
-// The value's UID is another device's too.
+// Another device has the same UID as this value's.
 fn repeated(value: &Value) -> SceneFault
     ensures { is_memory result ≡ false }
 {

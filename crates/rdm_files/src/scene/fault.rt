@@ -10,13 +10,13 @@ use std::{fmt, str};
 /// Why a scene file isn't read.
 #[derive(Debug, Drop)]
 pub enum SceneFault {
-    /// The value at some path isn't what is expected there.
+    /// A value isn't what is expected at its path.
     Mismatch(Mismatch),
-    /// Memory ran out.
+    /// There was no memory.
     NoMemory,
 }
 
-/// A path in a file, what is found there and what was expected.
+/// A path in a file, what was found there, and what was expected.
 #[derive(Debug, Drop)]
 pub struct Mismatch {
     path: Path,
@@ -25,7 +25,7 @@ pub struct Mismatch {
     expected: &'static str,
 }
 
-/// What is found at a path.
+/// What was found at a path.
 #[derive(Debug, Drop)]
 pub enum Found {
     /// Nothing, since the key is missing.
@@ -58,14 +58,14 @@ const EXCERPT: usize = 40;
 type Excerpt = ArrayVec<u8, EXCERPT>;
 
 impl SceneFault {
-    /// Where a value is, something else was expected.
+    /// Something else than this value was expected.
     pub(crate) fn at(value: &Value, expected: &'static str) -> SceneFault
         ensures { is_memory result ≡ false }
     {
         SceneFault::expecting(Found::of(value), expected)
     }
 
-    /// A key is missing under which something was expected.
+    /// A key is missing. This was expected under it.
     pub(crate) fn missing(expected: &'static str) -> SceneFault
         ensures { is_memory result ≡ false }
     {

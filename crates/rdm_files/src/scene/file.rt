@@ -15,7 +15,7 @@ use rdm_wire::{MOST_DEVICES, UidSet};
 use serde_json::Value;
 use std::alloc::Global;
 
-/// What a scene file says.
+/// The contents of a scene file.
 #[derive(Debug, Drop)]
 pub struct SceneFile {
     /// The line to be simulated.
@@ -61,8 +61,8 @@ pub(crate) const BUDGET: Whole = Whole {
     expected: "a whole number from 1 to 1000000000",
 };
 
-/// Reads a scene file. A mismatch is the first that is met, in the order of the keys `source`, `devices`,
-/// `collisions`, `losses`, `fails`, `known`, `budget`. NoMemory comes where it is met.
+/// Reads a scene file. An error is the first mismatch in the order of the keys `source`, `devices`, `collisions`,
+/// `losses`, `fails`, `known`, `budget`, or NoMemory if an allocation failed before it.
 pub fn read_scene(alloc: Global, value: &Value) -> Result<SceneFile, SceneFault>
     ensures { Reads result (IsSceneFile (view value.now)) }
 {
@@ -129,7 +129,7 @@ impl Form for KnownForm {
         'known: for i in 0..values.len() {
             match OwnUid.read(alloc, &values[i]) {
                 Ok(uid) => {
-                    // A set has room for all of them.
+                    // All of them fit into a set.
                     let _ = known.insert(uid);
                 }
                 Err(fault) => return Err(fault.in_item(i)),

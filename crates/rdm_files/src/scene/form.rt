@@ -9,18 +9,18 @@ use serde_json::Value;
 use std::alloc::Global;
 use std::marker::Model;
 
-/// What a value may say. Each form names the relation between a value and what it says.
+/// A form of values. Each form names the relation between a value and its meaning.
 pub(crate) trait Form {
-    /// What is read.
+    /// The type of the meaning.
     type Out: Drop;
 
-    /// The value says this.
+    /// The value means this.
     ghost says: { Self → Data → Self.Out → Type 0 };
 
-    /// What belongs where it is read, for people.
+    /// What is expected, for people.
     fn expected(&self) -> &'static str;
 
-    /// Reads what a value says. A fault other than of memory means that it says nothing of this form.
+    /// Reads a value. A fault other than NoMemory means that the value isn't of this form.
     fn read(&self, alloc: Global, value: &Value) -> Result<Self::Out, SceneFault>
         ensures { Reads result (says self.now (view value.now)) };
 }
@@ -97,7 +97,7 @@ impl<F: Form> Form for ListOf<F> {
     }
 }
 
-/// Reads what an object says under a key that must be there.
+/// Reads the value under a key that an object must have.
 pub(crate) fn required<F: Form>(
     alloc: Global,
     object: &Value,
@@ -113,7 +113,7 @@ pub(crate) fn required<F: Form>(
     }
 }
 
-/// Reads what an object says under a key that may be absent, and then means the default.
+/// Reads the value under a key that may be absent, with this default.
 pub(crate) fn optional<F: Form>(
     alloc: Global,
     object: &Value,
@@ -129,7 +129,7 @@ pub(crate) fn optional<F: Form>(
     }
 }
 
-/// Reads what an object says under a key that may be absent.
+/// Reads the value under a key that may be absent.
 pub(crate) fn given<F: Form>(
     alloc: Global,
     object: &Value,

@@ -1,4 +1,4 @@
-//! Keys of a file that no reader knows. The file is read without them.
+//! Keys of a file that no reader knows. They are ignored.
 use crate::scene::path::Path;
 use arrayvec::ArrayVec;
 use serde_json::Value;
@@ -20,11 +20,11 @@ const LONGEST_KEY: usize = 40;
 
 /// A form whose objects, or those within it, have keys.
 pub(crate) trait Keyed {
-    /// The first key of a value that isn't known, if there is one. Those of an object go before those within it.
+    /// The first unknown key of a value, if there is one. The keys of an object precede those within it.
     fn unknown(&self, value: &Value) -> Option<UnknownKey>;
 }
 
-/// The first key of an object, in the order of bytes, that is none of the known ones.
+/// The first unknown key of an object, in the order of bytes.
 pub(crate) fn unknown_of(object: &Value, known: &'static [&'static str]) -> Option<UnknownKey> {
     for key in object.as_object()?.keys() {
         if !known.contains(&key.as_str()) {

@@ -7,11 +7,11 @@ use std::fmt;
 pub struct Path {
     // The steps to the value, the last one first.
     steps: ArrayVec<Step, MOST_STEPS>,
-    // The item of the list that the next step's key holds.
+    // The index in the list under the key of the next step.
     item: Option<usize>,
 }
 
-/// A key, and an item of the list that it holds.
+/// A key, and an index in the list under it.
 #[derive(Clone, Copy, Debug, Default, Drop)]
 pub struct Step {
     key: &'static str,

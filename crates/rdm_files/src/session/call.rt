@@ -43,7 +43,7 @@ const SET_KEYS: &[&str] = &["set", "pid", "sub", "param"];
 
 const DISCOVER_KEYS: &[&str] = &["discover"];
 
-/// A call: a request with the key `get` or `set`, or a discovery with the key `discover`, and no two of them.
+/// A call: a request with the key `get` or `set`, or a discovery with the key `discover`, but only one of them.
 #[derive(Clone, Copy, Drop)]
 pub(crate) struct CallForm;
 
@@ -82,7 +82,7 @@ impl Keyed for CallForm {
     }
 }
 
-// Why a value is no call that has these of the keys, not one alone.
+// Why a value is no call: it has these of the keys, instead of exactly one.
 fn no_call(value: &Value, gets: bool, sets: bool, discovers: bool) -> SceneFault
     ensures { is_memory result ≡ false }
 {

@@ -8,7 +8,7 @@ use crate::session::call::{CallForm, ClientCall};
 use serde_json::Value;
 use std::alloc::Global;
 
-/// A client: its places, and the calls that it makes in order.
+/// A client: its queue depth, and the calls that it makes, in order.
 #[derive(Debug, Drop)]
 pub struct ClientFile {
     /// How many requests it may have outstanding: 1 to 255.

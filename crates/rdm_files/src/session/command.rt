@@ -9,7 +9,7 @@ use serde_json::Value;
 const WHY: &str =
     "clients send no discovery commands; a discovery is asked for by the key discover";
 
-/// The first discovery command among the clients' calls: a call that has the key `discovery`, whatever its value and
+/// The first discovery command among the clients' calls: a call with the key `discovery`, whatever its value, and
 /// whatever else is wrong in the file.
 pub fn discovery_command(file: &Value) -> Option<SceneFault>
     ensures some { OnSome result (has_discovery_command (view file.now) ≡ true) }

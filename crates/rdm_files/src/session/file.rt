@@ -14,10 +14,10 @@ use rdm_queue::MOST_CLIENTS;
 use serde_json::Value;
 use std::alloc::Global;
 
-/// What a session file says.
+/// The contents of a session file.
 #[derive(Debug, Drop)]
 pub struct SessionFile {
-    /// The line, and the frames that a discovery may take.
+    /// The line, and how many frames a discovery run may send.
     pub scene: SceneFile,
     /// The clients: 1 to 16.
     pub clients: Vec<ClientFile>,
@@ -58,8 +58,8 @@ pub(super) const TURNS: Whole = Whole {
     expected: "a whole number from 1 to 1000000000",
 };
 
-/// Reads a session file. A mismatch is the first that is met, in the order of the keys `scene`, `clients`, `ring`,
-/// `search`, `log`, `turns`. NoMemory comes where it is met.
+/// Reads a session file. An error is the first mismatch in the order of the keys `scene`, `clients`, `ring`, `search`,
+/// `log`, `turns`, or NoMemory if an allocation failed before it.
 pub fn read_session(alloc: Global, value: &Value) -> Result<SessionFile, SceneFault>
     ensures { Reads result (IsSessionFile (view value.now)) }
 {
@@ -79,7 +79,7 @@ pub fn read_session(alloc: Global, value: &Value) -> Result<SessionFile, SceneFa
     })
 }
 
-/// The first key of a session that isn't known, if there is one: its own, else one in the scene, else in a client.
+/// The first unknown key of a session, if there is one: its own, else one in the scene, else one in a client.
 pub fn unknown_in_session(value: &Value) -> Option<UnknownKey> {
     if let Some(unknown) = unknown_of(value, KEYS) {
         return Some(unknown);

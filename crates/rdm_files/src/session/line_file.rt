@@ -13,10 +13,10 @@ use rdm_wire::Uid;
 use serde_json::Value;
 use std::alloc::Global;
 
-/// What a session file for a line of the caller's own says.
+/// The contents of a session file for a line of the caller's own.
 #[derive(Debug, Drop)]
 pub struct LineSessionFile {
-    /// The controller's UID, which is a device's.
+    /// The controller's UID, which isn't broadcast.
     pub source: Uid,
     /// How many frames a discovery run may send: 1 to 1,000,000,000.
     pub budget: u64,
@@ -38,9 +38,9 @@ const KEYS: &[&str] = &[
 
 const NO_SCENE: &str = "with --line a session file has the key source and no scene";
 
-/// Reads a session file for a line of the caller's own. A mismatch is the first that is met: the key `scene`, which may
-/// not be there, and then `source`, `budget`, `clients`, `ring`, `search`, `log`, `turns`. NoMemory comes where it is
-/// met.
+/// Reads a session file for a line of the caller's own. It must not have the key `scene`. An error is that key, or the
+/// first mismatch in the order of the keys `source`, `budget`, `clients`, `ring`, `search`, `log`, `turns`, or NoMemory
+/// if an allocation failed before it.
 pub fn read_line_session(alloc: Global, value: &Value) -> Result<LineSessionFile, SceneFault>
     ensures { Reads result (IsLineSessionFile (view value.now)) }
 {
@@ -65,7 +65,7 @@ pub fn read_line_session(alloc: Global, value: &Value) -> Result<LineSessionFile
     })
 }
 
-/// The first key of such a session that isn't known, if there is one: its own, else one in a client.
+/// The first unknown key of such a session, if there is one: its own, else one in a client.
 pub fn unknown_in_line_session(value: &Value) -> Option<UnknownKey> {
     match unknown_of(value, KEYS) {
         Some(unknown) => Some(unknown),

@@ -1,11 +1,11 @@
--- What a log has got while a command was answered.
+-- What was written to a log while a command was answered.
 use Rattle.std.specs.Prelude.{◌≡◌, ℕ, Bool, true, false, List}
 use Rattle.std.specs.Io.KnownBytes.{Keeps}
 use Rattle.rdm_serving.specs.Writing.{LogState, IsWritten}
 use Rattle.rdm_port.specs.body.Texts.{answer_bytes}
 use Rattle.rdm_port.specs.declared.answer.Answered.{Answered}
 
--- a log that nothing was written to, and that isn't open
+-- a log to which nothing was written, and which isn't open
 abbrev pub IsClosedLog : LogState → Type 0
 IsClosedLog log = (log.is_open ≡ false) × (log.is_failed ≡ false)
 
@@ -15,7 +15,7 @@ pub record IsOpened (wanted : Bool) (old new : LogState) : Type 0 where
   pub is_failed : new.is_failed ≡ false
   pub bytes : Keeps old.contents new.contents
 
--- a log that was closed has got the text, if it is wanted
+-- the text was written to a log that was closed, if it is wanted
 abbrev pub HasLogged : Bool → LogState → LogState → List ℕ → Type 0
 HasLogged false old new text = (new.is_failed ≡ false) × Keeps old.contents new.contents
 HasLogged true old new text = IsWritten new.is_failed old.contents new.contents text

@@ -1,4 +1,4 @@
--- The JSON of session files, of either kind.
+-- The JSON of session files of both kinds.
 use Rattle.std.specs.Prelude.{◌≡◌, ℕ, false, List, Some, None, ⊤, IsUtf8}
 use Rattle.serde_json.specs.Data.{Data}
 use Rattle.serde_json.specs.Read.{read}

@@ -1,4 +1,4 @@
--- What a client of a session file does in its turns, and what it notes.
+-- What a client of a session file does in its turns, and what it remembers.
 use Rattle.std.specs.Prelude.{◌≡◌, ◌⊎◌, ◌+◌, ◌≤◌, ◌++◌, ◌∷◌, [], ◌==◌, Bool, true, false, length, slice_get}
 use Rattle.std.specs.Prelude.{Option, Some, None}
 use Rattle.rdm_wire.specs.Devices.{uids_of}
@@ -15,21 +15,21 @@ use Rattle.rdm_serving.specs.declared.serving.script.Next.TheVariants.{Call, Col
 abbrev pub has_all : Script → Bool
 has_all s = (length s.outcomes.requests.items + length s.outcomes.discoveries.items) == length s.calls.now
 
--- The client makes its calls in order. It collects after a call that found no room, and after the last one. It is done
--- once each call has an outcome.
+-- The client makes its calls in order. It collects after a call that found the queue full, and after the last call. It
+-- is done once each call has an outcome.
 abbrev pub IsNext : Script → Next → Type 0
 IsNext s (Call call place) =
     (has_all s ≡ false) × (s.is_full ≡ false) × (place ≡ s.accepted) × (slice_get s.calls.now place ≡ Some call.now)
 IsNext s Collect = (has_all s ≡ false) × ((s.is_full ≡ true) ⊎ (length s.calls.now ≤ s.accepted))
 IsNext s Done = has_all s ≡ true
 
--- a discovery's outcome is what its callback told
+-- a discovery's outcome is what its callback returned
 pub record IsToldBy (told : AskTold) (d : Discovered) : Type 0 where
   pub tag : d.tag ≡ told.tag
   pub fault : d.fault ≡ told.done.fault
   pub uids : d.uids.items ≡ uids_of told.done.set
 
--- what a collect gave is added to the outcomes of its kind as its callback told it, and nothing else changes
+-- what a collect returned is added to the outcomes of its kind as its callback returned it, and nothing else changes
 abbrev pub Notes : Option Collected → Outcomes → Outcomes → Type 0
 Notes None old new = new ≡ old
 Notes (Some (collected.Request told)) old new =

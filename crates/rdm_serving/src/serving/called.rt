@@ -8,7 +8,7 @@ ghost use Rattle.rdm_files.specs.declared.session.client.ClientFile.{ClientFile 
 use rdm_files::{ClientCall, ClientFile};
 use rdm_queue::Entry;
 
-/// Whether the log has exactly these clients, with their queue depths, and of each client exactly its calls, in order:
+/// Whether the log has exactly these clients, with their queue depths, and for each client exactly its calls, in order:
 /// each request as a whole, and each discovery with its kind.
 pub(crate) fn has_calls(entries: &[Entry], clients: &[ClientFile]) -> bool
     ensures { OnTrue result (HasCalls entries.now clients.now) }

@@ -3,7 +3,7 @@ use crate::serving::ticket::{AskTicket, RequestTicket};
 use rdm_client::{Tells, TellsAsk, Unfinished, Unspent};
 use std::alloc::Global;
 
-/// Cancels the callbacks that are left of a client.
+/// Cancels the callbacks that a client has left.
 pub fn cancel_all(alloc: Global, mut unspent: Unspent<RequestTicket, AskTicket>) {
     while let Some(left) = unspent.next() {
         match left {

@@ -25,7 +25,7 @@ type Client<'a, L> = LockedClient<'a, L, RequestTicket, AskTicket>;
 
 /// Serves the clients: each has a thread, and the worker another. At the end the log's exchanges are compared with
 /// those that the worker recorded, and its calls with those that the clients counted.
-/// Err: memory ran out, or the log is full before all clients have joined.
+/// Err: there was no memory, or the log was full before all clients had joined.
 pub fn serve_locked<L: Ledger + Send + Sync, X: Line + Send + Drop, R: Threads + Wait + Sync>(
     rt: &R,
     alloc: Global,
@@ -77,7 +77,7 @@ fn finish<L: Ledger>(
     }
 }
 
-// What is left of the clients, in their order, after all have left.
+// The outcomes and shares of the clients, in their order, after all have left.
 #[derive(Drop)]
 struct Ended<L: Ledger> {
     outcomes: Vec<Outcomes>,
@@ -140,7 +140,7 @@ fn call_all<L: Ledger + Send + Sync, R: Threads + Wait + Sync>(
     );
 }
 
-// The clients in their order; if one may not join, those before it, and why.
+// The clients in their order. If one can't join: those before it, and why.
 fn join_all<'p, 'c, L: Ledger, R: Wait>(
     rt: &R,
     alloc: Global,
@@ -164,7 +164,7 @@ fn join_all<'p, 'c, L: Ledger, R: Wait>(
     (callers, None)
 }
 
-// What is left of the clients. All leave, even if memory runs out.
+// The outcomes and shares of the clients. All leave, even if memory runs out.
 fn end_all<L: Ledger, R: Wait>(
     rt: &R,
     alloc: Global,
@@ -201,7 +201,7 @@ struct Caller<'p, 'c, L: Ledger> {
     end: Result<(), ServeFault>,
 }
 
-// What is left of a client.
+// The outcomes and the share of a client.
 #[derive(Drop)]
 struct Called<L: Ledger> {
     outcomes: Outcomes,
@@ -229,7 +229,7 @@ impl<'p, 'c, L: Ledger> Caller<'p, 'c, L> {
         self.share = Some(leave(rt, alloc, client));
     }
 
-    // What is left of it. A client that hasn't left leaves.
+    // Its outcomes and its share. If it hasn't left yet, it leaves.
     fn end<R: Wait>(self, rt: &R, alloc: Global) -> Called<L> {
         let Caller {
             client,

@@ -1,4 +1,4 @@
-//! Compares what clients were told by their callbacks with the session's log.
+//! Compares what the clients' callbacks returned with the session's log.
 ghost use Rattle.std.specs.Prelude.{◌≡◌, ◌-◌, List, IfOk, map, slice_get};
 ghost use Rattle.std.specs.Bool.{OnTrue};
 ghost use Rattle.rdm_log.specs.log.Entries.{accepts, asks};
@@ -15,8 +15,9 @@ use rdm_join::Status;
 use rdm_queue::{Entry, Log, Opening};
 use std::alloc::{AllocError, Global};
 
-/// Whether each client was told of all its requests and discoveries that ended, in order, each with the end that the
-/// log says: of a request the status and how many bytes it has, of a discovery the fault. Err: memory ran out.
+/// Whether each client received the outcomes of all its requests and discoveries that ended, in order, and each agrees
+/// with the log: a request in its status and the number of its bytes, a discovery in its fault. Err: there was no
+/// memory.
 pub fn are_logged(alloc: Global, log: &Log, told: &[Outcomes]) -> Result<bool, AllocError>
     ensures { IfOk result (λ same. OnTrue same (AllLogged log.now.opening log.now.entries 0 told.now)) }
 {
@@ -116,7 +117,7 @@ fn are_requests_logged(
     left.is_empty()
 }
 
-// How a request of this client ended, if the entry says that.
+// How a request of this client ended, if the entry is its Finish.
 fn end_logged(
     opening: &Opening,
     askers: &[u8],
@@ -146,7 +147,7 @@ fn is_asker(askers: &[u8], first: u64, number: u64, client: usize) -> bool
     }
 }
 
-// Whether a request was told this end.
+// Whether this is how a request ended.
 fn ended_so(told: &Told, end: (Status, usize)) -> bool
     ensures { OnTrue result (end ≡ end_told told.now) }
 {
@@ -181,7 +182,7 @@ fn are_discoveries_logged(
     left.is_empty()
 }
 
-// With which fault a discovery of this client ended, if any, if the entry says that.
+// The fault with which a discovery of this client ended, if any, if the entry is its Answer.
 fn fault_logged(
     opening: &Opening,
     askers: &[u8],
@@ -198,7 +199,7 @@ fn fault_logged(
     }
 }
 
-// Whether a discovery was told this fault, or none.
+// Whether a discovery ended with this fault, or with none.
 fn had_fault(told: &Discovered, fault: Option<AgentFault>) -> bool
     ensures { OnTrue result (fault ≡ told.now.fault) }
 {

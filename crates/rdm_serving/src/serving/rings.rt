@@ -27,7 +27,7 @@ use std::thread::Threads;
 type Client<J> = RingClient<J, RequestTicket, AskTicket>;
 
 /// Serves the clients: each has a thread and two ring buffers with this many slots, and the worker another thread.
-/// Err: memory ran out, or the log is full before all clients have joined.
+/// Err: there was no memory, or the log was full before all clients had joined.
 pub fn serve_rings<X: Line + Send + Drop, R: Threads + Wait + Sync>(
     rt: &R,
     alloc: Global,
@@ -80,7 +80,7 @@ fn serve_views<J: ViewHistory + Send + Sync, X: Line + Send + Drop, R: Threads +
     }
 }
 
-// The queue depths of the clients, and what they do. None: memory ran out.
+// The queue depths of the clients, and what they do. None: there was no memory.
 fn seats_of(alloc: Global, clients: &[ClientFile], turns: u64) -> Option<(Vec<u8>, Vec<Caller<'_>>)>
     ensures { IfSome result (λ seats. length seats.1.items ≡ length seats.0.items) }
 {
@@ -93,7 +93,7 @@ fn seats_of(alloc: Global, clients: &[ClientFile], turns: u64) -> Option<(Vec<u8
     Some((places, callers))
 }
 
-// What came of the clients' calls, in their order, and the session. All callbacks that are left are cancelled.
+// The outcomes of the clients' calls, in their order, and the session. All callbacks that are left are cancelled.
 fn served<J: ViewHistory, X: Drop>(
     alloc: Global,
     end: LanesEnd<J, Caller<'_>, X, RequestTicket, AskTicket>,

@@ -9,7 +9,7 @@ use rdm_client::Collected;
 use rdm_files::ClientCall;
 use std::alloc::Global;
 
-/// A client's calls, and what came of them.
+/// A client's calls, and their outcomes.
 #[derive(Drop)]
 pub struct Script<'a> {
     calls: &'a [ClientCall],
@@ -59,7 +59,7 @@ impl<'a> Script<'a> {
         }
     }
 
-    /// Notes whether a call was accepted; if not, the queue or the ring was full.
+    /// Records whether a call was accepted. If not, the queue or the ring was full.
     pub fn tried(&mut self, is_accepted: bool)
         ensures room { self.new.is_full ≡ not is_accepted }
         ensures accepted { self.new.accepted ≡
@@ -73,7 +73,7 @@ impl<'a> Script<'a> {
         }
     }
 
-    /// Notes what a collect gave. If it gave nothing, and the worker had stopped before it, nothing more will come.
+    /// Records what a collect returned. If it returned nothing, and the worker had stopped before, nothing more comes.
     pub fn collected(
         &mut self,
         alloc: Global,
@@ -135,7 +135,7 @@ impl<'a> Script<'a> {
         }
     }
 
-    /// What came of the calls.
+    /// The outcomes of the calls.
     pub fn into_outcomes(self) -> Outcomes
         ensures { result ≡ self.entry.outcomes }
     {

@@ -1,4 +1,4 @@
-//! The callbacks of a session file's clients: they tell, and do nothing else.
+//! The callbacks of a session file's clients: they return what they were called with, and do nothing else.
 ghost use Rattle.std.specs.Prelude.{◌≡◌};
 ghost use Rattle.rdm_client.specs.Callbacks.{told, ask_told};
 

@@ -6,7 +6,7 @@ use rdm_join::LineReply;
 use rdm_line::{Line, LineFault};
 use rdm_wire::Frame;
 
-/// A line that reports every hundredth exchange, and otherwise is the line that it was made of.
+/// A line that reports every hundredth exchange, and otherwise behaves like the line that it was made of.
 #[derive(Drop)]
 pub struct ToldLine<'a, X, P> {
     line: X,

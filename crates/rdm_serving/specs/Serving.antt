@@ -1,0 +1,15 @@
+-- What serving a session asks of its caller.
+use Rattle.std.specs.Prelude.{◌≡◌, ℕ, ◌≤◌}
+use Rattle.std.specs.declared.sync.ledger.Blank.{Blank}
+use Rattle.rdm_wire.specs.Uid.{IsDevice}
+
+-- The blank is that of the book with this name and these parts, which are 17: one for each client, and one for the
+-- rest. The source is a device's UID, the budget is at least one exchange, and each ring has at least one slot. The log
+-- has at most 1,000,000 free entries (profile of this project).
+pub record MayServe (name parts : ℕ) (blank : Blank) (source budget ring log : ℕ) : Type 0 where
+  pub named : blank.name ≡ name
+  pub cut : (blank.parts ≡ parts) × (parts ≡ 17)
+  pub own : IsDevice source
+  pub frames : 1 ≤ budget
+  pub slots : 1 ≤ ring
+  pub entries : log ≤ 1000000
