@@ -75,7 +75,7 @@ enum wurst_status {
     WURST_UNKNOWN_CLIENT = 17,       /* no such client has joined */
     WURST_TOO_MANY_CLIENTS = 18,     /* sixteen clients have joined */
     WURST_NO_PLACES = 19,            /* fewer places are left than the client asks for */
-    WURST_FULL = 20,                 /* the client's places are taken, or its four discoveries are outstanding */
+    WURST_FULL = 20,                 /* the client's places or four discoveries are taken, or no number is left */
     WURST_LOG_FULL = 21,             /* fewer than three entries of the log are free */
     WURST_NOT_ASKED = 22,            /* no reply is awaited */
     WURST_OTHER_OUTCOME = 23,        /* the client's oldest outcome is of the other kind */
@@ -489,7 +489,8 @@ uint32_t wurst_unmute_write(uint64_t source, uint8_t tn, uint8_t *frame, size_t 
  * WURST_BUFFER_TOO_SMALL. */
 uint32_t wurst_mute_write(uint64_t uid, uint64_t source, uint8_t tn, uint8_t *frame, size_t room, size_t *len);
 
-/* Each unmuted device from `lo` to `hi` is to reply. WURST_BAD_UID, WURST_BAD_RANGE, WURST_BUFFER_TOO_SMALL. */
+/* Each unmuted device from `lo` to `hi` is to reply. The first of: for `lo` and `hi`, WURST_BAD_UID; WURST_BAD_RANGE;
+ * for `source`, WURST_BAD_UID; WURST_BUFFER_TOO_SMALL. */
 uint32_t wurst_branch_write(uint64_t lo, uint64_t hi, uint64_t source, uint8_t tn, uint8_t *frame, size_t room,
                             size_t *len);
 
@@ -571,7 +572,8 @@ static inline const char *wurst_text(uint32_t status) {
         "no such search", "no such kind of discovery", "no such class",
         "more than 231 bytes of parameter data", "more than 257 bytes of a reply",
         "more than 1,000,000 entries", "the buffer is too small", "out of memory", "the queue is closed",
-        "no such client", "sixteen clients have joined", "too few places", "the client's places are taken",
+        "no such client", "sixteen clients have joined", "too few places",
+        "the client's places or four discoveries are taken, or no number is left",
         "the log is full", "no reply is awaited", "the oldest outcome is of the other kind",
         "the session isn't idle", "no such entry", "the lower bound is above the upper one", "more than 1,024 devices",
         "more than 7 preamble bytes", "no such response type", "the run hasn't ended", "the run has ended",

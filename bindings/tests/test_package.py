@@ -210,7 +210,8 @@ class Queue(unittest.TestCase):
         client.get(DEVICE, 1)
         with self.assertRaises(wurstlinen.Full) as raised:
             client.get(DEVICE, 1)
-        self.assertEqual((raised.exception.code, str(raised.exception)), (20, "the client's places are taken"))
+        text = "the client's places or four discoveries are taken, or no number is left"
+        self.assertEqual((raised.exception.code, str(raised.exception)), (20, text))
         controller.pause()
         self.assertTrue(controller.is_paused() and controller.take() is None)
         controller.resume()

@@ -75,6 +75,8 @@ pub extern "C" fn wurst_session_entry(
         result ≡ BUFFER_TOO_SMALL → entry.new.len ≡ length (bytes_of_entry e) }
     ensures written { handle.old.is_open ≡ true → (e : Entry) → slice_get handle.old.value.entries index ≡ Some e →
         result ≡ DONE → (entry.new ≡ form_of_entry e) × (take entry.new.len buffer.new ≡ bytes_of_entry e) }
+    ensures only_len { handle.old.is_open ≡ true → result ≡ BUFFER_TOO_SMALL →
+        entry.new ≡ record entry.old { len = entry.new.len } }
     ensures none { handle.old.is_open ≡ true → result ≡ NO_ENTRY → entry.new ≡ entry.old }
     ensures unchanged { handle.old.is_open ≡ true → result ≢ DONE → buffer.new ≡ buffer.old }
 {
@@ -179,6 +181,8 @@ pub extern "C" fn wurst_log_entry(
         result ≡ BUFFER_TOO_SMALL → entry.new.len ≡ length (bytes_of_entry e) }
     ensures written { handle.old.is_open ≡ true → (e : Entry) → slice_get handle.old.value.entries index ≡ Some e →
         result ≡ DONE → (entry.new ≡ form_of_entry e) × (take entry.new.len buffer.new ≡ bytes_of_entry e) }
+    ensures only_len { handle.old.is_open ≡ true → result ≡ BUFFER_TOO_SMALL →
+        entry.new ≡ record entry.old { len = entry.new.len } }
     ensures none { handle.old.is_open ≡ true → result ≡ NO_ENTRY → entry.new ≡ entry.old }
     ensures unchanged { handle.old.is_open ≡ true → result ≢ DONE → buffer.new ≡ buffer.old }
 {

@@ -19,7 +19,7 @@ ghost use Rattle.rdm_queue.specs.promises.Lengths.{oldest_length};
 ghost use Rattle.rdm_handles.specs.Forms.{setup_of, request_status, request_of, kind_of};
 ghost use Rattle.rdm_handles.specs.Forms.{form_of_completion, form_of_end, form_of_device};
 ghost use Rattle.rdm_handles.specs.Answers.{join_answer, submit_answer, ask_answer, collect_status, oldest_status};
-ghost use Rattle.rdm_handles.specs.Answers.{number_of_outcome_kind};
+ghost use Rattle.rdm_handles.specs.Answers.{number_of_outcome_kind, join_fault_of, submit_fault_of, ask_fault_of};
 ghost use Rattle.rdm_handles.specs.Sessions.{open_status, full_status};
 
 use rdm_handles::status::{
@@ -87,6 +87,7 @@ pub extern "C" fn wurst_session_join(
     ensures stays { handle.new.is_open ≡ handle.old.is_open }
     ensures adds { handle.old.is_open ≡ true → GrowsBy handle.old.value
         (JoinLogs handle.old.value places (join_answer result client.new)) handle.new.value }
+    ensures statuses { handle.old.is_open ≡ true → join_fault_of result ≡ None → result ≡ DONE }
     ensures legal { handle.old.is_open ≡ true → Legal handle.new.value.opening handle.new.value.entries }
     ensures unchanged { handle.old.is_open ≡ true → result ≢ DONE → client.new ≡ client.old }
 {
@@ -116,6 +117,8 @@ pub extern "C" fn wurst_session_submit(
         GrowsBy handle.old.value
         (SubmitLogs handle.old.value (record { 0 = client }) (request_of request.now param_bytes.now)
         (submit_answer result number.new (request_of request.now param_bytes.now))) handle.new.value }
+    ensures statuses { handle.old.is_open ≡ true → request_status request.now param_bytes.now ≡ 0 →
+        submit_fault_of result ≡ None → result ≡ DONE }
     ensures legal { handle.old.is_open ≡ true → request_status request.now param_bytes.now ≡ 0 →
         Legal handle.new.value.opening handle.new.value.entries }
     ensures unchanged { handle.old.is_open ≡ true → result ≢ DONE → number.new ≡ number.old }
@@ -144,6 +147,7 @@ pub extern "C" fn wurst_session_discover(
     ensures adds { handle.old.is_open ≡ true → kind ≤ 1 → GrowsBy handle.old.value
         (DiscoverLogs handle.old.value (record { 0 = client }) (kind_of kind) (ask_answer result number.new))
         handle.new.value }
+    ensures statuses { handle.old.is_open ≡ true → kind ≤ 1 → ask_fault_of result ≡ None → result ≡ DONE }
     ensures legal { handle.old.is_open ≡ true → kind ≤ 1 →
         Legal handle.new.value.opening handle.new.value.entries }
     ensures unchanged { handle.old.is_open ≡ true → result ≢ DONE → number.new ≡ number.old }

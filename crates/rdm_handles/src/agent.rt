@@ -78,8 +78,9 @@ impl AgentHandle {
         Some(held.into_box())
     }
 
-    /// Puts a discovery into a closed handle. What an open one holds is never freed.
+    /// Puts a discovery into a closed handle. What an open one holds would never be freed.
     pub fn put(&mut self, held: Box<Discovery>)
+        requires closed { self.old.is_open ≡ false }
         ensures open { self.new.is_open ≡ true }
         ensures value { self.new.value ≡ held.value }
     {

@@ -25,6 +25,7 @@ pub fn read(log: &Log, index: usize, form: &mut EntryForC, buffer: &mut [u8]) ->
         form.new.len ≡ length (bytes_of_entry e) }
     ensures written { (e : Entry) → slice_get log.now.entries index ≡ Some e → result ≡ DONE →
         (form.new ≡ form_of_entry e) × (take form.new.len buffer.new ≡ bytes_of_entry e) }
+    ensures only_len { result ≡ BUFFER_TOO_SMALL → form.new ≡ record form.old { len = form.new.len } }
     ensures none { result ≡ NO_ENTRY → form.new ≡ form.old }
     ensures unchanged { result ≢ DONE → buffer.new ≡ buffer.old }
 {

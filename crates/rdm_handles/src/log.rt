@@ -78,8 +78,9 @@ impl LogHandle {
         Some(held.into_box())
     }
 
-    /// Puts a log into a closed handle. What an open one holds is never freed.
+    /// Puts a log into a closed handle. What an open one holds would never be freed.
     pub fn put(&mut self, held: Box<Log>)
+        requires closed { self.old.is_open ≡ false }
         ensures open { self.new.is_open ≡ true }
         ensures value { self.new.value ≡ held.value }
     {

@@ -18,7 +18,7 @@ ghost use Rattle.rdm_queue.specs.promises.Lengths.{oldest_length};
 ghost use Rattle.rdm_handles.specs.Forms.{setup_of, request_status, request_of, kind_of};
 ghost use Rattle.rdm_handles.specs.Forms.{form_of_completion, form_of_end, form_of_device};
 ghost use Rattle.rdm_handles.specs.Answers.{join_answer, submit_answer, ask_answer, collect_status, oldest_status};
-ghost use Rattle.rdm_handles.specs.Answers.{number_of_outcome_kind};
+ghost use Rattle.rdm_handles.specs.Answers.{number_of_outcome_kind, join_fault_of, submit_fault_of, ask_fault_of};
 ghost use Rattle.rdm_handles.specs.Sessions.{open_status, full_status, rotate_status};
 
 use crate::convert::{
@@ -62,6 +62,7 @@ pub fn open(alloc: Global, setup: &SetupForC, entries: usize) -> Result<Session,
 /// Lets a client join, and writes its number.
 pub fn join(session: &mut Session, alloc: Global, places: u8, client: &mut u8) -> u32
     ensures adds { GrowsBy session.old (JoinLogs session.old places (join_answer result client.new)) session.new }
+    ensures statuses { join_fault_of result ≡ None → result ≡ DONE }
     ensures legal { Legal session.new.opening session.new.entries }
     ensures unchanged { result ≢ DONE → client.new ≡ client.old }
 {
@@ -87,6 +88,8 @@ pub fn submit(
     ensures adds { request_status request.now param_bytes.now ≡ 0 → GrowsBy session.old
         (SubmitLogs session.old (record { 0 = client }) (request_of request.now param_bytes.now)
         (submit_answer result number.new (request_of request.now param_bytes.now))) session.new }
+    ensures statuses { request_status request.now param_bytes.now ≡ 0 → submit_fault_of result ≡ None →
+        result ≡ DONE }
     ensures legal { request_status request.now param_bytes.now ≡ 0 → Legal session.new.opening session.new.entries }
     ensures unchanged { result ≢ DONE → number.new ≡ number.old }
 {
@@ -108,6 +111,7 @@ pub fn discover(session: &mut Session, client: u8, kind: u32, number: &mut u64) 
     ensures bad { 1 < kind → (result ≡ BAD_KIND) × (session.new ≡ session.old) }
     ensures adds { kind ≤ 1 → GrowsBy session.old
         (DiscoverLogs session.old (record { 0 = client }) (kind_of kind) (ask_answer result number.new)) session.new }
+    ensures statuses { kind ≤ 1 → ask_fault_of result ≡ None → result ≡ DONE }
     ensures legal { kind ≤ 1 → Legal session.new.opening session.new.entries }
     ensures unchanged { result ≢ DONE → number.new ≡ number.old }
 {

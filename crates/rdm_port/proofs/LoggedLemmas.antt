@@ -7,7 +7,7 @@ use Rattle.rdm_serving.specs.Report.{line_of}
 use Rattle.rdm_serving.specs.Writing.{IsCutShort, IsWritten, LogState, LogsFrom, Logs}
 use Rattle.rdm_serving.proofs.WritingLemmas.{kept_appends}
 use Rattle.rdm_port.specs.Fault.{fault_line, fault_status}
-use Rattle.rdm_port.specs.Outcome.{Answers, IsLogged, IsLoggedWith, IsPrinted, has_log}
+use Rattle.rdm_port.specs.Outcome.{Answers, IsLogUnreported, IsLogged, IsLoggedWith, IsPrinted, has_log}
 use Rattle.rdm_port.specs.Words.{keeps_log}
 use Rattle.rdm_port.specs.body.Logged.{IsOpened, IsTold, HasLogged, failed_or, status_after}
 use Rattle.rdm_port.specs.body.Texts.{answer_bytes}
@@ -15,6 +15,7 @@ use Rattle.rdm_port.specs.declared.answer.Answered.{Answered}
 use Rattle.rdm_port.specs.declared.fault.Fault.{Fault}
 use Rattle.rdm_port.specs.declared.fault.Fault.TheVariants.{Memory}
 use Rattle.rdm_port.specs.declared.job.Job.{Job}
+use Rattle.rdm_port.specs.declared.job.Job.TheVariants.{Decode, Encode, Discover, Run}
 use Rattle.rdm_port.specs.declared.job.WordsFault.{WordsFault}
 
 -- what is written to a writer whose bytes were kept before
@@ -66,24 +67,24 @@ settled_log true old new text status written = by_failed new.is_failed written
 
 -- an answer or a fault that is printed, after its log
 pub printed_after : {E : Type 0} (r : Result Answered (Fault × E)) (Done : List ℕ → List ℕ → ℕ → Type 0) (Failed : Fault → Type 0)
-    (wanted : Bool) (old new : LogState) (was is : Option (List ℕ)) (result : ℕ)
+    (With : Fault → List ℕ → Type 0) (wanted : Bool) (old new : LogState) (was is : Option (List ℕ)) (result : ℕ)
     → IfOk r (λ a. (logged : List ℕ) × Done (answer_bytes a.text) logged a.status × HasLogged wanted old new logged)
     → IfErr r (λ e. Failed e.0)
-    → IfErr r (λ e. (logged : List ℕ) × IsLoggedWith e.0 logged × HasLogged wanted old new logged)
+    → IfErr r (λ e. (logged : List ℕ) × With e.0 logged × HasLogged wanted old new logged)
     → IfOk r (λ a. IsPrinted was is (answer_bytes a.text) (status_after new a.status) result)
     → IfErr r (λ e. IsPrinted was is (line_of (fault_line e.0)) (status_after new (fault_status e.0)) result)
     → (text logged : List ℕ) × (status told : ℕ)
     × (Done text logged status ⊎ ((fault : Fault) × Failed fault × (text ≡ line_of (fault_line fault))
-    × IsLoggedWith fault logged × (status ≡ fault_status fault)))
+    × With fault logged × (status ≡ fault_status fault)))
     × IsLogged wanted old.contents new.contents logged status told × IsPrinted was is text told result
-printed_after (Ok a) Done Failed wanted old new was is result (logged, done, has) _ _ printed _ =
+printed_after (Ok a) Done Failed With wanted old new was is result (logged, done, has) _ _ printed _ =
     (answer_bytes a.text, logged, a.status, status_after new a.status, inl done, settled_log wanted old new logged a.status has, printed)
-printed_after (Err e) Done Failed wanted old new was is result _ failed (logged, with, has) _ printed = (
+printed_after (Err e) Done Failed With wanted old new was is result _ failed (logged, kept, has) _ printed = (
   line_of (fault_line e.0),
   logged,
   fault_status e.0,
   status_after new (fault_status e.0),
-  inr (e.0, failed, refl, with, refl),
+  inr (e.0, failed, refl, kept, refl),
   settled_log wanted old new logged (fault_status e.0) has,
   printed,
 )
@@ -95,16 +96,24 @@ pub done_unlogged : {E : Type 0} (r : Result Answered (Fault × E)) (command : R
 done_unlogged (Err e) command job known log is sound done = tt
 done_unlogged (Ok a) command job known log is sound done = ([], (job, is, done), same_logged (has_log command) log log sound refl)
 
+-- each fault may come before anything is logged
+pub none_logged : (command : Result Job WordsFault) (known : Option (List ℕ)) (fault : Fault) → IsLoggedWith command known fault []
+none_logged (Ok (Decode digits)) known fault = refl
+none_logged (Ok (Encode uid)) known fault = refl
+none_logged (Ok (Discover file incremental quick log)) known fault = inl refl
+none_logged (Ok (Run file port log)) known fault = refl
+none_logged (Err refusal) known fault = refl
+
 -- a fault without a log
-pub fault_unlogged : {E : Type 0} (r : Result Answered (Fault × E)) (wanted : Bool) (log : LogState) → log.is_failed ≡ false
-    → IfErr r (λ e. (logged : List ℕ) × IsLoggedWith e.0 logged × HasLogged wanted log log logged)
-fault_unlogged (Err e) wanted log sound = ([], inl refl, same_logged wanted log log sound refl)
-fault_unlogged (Ok a) wanted log sound = tt
+pub fault_unlogged : {E : Type 0} (r : Result Answered (Fault × E)) (command : Result Job WordsFault) (known : Option (List ℕ)) (log : LogState) → log.is_failed ≡ false
+    → IfErr r (λ e. (logged : List ℕ) × IsLoggedWith command known e.0 logged × HasLogged (has_log command) log log logged)
+fault_unlogged (Err e) command known log sound = ([], none_logged command known e.0, same_logged (has_log command) log log sound refl)
+fault_unlogged (Ok a) command known log sound = tt
 
 -- a fault after which nothing was logged
 pub fault_logged_none : {E : Type 0} (r : Result Answered (Fault × E)) (wanted : Bool) (old new : LogState) → OnErr r (HasLogged wanted old new [])
-    → IfErr r (λ e. (logged : List ℕ) × IsLoggedWith e.0 logged × HasLogged wanted old new logged)
-fault_logged_none (Err e) wanted old new has = ([], inl refl, has)
+    → IfErr r (λ e. (logged : List ℕ) × (logged ≡ []) × HasLogged wanted old new logged)
+fault_logged_none (Err e) wanted old new has = ([], refl, has)
 fault_logged_none (Ok a) wanted old new has = tt
 
 -- an answer to a job, with its log
@@ -115,6 +124,18 @@ pub done_logged : {E : Type 0} (r : Result Answered (Fault × E)) (command : Res
 done_logged (Err e) command job known wanted old new is keeps done = tt
 done_logged (Ok a) command job known wanted old new is keeps (logged, done, has) =
     (logged, (job, is, done), subst (λ c. HasLogged (has_log c) old new logged) (sym is) (subst (λ w. HasLogged w old new logged) keeps has))
+
+-- a fault of a job, with its log
+pub fault_logged : {E : Type 0} (r : Result Answered (Fault × E)) (command : Result Job WordsFault) (job : Job) (known : Option (List ℕ)) (wanted : Bool) (old new : LogState)
+    → command ≡ Ok job → wanted ≡ keeps_log job
+    → IfErr r (λ e. (logged : List ℕ) × IsLoggedWith (Ok job) known e.0 logged × HasLogged wanted old new logged)
+    → IfErr r (λ e. (logged : List ℕ) × IsLoggedWith command known e.0 logged × HasLogged (has_log command) old new logged)
+fault_logged (Ok a) command job known wanted old new is keeps failed = tt
+fault_logged (Err e) command job known wanted old new is keeps (logged, kept, has) = (
+  logged,
+  subst (λ c. IsLoggedWith c known e.0 logged) (sym is) kept,
+  subst (λ c. HasLogged (has_log c) old new logged) (sym is) (subst (λ w. HasLogged w old new logged) keeps has),
+)
 
 -- what is told of an answer, and then printed
 pub told_printed : (told after : Answered) (log : LogState) (was is : Option (List ℕ)) (text : List ℕ) (status result : ℕ) → IsTold told text status
@@ -139,11 +160,30 @@ fault_printed (Ok a) told after log was is result of text_kept status_kept print
 fault_printed (Err e) told after log was is result of text_kept status_kept printed =
     told_printed told after log was is (line_of (fault_line e.0)) (fault_status e.0) result of text_kept status_kept printed
 
--- memory that ran out after a text was logged
-pub memory_logged : {E : Type 0} (r : Result Answered (Fault × E)) (wanted : Bool) (old mid new : LogState) (text : List ℕ) → IsOpened wanted old mid → Logs mid new text
-    → IfErr r (λ e. e.0 ≡ Memory) → IfErr r (λ e. (logged : List ℕ) × IsLoggedWith e.0 logged × HasLogged wanted old new logged)
-memory_logged (Ok a) wanted old mid new text opened logs memory = tt
-memory_logged (Err e) wanted old mid new text opened logs memory = (text, inr memory, opened_then wanted old mid new text opened logs)
+-- a discovery that fails before its log is opened
+pub unreported_unlogged : (Reports : List ℕ → List ℕ → ℕ → Type 0) (fault : Fault) (wanted : Bool) (log : LogState) → log.is_failed ≡ false
+    → (logged : List ℕ) × IsLogUnreported Reports fault logged × HasLogged wanted log log logged
+unreported_unlogged Reports fault wanted log sound = ([], inl refl, same_logged wanted log log sound refl)
+
+-- a run that is logged, whose report is printed
+pub report_logged : {E : Type 0} (r : Result Answered (Fault × E)) (Reports : List ℕ → List ℕ → ℕ → Type 0) (text logged : List ℕ) (status : ℕ)
+    (wanted : Bool) (old mid new : LogState) → IsOpened wanted old mid → Logs mid new logged → Reports text logged status
+    → IfOk r (λ a. answer_bytes a.text ≡ text) → IfOk r (λ a. a.status ≡ status)
+    → IfOk r (λ a. (written : List ℕ) × Reports (answer_bytes a.text) written a.status × HasLogged wanted old new written)
+report_logged (Err e) Reports text logged status wanted old mid new opened logs reports printed ended = tt
+report_logged (Ok a) Reports text logged status wanted old mid new opened logs reports printed ended = (
+  logged,
+  subst (λ t. Reports t logged a.status) (sym printed) (subst (λ s. Reports text logged s) (sym ended) reports),
+  opened_then wanted old mid new logged opened logs,
+)
+
+-- a run that is logged, whose report finds no memory
+pub memory_logged : {E : Type 0} (r : Result Answered (Fault × E)) (Reports : List ℕ → List ℕ → ℕ → Type 0) (text logged : List ℕ) (status : ℕ)
+    (wanted : Bool) (old mid new : LogState) → IsOpened wanted old mid → Logs mid new logged → Reports text logged status
+    → IfErr r (λ e. e.0 ≡ Memory) → IfErr r (λ e. (written : List ℕ) × IsLogUnreported Reports e.0 written × HasLogged wanted old new written)
+memory_logged (Ok a) Reports text logged status wanted old mid new opened logs reports memory = tt
+memory_logged (Err e) Reports text logged status wanted old mid new opened logs reports memory =
+    (logged, inr (memory, text, status, reports), opened_then wanted old mid new logged opened logs)
 
 -- a log whose contents aren't known
 pub unknown_log : (wanted : Bool) (new : Option (List ℕ)) (text : List ℕ) (status result : ℕ) → IsLogged wanted None new text status result → IsLogged wanted None None text status result

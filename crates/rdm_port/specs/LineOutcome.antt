@@ -10,7 +10,7 @@ use Rattle.rdm_line.specs.Events.{Exchange}
 use Rattle.rdm_files.specs.LineSessionFiles.{IsLineSessionFile}
 use Rattle.rdm_files.specs.declared.session.line_file.LineSessionFile.{LineSessionFile}
 use Rattle.rdm_port.specs.Fault.{IsRunFault, ReadsSession, fault_line, fault_status}
-use Rattle.rdm_port.specs.Outcome.{HasServed, IsLoggedWith, kind_of, search_of}
+use Rattle.rdm_port.specs.Outcome.{HasServed, IsLogUnreported, kind_of, search_of}
 use Rattle.rdm_port.specs.declared.fault.Fault.{Fault}
 use Rattle.rdm_port.specs.declared.fault.Fault.TheVariants.{Uid, File, Memory}
 use Rattle.rdm_port.specs.Words.{path_text}
@@ -74,7 +74,7 @@ abbrev pub IsLineOutcome : (L : Type 0) → (L → Exchange → L → Type 0) �
 IsLineOutcome L step opens job text logged status =
     DiscoversOnLine L step opens job text logged status
     ⊎ ((fault : Fault) × IsLineFault job fault × (text ≡ line_of (fault_line fault))
-    × IsLoggedWith fault logged × (status ≡ fault_status fault))
+    × IsLogUnreported (DiscoversOnLine L step opens job) fault logged × (status ≡ fault_status fault))
 
 -- the texts have the outcomes and the log of the session that the file's bytes encode, and a line was opened by the
 -- paths of its streams
@@ -86,10 +86,10 @@ pub record RunsOnLine (L : Type 0) (opens : Text → Text → L → Type 0) (job
   pub reads : ReadsSession LineSessionFile IsLineSessionFile known file
   pub served : HasServed file.clients.items text logged status
 
--- the texts and the status that answer a session on a line
+-- the texts and the status that answer a session on a line; with a fault nothing is logged
 abbrev pub IsLineRunOutcome : (L : Type 0) → (Text → Text → L → Type 0) → LineRun → Option (List ℕ)
     → List ℕ → List ℕ → ℕ → Type 0
 IsLineRunOutcome L opens job known text logged status =
     RunsOnLine L opens job known text logged status
     ⊎ ((fault : Fault) × IsRunFault LineSessionFile IsLineSessionFile known fault × (text ≡ line_of (fault_line fault))
-    × IsLoggedWith fault logged × (status ≡ fault_status fault))
+    × (logged ≡ []) × (status ≡ fault_status fault))

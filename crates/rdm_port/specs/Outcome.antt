@@ -104,16 +104,27 @@ Answers (Discover file incremental quick log) known text logged status =
     Discovers incremental quick known text logged status
 Answers (Run file port log) known text logged status = Runs known text logged status
 
--- with a fault nothing is logged, except that a discovery has logged its exchanges if there is no memory for its report
-abbrev pub IsLoggedWith : Fault → List ℕ → Type 0
-IsLoggedWith fault logged = (logged ≡ []) ⊎ (fault ≡ Memory)
+-- What a discovery logs with a fault: nothing, or the exchanges of its run if there is no memory for the report.
+-- `Reports` relates a run's report, its exchanges and its status.
+abbrev pub IsLogUnreported : (List ℕ → List ℕ → ℕ → Type 0) → Fault → List ℕ → Type 0
+IsLogUnreported Reports fault logged =
+    (logged ≡ []) ⊎ ((fault ≡ Memory) × (text : List ℕ) × (status : ℕ) × Reports text logged status)
+
+-- what a command logs with a fault: nothing, except for a discovery whose report finds no memory
+abbrev pub IsLoggedWith : Result Job WordsFault → Option (List ℕ) → Fault → List ℕ → Type 0
+IsLoggedWith (Ok (Decode digits)) known fault logged = logged ≡ []
+IsLoggedWith (Ok (Encode uid)) known fault logged = logged ≡ []
+IsLoggedWith (Ok (Discover file incremental quick log)) known fault logged =
+    IsLogUnreported (Discovers incremental quick known) fault logged
+IsLoggedWith (Ok (Run file port log)) known fault logged = logged ≡ []
+IsLoggedWith (Err refusal) known fault logged = logged ≡ []
 
 -- the texts and the status that answer a command
 abbrev pub IsOutcome : Result Job WordsFault → Option (List ℕ) → List ℕ → List ℕ → ℕ → Type 0
 IsOutcome command known text logged status =
     ((job : Job) × (command ≡ Ok job) × Answers job known text logged status)
     ⊎ ((fault : Fault) × IsFaultOf command known fault × (text ≡ line_of (fault_line fault))
-    × IsLoggedWith fault logged × (status ≡ fault_status fault))
+    × IsLoggedWith command known fault logged × (status ≡ fault_status fault))
 
 -- whether a job has a log
 abbrev pub has_log : Result Job WordsFault → Bool

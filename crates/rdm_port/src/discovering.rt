@@ -2,7 +2,7 @@
 ghost use Rattle.std.specs.Prelude.{◌≡◌, ◌⊎◌, ℕ, List, IfOk, IfErr, false, is_some};
 ghost use Rattle.serde_json.specs.Errors.{IsMemory};
 ghost use Rattle.rdm_port.specs.Fault.{ReadsScene, SaysScene, IsFileFault, IsTextFault};
-ghost use Rattle.rdm_port.specs.Outcome.{Discovers, IsLoggedWith, kind_of, search_of};
+ghost use Rattle.rdm_port.specs.Outcome.{Discovers, IsLogUnreported, kind_of, search_of};
 ghost use Rattle.rdm_port.specs.body.Logged.{HasLogged};
 ghost use Rattle.rdm_port.specs.body.Texts.{answer_bytes};
 ghost use Rattle.rdm_serving.specs.Report.{report_text, report_status};
@@ -43,7 +43,8 @@ pub fn answer_discover<'a, R: Read, G: OpensLog, P: Progress>(
         × Discovers incremental quick (R.remaining reader.old) (answer_bytes a.text) logged a.status
         × HasLogged (is_some log_path.entry) log.old log.new logged) }
     ensures fault { IfErr result (λ e. (e.0 ≡ Fault.Memory) ⊎ IsFileFault (R.remaining reader.old) e.0) }
-    ensures logged { IfErr result (λ e. (logged : List ℕ) × IsLoggedWith e.0 logged
+    ensures logged { IfErr result (λ e. (logged : List ℕ)
+        × IsLogUnreported (Discovers incremental quick (R.remaining reader.old)) e.0 logged
         × HasLogged (is_some log_path.entry) log.old log.new logged) }
 {
     let file = match scene_file(alloc, path, reader, progress) {

@@ -1,7 +1,7 @@
 //! What is printed for a discovery or a session on a line, its status, and the reason if it isn't done.
 ghost use Rattle.std.specs.Prelude.{◌≡◌, ◌⊎◌, ◌≤◌, ℕ, List, IfOk, IfErr, false, is_some, length};
 ghost use Rattle.rdm_port.specs.LineOutcome.{DiscoversOnLine, IsLineFault, IsLineOutcome, IsLineRunOutcome};
-ghost use Rattle.rdm_port.specs.Outcome.{IsLogged, IsLoggedWith, IsPrinted};
+ghost use Rattle.rdm_port.specs.Outcome.{IsLogUnreported, IsLogged, IsPrinted};
 ghost use Rattle.rdm_port.specs.body.Logged.{HasLogged};
 ghost use Rattle.rdm_port.specs.body.Texts.{answer_bytes};
 
@@ -129,7 +129,8 @@ fn answer_on_line<'a, L: Line + Drop, O: Opens<L>, G: OpensLog, P: Progress>(
         × DiscoversOnLine L L.step (O.opens opener.old) job.now (answer_bytes a.text) logged a.status
         × HasLogged (is_some job.now.log) log.old log.new logged) }
     ensures fault { IfErr result (λ e. IsLineFault job.now e.0) }
-    ensures logged { IfErr result (λ e. (logged : List ℕ) × IsLoggedWith e.0 logged
+    ensures logged { IfErr result (λ e. (logged : List ℕ)
+        × IsLogUnreported (DiscoversOnLine L L.step (O.opens opener.old) job.now) e.0 logged
         × HasLogged (is_some job.now.log) log.old log.new logged) }
 {
     let values = match values_of(job) {

@@ -157,7 +157,8 @@ fn answer<'a, R: Read, G: OpensLog, P: Progress + Send, T: Threads + Wait + Sync
         × ((j : Job) × (job.entry ≡ Ok j) × Answers j (R.remaining reader.old) (answer_bytes a.text) logged a.status)
         × HasLogged (has_log job.entry) log.old log.new logged) }
     ensures fault { IfErr result (λ e. IsFaultOf job.entry (R.remaining reader.old) e.0) }
-    ensures logged { IfErr result (λ e. (logged : List ℕ) × IsLoggedWith e.0 logged
+    ensures logged { IfErr result (λ e. (logged : List ℕ)
+        × IsLoggedWith job.entry (R.remaining reader.old) e.0 logged
         × HasLogged (has_log job.entry) log.old log.new logged) }
 {
     match job {
