@@ -37,11 +37,12 @@ class File:
 
 
 class Streams(enum.Enum):
-    """What the streams `out` and `replies` of a line are, and which of them its far end opens first."""
+    """What the streams of a line are, and which of two FIFOs its far end opens first."""
 
     FILES = "files"
     OUT_FIRST = "fifos, out first"
     REPLIES_FIRST = "fifos, replies first"
+    PIPES = "pipes"
     TERMINAL = "terminal"
 
 

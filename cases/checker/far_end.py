@@ -9,12 +9,14 @@ import tty
 from contextlib import contextmanager
 from functools import reduce
 from pathlib import Path
-from typing import Callable, Iterator, List, Set
+from typing import IO, Callable, Iterator, List, Optional, Set, Tuple
 
 from .case import FarEnd, Streams
 
 OUT = "out"
 REPLIES = "replies"
+# The descriptors of pipes, which nothing else has.
+OUT_DESCRIPTOR, REPLIES_DESCRIPTOR = 100, 101
 BRANCH, MUTE, UNMUTE = 1, 2, 3
 WAKE_SECONDS = 0.05
 
@@ -82,7 +84,8 @@ def attached(far_end: FarEnd, folder: Path) -> Iterator[Sent]:
     out, replies = folder / OUT, folder / REPLIES
     for path in (out, replies):
         path.unlink(missing_ok=True)
-    attach = {Streams.FILES: on_files, Streams.TERMINAL: on_terminal}.get(far_end.streams, on_fifos)
+    others = {Streams.FILES: on_files, Streams.PIPES: on_pipes, Streams.TERMINAL: on_terminal}
+    attach = others.get(far_end.streams, on_fifos)
     try:
         with attach(far_end, out, replies) as sent:
             yield sent
@@ -120,13 +123,41 @@ def on_fifos(far_end: FarEnd, out: Path, replies: Path) -> Iterator[Sent]:
 
 
 def serve_fifos(far_end: FarEnd, out: Path, replies: Path, sent: Sent) -> None:
-    """Opens both FIFOs, answers frames, and closes both."""
+    """Opens both FIFOs, and answers frames."""
     modes = [(out, "rb"), (replies, "wb")]
     if far_end.streams is Streams.REPLIES_FIRST:
         modes.reverse()
     opened = {path: open(path, mode, buffering=0) for path, mode in modes}
+    serve(far_end, opened[out], opened[replies], sent)
+
+
+def descriptors_of(far_end: Optional[FarEnd]) -> Tuple[int, ...]:
+    """Those that the program inherits."""
+    is_on_pipes = far_end is not None and far_end.streams is Streams.PIPES
+    return (OUT_DESCRIPTOR, REPLIES_DESCRIPTOR) if is_on_pipes else ()
+
+
+@contextmanager
+def on_pipes(far_end: FarEnd, _out: Path, _replies: Path) -> Iterator[Sent]:
+    """Two pipes, one end of each as a descriptor of the program."""
+    sent: Sent = []
+    (frames, out), (replies, writer) = os.pipe(), os.pipe()
+    for end, descriptor in ((out, OUT_DESCRIPTOR), (replies, REPLIES_DESCRIPTOR)):
+        os.dup2(end, descriptor, inheritable=False)
+        os.close(end)
+    streams = (os.fdopen(frames, "rb", buffering=0), os.fdopen(writer, "wb", buffering=0))
+    far = threading.Thread(target=serve, args=(far_end, *streams, sent), daemon=True)
+    far.start()
+    yield sent
+    for descriptor in descriptors_of(far_end):
+        os.close(descriptor)
+    far.join()
+
+
+def serve(far_end: FarEnd, frames: IO[bytes], writer: IO[bytes], sent: Sent) -> None:
+    """Answers frames, and closes both streams."""
     answer = answers_of(far_end)
-    with opened[out] as frames, opened[replies] as writer:
+    with frames, writer:
         for _ in range(far_end.most):
             line = frames.readline()
             if not line:

@@ -11,12 +11,13 @@ from typing import IO, Any, Dict, List, Tuple, Union
 
 from .case import LOG_NAME, Answer, Arguments, Case, File, Log, Output
 from .comparing import differences
-from .far_end import attached
+from .far_end import attached, descriptors_of
 
 SECONDS = 120
 MOST_SHOWN = 200
 NOBODY = 65534
 MODE_OF_ALL = 0o755
+MODE_OF_UNREADABLE = 0o222
 
 
 @dataclass(frozen=True)
@@ -91,6 +92,7 @@ class Runner:
                 stderr=self.errors,
                 timeout=SECONDS,
                 check=False,
+                pass_fds=descriptors_of(case.far_end),
                 **identity(case),
             )
         finally:
@@ -110,7 +112,7 @@ class Runner:
             path.parent.mkdir(parents=True, exist_ok=True)
             path.write_bytes(file.contents)
             if not file.is_readable:
-                path.chmod(0)
+                path.chmod(MODE_OF_UNREADABLE)
         self.files = files
 
 

@@ -1,4 +1,5 @@
 pub mod WordsLemmas
+mod CommandLemmas
 mod ComplaintLemmas
 mod LineLemmas
 mod LineWordLemmas

@@ -1,56 +1,46 @@
 -- The commands that arguments give on a line of the caller's own, as `clap` reads them.
 use Rattle.std.specs.Prelude.{◌≡◌, ◌≤◌, ℕ, List, [], Option, Some, None, codes, length, unwrap_or, true}
 use Rattle.std.specs.Str.Parse.{IsNumeral, digits_value, without_leading_plus}
-use Rattle.clap.specs.Words.{App, Row, Text, new_app, new_rule, with_rule, with_subcommand, subcommand_of, first_of}
+use Rattle.clap.specs.Words.{App, Row, Text, new_rule, with_rule, with_subcommand, subcommand_of, first_of}
 use Rattle.clap.specs.Words.{all_of, fault_of}
-use Rattle.clap.specs.declared.builder.action.ArgAction.TheVariants.{Append, SetTrue}
-use Rattle.rdm_port.specs.Words.{bare, is_set, path_text, port_in, texts_of, with_log}
+use Rattle.clap.specs.declared.builder.action.ArgAction.TheVariants.{Append}
+use Rattle.rdm_port.specs.Words.{bare, command_named, is_set, path_text, port_in, texts_of, with_log}
+use Rattle.rdm_port.specs.Words.{with_option, with_run_options}
 use Rattle.rdm_port.specs.declared.line_job.LineDiscovery.{LineDiscovery}
 use Rattle.rdm_port.specs.declared.line_job.LineRun.{LineRun}
 use Rattle.rdm_port.specs.declared.line_job.LineJob.{LineJob}
 use Rattle.rdm_port.specs.declared.line_job.LineJob.TheVariants.{Discover, Run}
 
+-- a command with one more option, which has to be given
+abbrev pub with_needed : App → Text → App
+with_needed command name = with_rule command (record (new_rule name) { long = Some name; required = true })
+
 -- a command with the streams of a line; the one for replies may be left out
 abbrev pub line_streams : Text → App
-line_streams name =
-    with_rule
-    (with_rule
-    (record (new_app name) { top = record (new_app name).top { disable_help_flag = true } })
-    (record (new_rule (codes "line")) { long = Some (codes "line"); required = true }))
-    (record (new_rule (codes "replies")) { long = Some (codes "replies") })
+line_streams name = with_option (with_needed (command_named name) (codes "line")) (codes "replies")
 
 -- the command that discovers the devices of a line, with the UIDs that it needs
 abbrev pub line_devices : App
 line_devices =
     with_rule
-    (with_rule
-    (line_streams (codes "discover"))
-    (record (new_rule (codes "source")) { long = Some (codes "source"); required = true }))
+    (with_needed (line_streams (codes "discover")) (codes "source"))
     (record (new_rule (codes "known")) { long = Some (codes "known"); action = Some Append })
 
 -- the same with its budget
 abbrev pub line_budget : App
-line_budget = with_rule line_devices (record (new_rule (codes "budget")) { long = Some (codes "budget") })
+line_budget = with_option line_devices (codes "budget")
 
 -- the whole command
 abbrev pub line_discover : App
-line_discover =
-    with_log
-    (with_rule
-    (with_rule
-    line_budget
-    (record (new_rule (codes "incremental")) { long = Some (codes "incremental"); action = Some SetTrue }))
-    (record (new_rule (codes "quick")) { long = Some (codes "quick"); action = Some SetTrue }))
+line_discover = with_run_options line_budget
 
 -- the command that runs a session: a file, a port and a log
 abbrev pub line_run : App
 line_run =
     with_log
-    (with_rule
-    (with_rule
-    (line_streams (codes "run"))
-    (record (new_rule (codes "file")) { required = true }))
-    (record (new_rule (codes "port")) { long = Some (codes "port") }))
+    (with_option
+    (with_rule (line_streams (codes "run")) (record (new_rule (codes "file")) { required = true }))
+    (codes "port"))
 
 -- the commands on a line
 abbrev pub line_commands : App

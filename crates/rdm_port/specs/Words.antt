@@ -11,12 +11,21 @@ use Rattle.rdm_port.specs.declared.job.Job.TheVariants.{Decode, Encode, Discover
 use Rattle.rdm_serving.specs.declared.port_kind.PortKind.{PortKind}
 use Rattle.rdm_serving.specs.declared.port_kind.PortKind.TheVariants.{Locked, Rings}
 
+-- a command of this name, before its arguments
+abbrev pub command_named : Text → App
+command_named name = record (new_app name) { top = record (new_app name).top { disable_help_flag = true } }
+
 -- a command with one argument
 abbrev pub one_argument : Text → Text → App
-one_argument name argument =
-    with_rule
-    (record (new_app name) { top = record (new_app name).top { disable_help_flag = true } })
-    (record (new_rule argument) { required = true })
+one_argument name argument = with_rule (command_named name) (record (new_rule argument) { required = true })
+
+-- a command with one more option, which takes a value
+abbrev pub with_option : App → Text → App
+with_option command name = with_rule command (record (new_rule name) { long = Some name })
+
+-- a command with one more flag
+abbrev pub with_flag : App → Text → App
+with_flag command name = with_rule command (record (new_rule name) { long = Some name; action = Some SetTrue })
 
 -- the program for `clap`, without its commands
 abbrev pub bare : App
@@ -31,25 +40,19 @@ bare = record (new_app (codes "wurstlinen")) {
 
 -- a command that may also have a log
 abbrev pub with_log : App → App
-with_log command = with_rule command (record (new_rule (codes "log")) { long = Some (codes "log") })
+with_log command = with_option command (codes "log")
+
+-- a command that discovers devices, with two flags and a log
+abbrev pub with_run_options : App → App
+with_run_options command = with_log (with_flag (with_flag command (codes "incremental")) (codes "quick"))
 
 -- the command with a file, two flags and a log
 abbrev pub discover_words : App
-discover_words =
-    with_log
-    (with_rule
-    (with_rule
-    (one_argument (codes "discover") (codes "file"))
-    (record (new_rule (codes "incremental")) { long = Some (codes "incremental"); action = Some SetTrue }))
-    (record (new_rule (codes "quick")) { long = Some (codes "quick"); action = Some SetTrue }))
+discover_words = with_run_options (one_argument (codes "discover") (codes "file"))
 
 -- the command with a file, a port and a log
 abbrev pub run_words : App
-run_words =
-    with_log
-    (with_rule
-    (one_argument (codes "run") (codes "file"))
-    (record (new_rule (codes "port")) { long = Some (codes "port") }))
+run_words = with_log (with_option (one_argument (codes "run") (codes "file")) (codes "port"))
 
 -- the commands on one reply
 abbrev pub reply_commands : App

@@ -1,8 +1,10 @@
 //! The jobs that arguments give.
 ghost use Rattle.std.specs.Prelude.{◌≡◌, ◌≢◌, IfOk, IfSome, IfNone, Err, false, option_map};
-ghost use Rattle.clap.specs.Words.{app_of, with_subcommand, found_of, rows_of, subcommand_rows_of, kind_of};
+ghost use Rattle.clap.specs.Words.{app_of, with_rule, with_subcommand, found_of, rows_of, rule_of};
+ghost use Rattle.clap.specs.Words.{subcommand_rows_of, kind_of};
 ghost use Rattle.clap.specs.declared.builder.command.Command.TheViews.{out-Command as fields_of};
 ghost use Rattle.rdm_port.specs.Words.{Asks, AsksNothing, IsGiven, bare, commands, one_argument, discover_words};
+ghost use Rattle.rdm_port.specs.Words.{command_named, with_flag, with_option, with_run_options};
 ghost use Rattle.rdm_port.specs.Words.{reply_commands, run_words, port_in, port_named};
 ghost use Rattle.rdm_port.specs.Words.{is_set, file_of, log_of, path_text, with_log, texts_of};
 
@@ -143,9 +145,42 @@ fn subcommand<'a>(
     ensures app { IfOk result (λ command. app_of command ≡ one_argument name.now argument.now) }
     ensures local { IfOk result (λ command. (fields_of command).has_globals ≡ false) }
 {
-    Command::new(alloc, name)
-        .disable_help_flag(true)
-        .arg(Arg::new(alloc, argument).required(true))
+    let argument = Arg::new(alloc, argument).required(true);
+    with_argument(command_named(alloc, name), argument)
+}
+
+/// A command of this name, before its arguments.
+pub(crate) fn command_named<'a>(alloc: Global, name: &'a str) -> Command<'a>
+    ensures app { app_of result ≡ command_named name.now }
+    ensures local { (fields_of result).has_globals ≡ false }
+{
+    Command::new(alloc, name).disable_help_flag(true)
+}
+
+/// A command with one more argument.
+pub(crate) fn with_argument<'a>(
+    command: Command<'a>,
+    argument: Arg<'a>,
+) -> Result<Command<'a>, AllocError>
+    requires local { (fields_of command).has_globals ≡ false }
+    requires own { argument.global ≡ false }
+    ensures app { IfOk result (λ r. app_of r ≡ with_rule (app_of command.entry) (rule_of argument.entry)) }
+    ensures local { IfOk result (λ r. (fields_of r).has_globals ≡ false) }
+{
+    command.arg(argument)
+}
+
+/// A command with one more option, which takes a value.
+pub(crate) fn with_option<'a>(
+    alloc: Global,
+    command: Command<'a>,
+    name: &'a str,
+) -> Result<Command<'a>, AllocError>
+    requires { (fields_of command).has_globals ≡ false }
+    ensures app { IfOk result (λ r. app_of r ≡ with_option (app_of command.entry) name.now) }
+    ensures local { IfOk result (λ r. (fields_of r).has_globals ≡ false) }
+{
+    with_argument(command, Arg::new(alloc, name).long(name))
 }
 
 // The command that discovers devices: a file, the flags of an incremental run and of a quick one, and a log.
@@ -153,16 +188,36 @@ fn discover<'a>(alloc: Global) -> Result<Command<'a>, AllocError>
     ensures app { IfOk result (λ command. app_of command ≡ discover_words) }
     ensures local { IfOk result (λ command. (fields_of command).has_globals ≡ false) }
 {
-    let incremental = Arg::new(alloc, "incremental")
-        .long("incremental")
-        .action(ArgAction::SetTrue);
-    let quick = Arg::new(alloc, "quick")
-        .long("quick")
-        .action(ArgAction::SetTrue);
-    let discover = subcommand(alloc, "discover", "file")?
-        .arg(incremental)?
-        .arg(quick)?;
-    with_log(alloc, discover)
+    let discover = subcommand(alloc, "discover", "file")?;
+    with_run_options(alloc, discover)
+}
+
+/// A command that discovers devices, with the flags of an incremental run and of a quick one, and a log.
+pub(crate) fn with_run_options<'a>(
+    alloc: Global,
+    command: Command<'a>,
+) -> Result<Command<'a>, AllocError>
+    requires { (fields_of command).has_globals ≡ false }
+    ensures app { IfOk result (λ r. app_of r ≡ with_run_options (app_of command.entry)) }
+    ensures local { IfOk result (λ r. (fields_of r).has_globals ≡ false) }
+{
+    let incremental = with_flag(alloc, command, "incremental")?;
+    let quick = with_flag(alloc, incremental, "quick")?;
+    with_log(alloc, quick)
+}
+
+// A command with one more flag.
+fn with_flag<'a>(
+    alloc: Global,
+    command: Command<'a>,
+    name: &'a str,
+) -> Result<Command<'a>, AllocError>
+    requires { (fields_of command).has_globals ≡ false }
+    ensures app { IfOk result (λ r. app_of r ≡ with_flag (app_of command.entry) name.now) }
+    ensures local { IfOk result (λ r. (fields_of r).has_globals ≡ false) }
+{
+    let flag = Arg::new(alloc, name).long(name);
+    with_argument(command, flag.action(ArgAction::SetTrue))
 }
 
 // The command that runs a session: a file, which port its clients have, and a log.
@@ -170,8 +225,8 @@ fn run<'a>(alloc: Global) -> Result<Command<'a>, AllocError>
     ensures app { IfOk result (λ command. app_of command ≡ run_words) }
     ensures local { IfOk result (λ command. (fields_of command).has_globals ≡ false) }
 {
-    let port = Arg::new(alloc, "port").long("port");
-    let run = subcommand(alloc, "run", "file")?.arg(port)?;
+    let command = subcommand(alloc, "run", "file")?;
+    let run = with_option(alloc, command, "port")?;
     with_log(alloc, run)
 }
 
@@ -181,7 +236,7 @@ pub(crate) fn with_log<'a>(alloc: Global, command: Command<'a>) -> Result<Comman
     ensures app { IfOk result (λ r. app_of r ≡ with_log (app_of command.entry)) }
     ensures local { IfOk result (λ r. (fields_of r).has_globals ≡ false) }
 {
-    command.arg(Arg::new(alloc, "log").long("log"))
+    with_option(alloc, command, "log")
 }
 
 // The job of the command that was given.

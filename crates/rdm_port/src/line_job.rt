@@ -6,9 +6,12 @@ ghost use Rattle.clap.specs.declared.builder.command.Command.TheViews.{out-Comma
 ghost use Rattle.rdm_port.specs.Words.{texts_of};
 ghost use Rattle.rdm_port.specs.LineWords.{AsksOnLine, AsksNothingOnLine, IsGivenOnLine, IsDiscoveryOf, IsRunOf};
 ghost use Rattle.rdm_port.specs.LineWords.{IsBudget, line_commands, line_discover, line_run, line_budget, line_devices};
-ghost use Rattle.rdm_port.specs.LineWords.{line_streams, texts_given, file_on_line};
+ghost use Rattle.rdm_port.specs.LineWords.{line_streams, with_needed, texts_given, file_on_line};
 
-use crate::job::{WordsFault, bare, fault_of, has_flag, port_of, with_command, with_log};
+use crate::job::{
+    WordsFault, bare, command_named, fault_of, has_flag, port_of, with_argument, with_command,
+    with_log, with_option, with_run_options,
+};
 use clap::{Arg, ArgAction, ArgMatches, Command};
 use rdm_agent::DEFAULT_BUDGET;
 use rdm_serving::PortKind;
@@ -105,14 +108,7 @@ fn line_discover<'a>(alloc: Global) -> Result<Command<'a>, AllocError>
     ensures app { IfOk result (λ command. app_of command ≡ line_discover) }
     ensures local { IfOk result (λ command. (fields_of command).has_globals ≡ false) }
 {
-    let incremental = Arg::new(alloc, "incremental")
-        .long("incremental")
-        .action(ArgAction::SetTrue);
-    let quick = Arg::new(alloc, "quick")
-        .long("quick")
-        .action(ArgAction::SetTrue);
-    let discover = line_budget(alloc)?.arg(incremental)?.arg(quick)?;
-    with_log(alloc, discover)
+    with_run_options(alloc, line_budget(alloc)?)
 }
 
 // The command that runs a session on a line.
@@ -121,8 +117,8 @@ fn line_run<'a>(alloc: Global) -> Result<Command<'a>, AllocError>
     ensures local { IfOk result (λ command. (fields_of command).has_globals ≡ false) }
 {
     let file = Arg::new(alloc, "file").required(true);
-    let port = Arg::new(alloc, "port").long("port");
-    let run = line_streams(alloc, "run")?.arg(file)?.arg(port)?;
+    let command = with_argument(line_streams(alloc, "run")?, file)?;
+    let run = with_option(alloc, command, "port")?;
     with_log(alloc, run)
 }
 
@@ -131,8 +127,7 @@ fn line_budget<'a>(alloc: Global) -> Result<Command<'a>, AllocError>
     ensures app { IfOk result (λ command. app_of command ≡ line_budget) }
     ensures local { IfOk result (λ command. (fields_of command).has_globals ≡ false) }
 {
-    let budget = Arg::new(alloc, "budget").long("budget");
-    line_devices(alloc)?.arg(budget)
+    with_option(alloc, line_devices(alloc)?, "budget")
 }
 
 // The command with the UIDs that it needs.
@@ -140,11 +135,9 @@ fn line_devices<'a>(alloc: Global) -> Result<Command<'a>, AllocError>
     ensures app { IfOk result (λ command. app_of command ≡ line_devices) }
     ensures local { IfOk result (λ command. (fields_of command).has_globals ≡ false) }
 {
-    let source = Arg::new(alloc, "source").long("source").required(true);
-    let known = Arg::new(alloc, "known")
-        .long("known")
-        .action(ArgAction::Append);
-    line_streams(alloc, "discover")?.arg(source)?.arg(known)
+    let discover = with_needed(alloc, line_streams(alloc, "discover")?, "source")?;
+    let known = Arg::new(alloc, "known").long("known");
+    with_argument(discover, known.action(ArgAction::Append))
 }
 
 // A command with the streams of a line.
@@ -152,12 +145,22 @@ fn line_streams<'a>(alloc: Global, name: &'a str) -> Result<Command<'a>, AllocEr
     ensures app { IfOk result (λ command. app_of command ≡ line_streams name.now) }
     ensures local { IfOk result (λ command. (fields_of command).has_globals ≡ false) }
 {
-    let line = Arg::new(alloc, "line").long("line").required(true);
-    let replies = Arg::new(alloc, "replies").long("replies");
-    Command::new(alloc, name)
-        .disable_help_flag(true)
-        .arg(line)?
-        .arg(replies)
+    let command = with_needed(alloc, command_named(alloc, name), "line")?;
+    with_option(alloc, command, "replies")
+}
+
+// A command with one more option, which has to be given.
+fn with_needed<'a>(
+    alloc: Global,
+    command: Command<'a>,
+    name: &'a str,
+) -> Result<Command<'a>, AllocError>
+    requires { (fields_of command).has_globals ≡ false }
+    ensures app { IfOk result (λ r. app_of r ≡ with_needed (app_of command.entry) name.now) }
+    ensures local { IfOk result (λ r. (fields_of r).has_globals ≡ false) }
+{
+    let needed = Arg::new(alloc, name).long(name);
+    with_argument(command, needed.required(true))
 }
 
 // The job of the command that was given. Err: there is none, or there was no memory.

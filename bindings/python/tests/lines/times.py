@@ -1,18 +1,22 @@
-"""Measures what an exchange costs in Python: `python3 times.py`.
+"""Measures what an exchange costs: `python3 times.py [PROGRAM]`.
 
 Each figure is the median of nine runs of 500 GETs of a label: processor time of this process, and time that passed.
-The far end runs in a process of its own, so its work isn't in the first figure.
+The far end runs in a process of its own, so its work isn't in the first figure. Of PROGRAM it is the same for each
+exchange of a discovery, whose far end is here and gives recorded replies.
 """
 from __future__ import annotations
 
 import io
+import os
 import statistics
 import subprocess
 import sys
+import tempfile
 import time
 from typing import Callable, List, Tuple
 
-from common import PACKAGE, ROOT, Line, folder
+from common import PACKAGE, ROOT, Line, folder, random_scene
+from wurstlinen import Controller, Uid
 from wurstlinen.lines import EnttecPro, Rig, open_line, serve_text
 from wurstlinen.lines.packets import Packet
 
@@ -31,6 +35,30 @@ class Constant:
     def exchange(self, frame: bytes) -> bytes:
         """The reply."""
         return self._reply
+
+
+class Recorder:
+    """A line that keeps the replies of another."""
+
+    def __init__(self, line: Line) -> None:
+        self._line = line
+        self.replies: List[bytes] = []
+
+    def exchange(self, frame: bytes) -> bytes:
+        """The other line's reply."""
+        self.replies.append(self._line.exchange(frame))
+        return self.replies[-1]
+
+
+class Tape:
+    """A line that gives recorded replies in turn."""
+
+    def __init__(self, replies: List[bytes]) -> None:
+        self._replies = iter(replies)
+
+    def exchange(self, frame: bytes) -> bytes:
+        """The next reply."""
+        return next(self._replies)
 
 
 def measured(work: Callable[[], None]) -> Tuple[float, float]:
@@ -59,8 +87,48 @@ def gets(line: Line) -> Callable[[], None]:
     return work
 
 
+def run_controller(line: Line) -> None:
+    """So many GETs of a controller."""
+    with Controller(Uid.from_number(1)) as controller:
+        client = controller.join(EXCHANGES // 2)
+        for _ in range(2):
+            for _ in range(EXCHANGES // 2):
+                client.get(Uid.from_number(0x123400000001), 0x0082)
+            controller.run(line)
+            while client.next_completion():
+                pass
+
+
+def discovered(program: str, line: Line) -> Tuple[int, float, float]:
+    """How many exchanges a discovery of the program makes on a line, its processor seconds, and those that passed."""
+    with tempfile.TemporaryDirectory() as name:
+        frames, replies = os.path.join(name, "frames"), os.path.join(name, "replies")
+        for path in (frames, replies):
+            os.mkfifo(path)
+        began = time.perf_counter()
+        process = subprocess.Popen([program, "discover", "--line", frames, "--replies", replies,
+                                    "--source", "7ff0:00000001"], stdout=subprocess.DEVNULL)
+        with open(frames, "rb") as asked, open(replies, "wb") as answered:
+            served = serve_text(line, asked, answered)
+        _, process.returncode, usage = os.wait4(process.pid, 0)
+        return served, usage.ru_utime + usage.ru_stime, time.perf_counter() - began
+
+
+def show_program(program: str) -> None:
+    """Measures discoveries of the program, and prints a line."""
+    recorder = Recorder(Rig(random_scene(100, 0, 0.0)))
+    exchanges, *_ = discovered(program, recorder)
+    runs = [discovered(program, Tape(recorder.replies)) for _ in range(RUNS)]
+    used, passed = (statistics.median(run[at] for run in runs) * 1e6 / exchanges for at in (1, 2))
+    print(f"{f'discover --line over FIFOs, {exchanges} exchanges':<50} {used:6.1f} us of processor time, "
+          f"{passed:7.1f} us passed")
+
+
 def main() -> None:
-    """Measures each line."""
+    """Measures each line, and the program if there is one."""
+    for program in sys.argv[1:]:
+        show_program(program)
+    show("Controller.run with its calls, on a line of bytes", lambda: run_controller(Constant(b"")))
     reply = Rig(FIVE).exchange(GET)
     text = (GET.hex() + "\n").encode() * EXCHANGES
     show("Rig of five fixtures", gets(Rig(FIVE)))

@@ -1,4 +1,4 @@
-use Rattle.std.proofs.Common.{◌≡◌, ◌∙◌, ℕ, subst, refl, codes}
+use Rattle.std.proofs.Common.{◌∙◌, ℕ, subst, refl, codes}
 use Rattle.std.specs.Prelude.{IfSome, IfNone}
 use Rattle.clap.specs.Words.{found_of}
 use Rattle.clap.proofs.WalkLemmas.{first_value-rows}
