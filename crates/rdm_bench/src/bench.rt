@@ -28,10 +28,26 @@ pub fn holds(it: bool) -> Option<()> {
     if it { Some(()) } else { None }
 }
 
+impl<R> Bench<'_, R> {
+    /// How often all samples together repeat their work.
+    pub fn repeats(&self) -> usize {
+        self.rounds.wrapping_mul(SAMPLES)
+    }
+
+    // The work of a sample, and how many steps that were.
+    fn repeat<S: Sample>(&self, sample: &mut S) -> Option<u64> {
+        let mut steps: u64 = 0;
+        for _ in 0..self.rounds {
+            steps = steps.wrapping_add(sample.run()?);
+        }
+        Some(steps)
+    }
+}
+
 impl<R: CpuClock + Print + Eprint> Bench<'_, R> {
     /// Times this work of a subject. How many steps a sample has goes to standard output. The processor time of a step
     /// goes to standard error, in picoseconds: that of the sample in the middle, and that of the fastest one.
-    pub fn time<W: fmt::Debug + Copy, S: Sample>(
+    pub fn time<W: fmt::Display + Copy, S: Sample>(
         &self,
         subject: &str,
         work: W,
@@ -47,17 +63,8 @@ impl<R: CpuClock + Print + Eprint> Bench<'_, R> {
         }
         times.sort_unstable();
         let (least, middle) = (times[0], times[SAMPLES / 2]);
-        println!(rt; "{subject}, {work:?}: {steps}").ok()?;
-        eprintln!(rt; "{subject}, {work:?}: {middle} ps each, {least} at least").ok()
-    }
-
-    // The work of a sample, and how many steps that were.
-    fn repeat<S: Sample>(&self, sample: &mut S) -> Option<u64> {
-        let mut steps: u64 = 0;
-        for _ in 0..self.rounds {
-            steps = steps.wrapping_add(sample.run()?);
-        }
-        Some(steps)
+        println!(rt; "{subject}, {work}: {steps}").ok()?;
+        eprintln!(rt; "{subject}, {work}: {middle} ps each, {least} at least").ok()
     }
 
     // The processor time of this process so far, in nanoseconds.

@@ -4,7 +4,6 @@ ghost use Rattle.rdm_agent.specs.Calls.{next_op, fits};
 ghost use Rattle.rdm_agent.specs.declared.op.Op.TheVariants.{End};
 
 use crate::bench::{Bench, holds};
-use crate::devices::{Random, Spread, devices, uid_of};
 use rdm_agent::{Agent, AgentFault, DEFAULT_BUDGET, Kind, Op, OpReply, Search};
 use rdm_join::LineReply;
 use rdm_line::{
@@ -19,7 +18,7 @@ use rdm_wire::{
 use std::alloc::Global;
 
 /// What is wrong with a line.
-#[derive(Clone, Copy, Debug, PartialEq, Eq)]
+#[derive(Clone, Copy, Debug)]
 pub enum Wrong {
     /// Nothing.
     Nothing,
@@ -36,7 +35,7 @@ pub enum Wrong {
 }
 
 /// How a device breaks the rules.
-#[derive(Clone, Copy, Debug, PartialEq, Eq)]
+#[derive(Clone, Copy, Debug)]
 pub enum Odd {
     /// It replies to no mute.
     NeverMutes,
@@ -50,8 +49,8 @@ pub enum Odd {
 const MOST_EXCHANGES: u64 = 40_000;
 
 impl Wrong {
-    /// The device that breaks the rules, if there is one.
-    pub fn odd(self) -> Option<Uid> {
+    // The device that breaks the rules, if there is one.
+    fn odd(self) -> Option<Uid> {
         match self {
             Wrong::Odd(_, number) => Some(uid_of(number)),
             _ => None,
@@ -61,11 +60,9 @@ impl Wrong {
     // The exchanges whose replies are lost. A burst begins after the three unmutes.
     fn losses(self, alloc: Global, random: &mut Random) -> Option<Vec<u64>> {
         let mut losses = Vec::new(alloc);
-        let is_burst = matches!(self, Wrong::Burst(_));
-        let first = if is_burst {
-            random.below(40).wrapping_add(3)
-        } else {
-            0
+        let first = match self {
+            Wrong::Burst(_) => random.below(40).wrapping_add(3),
+            _ => 0,
         };
         let mut in_a_row: u64 = 0;
         for exchange in 0..MOST_EXCHANGES {
@@ -85,19 +82,17 @@ impl Wrong {
     // What comes of collisions: noise, or the text of a UID that isn't there.
     fn collisions(self, alloc: Global, random: &mut Random) -> Option<Vec<Collision>> {
         let mut collisions = Vec::new(alloc);
-        collisions.push(noise()?).ok()?;
-        if let Wrong::Phantom(many) = self {
-            collisions.clear();
-            for _ in 0..MOST_EXCHANGES {
-                let spells = random.below(many) == 0;
-                let uid = uid_of(if spells { random.next() >> 16 } else { 0 });
-                let collision = if spells {
-                    Collision::Uid(uid)
-                } else {
-                    noise()?
-                };
-                collisions.push(collision).ok()?;
-            }
+        let Wrong::Phantom(many) = self else {
+            collisions.push(noise()?).ok()?;
+            return Some(collisions);
+        };
+        for _ in 0..MOST_EXCHANGES {
+            let collision = if random.below(many) == 0 {
+                Collision::Uid(uid_of(random.next() >> 16))
+            } else {
+                noise()?
+            };
+            collisions.push(collision).ok()?;
         }
         Some(collisions)
     }
@@ -126,15 +121,15 @@ pub fn device_of(uid: Uid) -> Device
     }
 }
 
-/// Puts into a scene a device that stays.
-pub fn add(devices: &mut SceneDevices, uid: Uid, params: Parameters) -> Option<()> {
+// Puts into a scene a device that stays.
+fn add(alloc: Global, devices: &mut SceneDevices, uid: Uid) -> Option<()> {
     if uid.is_broadcast() {
         return None;
     }
     let device = SceneDevice {
         device: device_of(uid),
         preamble: 7,
-        params,
+        params: Parameters::new(Vec::new(alloc)),
         from: 0,
         until: None,
     };
@@ -142,7 +137,7 @@ pub fn add(devices: &mut SceneDevices, uid: Uid, params: Parameters) -> Option<(
 }
 
 /// What an operation asks.
-#[derive(Clone, Copy, Debug)]
+#[derive(Clone, Copy)]
 pub enum Asked {
     Unmute,
     Mute,
@@ -190,7 +185,7 @@ impl TestLine {
         let mut random = Random::new(seed);
         let mut devices = SceneDevices::new(alloc);
         for uid in good.iter().copied() {
-            add(&mut devices, uid, Parameters::new(Vec::new(alloc)))?;
+            add(alloc, &mut devices, uid)?;
         }
         let scene = Scene {
             source: controller(),
@@ -302,7 +297,10 @@ fn replied(odd: Odd, uid: Uid, range: UidRange, others: LineReply) -> Option<Lin
         return bytes_of(&[0xff]);
     }
     let text = write_branch_reply(uid, 7);
-    bytes_of(text.get(..if odd == Odd::TenBytes { 10 } else { 24 })?)
+    match odd {
+        Odd::TenBytes => bytes_of(text.get(..10)?),
+        Odd::NeverMutes | Odd::GoesOn => bytes_of(&text),
+    }
 }
 
 // Lines on which each run finds all devices.
@@ -343,15 +341,14 @@ impl Ends {
         let found = agent.found();
         let has_all = good.iter().all(|uid| found.contains(*uid));
         holds(found.iter().all(|device| good.contains(device.uid) || odd == Some(device.uid)))?;
-        match agent.fault() {
-            None if has_all => self.right = self.right.wrapping_add(1),
-            None => self.missing = self.missing.wrapping_add(1),
-            Some(AgentFault::Corrupt(_)) if has_all => {
-                self.corrupt_with_all = self.corrupt_with_all.wrapping_add(1);
-            }
-            Some(AgentFault::Corrupt(_)) => self.corrupt = self.corrupt.wrapping_add(1),
+        let count = match agent.fault() {
+            None if has_all => &mut self.right,
+            None => &mut self.missing,
+            Some(AgentFault::Corrupt(_)) if has_all => &mut self.corrupt_with_all,
+            Some(AgentFault::Corrupt(_)) => &mut self.corrupt,
             Some(_) => return None,
-        }
+        };
+        *count = count.wrapping_add(1);
         self.frames = self.frames.wrapping_add(agent.frames());
         Some(())
     }
@@ -391,14 +388,97 @@ fn print<R: Print>(
     let rt = bench.rt;
     let mut right: usize = 0;
     for search in [Search::Steady, Search::Quick] {
-        let mut ends = Ends::default();
-        for seed in 1..=bench.rounds as u64 {
-            let good = devices(size, spread, seed)?;
-            let agent = TestLine::new(bench.alloc, wrong, &good, seed)?.searched(search)?;
-            ends.add(&agent, &good, wrong.odd())?;
-        }
+        let ends = ends_of(bench, wrong, spread, size, search)?;
         println!(rt; "{spread:?}, {wrong:?}, {search:?}: {ends:?}").ok()?;
         right = right.wrapping_add(ends.right);
     }
     Some(right)
+}
+
+fn ends_of<R>(
+    bench: &Bench<'_, R>,
+    wrong: Wrong,
+    spread: Spread,
+    size: usize,
+    search: Search,
+) -> Option<Ends> {
+    let mut ends = Ends::default();
+    for seed in 1..=bench.rounds as u64 {
+        let good = devices(size, spread, seed)?;
+        let agent = TestLine::new(bench.alloc, wrong, &good, seed)?.searched(search)?;
+        ends.add(&agent, &good, wrong.odd())?;
+    }
+    Some(ends)
+}
+
+/// How their UIDs are spread.
+#[derive(Clone, Copy, Debug, PartialEq, Eq)]
+pub enum Spread {
+    /// Anywhere.
+    Random,
+    /// One after another, from 0: the search has to halve its ranges far down.
+    Consecutive,
+    /// Those of four makers, with serial numbers close together.
+    Close,
+}
+
+/// This many devices, others for each seed unless they are consecutive. Of the UIDs that are tried, a few are broadcast
+/// UIDs or in the set already.
+pub fn devices(count: usize, spread: Spread, seed: u64) -> Option<UidSet> {
+    let mut set = UidSet::new();
+    let mut random = Random::new(seed);
+    for place in 0..10_000 {
+        if set.len() == count {
+            return Some(set);
+        }
+        let uid = uid_of(match spread {
+            Spread::Random => random.next() >> 16,
+            Spread::Consecutive => place,
+            Spread::Close => close(&mut random, seed, count as u64),
+        });
+        holds(uid.is_broadcast() || set.insert(uid).is_ok())?;
+    }
+    None
+}
+
+// One of four makers, and a serial number among four times as many as there are devices.
+fn close(random: &mut Random, seed: u64, count: u64) -> u64 {
+    let maker = random.below(4).wrapping_add(seed) % 0x1_0000;
+    let serial = random.below(count.wrapping_mul(4)).wrapping_add(seed << 16) % 0x1_0000_0000;
+    (maker << 32) | serial
+}
+
+/// The UID with this number, below 2^48.
+pub fn uid_of(number: u64) -> Uid {
+    Uid::from_number(number).unwrap_or(Uid::new(0, 0))
+}
+
+/// A generator of numbers (xorshift64*).
+#[derive(Clone, Copy, Debug)]
+pub struct Random(u64);
+
+impl Random {
+    /// The generator of this seed.
+    pub fn new(seed: u64) -> Random {
+        let state = seed.wrapping_mul(0x9e37_79b9_7f4a_7c15);
+        let mut random = Random(state.wrapping_add(0x123_4567).max(1));
+        // The first few still show the seed.
+        for _ in 0..4 {
+            random.next();
+        }
+        random
+    }
+
+    /// The next number.
+    pub fn next(&mut self) -> u64 {
+        self.0 ^= self.0 >> 12;
+        self.0 ^= self.0 << 25;
+        self.0 ^= self.0 >> 27;
+        self.0.wrapping_mul(2_685_821_657_736_338_717)
+    }
+
+    /// The next number below this one; 0 below 0.
+    pub fn below(&mut self, most: u64) -> u64 {
+        self.next().checked_rem(most).unwrap_or(0)
+    }
 }

@@ -4,7 +4,7 @@
 
 mod agent;
 mod bench;
-mod devices;
+mod events;
 mod lines;
 mod packets;
 mod ports;
@@ -14,7 +14,7 @@ mod soak;
 mod views;
 
 use crate::bench::{Bench, holds};
-use crate::soak::PortKind;
+use crate::served::CLIENTS;
 use std::env::{self, Env};
 use std::process::ExitCode;
 use std::rt::Files;
@@ -23,17 +23,42 @@ use std::time::CpuClock;
 
 const USAGE: &str = "\
 usage: rdm_bench SUBJECT SIZE ROUNDS
-  agent        discovery runs over SIZE devices, 1 to 1024
-  calls        calls on packets with SIZE bytes of data, 1 to 231
-  queue        requests and discoveries of a queue in which SIZE requests wait, 1 to 4080
-  ports        requests with a mutex and with ring buffers, while SIZE wait, 1 to 8
-  views        views of SIZE devices, 1 to 1024, that sixteen clients read
-  frames       frames of both searches over SIZE devices, 1 to 1024, on ROUNDS honest lines of each kind
-  scenes       ends of both searches over SIZE devices, 1 to 1000, on ROUNDS lines of each kind that aren't honest
-  soak_locked  SIZE requests, 1 to 100000, of sixteen clients of each of ROUNDS ports with a mutex
-  soak_rings   the same with ring buffers
-  all          all of these with SIZE, 1 to 8; soaks with a hundred times as many requests
+  agent           discovery runs over SIZE devices, 1 to 1024
+  calls           calls on packets with SIZE bytes of data, 1 to 231
+  queue           requests and discoveries of a queue in which SIZE requests wait, 1 to 4080
+  controller      its requests without a log alone
+  session         its requests with a log alone
+  answer          the same by Session::answer
+  run             the same by Session::run
+  ports           requests with a mutex and with ring buffers, while SIZE wait, 1 to 8
+  port            those of sixteen clients with a mutex alone
+  rings           those of sixteen clients with ring buffers alone
+  port_discovery  discoveries of SIZE devices, 1 to 1024, with a mutex
+  ring_discovery  the same with ring buffers
+  views           views of SIZE devices, 1 to 1024, that sixteen clients read
+  frames          frames of both searches over SIZE devices, 1 to 1024, on ROUNDS honest lines of each kind
+  scenes          ends of both searches over SIZE devices, 1 to 1000, on ROUNDS lines of each kind that aren't honest
+  soak_locked     SIZE requests, 1 to 100000, of sixteen clients of each of ROUNDS ports with a mutex
+  soak_rings      the same with ring buffers
+  all             all of these with SIZE, 1 to 8; soaks with a hundred times as many requests
 ROUNDS: 1 to 1000; else how often each of the 21 samples repeats its work";
+
+// What `all` measures. The other subjects are among these.
+const ALL: [&str; 13] = [
+    "agent",
+    "calls",
+    "queue",
+    "answer",
+    "run",
+    "ports",
+    "port_discovery",
+    "ring_discovery",
+    "views",
+    "frames",
+    "scenes",
+    "soak_locked",
+    "soak_rings",
+];
 
 fn main(rt: HostRuntime) -> ExitCode {
     match run(&rt) {
@@ -57,14 +82,21 @@ fn run<R: Env + Files + AllocGlobal + CpuClock + Print + Eprint + Wait>(rt: &R) 
     let bench = Bench {
         rt,
         alloc: rt.alloc(),
-        rounds: number(rounds.as_str(), 1_000)?,
+        rounds: within(rounds.as_str().parse::<usize>().ok()?, 1_000)?,
     };
-    measure(&bench, subject.as_str(), size.as_str())
+    let size = size.as_str().parse::<usize>().ok()?;
+    if subject.as_str() != "all" {
+        return measure(&bench, subject.as_str(), size);
+    }
+    for subject in ALL {
+        let requests = if subject.starts_with("soak") { 100 } else { 1 };
+        measure(&bench, subject, within(size, 8)?.wrapping_mul(requests))?;
+    }
+    Some(())
 }
 
-// The number from 1 to this one that the text spells.
-fn number(text: &str, most: usize) -> Option<usize> {
-    let number = text.parse::<usize>().ok()?;
+// The number, if it is from 1 to this one.
+fn within(number: usize, most: usize) -> Option<usize> {
     holds(1 <= number && number <= most)?;
     Some(number)
 }
@@ -72,30 +104,26 @@ fn number(text: &str, most: usize) -> Option<usize> {
 fn measure<R: Files + AllocGlobal + CpuClock + Print + Eprint + Wait>(
     bench: &Bench<'_, R>,
     subject: &str,
-    size: &str,
+    size: usize,
 ) -> Option<()> {
     match subject {
-        "agent" => agent::time(bench, number(size, 1_024)?),
-        "calls" => packets::time(bench, number(size, 231)?),
-        "queue" => queue::time(bench, number(size, 4_080)?),
-        "ports" => ports::time(bench, number(size, 8)?),
-        "views" => views::time(bench, number(size, 1_024)?),
-        "frames" => lines::honest(bench, number(size, 1_024)?),
-        "scenes" => lines::dishonest(bench, number(size, 1_000)?),
-        "soak_locked" => soak::print(bench, PortKind::Locked, number(size, 100_000)? as u64),
-        "soak_rings" => soak::print(bench, PortKind::Rings, number(size, 100_000)? as u64),
-        "all" => {
-            let size = number(size, 8)?;
-            agent::time(bench, size)?;
-            packets::time(bench, size)?;
-            queue::time(bench, size)?;
-            ports::time(bench, size)?;
-            views::time(bench, size)?;
-            lines::honest(bench, size)?;
-            lines::dishonest(bench, size)?;
-            soak::print(bench, PortKind::Locked, (size as u64).wrapping_mul(100))?;
-            soak::print(bench, PortKind::Rings, (size as u64).wrapping_mul(100))
-        }
+        "agent" => agent::time(bench, within(size, 1_024)?),
+        "calls" => packets::time(bench, within(size, 231)?),
+        "queue" => queue::time(bench, within(size, 4_080)?),
+        "controller" => queue::time_requests(bench, false, false, within(size, 4_080)?),
+        "session" => queue::time_requests(bench, true, false, within(size, 4_080)?),
+        "answer" => events::time(bench, false, within(size, 4_080)?),
+        "run" => events::time(bench, true, within(size, 4_080)?),
+        "ports" => ports::time(bench, within(size, 8)?),
+        "port" => ports::time_requests(bench, true, CLIENTS, within(size, 8)?),
+        "rings" => ports::time_requests(bench, false, CLIENTS, within(size, 8)?),
+        "port_discovery" => ports::time_discoveries(bench, true, within(size, 1_024)?),
+        "ring_discovery" => ports::time_discoveries(bench, false, within(size, 1_024)?),
+        "views" => views::time(bench, within(size, 1_024)?),
+        "frames" => lines::honest(bench, within(size, 1_024)?),
+        "scenes" => lines::dishonest(bench, within(size, 1_000)?),
+        "soak_locked" => soak::print(bench, true, within(size, 100_000)? as u64),
+        "soak_rings" => soak::print(bench, false, within(size, 100_000)? as u64),
         _ => None,
     }
 }

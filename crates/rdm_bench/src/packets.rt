@@ -21,8 +21,8 @@ pub const TRANSACTION_NUMBER: usize = 15;
 /// The tag of the request that is timed.
 pub const TAG: u64 = 1;
 
-/// This many bytes of data, 231 at most.
-pub fn data(count: usize) -> Option<ArrayVec<u8, MOST_PARAMETER_BYTES>> {
+// This many bytes of data, 231 at most.
+fn data(count: usize) -> Option<ArrayVec<u8, MOST_PARAMETER_BYTES>> {
     let all = [0x5a; MOST_PARAMETER_BYTES];
     let mut data = ArrayVec::new();
     data.try_extend_from_slice(all.get(..count)?).ok()?;
@@ -112,7 +112,7 @@ fn cloned(reply: &LineReply) -> LineReply {
 }
 
 // What is called.
-#[derive(Clone, Copy, Debug)]
+#[derive(Clone, Copy)]
 enum Work {
     EncodeRequest,
     DecodeResponse,
@@ -122,13 +122,13 @@ enum Work {
     TryExtendFromSlice,
 }
 
-const WORKS: [Work; 6] = [
-    Work::EncodeRequest,
-    Work::DecodeResponse,
-    Work::Judge,
-    Work::ReadBranchReply,
-    Work::Clone,
-    Work::TryExtendFromSlice,
+const WORKS: [(&str, Work); 6] = [
+    ("EncodeRequest", Work::EncodeRequest),
+    ("DecodeResponse", Work::DecodeResponse),
+    ("Judge", Work::Judge),
+    ("ReadBranchReply", Work::ReadBranchReply),
+    ("Clone", Work::Clone),
+    ("TryExtendFromSlice", Work::TryExtendFromSlice),
 ];
 
 /// Times calls on packets with this many bytes of data.
@@ -145,9 +145,9 @@ pub fn time<R: CpuClock + Print + Eprint>(bench: &Bench<'_, R>, count: usize) ->
         let event = LineEvent::Reply(numbered(&reply, tn));
         calls.events.push(event).ok()?;
     }
-    for work in WORKS {
+    for (name, work) in WORKS {
         calls.work = work;
-        bench.time("calls", work, &mut calls)?;
+        bench.time("calls", name, &mut calls)?;
     }
     Some(())
 }

@@ -1,18 +1,21 @@
 //! Clients of a port, which has a mutex, and clients with ring buffers.
-ghost use Rattle.std.specs.Prelude.{◌≡◌};
+ghost use Rattle.std.specs.Prelude.{◌≡◌, []};
 ghost use Rattle.rdm_lanes.specs.Workers.{book_of};
 
 use crate::bench::{Bench, holds};
 use crate::packets::Replay;
-use crate::served::{CLIENTS, FREE, Job, PLACES, Served, Timing, config};
-use crate::soak::tagged;
+use crate::queue::replay_of;
+use crate::served::{CLIENTS, FREE, Job, PLACES, Served, Timing, config, written_log};
 use left_right::Absorb;
-use rdm_client::{Collected, DeviceView, Told};
+use rdm_agent::Kind;
+use rdm_client::{AskTold, Collected, DeviceView, Told};
+use rdm_join::LineEvent;
 use rdm_lanes::{BlankHistory, Lanes, RingFault, Shown, ViewHistory, WorkerEnd, open_lanes};
 use rdm_line::Line;
-use rdm_locked::{CallShare, Exchange, Left, LockedClient, Port, SessionEnd, WorkerEnd as PortEnd};
-use rdm_queue::SubmitFault;
-use rdm_rig::{AskNote, Note, cancels, log};
+use rdm_locked::{CallShare, Exchange, Left, LockedClient, Port, WorkerEnd as PortEnd};
+use rdm_queue::{Log, SubmitFault};
+use rdm_rig::{AskNote, Note, cancels, log, request};
+use rdm_wire::Frame;
 use std::alloc::Global;
 use std::marker::Brand;
 use std::sync::Wait;
@@ -25,20 +28,74 @@ pub fn time<R: CpuClock + Print + Eprint + Wait>(
     waiting: usize,
 ) -> Option<()> {
     for clients in [1, CLIENTS] {
-        let mut timing = Timing {
-            bench: &*bench,
-            subject: "port, clients",
-            work: clients,
-            clients,
-            waiting,
-        };
-        let line = Replay::of_two_bytes(bench.alloc)?;
-        on_port(bench, clients, line, &mut timing)?;
-        timing.subject = "rings, clients";
-        let line = Replay::of_two_bytes(bench.alloc)?;
-        on_rings(bench, clients, line, &mut timing)?;
+        time_requests(bench, true, clients, waiting)?;
+        time_requests(bench, false, clients, waiting)?;
     }
     Some(())
+}
+
+/// Times requests of this many clients with a mutex or with ring buffers, while this many wait.
+pub fn time_requests<R: CpuClock + Print + Eprint + Wait>(
+    bench: &Bench<'_, R>,
+    with_mutex: bool,
+    clients: u8,
+    waiting: usize,
+) -> Option<()> {
+    let line = Replay::of_two_bytes(bench.alloc)?;
+    let log = written_log(bench, waiting)?;
+    let mut timing = Timing {
+        bench,
+        subject: if with_mutex {
+            "port, clients"
+        } else {
+            "rings, clients"
+        },
+        work: clients,
+        clients,
+        waiting,
+        discovery: None,
+    };
+    if !with_mutex {
+        return on_rings(bench, clients, log, line, &mut timing);
+    }
+    let record = written_record(bench.alloc, bench.repeats())?;
+    on_port(bench, clients, log, record, line, &mut timing)
+}
+
+/// Times discoveries of this many devices with a mutex or with ring buffers. The log has room for 40 of 1,024 devices.
+pub fn time_discoveries<R: CpuClock + Print + Eprint + Wait>(
+    bench: &Bench<'_, R>,
+    with_mutex: bool,
+    devices: usize,
+) -> Option<()> {
+    let line = replay_of(bench.alloc, devices)?;
+    let log = log(bench.alloc, FREE).ok()?;
+    let mut timing = Timing {
+        bench,
+        subject: if with_mutex { "port" } else { "rings" },
+        work: "Full",
+        clients: 1,
+        waiting: 0,
+        discovery: Some((line.replies.len() as u64, devices)),
+    };
+    if !with_mutex {
+        return on_rings(bench, 1, log, line, &mut timing);
+    }
+    let record = Vec::with_capacity(bench.alloc, FREE / 2).ok()?;
+    on_port(bench, 1, log, record, line, &mut timing)
+}
+
+// How many devices a discovery found. None: it ended with a fault.
+fn count_of(told: &AskTold) -> Option<usize> {
+    holds(told.done.fault.is_none())?;
+    Some(told.done.set.len())
+}
+
+fn count_in(collected: &Option<Collected>) -> Option<usize> {
+    match collected {
+        Some(Collected::Ask(told)) => count_of(told),
+        _ => None,
+    }
 }
 
 type PortClient<'a, L> = LockedClient<'a, L, Note, AskNote>;
@@ -55,7 +112,7 @@ struct Locked<'a, L: Ledger, R, X> {
 impl<L: Ledger, R: Wait, X: Line> Served for Locked<'_, L, R, X> {
     fn submit(&mut self, client: usize, tag: u64) -> Option<bool> {
         let client = self.clients.get_mut(client)?;
-        match client.submit(self.bench.rt, tagged(tag), Note(tag)) {
+        match client.submit(self.bench.rt, request(tag), Note(tag)) {
             Ok(_) => Some(true),
             Err((SubmitFault::Full, _, _)) => Some(false),
             Err(_) => None,
@@ -71,10 +128,23 @@ impl<L: Ledger, R: Wait, X: Line> Served for Locked<'_, L, R, X> {
     }
 
     fn collect(&mut self, client: usize) -> Option<Told> {
-        match self.clients.get_mut(client)?.collect(self.bench.rt) {
-            Some(Collected::Request(told)) => Some(told),
-            _ => None,
-        }
+        self.clients.get_mut(client)?.collect_request(self.bench.rt)
+    }
+
+    fn discover(&mut self) -> Option<()> {
+        let client = self.clients.get_mut(0)?;
+        holds(
+            client
+                .discover(self.bench.rt, Kind::Full, AskNote(0))
+                .is_ok(),
+        )
+    }
+
+    #[inline(never)]
+    fn found(&mut self) -> Option<usize> {
+        let client = self.clients.get_mut(0)?;
+        let told = client.collect_discovery(self.bench.rt)?;
+        count_of(&told)
     }
 
     fn pause(&mut self, pauses: bool) -> Option<()> {
@@ -86,34 +156,41 @@ impl<L: Ledger, R: Wait, X: Line> Served for Locked<'_, L, R, X> {
     }
 }
 
-/// Opens a port with this many clients over this line, does this, and ends the port. Returns what was left.
+/// Opens a port with this many clients, over this log and this line, with this record, which is empty. Does this, and
+/// ends the port.
 pub fn on_port<X: Line + Drop, J: Job, R: Wait>(
     bench: &Bench<'_, R>,
     clients: u8,
+    log: Log,
+    record: Vec<Exchange>,
     line: X,
     job: &mut J,
-) -> Option<SessionEnd> {
-    on_port_of::<Brand, X, J, R>(bench, Blank::new(17), clients, line, job)
+) -> Option<()>
+    requires { log.entries ≡ [] }
+{
+    on_port_of::<Brand, X, J, R>(bench, Blank::new(17), clients, log, record, line, job)
 }
 
 fn on_port_of<L: Ledger, X: Line + Drop, J: Job, R: Wait>(
     bench: &Bench<'_, R>,
     blank: Blank,
     count: u8,
+    log: Log,
+    record: Vec<Exchange>,
     line: X,
     job: &mut J,
-) -> Option<SessionEnd>
+) -> Option<()>
     requires name { blank.name ≡ L.name }
     requires parts { (blank.parts ≡ L.parts) × (L.parts ≡ 17) }
+    requires empty { log.entries ≡ [] }
 {
-    let alloc = bench.alloc;
-    let port = Port::<L>::new(alloc, blank, config(), log(alloc, FREE).ok()?).ok()?;
+    let port = Port::<L>::new(bench.alloc, blank, config(), log).ok()?;
     let mut locked = Locked {
         bench,
         port: &port,
-        clients: Vec::new(alloc),
+        clients: Vec::new(bench.alloc),
         line,
-        record: Vec::new(alloc),
+        record,
     };
     let joined = join(bench, &port, count, &mut locked.clients);
     let done = job.run(&mut locked);
@@ -127,7 +204,19 @@ fn on_port_of<L: Ledger, X: Line + Drop, J: Job, R: Wait>(
     let shares = leave(bench, clients);
     joined?;
     done?;
-    port.finish(shares?, record.as_slice()).ok()
+    holds(port.finish(shares?, record.as_slice()).is_ok())
+}
+
+// A record for this many exchanges, whose memory was written before.
+fn written_record(alloc: Global, count: usize) -> Option<Vec<Exchange>> {
+    let mut record = Vec::with_capacity(alloc, count).ok()?;
+    for _ in 0..count {
+        let frame = Frame::new();
+        let event = LineEvent::Failed;
+        record.push(Exchange { frame, event }).ok()?;
+    }
+    record.clear();
+    Some(record)
 }
 
 // Lets the clients join.
@@ -177,12 +266,8 @@ struct Rings<
 
 impl<J: ViewHistory, W: Wait + Drop, X: Line> Served for Rings<J, Shown<J>, W, X> {
     fn submit(&mut self, client: usize, tag: u64) -> Option<bool> {
-        match self
-            .lanes
-            .clients
-            .get_mut(client)?
-            .submit(tagged(tag), Note(tag))
-        {
+        let client = self.lanes.clients.get_mut(client)?;
+        match client.submit(request(tag), Note(tag)) {
             Ok(()) => Some(true),
             Err((RingFault::Full | RingFault::RingFull, _, _)) => Some(false),
             Err(_) => None,
@@ -197,6 +282,17 @@ impl<J: ViewHistory, W: Wait + Drop, X: Line> Served for Rings<J, Shown<J>, W, X
         self.lanes.clients.get_mut(client)?.collect_request()
     }
 
+    fn discover(&mut self) -> Option<()> {
+        let client = self.lanes.clients.get_mut(0)?;
+        holds(client.discover(Kind::Full, AskNote(0)).is_ok())
+    }
+
+    #[inline(never)]
+    fn found(&mut self) -> Option<usize> {
+        let client = self.lanes.clients.get_mut(0)?;
+        count_in(&client.collect())
+    }
+
     fn pause(&mut self, pauses: bool) -> Option<()> {
         if pauses {
             self.lanes.operator.pause().ok()
@@ -206,14 +302,25 @@ impl<J: ViewHistory, W: Wait + Drop, X: Line> Served for Rings<J, Shown<J>, W, X
     }
 }
 
-/// Opens ring buffers for this many clients over this line, does this, and ends the clients.
+/// Opens ring buffers for this many clients over this log and this line, does this, and ends the clients.
 pub fn on_rings<X: Line + Drop, D: Job, R: Wait>(
     bench: &Bench<'_, R>,
     count: u8,
+    log: Log,
     line: X,
     job: &mut D,
-) -> Option<()> {
-    on_rings_of::<Brand, X, D, &R>(bench.rt, bench.alloc, BlankHistory::new(), count, line, job)
+) -> Option<()>
+    requires { log.entries ≡ [] }
+{
+    on_rings_of::<Brand, X, D, &R>(
+        bench.rt,
+        bench.alloc,
+        BlankHistory::new(),
+        count,
+        log,
+        line,
+        job,
+    )
 }
 
 fn on_rings_of<J: ViewHistory, X: Line + Drop, D: Job, W: Wait + Drop>(
@@ -221,22 +328,16 @@ fn on_rings_of<J: ViewHistory, X: Line + Drop, D: Job, W: Wait + Drop>(
     alloc: Global,
     history: BlankHistory,
     count: u8,
+    log: Log,
     line: X,
     job: &mut D,
 ) -> Option<()>
-    requires { book_of history ≡ J.book }
+    requires name { book_of history ≡ J.book }
+    requires empty { log.entries ≡ [] }
 {
     let places = &[PLACES; 16][..usize::from(count.min(16))];
-    let log = log(alloc, FREE).ok()?;
-    let lanes: Lanes<J, Shown<J>, W, Note, AskNote> = open_lanes(
-        rt,
-        alloc,
-        history,
-        config(),
-        log,
-        PLACES,
-        places,
-    ).ok()?;
+    let opened = open_lanes(rt, alloc, history, config(), log, PLACES, places);
+    let lanes: Lanes<J, Shown<J>, W, Note, AskNote> = opened.ok()?;
     let mut rings = Rings { alloc, lanes, line };
     let done = job.run(&mut rings);
     let Rings {

@@ -1,29 +1,21 @@
 //! The queue of requests in one thread, with a log and without, and its discoveries.
 use crate::agent::tape;
-use crate::bench::{Bench, Sample, holds};
-use crate::devices::{Spread, devices};
-use crate::lines::bytes_of;
-use crate::packets::{Replay, TAG};
-use crate::served::{CLIENTS, FREE, Job, Served, Timing, config};
+use crate::bench::{Bench, holds};
+use crate::lines::{Spread, bytes_of, devices};
+use crate::packets::Replay;
+use crate::served::{CLIENTS, Job, Served, Timing, config, written_log};
 use rdm_agent::Kind;
 use rdm_client::Told;
 use rdm_join::LineEvent;
 use rdm_line::Line;
 use rdm_queue::{ClientId, Controller, Outcome, Session};
-use rdm_rig::{log, request};
-use rdm_wire::DeviceSet;
+use rdm_rig::request;
+use rdm_wire::{DeviceSet, Frame};
 use std::alloc::Global;
 use std::time::CpuClock;
 
 // How many devices are on the line of discoveries.
 const DEVICES: usize = 16;
-
-// How outcomes are collected: by the call for requests, or by the one for either kind, which moves a set.
-#[derive(Clone, Copy, Debug, PartialEq, Eq)]
-enum By {
-    NextCompletion,
-    NextOutcome,
-}
 
 // A queue without a log, or with one.
 #[derive(Drop)]
@@ -33,16 +25,6 @@ enum Queue {
 }
 
 impl Queue {
-    fn plain(alloc: Global) -> Option<Queue> {
-        Controller::new(alloc, config()).ok().map(Queue::Plain)
-    }
-
-    fn logged(alloc: Global) -> Option<Queue> {
-        Session::new(alloc, config(), log(alloc, FREE).ok()?)
-            .ok()
-            .map(Queue::Logged)
-    }
-
     fn join(&mut self, alloc: Global) -> bool {
         match self {
             Queue::Plain(queue) => queue.join_client(alloc, u8::MAX).is_ok(),
@@ -50,17 +32,39 @@ impl Queue {
         }
     }
 
-    // Makes an exchange over this line.
-    fn exchange(&mut self, alloc: Global, line: &mut Replay) -> Option<()> {
-        let frame = match self {
-            Queue::Plain(queue) => queue.take()?,
-            Queue::Logged(queue) => queue.take().ok()??,
-        };
-        let event = LineEvent::Reply(line.exchange(&frame).ok()?);
-        holds(match self {
+    fn take(&mut self) -> Option<Frame> {
+        match self {
+            Queue::Plain(queue) => queue.take(),
+            Queue::Logged(queue) => queue.take().ok()?,
+        }
+    }
+
+    fn deliver(&mut self, alloc: Global, event: LineEvent) -> bool {
+        match self {
             Queue::Plain(queue) => queue.deliver(alloc, event).is_ok(),
             Queue::Logged(queue) => queue.deliver(alloc, event).is_ok(),
-        })
+        }
+    }
+
+    fn next_completion(&mut self, client: ClientId) -> Option<Told> {
+        let (tag, done) = match self {
+            Queue::Plain(queue) => queue.next_completion(client)?,
+            Queue::Logged(queue) => queue.next_completion(client)?,
+        };
+        Some(Told { tag, done })
+    }
+
+    // It is a function of its own, since a function that has an outcome among its locals takes longer.
+    #[inline(never)]
+    fn next_outcome(&mut self, client: ClientId) -> Option<Told> {
+        let outcome = match self {
+            Queue::Plain(queue) => queue.next_outcome(client),
+            Queue::Logged(queue) => queue.next_outcome(client),
+        };
+        match outcome {
+            Some(Outcome::Request { number, done }) => Some(Told { tag: number?, done }),
+            _ => None,
+        }
     }
 }
 
@@ -70,7 +74,9 @@ struct Clients {
     alloc: Global,
     queue: Queue,
     line: Replay,
-    by: By,
+    // Whether outcomes are collected by the call for either kind, which moves a set.
+    by_outcome: bool,
+    found: DeviceSet,
 }
 
 impl Served for Clients {
@@ -84,63 +90,99 @@ impl Served for Clients {
 
     fn work(&mut self, turns: u64) -> Option<()> {
         for _ in 0..turns {
-            self.queue.exchange(self.alloc, &mut self.line)?;
+            let frame = self.queue.take()?;
+            let event = LineEvent::Reply(self.line.exchange(&frame).ok()?);
+            holds(self.queue.deliver(self.alloc, event))?;
         }
         Some(())
     }
 
     fn collect(&mut self, client: usize) -> Option<Told> {
-        let client = id_of(client);
-        if self.by == By::NextOutcome {
-            return collected_as_either(&mut self.queue, client);
+        if self.by_outcome {
+            self.queue.next_outcome(id_of(client))
+        } else {
+            self.queue.next_completion(id_of(client))
         }
-        let (tag, done) = match &mut self.queue {
-            Queue::Plain(queue) => queue.next_completion(client)?,
-            Queue::Logged(queue) => queue.next_completion(client)?,
+    }
+
+    fn discover(&mut self) -> Option<()> {
+        match &mut self.queue {
+            Queue::Plain(queue) => holds(queue.discover(ClientId(0), Kind::Full).is_ok()),
+            Queue::Logged(_) => None,
+        }
+    }
+
+    fn found(&mut self) -> Option<usize> {
+        let end = match &mut self.queue {
+            Queue::Plain(queue) => queue.next_discovery(ClientId(0), &mut self.found)?,
+            Queue::Logged(_) => return None,
         };
-        Some(Told { tag, done })
+        holds(end.fault.is_none())?;
+        Some(self.found.len())
     }
 }
 
-fn id_of(client: usize) -> ClientId {
+/// The client with this number, below 256.
+pub fn id_of(client: usize) -> ClientId {
     ClientId((client % 256) as u8)
-}
-
-// It is a function of its own, since a function that has an outcome among its locals takes longer.
-#[inline(never)]
-fn collected_as_either(queue: &mut Queue, client: ClientId) -> Option<Told> {
-    let outcome = match queue {
-        Queue::Plain(queue) => queue.next_outcome(client),
-        Queue::Logged(queue) => queue.next_outcome(client),
-    };
-    match outcome {
-        Some(Outcome::Request { number, done }) => Some(Told { tag: number?, done }),
-        _ => None,
-    }
 }
 
 /// Times requests and discoveries while this many requests wait.
 pub fn time<R: CpuClock + Print + Eprint>(bench: &Bench<'_, R>, waiting: usize) -> Option<()> {
-    let alloc = bench.alloc;
-    for by in [By::NextCompletion, By::NextOutcome] {
-        let mut timing = Timing {
-            bench: &*bench,
-            subject: "queue without log",
-            work: by,
-            clients: CLIENTS,
-            waiting,
-        };
-        let line = Replay::of_two_bytes(alloc)?;
-        timing.run(&mut joined(alloc, Queue::plain(alloc)?, line, by)?)?;
-        timing.subject = "queue with log";
-        let line = Replay::of_two_bytes(alloc)?;
-        timing.run(&mut joined(alloc, Queue::logged(alloc)?, line, by)?)?;
+    for by_outcome in [false, true] {
+        time_requests(bench, false, by_outcome, waiting)?;
+        time_requests(bench, true, by_outcome, waiting)?;
     }
-    time_discoveries(bench, waiting)
+    let line = replay_of(bench.alloc, DEVICES)?;
+    let mut timing = Timing {
+        bench,
+        subject: "queue without log",
+        work: "Full",
+        clients: CLIENTS,
+        waiting,
+        discovery: Some((line.replies.len() as u64, DEVICES)),
+    };
+    let queue = Queue::Plain(Controller::new(bench.alloc, config()).ok()?);
+    timing.run(&mut joined(bench.alloc, queue, line, false)?)
+}
+
+/// Times requests of a queue with or without a log. Outcomes are collected by the call for either kind, or by the one
+/// for requests.
+pub fn time_requests<R: CpuClock + Print + Eprint>(
+    bench: &Bench<'_, R>,
+    with_log: bool,
+    by_outcome: bool,
+    waiting: usize,
+) -> Option<()> {
+    let (subject, queue) = if with_log {
+        ("queue with log", Queue::Logged(session(bench, waiting)?))
+    } else {
+        let queue = Controller::new(bench.alloc, config()).ok()?;
+        ("queue without log", Queue::Plain(queue))
+    };
+    let mut timing = Timing {
+        bench,
+        subject,
+        work: if by_outcome {
+            "NextOutcome"
+        } else {
+            "NextCompletion"
+        },
+        clients: CLIENTS,
+        waiting,
+        discovery: None,
+    };
+    let line = Replay::of_two_bytes(bench.alloc)?;
+    timing.run(&mut joined(bench.alloc, queue, line, by_outcome)?)
+}
+
+/// A session for the requests that are timed while this many wait.
+pub fn session<R>(bench: &Bench<'_, R>, waiting: usize) -> Option<Session> {
+    Session::new(bench.alloc, config(), written_log(bench, waiting)?).ok()
 }
 
 // Lets all clients join.
-fn joined(alloc: Global, mut queue: Queue, line: Replay, by: By) -> Option<Clients> {
+fn joined(alloc: Global, mut queue: Queue, line: Replay, by_outcome: bool) -> Option<Clients> {
     for _ in 0..CLIENTS {
         holds(queue.join(alloc))?;
     }
@@ -148,54 +190,16 @@ fn joined(alloc: Global, mut queue: Queue, line: Replay, by: By) -> Option<Clien
         alloc,
         queue,
         line,
-        by,
+        by_outcome,
+        found: DeviceSet::new(),
     })
 }
 
-// The requests wait until no discovery is outstanding.
-fn time_discoveries<R: CpuClock + Print + Eprint>(
-    bench: &Bench<'_, R>,
-    waiting: usize,
-) -> Option<()> {
-    let alloc = bench.alloc;
+/// A line that replays the replies of a steady run over this many devices.
+pub fn replay_of(alloc: Global, count: usize) -> Option<Replay> {
     let mut replies = Vec::new(alloc);
-    for taped in tape(alloc, &devices(DEVICES, Spread::Random, 58)?)?.as_slice() {
+    for taped in tape(alloc, &devices(count, Spread::Random, 58)?)?.as_slice() {
         replies.push(bytes_of(&taped.reply)?).ok()?;
     }
-    let frames = replies.len() as u64;
-    let line = Replay { replies, next: 0 };
-    let mut clients = joined(alloc, Queue::plain(alloc)?, line, By::NextCompletion)?;
-    for place in 0..waiting {
-        holds(clients.submit(place % usize::from(CLIENTS), TAG)?)?;
-    }
-    let mut discoveries = Discoveries {
-        clients,
-        frames,
-        found: DeviceSet::new(),
-    };
-    bench.time("queue without log", Kind::Full, &mut discoveries)
-}
-
-// A discovery after another, each with this many frames.
-#[derive(Drop)]
-struct Discoveries {
-    clients: Clients,
-    frames: u64,
-    found: DeviceSet,
-}
-
-impl Sample for Discoveries {
-    fn run(&mut self) -> Option<u64> {
-        let Queue::Plain(queue) = &mut self.clients.queue else {
-            return None;
-        };
-        queue.discover(ClientId(0), Kind::Full).ok()?;
-        self.clients.work(self.frames)?;
-        let Queue::Plain(queue) = &mut self.clients.queue else {
-            return None;
-        };
-        let end = queue.next_discovery(ClientId(0), &mut self.found)?;
-        holds(end.fault.is_none() && self.found.len() == DEVICES)?;
-        Some(self.frames)
-    }
+    Some(Replay { replies, next: 0 })
 }

@@ -1,11 +1,13 @@
 //! Clients that take turns with the worker of their session, all in one thread, so none of them ever waits.
+ghost use Rattle.std.specs.Prelude.{◌≡◌, [], IfSome};
 ghost use Rattle.rdm_log.specs.log.Config.{IsConfig};
 
 use crate::bench::{Bench, Sample, holds};
 use crate::packets::TAG;
 use rdm_agent::DEFAULT_BUDGET;
 use rdm_client::Told;
-use rdm_queue::{Config, MOST_PLACES};
+use rdm_queue::{Config, Entry, Log, MOST_PLACES};
+use rdm_rig::log;
 use rdm_wire::Uid;
 use std::fmt;
 use std::time::CpuClock;
@@ -13,7 +15,7 @@ use std::time::CpuClock;
 /// How many clients there are, unless there is one.
 pub const CLIENTS: u8 = 16;
 
-/// How many entries a log has free. Memory that isn't used isn't taken from the system.
+/// How many entries a log has free, unless requests are timed. Memory that isn't used isn't taken from the system.
 pub const FREE: usize = 1_000_000;
 
 /// The queue depth of each client of a port, and the slots of its rings.
@@ -29,6 +31,12 @@ pub trait Served {
 
     /// What a client is told of a request. None: it is told nothing, or not of a request.
     fn collect(&mut self, client: usize) -> Option<Told>;
+
+    /// The first client asks for a full discovery.
+    fn discover(&mut self) -> Option<()>;
+
+    /// How many devices its discovery found. None: it is told nothing, or of a fault.
+    fn found(&mut self) -> Option<usize>;
 
     /// The operator pauses, or resumes, if there is one.
     fn pause(&mut self, _pauses: bool) -> Option<()> {
@@ -53,7 +61,23 @@ pub fn config() -> Config
     }
 }
 
-/// Times turns while this many requests wait: one is answered and collected, and another submitted.
+/// A log for the requests that are timed while this many wait. Its memory was written before, so none is taken from the
+/// system meanwhile. It has five entries for each request.
+pub fn written_log<R>(bench: &Bench<'_, R>, waiting: usize) -> Option<Log>
+    ensures { IfSome result (λ log. log.entries ≡ []) }
+{
+    let requests = bench.repeats().wrapping_add(waiting);
+    let mut log = log(bench.alloc, requests.wrapping_mul(5).wrapping_add(100)).ok()?;
+    for _ in 0..log.room() {
+        if log.entries().len() < log.room() {
+            log.append(Entry::Pause);
+        }
+    }
+    Some(log.cleared())
+}
+
+/// Times turns while this many requests wait: one is answered and collected, and another submitted. Or times
+/// discoveries that have this many frames and find this many devices.
 #[derive(Drop)]
 pub struct Timing<'a, R, W> {
     pub bench: &'a Bench<'a, R>,
@@ -61,34 +85,44 @@ pub struct Timing<'a, R, W> {
     pub work: W,
     pub clients: u8,
     pub waiting: usize,
+    pub discovery: Option<(u64, usize)>,
 }
 
-impl<R: CpuClock + Print + Eprint, W: fmt::Debug + Copy> Job for Timing<'_, R, W> {
+impl<R: CpuClock + Print + Eprint, W: fmt::Display + Copy> Job for Timing<'_, R, W> {
     fn run<S: Served>(&mut self, served: &mut S) -> Option<()> {
+        let clients = usize::from(self.clients.max(1));
         for place in 0..self.waiting {
-            holds(served.submit(place % usize::from(self.clients.max(1)), TAG)?)?;
+            holds(served.submit(place % clients, TAG)?)?;
         }
         let mut turns = Turns {
             served,
-            clients: usize::from(self.clients.max(1)),
+            clients,
             waiting: self.waiting,
             turn: 0,
+            discovery: self.discovery,
         };
         self.bench.time(self.subject, self.work, &mut turns)
     }
 }
 
-// Clients that take turns, while this many requests wait.
+// Clients that take turns, while this many requests wait. Or a discovery after another.
 #[derive(Drop)]
 struct Turns<'a, S> {
     served: &'a mut S,
     clients: usize,
     waiting: usize,
     turn: usize,
+    discovery: Option<(u64, usize)>,
 }
 
 impl<S: Served> Sample for Turns<'_, S> {
     fn run(&mut self) -> Option<u64> {
+        if let Some((frames, devices)) = self.discovery {
+            self.served.discover()?;
+            self.served.work(frames)?;
+            holds(self.served.found()? == devices)?;
+            return Some(frames);
+        }
         let submitter = self.turn.wrapping_add(self.waiting) % self.clients.max(1);
         self.served.work(1)?;
         let told = self.served.collect(self.turn % self.clients.max(1))?;

@@ -1,71 +1,37 @@
 //! Ports one after another, each with sixteen clients, on a line that loses and fails, with pauses. Each request has to
 //! be accepted and told once. Clients take turns drawn at random, the same in each run.
 use crate::bench::{Bench, holds};
-use crate::devices::Random;
-use crate::lines::add;
-use crate::packets::data;
+use crate::lines::Random;
 use crate::ports::{on_port, on_rings};
-use crate::served::{CLIENTS, Job, Served};
+use crate::served::{CLIENTS, FREE, Job, Served};
 use rdm_client::Told;
 use rdm_join::Status;
-use rdm_line::{Parameter, Parameters, Scene, SceneDevices, SimLine};
-use rdm_rig::{controller, request};
-use rdm_wire::Request;
+use rdm_line::SimLine;
+use rdm_rig::{Heard, LONG, LineOf, Meeting, Placed, Who, completion_told, line_of, log};
 use std::alloc::Global;
 use std::fs;
 use std::rt::Files;
 use std::sync::Wait;
 
-// The parameter of two bytes (E1.20, DEVICE_INFO).
-const SHORT: u16 = 0x0060;
-
-// The manufacturer's parameter in three parts of 231 bytes.
-const LONG: u16 = 0x8001;
-
-/// How clients reach their session.
-#[derive(Clone, Copy, Debug, PartialEq, Eq)]
-pub enum PortKind {
-    /// With a mutex.
-    Locked,
-    /// With ring buffers.
-    Rings,
-}
-
-/// The request with this tag, for the parameter in parts if the tag is a multiple of 8. Its sub-device tells it from all
-/// others that wait with it.
-pub fn tagged(tag: u64) -> Request {
-    let mut request = request(tag);
-    request.pid = if tag % 8 == 0 { LONG } else { SHORT };
-    request
-}
-
-// Whether what was told may be the outcome of the request with its tag. A reply has to answer that request.
-fn fits(told: &Told) -> bool {
-    let request = tagged(told.tag);
-    match told.done.reply {
-        Some(head) => head.sub_device == request.sub_device && head.pid == request.pid,
-        None => told.done.status != Status::Completed,
-    }
-}
-
 /// Prints what the clients of as many ports as there are rounds are told, each of this many requests. How much memory
 /// the process holds after each port goes to standard error.
 pub fn print<R: Files + AllocGlobal + Print + Eprint + Wait>(
     bench: &Bench<'_, R>,
-    kind: PortKind,
+    with_mutex: bool,
     requests: u64,
 ) -> Option<()> {
     let rt = bench.rt;
+    let kind = if with_mutex { "Locked" } else { "Rings" };
     for port in 1..=bench.rounds as u64 {
         let Tally {
             completed,
             timeouts,
             failed,
             ..
-        } = soaked(bench, kind, requests, port)?;
-        println!(rt; "{kind:?}: {completed} completed, {timeouts} timeouts, {failed} failed").ok()?;
+        } = soaked(bench, with_mutex, requests, port)?;
+        println!(rt; "{kind}: {completed} completed, {timeouts} timeouts, {failed} failed").ok()?;
         let kilobytes = resident(rt).unwrap_or(0);
-        eprintln!(rt; "{kind:?}: {kilobytes} kB").ok()?;
+        eprintln!(rt; "{kind}: {kilobytes} kB").ok()?;
     }
     Some(())
 }
@@ -80,28 +46,28 @@ fn resident<R: Files + AllocGlobal>(rt: &R) -> Option<u64> {
     line.split_ascii_whitespace().next()?.parse::<u64>().ok()
 }
 
-// Soaks one port. With a mutex, its log has to have a call for each request and for each outcome, and to be idle.
+// Soaks one port.
 fn soaked<R: Wait>(
     bench: &Bench<'_, R>,
-    kind: PortKind,
+    with_mutex: bool,
     requests: u64,
     seed: u64,
 ) -> Option<Tally> {
+    let alloc = bench.alloc;
     let mut tally = Tally {
         requests,
         random: Random::new(seed),
-        owners: Vec::new(bench.alloc),
+        owners: Vec::new(alloc),
         completed: 0,
         timeouts: 0,
         failed: 0,
     };
-    let line = line_for(bench.alloc, requests, seed)?;
-    match kind {
-        PortKind::Locked => {
-            let end = on_port(bench, CLIENTS, line, &mut tally)?;
-            holds(end.calls == requests.wrapping_mul(2) && end.session.is_idle())?;
-        }
-        PortKind::Rings => on_rings(bench, CLIENTS, line, &mut tally)?,
+    let line = line_for(alloc, requests, seed)?;
+    let log = log(alloc, FREE).ok()?;
+    if with_mutex {
+        on_port(bench, CLIENTS, log, Vec::new(alloc), line, &mut tally)?;
+    } else {
+        on_rings(bench, CLIENTS, log, line, &mut tally)?;
     }
     Some(tally)
 }
@@ -109,30 +75,35 @@ fn soaked<R: Wait>(
 // A line for this many requests, by this seed. One device answers. One exchange in 100 fails, and of the others the reply
 // of one in 50 is lost.
 fn line_for(alloc: Global, requests: u64, seed: u64) -> Option<SimLine> {
-    let short = vec![in alloc; data(2)?].ok()?;
-    let long = vec![in alloc; data(231)?, data(231)?, data(231)?].ok()?;
-    let params = vec![in alloc; Parameter::new(SHORT, short), Parameter::new(LONG, long)].ok()?;
-    let mut scene = Scene {
-        source: controller(),
-        devices: SceneDevices::new(alloc),
-        collisions: Vec::new(alloc),
-        losses: Vec::new(alloc),
-        fails: Vec::new(alloc),
-    };
-    let uid = request(0).target;
-    add(&mut scene.devices, uid, Parameters::new(params))?;
+    let (mut losses, mut fails) = (Vec::new(alloc), Vec::new(alloc));
     let mut random = Random::new(seed);
     for exchange in 0..requests.wrapping_mul(2) {
         if random.below(100) == 0 {
-            scene.fails.push(exchange).ok()?;
+            fails.push(exchange).ok()?;
         } else if random.below(50) == 0 {
-            scene.losses.push(exchange).ok()?;
+            losses.push(exchange).ok()?;
         }
     }
-    SimLine::new(alloc, scene).ok()
+    let devices = [Placed::stays(Who::First)];
+    let line = LineOf {
+        devices: &devices,
+        meeting: Meeting::Noise,
+        losses: losses.as_slice(),
+        fails: fails.as_slice(),
+    };
+    line_of(alloc, line).ok()
 }
 
-// What clients were told. Requests have their numbers as tags, in the order of their submits.
+// The tag of the request with this number. One in 8 asks for the parameter in three parts.
+fn tag_of(number: u64) -> u64 {
+    if number % 8 == 0 {
+        number.wrapping_add(LONG)
+    } else {
+        number
+    }
+}
+
+// What clients were told. Requests have numbers in the order of their submits.
 #[derive(Drop)]
 struct Tally {
     requests: u64,
@@ -188,25 +159,28 @@ impl Tally {
     fn submit<S: Served>(&mut self, served: &mut S) -> Option<()> {
         let client = self.random.below(u64::from(CLIENTS)) as usize;
         for _ in 0..self.random.below(5) {
-            let tag = self.owners.len() as u64;
-            if tag < self.requests && served.submit(client, tag)? {
+            let number = self.owners.len() as u64;
+            if number < self.requests && served.submit(client, tag_of(number))? {
                 self.owners.push(Some(client)).ok()?;
             }
         }
         Some(())
     }
 
-    // A client collects an outcome, if there is one. It has to be that of a request of its own that wasn't told yet.
+    // A client collects an outcome, if there is one. It has to be that of a request of its own that wasn't told yet. A long
+    // answer that broke off before goes on with its next part of 231 bytes.
     fn collect<S: Served>(&mut self, served: &mut S, client: usize) -> Option<()> {
-        let Some(told) = served.collect(client) else {
+        let Some(Told { tag, done }) = served.collect(client) else {
             return Some(());
         };
-        let owner = self.owners.get_mut(told.tag as usize)?.take();
-        holds(owner == Some(client) && fits(&told))?;
-        match told.done.status {
-            Status::Completed => self.completed = self.completed.wrapping_add(1),
-            Status::Timeout => self.timeouts = self.timeouts.wrapping_add(1),
-            Status::FailedToSend => self.failed = self.failed.wrapping_add(1),
+        let owner = self.owners.get_mut((tag % LONG) as usize)?.take();
+        holds(owner == Some(client))?;
+        match completion_told(&Some((tag, done))) {
+            Heard::Answered(_, 1, 2) | Heard::Data(_, 231 | 462 | 693) => {
+                self.completed = self.completed.wrapping_add(1);
+            }
+            Heard::Request(_, Status::Timeout) => self.timeouts = self.timeouts.wrapping_add(1),
+            Heard::Request(_, Status::FailedToSend) => self.failed = self.failed.wrapping_add(1),
             _ => return None,
         }
         Some(())

@@ -3,8 +3,7 @@ ghost use Rattle.std.specs.Prelude.{◌≡◌};
 ghost use Rattle.rdm_lanes.specs.Workers.{book_of};
 
 use crate::bench::{Bench, Sample, holds};
-use crate::devices::{Spread, devices};
-use crate::lines::device_of;
+use crate::lines::{Spread, device_of, devices};
 use left_right::Absorb;
 use rdm_client::DeviceView;
 use rdm_lanes::{BlankHistory, Publisher, Shown, ViewHistory, ViewReader};
@@ -16,14 +15,6 @@ use std::time::CpuClock;
 
 // How many clients read.
 const READERS: usize = 16;
-
-// What is timed.
-#[derive(Clone, Copy, Debug, PartialEq, Eq)]
-enum Work {
-    Publish,
-    PublishAndRead,
-    Read,
-}
 
 /// Times publications, reads of a view that has changed, and reads of one that hasn't, with this many devices.
 pub fn time<R: CpuClock + Print + Eprint + Wait>(bench: &Bench<'_, R>, count: usize) -> Option<()> {
@@ -48,13 +39,14 @@ fn time_all<J: ViewHistory, W: Wait + Drop, R: CpuClock + Print + Eprint>(
         publisher,
         readers,
         devices: device_set(count)?,
-        work: Work::Publish,
+        publishes: true,
+        reads: false,
     };
-    for work in [Work::Publish, Work::PublishAndRead, Work::Read] {
-        views.work = work;
-        bench.time("views", work, &mut views)?;
-    }
-    Some(())
+    bench.time("views", "Publish", &mut views)?;
+    views.reads = true;
+    bench.time("views", "PublishAndRead", &mut views)?;
+    views.publishes = false;
+    bench.time("views", "Read", &mut views)
 }
 
 fn device_set(count: usize) -> Option<DeviceSet> {
@@ -73,36 +65,35 @@ struct Views<J: ViewHistory, T: Absorb<Shown<J>, State = [DeviceView; 0]> + Drop
     publisher: Publisher<J, T, W>,
     readers: Vec<ViewReader<J>>,
     devices: DeviceSet,
-    work: Work,
+    publishes: bool,
+    reads: bool,
 }
 
 impl<J: ViewHistory, W: Wait + Drop> Views<J, Shown<J>, W> {
-    fn publish(&mut self) -> Option<u64> {
+    fn publish(&mut self) -> Option<()> {
         let run = self.publisher.run().checked_add(1)?;
-        holds(self.publisher.add(self.alloc, run, &self.devices) && self.publisher.show())?;
-        Some(1)
+        holds(self.publisher.add(self.alloc, run, &self.devices) && self.publisher.show())
     }
 
-    // Lets each client read, and returns how many there are.
-    fn read(&mut self) -> Option<u64> {
+    // Lets each client read.
+    fn read(&mut self) -> Option<()> {
         let run = self.publisher.run();
         for reader in self.readers.iter_mut() {
             reader.read();
             holds(reader.last().run == run)?;
         }
-        Some(self.readers.len() as u64)
+        Some(())
     }
 }
 
 impl<J: ViewHistory, W: Wait + Drop> Sample for Views<J, Shown<J>, W> {
     fn run(&mut self) -> Option<u64> {
-        if self.work == Work::Read {
-            return self.read();
+        if self.publishes {
+            self.publish()?;
         }
-        let published = self.publish()?;
-        if self.work == Work::PublishAndRead {
+        if self.reads {
             self.read()?;
         }
-        Some(published)
+        Some(if self.publishes { 1 } else { READERS as u64 })
     }
 }

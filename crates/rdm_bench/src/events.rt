@@ -1,0 +1,99 @@
+//! Requests of a session by `answer` and by `run`, which are given their calls as events.
+use crate::bench::{Bench, Sample, holds};
+use crate::packets::{TAG, numbered, reply};
+use crate::queue::{id_of, session};
+use crate::served::CLIENTS;
+use rdm_join::{LineEvent, LineReply};
+use rdm_queue::{Answer, Event, Outcome, Session};
+use rdm_rig::request;
+use std::alloc::Global;
+use std::time::CpuClock;
+
+/// Times requests while this many wait: by one `run` for the four events of a request, or by an `answer` for each.
+pub fn time<R: CpuClock + Print + Eprint>(
+    bench: &Bench<'_, R>,
+    at_once: bool,
+    waiting: usize,
+) -> Option<()> {
+    let mut session = session(bench, waiting)?;
+    for _ in 0..CLIENTS {
+        session.join_client(bench.alloc, u8::MAX).ok()?;
+    }
+    for place in 0..waiting {
+        let client = id_of(place % usize::from(CLIENTS));
+        holds(session.submit(client, request(TAG)).is_ok())?;
+    }
+    let mut requests = Requests {
+        alloc: bench.alloc,
+        session,
+        at_once,
+        reply: reply(2)?,
+        waiting,
+        turn: 0,
+    };
+    let work = if at_once { "Run" } else { "Answer" };
+    bench.time("queue with log", work, &mut requests)
+}
+
+// A session in which this many requests wait, and the reply to each of them.
+#[derive(Drop)]
+struct Requests {
+    alloc: Global,
+    session: Session,
+    at_once: bool,
+    reply: LineReply,
+    waiting: usize,
+    turn: usize,
+}
+
+impl Sample for Requests {
+    fn run(&mut self) -> Option<u64> {
+        let events = self.events();
+        holds(if self.at_once {
+            self.runs(&events)
+        } else {
+            self.answers(&events)
+        })?;
+        self.turn = self.turn.wrapping_add(1);
+        Some(1)
+    }
+}
+
+impl Requests {
+    // One request is answered and collected, and another submitted.
+    fn events(&self) -> [Event; 4] {
+        let reply = numbered(&self.reply, (self.turn % 256) as u8);
+        let submitter = self.turn.wrapping_add(self.waiting) % usize::from(CLIENTS);
+        [
+            Event::Take,
+            Event::Deliver(LineEvent::Reply(reply)),
+            Event::Collect(id_of(self.turn % usize::from(CLIENTS))),
+            Event::Submit(id_of(submitter), request(TAG)),
+        ]
+    }
+
+    fn answers(&mut self, events: &[Event]) -> bool {
+        for event in events {
+            if !is_right(&self.session.answer(self.alloc, event)) {
+                return false;
+            }
+        }
+        true
+    }
+
+    fn runs(&mut self, events: &[Event]) -> bool {
+        match self.session.run(self.alloc, events) {
+            Ok(answers) => answers.iter().all(is_right),
+            Err(_) => false,
+        }
+    }
+}
+
+// Whether a request's event came to what it should.
+fn is_right(answer: &Answer) -> bool {
+    match answer {
+        Answer::Take(Ok(Some(_))) | Answer::Deliver(Ok(())) | Answer::Submit(Ok(_)) => true,
+        Answer::Collect(Some(Outcome::Request { done, .. })) => done.bytes.len() == 2,
+        _ => false,
+    }
+}
