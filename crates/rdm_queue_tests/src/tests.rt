@@ -16,4 +16,5 @@ mod rotating;
 mod run_ends;
 mod running;
 mod searching;
+mod stands;
 mod told;

@@ -3,6 +3,7 @@ ghost use Rattle.std.specs.Prelude.{IsTrue};
 
 use rdm_wire::Frame;
 use std::alloc::Global;
+use std::fmt::Display;
 use std::process::Abort;
 
 /// Ends the test where the fact doesn't hold.
@@ -23,4 +24,10 @@ pub fn frame_of(rt: &impl Abort, alloc: Global, text: &str) -> Frame {
     let bytes = bytes_of(rt, alloc, text);
     check(rt, frame.try_extend_from_slice(&bytes).is_ok());
     frame
+}
+
+/// What a fault says.
+pub fn says<D: Display>(rt: &impl Abort, alloc: Global, fault: &D, text: &str) {
+    let said = format!(in alloc; "{fault}").expect(rt, "memory");
+    assert!(rt; said.as_str() == text, "{text}");
 }

@@ -60,7 +60,8 @@ fn tells_why_a_discover_is_refused(rt: HostRuntime) {
 
 #[test]
 fn tells_the_other_faults(rt: HostRuntime) {
-    says(&rt, rt.alloc(), &NoMemory, "out of memory");
-    says(&rt, rt.alloc(), &LogFull, "the log is full");
-    says(&rt, rt.alloc(), &NotAsked, "no reply is awaited");
+    let alloc = rt.alloc();
+    says(&rt, alloc, &NoMemory, "out of memory");
+    says(&rt, alloc, &LogFull, "the log is full");
+    says(&rt, alloc, &NotAsked, "no reply is awaited");
 }

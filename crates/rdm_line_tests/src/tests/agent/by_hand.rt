@@ -1,5 +1,5 @@
 //! Runs by replies made by hand.
-use super::line::{ack_of, ended, plain, set_of};
+use super::line::{ack_of, ended, far, near, plain, set_of};
 use crate::tests::checks::check;
 use rdm_agent::{Agent, AgentFault, DEFAULT_BUDGET, Kind, Op, OpReply};
 use rdm_wire::{BranchReply, DeviceSet, Uid, UidRange, UidSet};
@@ -142,14 +142,6 @@ fn has_found_both(rt: &impl Abort, agent: Agent, frames: u64) {
     has_asked(rt, &agent, frames);
     let both = set_of(rt, &[plain(near()), plain(far())]);
     check(rt, ended(rt, agent) == Ok(both));
-}
-
-fn near() -> Uid {
-    Uid::new(0x1234, 1)
-}
-
-fn far() -> Uid {
-    Uid::new(0x9abc, 2)
 }
 
 fn lower() -> UidRange {

@@ -35,14 +35,15 @@ fn is_frame(rt: &impl Abort, alloc: Global, frame: &Frame, text: &str) {
 
 #[test]
 fn frames_of_operations(rt: HostRuntime) {
+    let alloc = rt.alloc();
     let unmute = Op::UnmuteAll.frame(source(), 0);
-    is_frame(&rt, rt.alloc(), &unmute, UNMUTE);
+    is_frame(&rt, alloc, &unmute, UNMUTE);
     let branch = Op::Branch(UidRange::whole()).frame(source(), 3);
-    is_frame(&rt, rt.alloc(), &branch, BRANCH);
+    is_frame(&rt, alloc, &branch, BRANCH);
     let device = device();
     check(&rt, !device.is_broadcast());
     let mute = Op::Mute(device).frame(source(), 4);
-    is_frame(&rt, rt.alloc(), &mute, MUTE);
+    is_frame(&rt, alloc, &mute, MUTE);
 }
 
 // Whether a reply may answer an unmute, a mute, a branch, and nothing.
@@ -71,13 +72,14 @@ fn mute_reads(rt: &impl Abort, alloc: Global, tn: u8, text: &str, wanted: OpRepl
 
 #[test]
 fn replies_to_a_mute(rt: HostRuntime) {
+    let alloc = rt.alloc();
     let ack = MuteAck {
         control: 2,
         binding: Some(Uid::new(0x1234, 5)),
     };
-    mute_reads(&rt, rt.alloc(), 4, ACK, OpReply::Mute(Some(ack)));
-    mute_reads(&rt, rt.alloc(), 5, ACK, OpReply::Mute(None));
-    mute_reads(&rt, rt.alloc(), 4, "", OpReply::Mute(None));
+    mute_reads(&rt, alloc, 4, ACK, OpReply::Mute(Some(ack)));
+    mute_reads(&rt, alloc, 5, ACK, OpReply::Mute(None));
+    mute_reads(&rt, alloc, 4, "", OpReply::Mute(None));
     let failed = Op::Mute(device()).read_reply(source(), 4, None);
     check(&rt, failed == OpReply::Failed);
 }
@@ -91,9 +93,10 @@ fn branch_reads(rt: &impl Abort, alloc: Global, text: &str, wanted: BranchReply)
 
 #[test]
 fn replies_to_a_branch(rt: HostRuntime) {
+    let alloc = rt.alloc();
     let one = BranchReply::One(Uid::new(0x7a70, 1));
-    branch_reads(&rt, rt.alloc(), TEXT, one);
-    branch_reads(&rt, rt.alloc(), "ff", BranchReply::Collision);
+    branch_reads(&rt, alloc, TEXT, one);
+    branch_reads(&rt, alloc, "ff", BranchReply::Collision);
 }
 
 #[test]

@@ -4,6 +4,16 @@ use rdm_agent::{Agent, AgentFault, Op, OpReply};
 use rdm_wire::{BranchReply, Device, DeviceSet, MuteAck, Uid, UidRange, UidSet};
 use std::process::Abort;
 
+/// A device of one maker.
+pub(crate) fn near() -> Uid {
+    Uid::new(0x1234, 1)
+}
+
+/// A device of another maker, in the upper half of all UIDs.
+pub(crate) fn far() -> Uid {
+    Uid::new(0x9abc, 2)
+}
+
 /// A device that says nothing of itself.
 pub(crate) fn plain(uid: Uid) -> Device {
     Device {

@@ -1,5 +1,5 @@
 //! Searches over a line in memory, which loses a reply or has a device that misbehaves.
-use super::line::{Fault, TestLine, ended, plain, set_of};
+use super::line::{Fault, TestLine, ended, far, near, plain, set_of};
 use crate::tests::checks::check;
 use rdm_agent::{Agent, AgentFault, DEFAULT_BUDGET, Kind, Op, Search};
 use rdm_wire::{Device, Uid, UidSet};
@@ -13,15 +13,6 @@ fn full(search: Search, budget: u64) -> Agent {
 // The device with this least UID.
 fn neighbour(number: u32) -> Device {
     plain(Uid::new(0, number))
-}
-
-// Two devices of different makers.
-fn near() -> Uid {
-    Uid::new(0x1234, 1)
-}
-
-fn far() -> Uid {
-    Uid::new(0x9abc, 2)
 }
 
 // Each of the first exchanges may be lost, and both devices are found.

@@ -1,5 +1,5 @@
 //! Scenes, lines that are made of them, and what these answer.
-use crate::tests::checks::{bytes_of, check};
+use crate::tests::checks::{bytes_of, check, frame_of};
 use rdm_join::LineReply;
 use rdm_line::{
     AddFault, Collision, CollisionBytes, Line, LineFault, Parameter, ParameterPart, Parameters,
@@ -7,6 +7,7 @@ use rdm_line::{
 };
 use rdm_wire::{
     Device, Frame, ReqClass, Request, Uid, UidRange, encode_branch, encode_mute, encode_request,
+    encode_unmute,
 };
 use std::alloc::Global;
 use std::process::Abort;
@@ -191,36 +192,81 @@ pub fn quiet_line(rt: &impl Abort, alloc: Global, devices: SceneDevices) -> SimL
     line_of(rt, alloc, devices, Vec::new(alloc), &[], &[])
 }
 
-/// What comes after a frame, which is these bytes in hexadecimal.
-pub fn answers(rt: &impl Abort, alloc: Global, line: &mut SimLine, frame: &Frame, text: &str) {
-    let bytes = bytes_of(rt, alloc, text);
-    match line.exchange(frame) {
-        Ok(reply) => assert!(rt; reply.as_slice() == bytes.as_slice(), "{text}"),
-        Err(_) => panic!(rt; "it failed"),
+/// Whom a request is for: one of both devices, the devices of a maker, or all.
+#[derive(Clone, Copy)]
+pub enum Who {
+    First,
+    Second,
+    Maker,
+    All,
+}
+
+/// A frame that is sent to a line.
+#[derive(Clone, Copy)]
+pub enum Ask {
+    /// A branch of the whole range with this number.
+    Branch(u8),
+    /// A mute of the first device with this number.
+    Mute(u8),
+    /// An unmute of all devices with this number.
+    Unmute(u8),
+    /// A request with number 0 and no data: for whom, its class, its PID and its sub-device.
+    Request(Who, ReqClass, u16, u16),
+    /// A frame that is no command: its bytes in hexadecimal.
+    Bytes(&'static str),
+}
+
+/// The GET of the parameter `0060` of the first device.
+pub const GET: Ask = Ask::Request(Who::First, ReqClass::Get, 0x0060, 0);
+
+/// The SET of that parameter.
+pub const SET: Ask = Ask::Request(Who::First, ReqClass::Set, 0x0060, 0);
+
+/// A frame, and the bytes that come after it in hexadecimal. None: the line fails.
+pub type Row<'a> = (Ask, Option<&'a str>);
+
+/// The line answers each frame as its row says, and its failures are counted.
+pub fn plays(rt: &impl Abort, alloc: Global, mut line: SimLine, rows: &[Row<'_>]) {
+    let mut failures = 0u64;
+    for (ask, wanted) in rows {
+        let frame = frame_for(rt, alloc, *ask);
+        match (line.exchange(&frame), wanted) {
+            (Ok(reply), Some(text)) => is_text(rt, alloc, &reply, text),
+            (Err(LineFault), None) => failures = failures.wrapping_add(1),
+            _ => panic!(rt; "it failed, or did not"),
+        }
+        check(rt, line.failures() == failures);
     }
 }
 
-/// The line fails after a frame.
-pub fn fails(rt: &impl Abort, line: &mut SimLine, frame: &Frame) {
-    check(rt, line.exchange(frame) == Err(LineFault));
+// The bytes are what a text gives in hexadecimal.
+fn is_text(rt: &impl Abort, alloc: Global, bytes: &[u8], text: &str) {
+    assert!(rt; bytes == bytes_of(rt, alloc, text).as_slice(), "{text}");
 }
 
-/// So many exchanges have failed.
-pub fn has_failed(rt: &impl Abort, line: &SimLine, failures: u64) {
-    check(rt, line.failures() == failures);
-}
-
-pub fn whole_branch(tn: u8) -> Frame {
-    encode_branch(UidRange::whole(), controller(), tn)
-}
-
-pub fn mute(rt: &impl Abort, uid: Uid, tn: u8) -> Frame {
-    check(rt, !uid.is_broadcast());
-    encode_mute(uid, controller(), tn)
+// The frame that is meant.
+fn frame_for(rt: &impl Abort, alloc: Global, ask: Ask) -> Frame {
+    match ask {
+        Ask::Branch(tn) => encode_branch(UidRange::whole(), controller(), tn),
+        Ask::Mute(tn) => {
+            let uid = first();
+            check(rt, !uid.is_broadcast());
+            encode_mute(uid, controller(), tn)
+        }
+        Ask::Unmute(tn) => encode_unmute(controller(), tn),
+        Ask::Request(who, class, pid, sub_device) => asks(who, class, pid, sub_device),
+        Ask::Bytes(text) => frame_of(rt, alloc, text),
+    }
 }
 
 /// A request without data, as a frame with number 0.
-pub fn asks(target: Uid, class: ReqClass, pid: u16, sub_device: u16) -> Frame {
+pub fn asks(who: Who, class: ReqClass, pid: u16, sub_device: u16) -> Frame {
+    let target = match who {
+        Who::First => first(),
+        Who::Second => second(),
+        Who::Maker => Uid::new(0x1234, 0xffff_ffff),
+        Who::All => Uid::ALL,
+    };
     let request = Request {
         target,
         sub_device,
@@ -231,7 +277,12 @@ pub fn asks(target: Uid, class: ReqClass, pid: u16, sub_device: u16) -> Frame {
     encode_request(&request, controller(), 0)
 }
 
-/// The GET of the parameter `0060` of the first device.
-pub fn get() -> Frame {
-    asks(first(), ReqClass::Get, 0x0060, 0)
+/// What any line answers to a frame of two bytes, whose text is `cc01`: these bytes, or None for a failure.
+pub fn meets<L: Line>(rt: &impl Abort, line: &mut L, wanted: Option<&[u8]>) {
+    let mut frame = Frame::new();
+    let _ = frame.try_extend_from_slice(&[0xcc, 0x01]);
+    match line.exchange(&frame) {
+        Ok(reply) => check(rt, wanted == Some(reply.as_slice())),
+        Err(LineFault) => check(rt, wanted.is_none()),
+    }
 }

@@ -1,18 +1,11 @@
 //! A line over streams of text: which line says what, and what an exchange takes when it fails.
+use super::rig::meets;
 use crate::tests::checks::check;
-use rdm_line::{Line, LineFault, StreamLine};
-use rdm_wire::Frame;
+use rdm_line::{Line, StreamLine};
 use std::alloc::Global;
 use std::io;
 use std::io::{ErrorKind, Read};
 use std::process::Abort;
-
-// A frame of two bytes, whose line is `cc01`.
-fn frame() -> Frame {
-    let mut frame = Frame::new();
-    let _ = frame.try_extend_from_slice(&[0xcc, 0x01]);
-    frame
-}
 
 // Adds a line of this many digits, and how it ends.
 fn add_digits(rt: &impl Abort, text: &mut Vec<u8>, count: usize, end: &str) {
@@ -22,15 +15,16 @@ fn add_digits(rt: &impl Abort, text: &mut Vec<u8>, count: usize, end: &str) {
     check(rt, text.extend_from_slice(end.as_bytes()).is_ok());
 }
 
-// What comes is these bytes, or None for a failure.
-fn meets<L: Line>(rt: &impl Abort, line: &mut L, wanted: Option<&[u8]>) {
-    match line.exchange(&frame()) {
-        Ok(reply) => assert!(rt; wanted == Some(reply.as_slice()), "wanted {wanted:?}"),
-        Err(LineFault) => assert!(rt; wanted.is_none(), "wanted {wanted:?}"),
+// The line answers each of these, and then fails. By then it has failed this many times.
+fn ends<L: Line>(rt: &impl Abort, line: &mut L, wanted: &[Option<&[u8]>], failures: u64) {
+    for wanted in wanted {
+        meets(rt, line, *wanted);
     }
+    meets(rt, line, None);
+    check(rt, line.failures() == failures);
 }
 
-// The exchanges over these lines are answered by these bytes, or fail, and then the line fails as often as is said.
+// The exchanges over these lines are answered by these bytes, or fail, and then the line has failed this many times.
 fn meets_each(
     rt: &impl Abort,
     alloc: Global,
@@ -39,45 +33,45 @@ fn meets_each(
     failures: u64,
 ) {
     let mut line = StreamLine::new(text, Vec::new(alloc));
-    for wanted in wanted {
-        meets(rt, &mut line, *wanted);
-    }
-    meets(rt, &mut line, None);
-    check(rt, line.failures() == failures);
+    ends(rt, &mut line, wanted, failures);
     let (left, written) = line.into_parts();
     check(rt, left.is_empty());
+    let length = wanted.len().saturating_add(1).saturating_mul(5);
     check(
         rt,
-        written.len() == wanted.len().saturating_add(1).saturating_mul(5),
+        written.len() == length && written.starts_with(b"cc01\ncc01\n"),
     );
-    check(rt, written.starts_with(b"cc01\ncc01\n"));
 }
+
+// What comes of these lines.
+const TEXT: &[u8] = b"\n\r\nFE01\r\nfe01\nf\nf\r\nfailed\nfailed\r\n0g\n 01\n01\r\r\n01\n02";
+
+const WANTED: [Option<&[u8]>; 13] = [
+    Some(&[]),
+    Some(&[]),
+    Some(&[0xfe, 0x01]),
+    Some(&[0xfe, 0x01]),
+    None,
+    None,
+    None,
+    None,
+    None,
+    None,
+    None,
+    Some(&[0x01]),
+    None,
+];
 
 #[test]
 fn each_line_answers_one_exchange(rt: HostRuntime) {
-    let text = b"\n\r\nFE01\r\nfe01\nf\nf\r\nfailed\nfailed\r\n0g\n 01\n01\r\r\n01\n02";
-    let wanted: [Option<&[u8]>; 13] = [
-        Some(&[]),
-        Some(&[]),
-        Some(&[0xfe, 0x01]),
-        Some(&[0xfe, 0x01]),
-        None,
-        None,
-        None,
-        None,
-        None,
-        None,
-        None,
-        Some(&[0x01]),
-        None,
-    ];
-    meets_each(&rt, rt.alloc(), text, &wanted, 9);
+    meets_each(&rt, rt.alloc(), TEXT, &WANTED, 9);
 }
 
 // The longest reply, in a line with either end, and two that are too long.
 #[test]
 fn a_line_has_a_reply_of_257_bytes_at_most(rt: HostRuntime) {
-    let mut text = Vec::new(rt.alloc());
+    let alloc = rt.alloc();
+    let mut text = Vec::new(alloc);
     add_digits(&rt, &mut text, 514, "\n");
     add_digits(&rt, &mut text, 514, "\r\n");
     add_digits(&rt, &mut text, 516, "\n");
@@ -85,7 +79,7 @@ fn a_line_has_a_reply_of_257_bytes_at_most(rt: HostRuntime) {
     add_digits(&rt, &mut text, 2, "\n");
     let most = [0xaa; 257];
     let wanted: [Option<&[u8]>; 5] = [Some(&most), Some(&most), None, None, Some(&[0xaa])];
-    meets_each(&rt, rt.alloc(), &text, &wanted, 3);
+    meets_each(&rt, alloc, &text, &wanted, 3);
 }
 
 // Gives a byte at each read; `!` stands for an error and `?` for an interrupted call.
@@ -112,35 +106,30 @@ impl Read for Faulty<'_> {
     }
 }
 
+const WANTED_OF_FAULTY: [Option<&[u8]>; 7] = [
+    Some(&[0x01]),
+    None,
+    Some(&[0x02]),
+    Some(&[0x03]),
+    None,
+    None,
+    Some(&[0x05]),
+];
+
 #[test]
 fn an_error_of_the_reader_fails_one_exchange(rt: HostRuntime) {
     let text = Faulty {
         text: b"01\n!02\n0?3\n0!4\n05\n",
     };
     let mut line = StreamLine::new(text, Vec::new(rt.alloc()));
-    let wanted: [Option<&[u8]>; 8] = [
-        Some(&[0x01]),
-        None,
-        Some(&[0x02]),
-        Some(&[0x03]),
-        None,
-        None,
-        Some(&[0x05]),
-        None,
-    ];
-    for wanted in wanted {
-        meets(&rt, &mut line, wanted);
-    }
-    check(&rt, line.failures() == 4);
+    ends(&rt, &mut line, &WANTED_OF_FAULTY, 4);
 }
 
 #[test]
 fn takes_no_line_when_its_frame_is_not_written(rt: HostRuntime) {
     let mut room = [0; 9];
     let mut line = StreamLine::new(b"01\n02\n".as_slice(), room.as_mut_slice());
-    meets(&rt, &mut line, Some(&[0x01]));
-    meets(&rt, &mut line, None);
-    check(&rt, line.failures() == 1);
+    ends(&rt, &mut line, &[Some(&[0x01])], 1);
     let (left, _) = line.into_parts();
     check(&rt, left == b"02\n".as_slice());
 }
