@@ -4,7 +4,7 @@ use crate::packets::{TAG, numbered, reply};
 use crate::queue::{id_of, session};
 use crate::served::CLIENTS;
 use rdm_join::{LineEvent, LineReply};
-use rdm_queue::{Answer, Event, Outcome, Session};
+use rdm_queue::{Answer, BoxedOutcome, Event, Session};
 use rdm_rig::request;
 use std::alloc::Global;
 use std::time::CpuClock;
@@ -93,7 +93,7 @@ impl Requests {
 fn is_right(answer: &Answer) -> bool {
     match answer {
         Answer::Take(Ok(Some(_))) | Answer::Deliver(Ok(())) | Answer::Submit(Ok(_)) => true,
-        Answer::Collect(Some(Outcome::Request { done, .. })) => done.bytes.len() == 2,
+        Answer::Collect(Ok(Some(BoxedOutcome::Request { done, .. }))) => done.bytes.len() == 2,
         _ => false,
     }
 }
