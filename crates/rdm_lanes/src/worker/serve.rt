@@ -77,7 +77,7 @@ fn may_make(session: &Session, client: ClientId, lane: &mut Lane) -> bool
 }
 
 // Whether all that the client is told is on its ring, and that has a free slot.
-#[tactic(auto, using(crate::proofs::ServeLemmas::nothing_uncollected))]
+#[tactic(auto, using(rdm_log::proofs::PromiseLemmas::OutcomeLemmas::nothing_uncollected))]
 fn may_tell(session: &Session, client: ClientId, lane: &mut Lane) -> bool
     ensures may { result ≡ true → MayTell client.0 session.now lane.new }
     ensures may_not { result ≡ false → MayTell client.0 session.now lane.new → ⊥ }
