@@ -1,8 +1,7 @@
 //! What arguments ask for, where only values show it.
-use super::program::{Due, status_of};
+use super::program::{Due, check, says, status_of};
 use rdm_port::{Complaint, Job, PortKind, USAGE, WordsFault, complaint_of, parse_words};
 use std::alloc::Global;
-use std::fmt::Display;
 use std::io;
 use std::process::Abort;
 use std::sync::Wait;
@@ -15,7 +14,7 @@ fn names(rt: &impl Abort, alloc: Global, words: &[&str], port: PortKind) {
         port,
         log: None,
     };
-    assert!(rt; parse_words(alloc, words) == Ok(job));
+    check(rt, parse_words(alloc, words) == Ok(job));
 }
 
 // Both ports print the same.
@@ -34,7 +33,10 @@ fn arguments_name_their_port(rt: HostRuntime) {
 fn prints<T: Threads + Wait + Abort + Sync>(rt: &T, alloc: Global, words: &[&str], due: Due<'_>) {
     let mut written = Vec::new(alloc);
     let status = status_of(rt, alloc, words, &mut io::empty(), &mut written);
-    assert!(rt; written.as_slice() == due.0.as_bytes() && status == due.1);
+    check(
+        rt,
+        written.as_slice() == due.0.as_bytes() && status == due.1,
+    );
 }
 
 // No command line has such arguments.
@@ -54,18 +56,12 @@ fn arguments_have_null_characters(rt: HostRuntime) {
     prints(&rt, alloc, &["decode\u{0}", "fe"], no_words);
 }
 
-// What this says.
-fn says<D: Display>(rt: &impl Abort, alloc: Global, shown: &D, text: &str) {
-    let said = format!(in alloc; "{shown}").expect(rt, "memory");
-    assert!(rt; said.as_str() == text, "{text}");
-}
-
 // The first complaint is about arguments that fit a command: no other one is true of them.
 #[test]
 fn faults_of_arguments_say_what_is_wrong(rt: HostRuntime) {
     let alloc = rt.alloc();
     let complaint = complaint_of(&["decode", "00"]);
-    assert!(rt; complaint == Complaint::Words);
+    check(&rt, complaint == Complaint::Words);
     let usage = format!(in alloc; "the words fit no command\n{USAGE}").expect(&rt, "memory");
     says(&rt, alloc, &complaint, &usage);
     says(&rt, alloc, &WordsFault::Words, "the words fit no command");

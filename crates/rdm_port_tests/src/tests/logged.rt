@@ -1,17 +1,18 @@
 //! Outcomes that aren't those of the log are found out.
+use super::program::check;
 use arrayvec::ArrayVec;
 use rdm_agent::{AgentFault, Kind};
 use rdm_client::Told;
 use rdm_join::{LineEvent, Status};
 use rdm_port::{Discovered, Outcomes};
-use rdm_queue::{Completion, Config, Log, Session};
+use rdm_queue::{ClientId, Completion, Config, Log, Session};
 use rdm_serving::are_logged;
 use rdm_wire::{ReqClass, Request, Uid};
 use std::alloc::Global;
 use std::process::Abort;
 
-// A session of one client, whose request failed to be sent, and whose discovery ended as the line failed.
-fn session_of_one(alloc: Global) -> Option<Session> {
+// A session with one client.
+fn joined(alloc: Global) -> Option<(Session, ClientId)> {
     let config = Config {
         source: Uid::new(0x7a70, 0x100),
         places: 4,
@@ -19,6 +20,11 @@ fn session_of_one(alloc: Global) -> Option<Session> {
     };
     let mut session = Session::new(alloc, config, Log::new(alloc, 100).ok()?).ok()?;
     let client = session.join_client(alloc, 2).ok()?;
+    Some((session, client))
+}
+
+// The client makes a request and asks for a discovery. Whether both are accepted.
+fn asks(session: &mut Session, client: ClientId) -> bool {
     let request = Request {
         target: Uid::new(0x1234, 1),
         sub_device: 0,
@@ -26,13 +32,22 @@ fn session_of_one(alloc: Global) -> Option<Session> {
         pid: 0x0060,
         param: ArrayVec::new(),
     };
-    session.submit(client, request).ok()?;
-    session.discover(client, Kind::Full).ok()?;
+    session.submit(client, request).is_ok() && session.discover(client, Kind::Full).is_ok()
+}
+
+// The line fails at the next frame. Whether there is one.
+fn fails(alloc: Global, session: &mut Session) -> bool {
+    matches!(session.take(), Ok(Some(_))) && session.deliver(alloc, LineEvent::Failed).is_ok()
+}
+
+// A session of one client, whose request failed to be sent, and whose discovery ended as the line failed.
+fn session_of_one(rt: &impl Abort, alloc: Global) -> Session {
+    let (mut session, client) = joined(alloc).expect(rt, "a session");
+    check(rt, asks(&mut session, client));
     for _ in 0..2 {
-        let _frame = session.take().ok()??;
-        session.deliver(alloc, LineEvent::Failed).ok()?;
+        check(rt, fails(alloc, &mut session));
     }
-    Some(session)
+    session
 }
 
 // Outcomes of a client: a request with this status and these data, and a discovery with this fault.
@@ -49,19 +64,19 @@ fn outcomes(
         reply: None,
         bytes: Vec::from_slice(alloc, data).expect(rt, "memory"),
     };
-    assert!(rt; outcomes.requests.push(Told { tag: 0, done }).is_ok());
+    check(rt, outcomes.requests.push(Told { tag: 0, done }).is_ok());
     let discovered = Discovered {
         tag: 1,
         fault,
         uids: Vec::new(alloc),
     };
-    assert!(rt; outcomes.discoveries.push(discovered).is_ok());
+    check(rt, outcomes.discoveries.push(discovered).is_ok());
     outcomes
 }
 
 // Whether these outcomes are those of the session's log.
 fn are_of(rt: &impl Abort, alloc: Global, session: &Session, told: &[Outcomes], same: bool) {
-    assert!(rt; are_logged(alloc, session.log(), told) == Ok(same));
+    check(rt, are_logged(alloc, session.log(), told) == Ok(same));
 }
 
 const FAILED: Option<AgentFault> = Some(AgentFault::LineFailed);
@@ -70,7 +85,7 @@ const FAILED: Option<AgentFault> = Some(AgentFault::LineFailed);
 #[test]
 fn outcomes_that_the_log_has_not_are_found_out(rt: HostRuntime) {
     let alloc = rt.alloc();
-    let session = session_of_one(alloc).expect(&rt, "a session");
+    let session = session_of_one(&rt, alloc);
     let told = [outcomes(&rt, alloc, Status::FailedToSend, b"", FAILED)];
     are_of(&rt, alloc, &session, &told, true);
     let other_status = [outcomes(&rt, alloc, Status::Timeout, b"", FAILED)];
@@ -85,7 +100,7 @@ fn outcomes_that_the_log_has_not_are_found_out(rt: HostRuntime) {
 #[test]
 fn outcomes_of_too_few_and_too_many_are_found_out(rt: HostRuntime) {
     let alloc = rt.alloc();
-    let session = session_of_one(alloc).expect(&rt, "a session");
+    let session = session_of_one(&rt, alloc);
     are_of(&rt, alloc, &session, &[Outcomes::new(alloc)], false);
     let of_two_clients = [
         outcomes(&rt, alloc, Status::FailedToSend, b"", FAILED),

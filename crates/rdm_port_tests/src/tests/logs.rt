@@ -1,9 +1,9 @@
 //! Logs that fail at each byte.
-use super::program::{SCENE, SCENE_FILE};
+use super::program::{SCENE, SCENE_FILE, check, check_at};
 use rdm_port::{LogOutput, OpensLog, Reason, Silent, carry_out, parse_words};
 use std::alloc::Global;
 use std::io;
-use std::io::{ErrorKind, Write};
+use std::io::{ErrorKind, Read, Write};
 use std::process::Abort;
 use std::sync::Wait;
 use std::thread::Threads;
@@ -14,17 +14,6 @@ pub struct MemoryLog {
     taken: Vec<u8>,
     most: usize,
     opened: usize,
-}
-
-impl MemoryLog {
-    /// A log that takes everything.
-    pub fn new(alloc: Global) -> MemoryLog {
-        MemoryLog {
-            taken: Vec::new(alloc),
-            most: usize::MAX,
-            opened: 0,
-        }
-    }
 }
 
 impl Write for MemoryLog {
@@ -53,6 +42,39 @@ impl OpensLog for MemoryLog {
     }
 }
 
+/// What came of a command: its status, the reason if it isn't done, what it printed, and its log.
+#[derive(Drop)]
+pub struct Carried<'a> {
+    pub status: u8,
+    pub reason: Option<Reason<'a>>,
+    pub written: Vec<u8>,
+    pub log: MemoryLog,
+}
+
+/// Does what the arguments ask for, with a log that takes this many bytes.
+pub fn carries<'a, R: Read, T: Threads + Wait + Sync>(
+    rt: &T,
+    alloc: Global,
+    words: &'a [&'a str],
+    reader: &mut R,
+    most: usize,
+) -> Carried<'a> {
+    let mut log = LogOutput::new(MemoryLog {
+        taken: Vec::new(alloc),
+        most,
+        opened: 0,
+    });
+    let mut written = Vec::new(alloc);
+    let job = parse_words(alloc, words);
+    let (status, reason) = carry_out(rt, alloc, job, reader, &mut log, &mut written, &mut Silent);
+    Carried {
+        status,
+        reason,
+        written,
+        log: log.into_writer(),
+    }
+}
+
 // The first exchange of each run.
 const FIRST: &str = "{\"number\":0,\"operation\":\"unmute\",\
     \"frame\":\"cc0118ffffffffffff7a700000010000010000001000030007de\",\"reply\":\"\"}\n";
@@ -60,51 +82,57 @@ const FIRST: &str = "{\"number\":0,\"operation\":\"unmute\",\
 // The whole log, of ten exchanges.
 const LINES: usize = 10;
 
-// What the log has got, and the status, if it takes so many bytes.
+const WORDS: [&str; 5] = ["discover", "--incremental", "scene.json", "--log", "log"];
+
+// Whether the log was full.
+fn is_unlogged(reason: &Option<Reason<'_>>) -> bool {
+    matches!(
+        reason,
+        Some(Reason::Unlogged("log", ErrorKind::StorageFull))
+    )
+}
+
+// The log, if it takes so many bytes. The status is this one then.
 fn logged<T: Threads + Wait + Abort + Sync>(
     rt: &T,
     alloc: Global,
-    path: &str,
     most: usize,
     status: u8,
 ) -> MemoryLog {
-    let words = ["discover", "--incremental", "scene.json", "--log", path];
-    let mut log = LogOutput::new(MemoryLog {
-        most,
-        ..MemoryLog::new(alloc)
-    });
-    let mut written = Vec::new(alloc);
     let mut reader = SCENE_FILE.as_bytes();
-    let job = parse_words(alloc, &words);
-    let (given, reason) = carry_out(
-        rt,
-        alloc,
-        job,
-        &mut reader,
-        &mut log,
-        &mut written,
-        &mut Silent,
-    );
-    assert!(rt; given == status);
-    let has_reason = matches!(
+    let Carried {
+        status: given,
         reason,
-        Some(Reason::Unlogged("log", ErrorKind::StorageFull))
-    );
-    assert!(rt; has_reason == (most != usize::MAX));
-    assert!(rt; written.as_slice() == SCENE.0.as_bytes());
-    log.into_writer()
+        written,
+        log,
+    } = carries(rt, alloc, &WORDS, &mut reader, most);
+    check(rt, given == status);
+    check(rt, is_unlogged(&reason) == (most != usize::MAX));
+    check(rt, written.as_slice() == SCENE.0.as_bytes());
+    log
+}
+
+// How many lines end in these bytes.
+fn ends_of_lines(bytes: &[u8]) -> usize {
+    let mut lines = 0_usize;
+    for byte in bytes {
+        if *byte == b'\n' {
+            lines = lines.saturating_add(1);
+        }
+    }
+    lines
 }
 
 // A log that is cut short has a prefix of the text. The answer is printed all the same.
 #[test]
 fn a_log_fails_at_each_byte(rt: HostRuntime) {
     let alloc = rt.alloc();
-    let whole = logged(&rt, alloc, "log", usize::MAX, 0);
-    let lines = whole.taken.iter().filter(|b| **b == b'\n').count();
-    assert!(rt; lines == LINES && whole.opened == 1);
-    assert!(rt; whole.taken.starts_with(FIRST.as_bytes()));
+    let whole = logged(&rt, alloc, usize::MAX, 0);
+    let lines = ends_of_lines(&whole.taken);
+    check(&rt, lines == LINES && whole.opened == 1);
+    check(&rt, whole.taken.starts_with(FIRST.as_bytes()));
     for most in 0..whole.taken.len() {
-        let cut = logged(&rt, alloc, "log", most, 1);
-        assert!(rt; cut.taken.as_slice() == &whole.taken[..most]);
+        let cut = logged(&rt, alloc, most, 1);
+        check_at(&rt, most, cut.taken.as_slice() == &whole.taken[..most]);
     }
 }

@@ -1,7 +1,11 @@
-//! The program over a reader and a writer, and two files for it.
+//! The program over a reader and a writer, two files for it, and what a test expects.
+ghost use Rattle.std.specs.Prelude.{IsTrue};
+
 use rdm_port::{parse_words, perform};
 use std::alloc::Global;
+use std::fmt::Display;
 use std::io::{Read, Write};
+use std::process::Abort;
 use std::sync::Wait;
 use std::thread::Threads;
 
@@ -51,4 +55,22 @@ pub fn status_of<R: Read, W: Write, T: Threads + Wait + Sync>(
     writer: &mut W,
 ) -> u8 {
     perform(rt, alloc, parse_words(alloc, words), reader, writer)
+}
+
+/// Ends the test if the fact doesn't hold. A call of this is proved in less time than an assertion.
+pub fn check(rt: &impl Abort, fact: bool)
+    ensures { IsTrue fact }
+{
+    assert!(rt; fact);
+}
+
+/// The same, with the place that the fact is about.
+pub fn check_at(rt: &impl Abort, place: usize, fact: bool) {
+    assert!(rt; fact, "{place}");
+}
+
+/// What this says.
+pub fn says<D: Display>(rt: &impl Abort, alloc: Global, shown: &D, text: &str) {
+    let said = format!(in alloc; "{shown}").expect(rt, "memory");
+    assert!(rt; said.as_str() == text, "{text}");
 }

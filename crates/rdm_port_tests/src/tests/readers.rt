@@ -1,9 +1,10 @@
 //! Readers that fail at each read.
-use super::logs::MemoryLog;
+use super::logs::carries;
 use super::program::{
-    Due, INCREMENTAL, LOCKED, RINGS, SCENE, SCENE_FILE, SESSION, SESSION_FILE, status_of,
+    Due, INCREMENTAL, LOCKED, RINGS, SCENE, SCENE_FILE, SESSION, SESSION_FILE, check, check_at,
+    says, status_of,
 };
-use rdm_port::{LogOutput, Reason, Silent, carry_out, parse_words};
+use rdm_port::Reason;
 use std::alloc::Global;
 use std::io;
 use std::io::{ErrorKind, Read};
@@ -67,10 +68,8 @@ fn reads<T: Threads + Wait + Abort + Sync>(
     let fails_at = reader.fails_at;
     let mut written = Vec::new(alloc);
     let status = status_of(rt, alloc, words, &mut reader, &mut written);
-    assert!(rt;
-        written.as_slice() == due.0.as_bytes() && status == due.1,
-        "{fails_at}"
-    );
+    let is_due = written.as_slice() == due.0.as_bytes() && status == due.1;
+    check_at(rt, fails_at, is_due);
 }
 
 // The file is read byte by byte, and once more, which shows its end. A reader that fails until then is reported,
@@ -100,47 +99,37 @@ fn a_reader_of_a_scene_fails(rt: HostRuntime) {
 
 #[test]
 fn a_reader_of_a_session_fails(rt: HostRuntime) {
-    let file = SESSION_FILE.as_bytes();
-    fails_at_each_read(&rt, rt.alloc(), &LOCKED, file, SESSION);
-    fails_at_each_read(&rt, rt.alloc(), &RINGS, file, SESSION);
+    let (alloc, file) = (rt.alloc(), SESSION_FILE.as_bytes());
+    fails_at_each_read(&rt, alloc, &LOCKED, file, SESSION);
+    fails_at_each_read(&rt, alloc, &RINGS, file, SESSION);
 }
 
 // The reason names the file as the arguments do.
 fn tells_the_file<T: Threads + Wait + Abort + Sync>(rt: &T, alloc: Global, command: &str) {
-    let words = [command, "no_file.json"];
-    let job = parse_words(alloc, &words);
-    let mut written = Vec::new(alloc);
     let mut reader = FailingReader::new(SCENE_FILE.as_bytes(), 20, 1);
-    let mut log = LogOutput::new(MemoryLog::new(alloc));
-    let (_, reason) = carry_out(
-        rt,
-        alloc,
-        job,
-        &mut reader,
-        &mut log,
-        &mut written,
-        &mut Silent,
-    );
-    match reason {
-        Some(reason) => tells(rt, alloc, &reason),
+    let words = [command, "no_file.json"];
+    let carried = carries(rt, alloc, &words, &mut reader, usize::MAX);
+    match &carried.reason {
+        Some(reason) => tells(rt, alloc, reason),
         None => panic!(rt; "a reason"),
     }
 }
 
 fn tells(rt: &impl Abort, alloc: Global, reason: &Reason<'_>) {
-    let said = format!(in alloc; "{reason}").expect(rt, "memory");
     let text = "the file \"no_file.json\" can't be read: unexpected end of file";
-    assert!(rt; said.as_str() == text);
-    assert!(rt;
+    says(rt, alloc, reason, text);
+    check(
+        rt,
         matches!(
             reason,
             Reason::Unreadable("no_file.json", ErrorKind::UnexpectedEof)
-        )
+        ),
     );
 }
 
 #[test]
 fn reports_which_file_is_not_read(rt: HostRuntime) {
-    tells_the_file(&rt, rt.alloc(), "discover");
-    tells_the_file(&rt, rt.alloc(), "run");
+    let alloc = rt.alloc();
+    tells_the_file(&rt, alloc, "discover");
+    tells_the_file(&rt, alloc, "run");
 }

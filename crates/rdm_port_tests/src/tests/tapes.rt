@@ -1,4 +1,5 @@
 //! Runs on a tape.
+use super::program::check;
 use rdm_agent::{DEFAULT_BUDGET, Kind, Search};
 use rdm_join::{LineEvent, LineReply};
 use rdm_line::TapeLine;
@@ -11,12 +12,12 @@ use std::process::Abort;
 fn tape(rt: &impl Abort, alloc: Global, silences: usize, noises: usize) -> TapeLine {
     let mut events = Vec::new(alloc);
     for _ in 0..silences {
-        assert!(rt; events.push(LineEvent::Reply(LineReply::new())).is_ok());
+        check(rt, events.push(LineEvent::Reply(LineReply::new())).is_ok());
     }
     for _ in 0..noises {
         let mut reply = LineReply::new();
         reply.push(0xff);
-        assert!(rt; events.push(LineEvent::Reply(reply)).is_ok());
+        check(rt, events.push(LineEvent::Reply(reply)).is_ok());
     }
     TapeLine::new(events)
 }
@@ -53,16 +54,20 @@ fn ends(rt: &impl Abort, alloc: Global, silences: usize, noises: usize, text: &s
     let mut line = tape(rt, alloc, silences, noises);
     let run = run(alloc, &mut line, &UidSet::new(), &mut Silent);
     let said = report(alloc, &run).expect(rt, "memory");
-    assert!(rt; said.as_slice() == text.as_bytes(), "{text}");
-    assert!(rt; matches!(&run.found, Err((_, found)) if found.is_empty()));
+    check(rt, said.as_slice() == text.as_bytes());
+    check(
+        rt,
+        matches!(&run.found, Err((_, found)) if found.is_empty()),
+    );
 }
 
 // A line that answers each branch is corrupt, and a tape that ends fails.
 #[test]
 fn runs_end_on_a_tape(rt: HostRuntime) {
     let corrupt = "fault 1 0000:00000000\nframes 52\n";
-    ends(&rt, rt.alloc(), 3, 60, corrupt);
-    ends(&rt, rt.alloc(), 0, 0, "fault 4\nframes 1\n");
+    let alloc = rt.alloc();
+    ends(&rt, alloc, 3, 60, corrupt);
+    ends(&rt, alloc, 0, 0, "fault 4\nframes 1\n");
 }
 
 // How many exchanges a run had made each time that it reported.
@@ -82,7 +87,8 @@ fn absent(rt: &impl Abort, count: u32) -> UidSet {
     let mut known = UidSet::new();
     for device in 0..count {
         let uid = Uid::new(0x1234, device);
-        assert!(rt; !uid.is_broadcast() && known.insert(uid).is_ok());
+        check(rt, !uid.is_broadcast());
+        check(rt, known.insert(uid).is_ok());
     }
     known
 }
@@ -91,9 +97,10 @@ fn absent(rt: &impl Abort, count: u32) -> UidSet {
 #[test]
 fn every_hundredth_exchange_is_reported(rt: HostRuntime) {
     let known = absent(&rt, 40);
-    let mut line = tape(&rt, rt.alloc(), 208, 0);
-    let mut reports = Reports(Vec::new(rt.alloc()));
-    let run = run(rt.alloc(), &mut line, &known, &mut reports);
-    assert!(rt; run.found.is_ok() && run.frames == 208);
-    assert!(rt; reports.0.as_slice() == [100, 200].as_slice());
+    let alloc = rt.alloc();
+    let mut line = tape(&rt, alloc, 208, 0);
+    let mut reports = Reports(Vec::new(alloc));
+    let run = run(alloc, &mut line, &known, &mut reports);
+    check(&rt, run.found.is_ok() && run.frames == 208);
+    check(&rt, reports.0.as_slice() == [100, 200].as_slice());
 }

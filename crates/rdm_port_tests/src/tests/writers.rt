@@ -1,6 +1,6 @@
 //! Writers that fail at each byte.
 use super::program::{
-    Due, INCREMENTAL, LOCKED, RINGS, SCENE, SCENE_FILE, SESSION, SESSION_FILE, status_of,
+    Due, INCREMENTAL, LOCKED, RINGS, SCENE, SCENE_FILE, SESSION, SESSION_FILE, check_at, status_of,
 };
 use std::alloc::Global;
 use std::io;
@@ -73,7 +73,7 @@ fn fails_at_each_byte<T: Threads + Wait + Abort + Sync>(
         let status = status_of(rt, alloc, row.words, &mut reader, &mut writer);
         let wanted = if fails_at == whole.len() { due } else { 1 };
         let is_written = writer.taken.as_slice() == &whole[..fails_at];
-        assert!(rt; is_written && status == wanted, "{text} {fails_at}");
+        check_at(rt, fails_at, is_written && status == wanted);
     }
 }
 
@@ -83,31 +83,60 @@ fn fails_in_each_form<T: Threads + Wait + Abort + Sync>(rt: &T, alloc: Global, r
     }
 }
 
-// The file is for the commands that read one.
-fn line_fails<T: Threads + Wait + Abort + Sync>(
-    rt: &T,
-    alloc: Global,
-    words: &[&str],
-    file: &str,
-    due: Due<'_>,
-) {
-    fails_in_each_form(rt, alloc, Row { words, file, due });
-}
+// What commands print in one line. The file is for those that read one.
+static LINES: [Row<'static>; 9] = [
+    Row {
+        words: &["decode", ""],
+        file: "",
+        due: ("silent\n", 0),
+    },
+    Row {
+        words: &["decode", "fe"],
+        file: "",
+        due: ("collision\n", 0),
+    },
+    Row {
+        words: &["decode", "fefefefefefefeaafa7ffa75aa55aa55aa55ab55ae57eff5"],
+        file: "",
+        due: ("7a70:00000001\n", 0),
+    },
+    Row {
+        words: &["encode", "7a70:00000001"],
+        file: "",
+        due: ("fefefefefefefeaafa7ffa75aa55aa55aa55ab55ae57eff5\n", 0),
+    },
+    Row {
+        words: &["decode", "f"],
+        file: "",
+        due: ("fault: hex\n", 1),
+    },
+    Row {
+        words: &["encode", "f"],
+        file: "",
+        due: ("fault: uid\n", 1),
+    },
+    Row {
+        words: &["encode"],
+        file: "",
+        due: ("fault: command line\n", 2),
+    },
+    Row {
+        words: &["discover", "f"],
+        file: "[",
+        due: ("fault: json\n", 1),
+    },
+    Row {
+        words: &["run", "f"],
+        file: "{}",
+        due: ("fault: scene\n", 1),
+    },
+];
 
 #[test]
 fn a_writer_of_a_line_fails(rt: HostRuntime) {
-    let alloc = rt.alloc();
-    let reply = "fefefefefefefeaafa7ffa75aa55aa55aa55ab55ae57eff5";
-    let written = ("fefefefefefefeaafa7ffa75aa55aa55aa55ab55ae57eff5\n", 0);
-    line_fails(&rt, alloc, &["decode", ""], "", ("silent\n", 0));
-    line_fails(&rt, alloc, &["decode", "fe"], "", ("collision\n", 0));
-    line_fails(&rt, alloc, &["decode", reply], "", ("7a70:00000001\n", 0));
-    line_fails(&rt, alloc, &["encode", "7a70:00000001"], "", written);
-    line_fails(&rt, alloc, &["decode", "f"], "", ("fault: hex\n", 1));
-    line_fails(&rt, alloc, &["encode", "f"], "", ("fault: uid\n", 1));
-    line_fails(&rt, alloc, &["encode"], "", ("fault: command line\n", 2));
-    line_fails(&rt, alloc, &["discover", "f"], "[", ("fault: json\n", 1));
-    line_fails(&rt, alloc, &["run", "f"], "{}", ("fault: scene\n", 1));
+    for row in &LINES {
+        fails_in_each_form(&rt, rt.alloc(), *row);
+    }
 }
 
 #[test]
@@ -127,10 +156,11 @@ fn a_writer_of_a_session_fails(rt: HostRuntime) {
         file: SESSION_FILE,
         due: SESSION,
     };
-    fails_at_each_byte(&rt, rt.alloc(), row, (1, true));
+    let alloc = rt.alloc();
+    fails_at_each_byte(&rt, alloc, row, (1, true));
     let row = Row {
         words: &RINGS,
         ..row
     };
-    fails_at_each_byte(&rt, rt.alloc(), row, (7, false));
+    fails_at_each_byte(&rt, alloc, row, (7, false));
 }
