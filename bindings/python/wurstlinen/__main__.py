@@ -15,5 +15,7 @@ def interrupt(number: int, frame: Optional[FrameType]) -> None:
 
 
 if __name__ == "__main__":
-    signal.signal(signal.SIGTERM, interrupt)
+    # A shell lets what it starts in the background ignore SIGINT.
+    for ending in (signal.SIGINT, signal.SIGTERM):
+        signal.signal(ending, interrupt)
     sys.exit(main())
