@@ -1,8 +1,10 @@
-// Watches a part of a program: from one reading of the clock to the next, the one whose number is in COPY_WATCH, counted
-// from 1. It stands before the C library's memcpy, memmove and memset, and counts the calls for 2,048 bytes or more. If
-// there is a variable COPY_STEPS, it also steps through the program's instructions, and counts them. When the program
-// ends, it writes four numbers to the file descriptor in COPY_REPORT: the copies, how many of them have 32,768 bytes or
-// more, the fills, and the instructions.
+// Watches a part of a program: from one reading of the clock to the next. COPY_WATCH has the number of the first one,
+// counted from 1.
+//
+// It stands before the C library's memcpy, memmove and memset, and counts the calls for 2,048 bytes or more. If there
+// is a variable COPY_STEPS, it also steps through the program's instructions, and counts them. When the program ends,
+// it writes four numbers to the file descriptor in COPY_REPORT: the copies, how many of them have 32,768 bytes or more,
+// the fills, and the instructions.
 //
 // What the C library does by itself isn't seen, such as the copy of a block that realloc moves.
 #define _GNU_SOURCE

@@ -72,8 +72,8 @@ fn soaked<R: Wait>(
     Some(tally)
 }
 
-// A line for this many requests, by this seed. One device answers. One exchange in 100 fails, and of the others the reply
-// of one in 50 is lost.
+// A line for this many requests, by this seed. One device answers. One exchange in 100 fails, and of the others the
+// reply of one in 50 is lost.
 fn line_for(alloc: Global, requests: u64, seed: u64) -> Option<SimLine> {
     let (mut losses, mut fails) = (Vec::new(alloc), Vec::new(alloc));
     let mut random = Random::new(seed);
@@ -167,8 +167,8 @@ impl Tally {
         Some(())
     }
 
-    // A client collects an outcome, if there is one. It has to be that of a request of its own that wasn't told yet. A long
-    // answer that broke off before goes on with its next part of 231 bytes.
+    // A client collects an outcome, if there is one. It has to be that of a request of its own that wasn't told yet. A
+    // long answer that broke off before goes on with its next part of 231 bytes.
     fn collect<S: Served>(&mut self, served: &mut S, client: usize) -> Option<()> {
         let Some(Told { tag, done }) = served.collect(client) else {
             return Some(());
