@@ -16,5 +16,4 @@ mod rotating;
 mod run_ends;
 mod running;
 mod searching;
-mod stands;
 mod told;

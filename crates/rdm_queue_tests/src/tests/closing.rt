@@ -4,7 +4,6 @@ use super::packets::{
     ACK, ACK_OVERFLOW, CLIENT, accepts, collects, delivers, refuses, reply, session_of_one,
     silence, taken, takes_none,
 };
-use super::stands::{close, has_no_outcome, is_awaiting};
 use rdm_join::{LineEvent, Status};
 use rdm_queue::{NotAsked, Session, SubmitFault};
 use std::alloc::Global;
@@ -17,9 +16,11 @@ fn closed(rt: &impl Abort, alloc: Global) -> Session {
         accepts(rt, &mut session, number);
     }
     let _ = taken(rt, &mut session);
-    close(&mut session);
-    is_awaiting(rt, &session);
-    has_no_outcome(rt, &mut session, CLIENT);
+    session.close();
+    check(
+        rt,
+        session.awaits() && session.next_outcome(CLIENT).is_none(),
+    );
     session
 }
 
@@ -44,12 +45,18 @@ fn closes(rt: &impl Abort, alloc: Global, event: LineEvent, first: Status) {
     gives_back(rt, alloc, &mut session);
 }
 
-// A part is not enough. A whole reply and silence still count.
 #[test]
-fn a_close_waits_for_the_reply(rt: HostRuntime) {
-    let alloc = rt.alloc();
+fn a_part_is_not_enough(rt: HostRuntime) {
     let part = reply(&rt, 0, ACK_OVERFLOW, 2);
-    closes(&rt, alloc, part, Status::FailedToSend);
-    closes(&rt, alloc, reply(&rt, 0, ACK, 2), Status::Completed);
-    closes(&rt, alloc, silence(), Status::Timeout);
+    closes(&rt, rt.alloc(), part, Status::FailedToSend);
+}
+
+#[test]
+fn a_whole_reply_still_counts(rt: HostRuntime) {
+    closes(&rt, rt.alloc(), reply(&rt, 0, ACK, 2), Status::Completed);
+}
+
+#[test]
+fn silence_still_counts(rt: HostRuntime) {
+    closes(&rt, rt.alloc(), silence(), Status::Timeout);
 }

@@ -3,10 +3,8 @@ ghost use Rattle.std.specs.Prelude.{◌≡◌, false};
 ghost use Rattle.rdm_wire.specs.Uid.{is_broadcast};
 
 use super::checks::{check, check_eq};
-use super::controller::{asks, submits, with_one};
 use super::lines::{controller_serves, first_device, run_of_one, serves, session_for_runs};
-use super::packets::{ACK, CLIENT, accepts, answers, asks_for, reply};
-use super::stands::{has_entries, is_idle};
+use super::packets::{ACK, CLIENT, accepts, answers, asks_for, config, get, reply};
 use rdm_agent::{DEFAULT_BUDGET, Kind};
 use rdm_join::Status;
 use rdm_queue::{ClientId, Completion, Controller, DiscoveryEnd, OutcomeKind, Session};
@@ -48,7 +46,7 @@ fn is_of_first(rt: &impl Abort, done: Option<(u64, Completion)>, status: Status,
 // A session with the outcome of a discovery, and after it that of a request.
 fn ended(rt: &impl Abort, alloc: Global) -> Session {
     let mut session = session_for_runs(rt, alloc);
-    oldest_is(rt, &session, None);
+    check_eq(rt, session.oldest(CLIENT), None);
     asks_for(rt, &mut session, Kind::Full, Ok(0));
     accepts(rt, &mut session, 0);
     serves(rt, alloc, &mut session, 0, &run_of_one());
@@ -56,37 +54,16 @@ fn ended(rt: &impl Abort, alloc: Global) -> Session {
     session
 }
 
-// The client's oldest outcome is of this kind.
-fn oldest_is(rt: &impl Abort, session: &Session, kind: Option<OutcomeKind>) {
-    check_eq(rt, session.oldest(CLIENT), kind);
-}
-
-// The client collects this of a discovery. The set then has the first device alone.
-fn collects_set(
-    rt: &impl Abort,
-    session: &mut Session,
-    set: &mut DeviceSet,
-    end: Option<DiscoveryEnd>,
-) {
-    check_eq(rt, session.next_discovery(CLIENT, set), end);
-    has_one(rt, set);
-}
-
-// The client collects the request's outcome, and then has none.
-fn collects_request(rt: &impl Abort, session: &mut Session) {
-    let done = session.next_completion(CLIENT);
-    is_of_first(rt, done, Status::Completed, &[0x5a, 0x5a, 0x5a]);
-    oldest_is(rt, session, None);
-}
-
 // The discovery's outcome comes first, and its set isn't written again.
 fn gives_set(rt: &impl Abort, session: &mut Session) {
-    oldest_is(rt, session, Some(OutcomeKind::Discovery));
+    check_eq(rt, session.oldest(CLIENT), Some(OutcomeKind::Discovery));
     check(rt, session.next_completion(CLIENT).is_none());
     let mut set = DeviceSet::new();
-    collects_set(rt, session, &mut set, Some(END));
-    oldest_is(rt, session, Some(OutcomeKind::Request));
-    collects_set(rt, session, &mut set, None);
+    check_eq(rt, session.next_discovery(CLIENT, &mut set), Some(END));
+    has_one(rt, &set);
+    check_eq(rt, session.oldest(CLIENT), Some(OutcomeKind::Request));
+    check_eq(rt, session.next_discovery(CLIENT, &mut set), None);
+    has_one(rt, &set);
 }
 
 #[test]
@@ -94,32 +71,31 @@ fn a_session_gives_each_kind_in_turn(rt: HostRuntime) {
     let mut session = ended(&rt, rt.alloc());
     let before = session.log().entries().len();
     gives_set(&rt, &mut session);
-    collects_request(&rt, &mut session);
-    has_entries(&rt, &session, before.wrapping_add(2));
-    is_idle(&rt, &session, true);
+    let done = session.next_completion(CLIENT);
+    is_of_first(&rt, done, Status::Completed, &[0x5a, 0x5a, 0x5a]);
+    check_eq(&rt, session.oldest(CLIENT), None);
+    check_eq(&rt, session.log().entries().len(), before.wrapping_add(2));
+    check(&rt, session.is_idle());
 }
 
 // A controller with the outcome of a discovery, and after it that of a request.
 fn closed(rt: &impl Abort, alloc: Global) -> Controller {
-    let mut controller = with_one(rt, alloc, DEFAULT_BUDGET);
-    asks(rt, &mut controller, Kind::Full);
-    submits(rt, &mut controller);
+    let made = Controller::new(alloc, config(1, DEFAULT_BUDGET));
+    let mut controller = made.ok().expect(rt, "the memory of a controller");
+    check_eq(rt, controller.join_client(alloc, 1), Ok(CLIENT));
+    check_eq(rt, controller.discover(CLIENT, Kind::Full), Ok(0));
+    check_eq(rt, controller.submit(CLIENT, get()).ok(), Some(0));
     controller_serves(rt, alloc, &mut controller, &run_of_one());
     controller.close();
     controller
-}
-
-// Another client has no outcome.
-fn gives_none(rt: &impl Abort, controller: &mut Controller, set: &mut DeviceSet) {
-    check_eq(rt, controller.oldest(ClientId(1)), None);
-    check_eq(rt, controller.next_discovery(ClientId(1), set), None);
 }
 
 // Another client has no outcome and writes no set. The first one is given that of its discovery.
 fn gives_to_one(rt: &impl Abort, controller: &mut Controller) {
     let mut set = DeviceSet::new();
     check(rt, set.insert(other_device()).is_ok());
-    gives_none(rt, controller, &mut set);
+    check_eq(rt, controller.oldest(ClientId(1)), None);
+    check_eq(rt, controller.next_discovery(ClientId(1), &mut set), None);
     check(rt, set.contains(Uid::new(0x5678, 9)));
     check(rt, controller.next_completion(CLIENT).is_none());
     check_eq(rt, controller.next_discovery(CLIENT, &mut set), Some(END));

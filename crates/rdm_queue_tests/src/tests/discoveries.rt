@@ -1,14 +1,13 @@
 //! Discoveries, which runs serve.
 use super::checks::{check, check_eq};
 use super::lines::{
-    Came, asks, asks_next, discovers, discovers_none, discovers_one, event, exchanges,
-    first_device, knows, repeats, rest_of_run, run_of_one, serves, session_for_runs,
+    Came, asks, asks_next, discovers, discovers_one, event, exchanges, first_device, knows,
+    repeats, rest_of_run, run_of_one, serves, session_for_runs,
 };
 use super::packets::{
     ACK, ACK_OVERFLOW, CLIENT, accepts, asks_for, completes, delivers, is_done, pauses, reply,
     silence, taken, takes_none,
 };
-use super::stands::{has_no_outcome, is_idle, is_of_run};
 use rdm_agent::Kind;
 use rdm_queue::{AskFault, ClientId, Session};
 use rdm_wire::Uid;
@@ -26,15 +25,14 @@ const REQUEST: u16 = 0x0060;
 
 #[test]
 fn one_run_answers_all_that_are_asked(rt: HostRuntime) {
-    let alloc = rt.alloc();
-    let mut session = session_for_runs(&rt, alloc);
+    let mut session = session_for_runs(&rt, rt.alloc());
     pauses(&rt, &mut session, true);
     accepts(&rt, &mut session, 0);
     asks_for(&rt, &mut session, Kind::Full, Ok(0));
     asks_for(&rt, &mut session, Kind::Incremental, Ok(1));
     takes_none(&rt, &mut session);
     pauses(&rt, &mut session, false);
-    serves(&rt, alloc, &mut session, 0, &run_of_one());
+    serves(&rt, rt.alloc(), &mut session, 0, &run_of_one());
     let request = taken(&rt, &mut session);
     asks(&rt, &request, REQUEST, 10);
     check(
@@ -44,26 +42,27 @@ fn one_run_answers_all_that_are_asked(rt: HostRuntime) {
     discovers_one(&rt, &mut session, 0, 1);
     discovers_one(&rt, &mut session, 1, 1);
     knows(&rt, &session, 1, 1);
-    delivers(&rt, alloc, &mut session, silence());
+    delivers(&rt, rt.alloc(), &mut session, silence());
 }
 
 #[test]
 fn a_later_discovery_waits_for_the_next_run(rt: HostRuntime) {
-    let alloc = rt.alloc();
-    let mut session = session_for_runs(&rt, alloc);
+    let mut session = session_for_runs(&rt, rt.alloc());
     asks_for(&rt, &mut session, Kind::Full, Ok(0));
-    exchanges(&rt, alloc, &mut session, 0, Came::Nothing);
+    exchanges(&rt, rt.alloc(), &mut session, 0, Came::Nothing);
     asks_for(&rt, &mut session, Kind::Full, Ok(1));
-    serves(&rt, alloc, &mut session, 1, &rest_of_run());
+    serves(&rt, rt.alloc(), &mut session, 1, &rest_of_run());
     discovers_one(&rt, &mut session, 0, 1);
-    has_no_outcome(&rt, &mut session, CLIENT);
-    is_idle(&rt, &session, false);
+    check(
+        &rt,
+        session.next_outcome(CLIENT).is_none() && !session.is_idle(),
+    );
     asks_next(&rt, &mut session, UNMUTE, 10);
-    delivers(&rt, alloc, &mut session, silence());
-    serves(&rt, alloc, &mut session, 11, &rest_of_run());
+    delivers(&rt, rt.alloc(), &mut session, silence());
+    serves(&rt, rt.alloc(), &mut session, 11, &rest_of_run());
     discovers_one(&rt, &mut session, 1, 2);
-    is_of_run(&rt, &session, 2);
-    is_idle(&rt, &session, true);
+    check_eq(&rt, session.devices_run(), 2);
+    check(&rt, session.is_idle());
 }
 
 // Takes a frame with this number, which asks this PID of this target, and delivers what came.
@@ -127,74 +126,72 @@ fn searches_again(rt: &impl Abort, alloc: Global, session: &mut Session, kept: U
     check_eq(rt, tn, 29);
 }
 
-// Checks whether the session knows this device.
-fn has_device(rt: &impl Abort, session: &Session, device: Uid, wanted: bool) {
-    check_eq(rt, session.devices().contains(device), wanted);
-}
-
 #[test]
 fn an_incremental_run_mutes_the_known_first(rt: HostRuntime) {
-    let alloc = rt.alloc();
     let (kept, came) = (first_device(), Uid::new(0x9abc, 2));
-    let mut session = session_for_runs(&rt, alloc);
-    finds_two(&rt, alloc, &mut session);
+    let mut session = session_for_runs(&rt, rt.alloc());
+    finds_two(&rt, rt.alloc(), &mut session);
     asks_for(&rt, &mut session, Kind::Incremental, Ok(1));
-    searches_again(&rt, alloc, &mut session, kept, came);
+    searches_again(&rt, rt.alloc(), &mut session, kept, came);
     discovers(&rt, &mut session, 1, 2, None, &[kept, came]);
-    is_of_run(&rt, &session, 2);
-    has_device(&rt, &session, came, true);
-    has_device(&rt, &session, gone_device(), false);
+    check_eq(&rt, session.devices_run(), 2);
+    check(
+        &rt,
+        session.devices().contains(came) && !session.devices().contains(gone_device()),
+    );
     is_done(&rt, &mut session);
 }
 
 #[test]
 fn a_request_between_two_parts_goes_first(rt: HostRuntime) {
-    let alloc = rt.alloc();
-    let mut session = session_for_runs(&rt, alloc);
+    let mut session = session_for_runs(&rt, rt.alloc());
     accepts(&rt, &mut session, 0);
     accepts(&rt, &mut session, 1);
     let _ = taken(&rt, &mut session);
     asks_for(&rt, &mut session, Kind::Full, Ok(0));
-    delivers(&rt, alloc, &mut session, reply(&rt, 0, ACK_OVERFLOW, 2));
+    delivers(
+        &rt,
+        rt.alloc(),
+        &mut session,
+        reply(&rt, 0, ACK_OVERFLOW, 2),
+    );
     asks_next(&rt, &mut session, REQUEST, 1);
-    delivers(&rt, alloc, &mut session, reply(&rt, 1, ACK, 1));
+    delivers(&rt, rt.alloc(), &mut session, reply(&rt, 1, ACK, 1));
     completes(&rt, &mut session, 0, 3);
-    serves(&rt, alloc, &mut session, 2, &run_of_one());
+    serves(&rt, rt.alloc(), &mut session, 2, &run_of_one());
     discovers_one(&rt, &mut session, 0, 1);
     asks_next(&rt, &mut session, REQUEST, 12);
 }
 
 #[test]
 fn a_run_goes_on_in_a_pause(rt: HostRuntime) {
-    let alloc = rt.alloc();
-    let mut session = session_for_runs(&rt, alloc);
+    let mut session = session_for_runs(&rt, rt.alloc());
     asks_for(&rt, &mut session, Kind::Full, Ok(0));
-    exchanges(&rt, alloc, &mut session, 0, Came::Nothing);
+    exchanges(&rt, rt.alloc(), &mut session, 0, Came::Nothing);
     pauses(&rt, &mut session, true);
     asks_for(&rt, &mut session, Kind::Full, Ok(1));
-    repeats(&rt, alloc, &mut session, 1, 2, &Came::Nothing);
+    repeats(&rt, rt.alloc(), &mut session, 1, 2, &Came::Nothing);
     for tn in 3..8 {
         asks_next(&rt, &mut session, BRANCH, tn);
-        delivers(&rt, alloc, &mut session, silence());
+        delivers(&rt, rt.alloc(), &mut session, silence());
     }
-    discovers_none(&rt, &mut session, 0, 1, None);
-    is_of_run(&rt, &session, 1);
+    discovers(&rt, &mut session, 0, 1, None, &[]);
+    check_eq(&rt, session.devices_run(), 1);
     takes_none(&rt, &mut session);
     pauses(&rt, &mut session, false);
-    exchanges(&rt, alloc, &mut session, 8, Came::Nothing);
+    exchanges(&rt, rt.alloc(), &mut session, 8, Came::Nothing);
 }
 
 #[test]
 fn a_client_has_four_discoveries_outstanding(rt: HostRuntime) {
-    let alloc = rt.alloc();
-    let mut session = session_for_runs(&rt, alloc);
+    let mut session = session_for_runs(&rt, rt.alloc());
     for number in 0..4 {
         asks_for(&rt, &mut session, Kind::Full, Ok(number));
     }
     asks_for(&rt, &mut session, Kind::Full, Err(AskFault::Full));
-    repeats(&rt, alloc, &mut session, 0, 8, &Came::Nothing);
+    repeats(&rt, rt.alloc(), &mut session, 0, 8, &Came::Nothing);
     asks_for(&rt, &mut session, Kind::Full, Err(AskFault::Full));
-    discovers_none(&rt, &mut session, 0, 1, None);
+    discovers(&rt, &mut session, 0, 1, None, &[]);
     asks_for(&rt, &mut session, Kind::Full, Ok(4));
     let unknown = session.discover(ClientId(1), Kind::Full);
     check_eq(&rt, unknown, Err(AskFault::UnknownClient));

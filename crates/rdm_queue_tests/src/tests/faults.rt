@@ -60,8 +60,7 @@ fn tells_why_a_discover_is_refused(rt: HostRuntime) {
 
 #[test]
 fn tells_the_other_faults(rt: HostRuntime) {
-    let alloc = rt.alloc();
-    says(&rt, alloc, &NoMemory, "out of memory");
-    says(&rt, alloc, &LogFull, "the log is full");
-    says(&rt, alloc, &NotAsked, "no reply is awaited");
+    says(&rt, rt.alloc(), &NoMemory, "out of memory");
+    says(&rt, rt.alloc(), &LogFull, "the log is full");
+    says(&rt, rt.alloc(), &NotAsked, "no reply is awaited");
 }

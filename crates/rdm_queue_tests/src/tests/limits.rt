@@ -4,7 +4,6 @@ use super::packets::{
     ACK, CLIENT, accepts, accepts_of, answers, are_all, collected, collects, config, delivers,
     joins, refuses, reply, session, session_of, silence, taken, with_parts,
 };
-use super::stands::{close, has_free, has_no_outcome, is_idle};
 use rdm_join::Status;
 use rdm_queue::{ClientId, JoinFault, Session, SubmitFault};
 use std::alloc::Global;
@@ -15,7 +14,7 @@ fn takes_budget(rt: &impl Abort, alloc: Global, budget: u64) {
     let session = session_of(rt, alloc, config(4080, budget), 3);
     check_eq(rt, session.log().opening().budget, budget);
     check_eq(rt, session.log().opening().greatest, 4080);
-    has_free(rt, &session, 3);
+    check_eq(rt, session.free(), 3);
 }
 
 #[test]
@@ -28,7 +27,7 @@ fn takes_each_budget(rt: HostRuntime) {
 #[test]
 fn makes_a_log_of_a_million_free_entries(rt: HostRuntime) {
     let session = session(&rt, rt.alloc(), 1, 1_000_000);
-    has_free(&rt, &session, 1_000_000);
+    check_eq(&rt, session.free(), 1_000_000);
 }
 
 // A client with this many places, all of which it takes.
@@ -67,17 +66,16 @@ fn session_of_all(rt: &impl Abort, alloc: Global) -> Session {
 
 #[test]
 fn serves_4080_places(rt: HostRuntime) {
-    let alloc = rt.alloc();
-    let mut session = session_of_all(&rt, alloc);
+    let mut session = session_of_all(&rt, rt.alloc());
     let _ = taken(&rt, &mut session);
-    close(&mut session);
-    delivers(&rt, alloc, &mut session, silence());
+    session.close();
+    delivers(&rt, rt.alloc(), &mut session, silence());
     collects(&rt, &mut session, 0, Status::Timeout);
     for number in 1..255_u64 {
         collects(&rt, &mut session, number * 16, Status::FailedToSend);
     }
-    has_no_outcome(&rt, &mut session, CLIENT);
-    is_idle(&rt, &session, false);
+    check(&rt, session.next_outcome(CLIENT).is_none());
+    check(&rt, !session.is_idle());
 }
 
 // An answer of this many parts with 231 bytes each, and of a last one with this length, comes as one.

@@ -153,18 +153,6 @@ pub fn discovers_one(rt: &impl Abort, session: &mut Session, number: u64, run: u
     discovers(rt, session, number, run, None, &[first_device()]);
 }
 
-/// Collects the first client's next outcome: of the discovery with this number, answered by this run, with this fault
-/// and no devices.
-pub fn discovers_none(
-    rt: &impl Abort,
-    session: &mut Session,
-    number: u64,
-    run: u64,
-    fault: Option<AgentFault>,
-) {
-    discovers(rt, session, number, run, fault, &[]);
-}
-
 /// Whether the outcome is that one.
 pub fn is_discovery(
     outcome: &Option<Outcome>,

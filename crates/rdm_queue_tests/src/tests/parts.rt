@@ -1,10 +1,9 @@
 //! Requests whose answers come in parts.
-use super::checks::check_eq;
+use super::checks::{check, check_eq};
 use super::packets::{
     ACK, ACK_OVERFLOW, accepts, answers, are_all, collected, collects, delivers, pauses, reply,
     reply_of, sends, session_of_one, silence, takes_none, with_parts,
 };
-use super::stands::is_idle;
 use rdm_join::{LineEvent, ReplyHead, Status};
 use rdm_queue::{Completion, Session};
 use rdm_wire::{AckType, RespClass};
@@ -60,12 +59,11 @@ fn has_part(rt: &impl Abort, done: &Completion, from: usize, to: usize, value: u
 
 #[test]
 fn sends_the_request_again_for_each_part(rt: HostRuntime) {
-    let alloc = rt.alloc();
-    let mut session = session_of_one(&rt, alloc, 1);
+    let mut session = session_of_one(&rt, rt.alloc(), 1);
     accepts(&rt, &mut session, 0);
-    hears(&rt, alloc, &mut session, 0, (ACK_OVERFLOW, MOST, 0x11));
-    hears(&rt, alloc, &mut session, 1, (ACK_OVERFLOW, MOST, 0x22));
-    hears(&rt, alloc, &mut session, 2, (ACK, 3, 0x33));
+    hears(&rt, rt.alloc(), &mut session, 0, (ACK_OVERFLOW, MOST, 0x11));
+    hears(&rt, rt.alloc(), &mut session, 1, (ACK_OVERFLOW, MOST, 0x22));
+    hears(&rt, rt.alloc(), &mut session, 2, (ACK, 3, 0x33));
     let done = collected(&rt, &mut session, 0);
     check_eq(&rt, done.status, Status::Completed);
     check_eq(&rt, done.reply, Some(HEAD));
@@ -73,14 +71,13 @@ fn sends_the_request_again_for_each_part(rt: HostRuntime) {
     has_part(&rt, &done, 0, 231, 0x11);
     has_part(&rt, &done, 231, 462, 0x22);
     has_part(&rt, &done, 462, 465, 0x33);
-    is_idle(&rt, &session, true);
+    check(&rt, session.is_idle());
 }
 
 #[test]
 fn a_silent_part_ends_the_request(rt: HostRuntime) {
-    let alloc = rt.alloc();
-    let mut session = with_parts(&rt, alloc, 1, MOST);
-    answers(&rt, alloc, &mut session, silence());
+    let mut session = with_parts(&rt, rt.alloc(), 1, MOST);
+    answers(&rt, rt.alloc(), &mut session, silence());
     let done = collected(&rt, &mut session, 0);
     check_eq(&rt, done.status, Status::Timeout);
     check_eq(&rt, done.reply, None);
@@ -89,17 +86,15 @@ fn a_silent_part_ends_the_request(rt: HostRuntime) {
 
 #[test]
 fn a_failed_line_ends_the_request(rt: HostRuntime) {
-    let alloc = rt.alloc();
-    let mut session = with_parts(&rt, alloc, 0, 0);
-    answers(&rt, alloc, &mut session, LineEvent::Failed);
+    let mut session = with_parts(&rt, rt.alloc(), 0, 0);
+    answers(&rt, rt.alloc(), &mut session, LineEvent::Failed);
     collects(&rt, &mut session, 0, Status::FailedToSend);
 }
 
 #[test]
 fn joins_no_65536_bytes(rt: HostRuntime) {
-    let alloc = rt.alloc();
-    let mut session = with_parts(&rt, alloc, 283, MOST);
-    answers(&rt, alloc, &mut session, reply(&rt, 27, ACK, 163));
+    let mut session = with_parts(&rt, rt.alloc(), 283, MOST);
+    answers(&rt, rt.alloc(), &mut session, reply(&rt, 27, ACK, 163));
     collects(&rt, &mut session, 0, Status::InvalidResponse);
 }
 

@@ -4,7 +4,6 @@ use super::packets::{
     AMPLE, CLIENT, accepts, accepts_of, answers, collected_of, collects, joins, refuses, session,
     session_of_one, silence,
 };
-use super::stands::{close, has_free, has_no_outcome, is_closed, is_idle};
 use rdm_agent::Kind;
 use rdm_join::Status;
 use rdm_queue::{AskFault, ClientId, JoinFault, LogFull, Session, SubmitFault};
@@ -13,42 +12,39 @@ use std::process::Abort;
 
 #[test]
 fn a_place_is_held_until_the_outcome_is_collected(rt: HostRuntime) {
-    let alloc = rt.alloc();
-    let mut session = session_of_one(&rt, alloc, 2);
+    let mut session = session_of_one(&rt, rt.alloc(), 2);
     accepts(&rt, &mut session, 0);
     accepts(&rt, &mut session, 1);
     refuses(&rt, &mut session, CLIENT, SubmitFault::Full);
     refuses(&rt, &mut session, ClientId(1), SubmitFault::UnknownClient);
-    answers(&rt, alloc, &mut session, silence());
+    answers(&rt, rt.alloc(), &mut session, silence());
     refuses(&rt, &mut session, CLIENT, SubmitFault::Full);
-    has_no_outcome(&rt, &mut session, ClientId(1));
+    check(&rt, session.next_outcome(ClientId(1)).is_none());
     collects(&rt, &mut session, 0, Status::Timeout);
     accepts(&rt, &mut session, 2);
 }
 
 #[test]
 fn clients_share_the_places(rt: HostRuntime) {
-    let alloc = rt.alloc();
-    let mut session = session(&rt, alloc, 2, AMPLE);
+    let mut session = session(&rt, rt.alloc(), 2, AMPLE);
     let refused = Err(JoinFault::NoPlaces);
-    joins(&rt, alloc, &mut session, 1, Ok(ClientId(0)));
-    joins(&rt, alloc, &mut session, 2, refused);
-    joins(&rt, alloc, &mut session, 1, Ok(ClientId(1)));
-    close(&mut session);
-    joins(&rt, alloc, &mut session, 0, Err(JoinFault::Closed));
+    joins(&rt, rt.alloc(), &mut session, 1, Ok(ClientId(0)));
+    joins(&rt, rt.alloc(), &mut session, 2, refused);
+    joins(&rt, rt.alloc(), &mut session, 1, Ok(ClientId(1)));
+    session.close();
+    joins(&rt, rt.alloc(), &mut session, 0, Err(JoinFault::Closed));
 }
 
 #[test]
 fn a_seventeenth_client_is_refused(rt: HostRuntime) {
-    let alloc = rt.alloc();
-    let mut session = session(&rt, alloc, 4080, AMPLE);
+    let mut session = session(&rt, rt.alloc(), 4080, AMPLE);
     for number in 0..16 {
-        joins(&rt, alloc, &mut session, 1, Ok(ClientId(number)));
+        joins(&rt, rt.alloc(), &mut session, 1, Ok(ClientId(number)));
     }
     let refused = Err(JoinFault::TooManyClients);
-    joins(&rt, alloc, &mut session, 1, refused);
-    close(&mut session);
-    joins(&rt, alloc, &mut session, 1, Err(JoinFault::Closed));
+    joins(&rt, rt.alloc(), &mut session, 1, refused);
+    session.close();
+    joins(&rt, rt.alloc(), &mut session, 1, Err(JoinFault::Closed));
 }
 
 // The next request is this client's, and has this number.
@@ -59,28 +55,26 @@ fn serves(rt: &impl Abort, alloc: Global, session: &mut Session, client: ClientI
 
 #[test]
 fn the_oldest_request_of_all_clients_comes_first(rt: HostRuntime) {
-    let alloc = rt.alloc();
     let other = ClientId(1);
-    let mut session = session(&rt, alloc, 4, AMPLE);
-    joins(&rt, alloc, &mut session, 2, Ok(CLIENT));
-    joins(&rt, alloc, &mut session, 2, Ok(other));
+    let mut session = session(&rt, rt.alloc(), 4, AMPLE);
+    joins(&rt, rt.alloc(), &mut session, 2, Ok(CLIENT));
+    joins(&rt, rt.alloc(), &mut session, 2, Ok(other));
     accepts_of(&rt, &mut session, other, 0);
     accepts_of(&rt, &mut session, CLIENT, 1);
     accepts_of(&rt, &mut session, other, 2);
-    serves(&rt, alloc, &mut session, other, 0);
-    serves(&rt, alloc, &mut session, CLIENT, 1);
-    serves(&rt, alloc, &mut session, other, 2);
-    is_idle(&rt, &session, true);
+    serves(&rt, rt.alloc(), &mut session, other, 0);
+    serves(&rt, rt.alloc(), &mut session, CLIENT, 1);
+    serves(&rt, rt.alloc(), &mut session, other, 2);
+    check(&rt, session.is_idle());
 }
 
 #[test]
 fn places_are_used_again_and_again(rt: HostRuntime) {
-    let alloc = rt.alloc();
-    let mut session = session_of_one(&rt, alloc, 2);
+    let mut session = session_of_one(&rt, rt.alloc(), 2);
     accepts(&rt, &mut session, 0);
     for number in 0..9 {
         accepts(&rt, &mut session, number + 1);
-        answers(&rt, alloc, &mut session, silence());
+        answers(&rt, rt.alloc(), &mut session, silence());
         collects(&rt, &mut session, number, Status::Timeout);
     }
 }
@@ -94,7 +88,7 @@ fn refuses_client(rt: &impl Abort, session: &mut Session, client: ClientId) {
 
 // Each call is refused for the full log alone, whatever else stands against it.
 fn refuses_all(rt: &impl Abort, alloc: Global, session: &mut Session) {
-    has_free(rt, session, 2);
+    check_eq(rt, session.free(), 2);
     refuses_client(rt, session, CLIENT);
     refuses_client(rt, session, ClientId(1));
     joins(rt, alloc, session, 2, Err(JoinFault::LogFull));
@@ -105,13 +99,12 @@ fn refuses_all(rt: &impl Abort, alloc: Global, session: &mut Session) {
 
 #[test]
 fn a_full_log_refuses_and_still_closes(rt: HostRuntime) {
-    let alloc = rt.alloc();
-    let mut session = session(&rt, alloc, 1, 3);
-    joins(&rt, alloc, &mut session, 1, Ok(CLIENT));
-    refuses_all(&rt, alloc, &mut session);
-    close(&mut session);
-    is_closed(&rt, &session, true);
-    refuses_all(&rt, alloc, &mut session);
+    let mut session = session(&rt, rt.alloc(), 1, 3);
+    joins(&rt, rt.alloc(), &mut session, 1, Ok(CLIENT));
+    refuses_all(&rt, rt.alloc(), &mut session);
+    session.close();
+    check(&rt, session.is_closed());
+    refuses_all(&rt, rt.alloc(), &mut session);
     let (controller, log) = session.end();
     check(&rt, controller.is_closed());
     check_eq(&rt, log.entries().len(), 2);

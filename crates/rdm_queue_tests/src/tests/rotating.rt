@@ -11,7 +11,6 @@ use super::packets::{
     ACK, CLIENT, accepts, answers, asks_for, collects, delivers, joins, log, pauses, refuses,
     reply, session, session_of_one, silence, taken,
 };
-use super::stands::{close, has_entries, has_free, is_closed};
 use rdm_agent::{DEFAULT_BUDGET, Kind};
 use rdm_join::Status;
 use rdm_queue::{Entry, Log, LogFull, NotIdle, Opening, Session, SubmitFault};
@@ -33,20 +32,21 @@ fn is_blank(rt: &impl Abort, log: &Log) {
 
 #[test]
 fn a_full_log_is_handed_back(rt: HostRuntime) {
-    let alloc = rt.alloc();
-    let mut session = session(&rt, alloc, 1, 3);
-    joins(&rt, alloc, &mut session, 1, Ok(CLIENT));
-    has_free(&rt, &session, 2);
+    let mut session = session(&rt, rt.alloc(), 1, 3);
+    joins(&rt, rt.alloc(), &mut session, 1, Ok(CLIENT));
+    check_eq(&rt, session.free(), 2);
     refuses(&rt, &mut session, CLIENT, SubmitFault::LogFull);
-    close(&mut session);
-    let (mut session, old) = rotated(&rt, session, log(&rt, alloc, 10));
+    session.close();
+    let (mut session, old) = rotated(&rt, session, log(&rt, rt.alloc(), 10));
     check(
         &rt,
         matches!(old.entries(), [Entry::Join { .. }, Entry::Close]),
     );
-    has_entries(&rt, &session, 0);
-    is_closed(&rt, &session, true);
-    has_free(&rt, &session, 11);
+    check(
+        &rt,
+        session.log().entries().is_empty() && session.is_closed(),
+    );
+    check_eq(&rt, session.free(), 11);
     refuses(&rt, &mut session, CLIENT, SubmitFault::Closed);
 }
 
@@ -62,12 +62,11 @@ fn kept(rt: &impl Abort, alloc: Global, session: Session) -> Session {
 
 #[test]
 fn an_uncollected_outcome_keeps_the_log(rt: HostRuntime) {
-    let alloc = rt.alloc();
-    let mut session = session_of_one(&rt, alloc, 1);
+    let mut session = session_of_one(&rt, rt.alloc(), 1);
     accepts(&rt, &mut session, 0);
-    answers(&rt, alloc, &mut session, silence());
-    let mut session = kept(&rt, alloc, session);
-    has_entries(&rt, &session, 5);
+    answers(&rt, rt.alloc(), &mut session, silence());
+    let mut session = kept(&rt, rt.alloc(), session);
+    check_eq(&rt, session.log().entries().len(), 5);
     collects(&rt, &mut session, 0, Status::Timeout);
 }
 
@@ -116,30 +115,27 @@ fn goes_on(rt: &impl Abort, alloc: Global, session: &mut Session) {
 
 #[test]
 fn numbers_and_devices_go_on(rt: HostRuntime) {
-    let alloc = rt.alloc();
-    let session = used(&rt, alloc);
-    let (mut session, old) = rotated(&rt, session, log(&rt, alloc, 20));
+    let session = used(&rt, rt.alloc());
+    let (mut session, old) = rotated(&rt, session, log(&rt, rt.alloc(), 20));
     check_eq(&rt, old.entries().len(), 30);
     opens(&rt, session.log().opening());
-    check(&rt, session.is_paused());
-    has_free(&rt, &session, 20);
+    check(&rt, session.is_paused() && session.free() == 20);
     knows(&rt, &session, 1, 1);
-    goes_on(&rt, alloc, &mut session);
+    goes_on(&rt, rt.alloc(), &mut session);
     knows(&rt, &session, 1, 1);
 }
 
 #[test]
 fn a_cleared_log_has_its_room(rt: HostRuntime) {
-    let alloc = rt.alloc();
-    let mut used = session(&rt, alloc, 1, 4);
-    joins(&rt, alloc, &mut used, 1, Ok(CLIENT));
+    let mut used = session(&rt, rt.alloc(), 1, 4);
+    joins(&rt, rt.alloc(), &mut used, 1, Ok(CLIENT));
     let (_, log) = used.end();
     let log = log.cleared();
     is_blank(&rt, &log);
-    let (mut session, _) = rotated(&rt, session(&rt, alloc, 1, 3), log);
-    has_free(&rt, &session, 4);
+    let (mut session, _) = rotated(&rt, session(&rt, rt.alloc(), 1, 3), log);
+    check_eq(&rt, session.free(), 4);
     pauses(&rt, &mut session, true);
     pauses(&rt, &mut session, false);
     check_eq(&rt, session.pause(), Err(LogFull));
-    has_entries(&rt, &session, 2);
+    check_eq(&rt, session.log().entries().len(), 2);
 }

@@ -1,14 +1,13 @@
 //! How runs end, and what they then report.
 use super::checks::{check, check_eq};
 use super::lines::{
-    Came, asks_next, discovers_none, event, exchanges, first_device, knows, repeats,
-    session_for_runs, session_with_budget,
+    Came, asks_next, discovers, event, exchanges, first_device, knows, repeats, session_for_runs,
+    session_with_budget,
 };
 use super::packets::{
     CLIENT, accepts, asks_for, collects, delivers, holds, is_done, sends, silence, taken,
     takes_none,
 };
-use super::stands::{close, has_entries, has_no_outcome, is_awaiting, is_of_run};
 use arrayvec::ArrayVec;
 use rdm_agent::{AgentFault, Kind};
 use rdm_join::{LineEvent, LineReply, Status};
@@ -43,40 +42,36 @@ const REPORT: [u8; 34] = [
     0x02, 0x8b,
 ];
 
-// Collects the outcome of the discovery with this number, which was aborted in this run and found nobody.
-fn is_aborted(rt: &impl Abort, session: &mut Session, number: u64, run: u64) {
-    discovers_none(rt, session, number, run, Some(AgentFault::Aborted));
-}
-
 #[test]
 fn a_close_ends_the_run_then_requests_then_discoveries(rt: HostRuntime) {
-    let alloc = rt.alloc();
-    let mut session = session_for_runs(&rt, alloc);
+    let mut session = session_for_runs(&rt, rt.alloc());
     asks_for(&rt, &mut session, Kind::Full, Ok(0));
     let _ = taken(&rt, &mut session);
     asks_for(&rt, &mut session, Kind::Full, Ok(1));
     accepts(&rt, &mut session, 0);
-    close(&mut session);
-    is_awaiting(&rt, &session);
-    has_no_outcome(&rt, &mut session, CLIENT);
-    delivers(&rt, alloc, &mut session, silence());
-    is_aborted(&rt, &mut session, 0, 1);
+    session.close();
+    check(
+        &rt,
+        session.awaits() && session.next_outcome(CLIENT).is_none(),
+    );
+    delivers(&rt, rt.alloc(), &mut session, silence());
+    let aborted = Some(AgentFault::Aborted);
+    discovers(&rt, &mut session, 0, 1, aborted, &[]);
     collects(&rt, &mut session, 0, Status::FailedToSend);
-    is_aborted(&rt, &mut session, 1, 0);
-    is_of_run(&rt, &session, 0);
+    discovers(&rt, &mut session, 1, 0, aborted, &[]);
+    check_eq(&rt, session.devices_run(), 0);
     asks_for(&rt, &mut session, Kind::Full, Err(AskFault::Closed));
     is_done(&rt, &mut session);
 }
 
 #[test]
 fn a_budget_ends_a_run(rt: HostRuntime) {
-    let alloc = rt.alloc();
-    let mut session = session_with_budget(&rt, alloc, 7);
+    let mut session = session_with_budget(&rt, rt.alloc(), 7);
     asks_for(&rt, &mut session, Kind::Full, Ok(0));
     accepts(&rt, &mut session, 0);
-    repeats(&rt, alloc, &mut session, 0, 7, &Came::Nothing);
-    discovers_none(&rt, &mut session, 0, 1, Some(AgentFault::Exhausted));
-    is_of_run(&rt, &session, 0);
+    repeats(&rt, rt.alloc(), &mut session, 0, 7, &Came::Nothing);
+    discovers(&rt, &mut session, 0, 1, Some(AgentFault::Exhausted), &[]);
+    check_eq(&rt, session.devices_run(), 0);
     asks_next(&rt, &mut session, REQUEST, 7);
 }
 
@@ -111,13 +106,12 @@ fn is_too_many(outcome: &Option<Outcome>) -> bool {
 
 #[test]
 fn a_device_too_many_ends_a_run(rt: HostRuntime) {
-    let alloc = rt.alloc();
-    let mut session = session_for_runs(&rt, alloc);
+    let mut session = session_for_runs(&rt, rt.alloc());
     asks_for(&rt, &mut session, Kind::Full, Ok(0));
-    repeats(&rt, alloc, &mut session, 0, 3, &Came::Nothing);
-    finds_too_many(&rt, alloc, &mut session);
+    repeats(&rt, rt.alloc(), &mut session, 0, 3, &Came::Nothing);
+    finds_too_many(&rt, rt.alloc(), &mut session);
     // A join, an ask, 2,053 frames with their replies, and the answer.
-    has_entries(&rt, &session, 4109);
+    check_eq(&rt, session.log().entries().len(), 4109);
     let outcome = session.next_outcome(CLIENT);
     check(&rt, is_too_many(&outcome));
     knows(&rt, &session, 0, 0);
@@ -164,9 +158,8 @@ fn tells_found(outcome: &Option<Outcome>) -> bool {
 
 #[test]
 fn a_run_reports_what_devices_say_of_themselves(rt: HostRuntime) {
-    let alloc = rt.alloc();
-    let mut session = session_for_runs(&rt, alloc);
-    reports(&rt, alloc, &mut session);
+    let mut session = session_for_runs(&rt, rt.alloc());
+    reports(&rt, rt.alloc(), &mut session);
     let outcome = session.next_outcome(CLIENT);
     check(&rt, tells_found(&outcome));
     check_eq(&rt, session.devices().get(first_device()), Some(found()));

@@ -2,7 +2,6 @@
 ghost use Rattle.rdm_log.specs.log.Config.{IsConfig};
 
 use super::checks::{check, check_eq};
-use super::controller::asks;
 use super::lines::{
     Came, controller_serves, discovers, first_device, is_discovery, serves, session_for_runs,
 };
@@ -68,20 +67,18 @@ fn finds_both(rt: &impl Abort, alloc: Global, session: &mut Session) {
 
 #[test]
 fn a_quick_run_sweeps_first(rt: HostRuntime) {
-    let alloc = rt.alloc();
-    let mut session = quick_session(&rt, alloc);
-    finds_both(&rt, alloc, &mut session);
+    let mut session = quick_session(&rt, rt.alloc());
+    finds_both(&rt, rt.alloc(), &mut session);
 }
 
 #[test]
 fn a_new_log_keeps_the_search(rt: HostRuntime) {
-    let alloc = rt.alloc();
-    let session = quick_session(&rt, alloc);
-    let (mut session, old) = rotated(&rt, session, log(&rt, alloc, 100));
+    let session = quick_session(&rt, rt.alloc());
+    let (mut session, old) = rotated(&rt, session, log(&rt, rt.alloc(), 100));
     check_eq(&rt, old.search(), Search::Quick);
     let cleared = old.cleared();
     check_eq(&rt, cleared.search(), Search::Steady);
-    finds_both(&rt, alloc, &mut session);
+    finds_both(&rt, rt.alloc(), &mut session);
 }
 
 // A controller whose runs search quickly, with one client.
@@ -95,10 +92,9 @@ fn quick_controller(rt: &impl Abort, alloc: Global) -> Controller {
 
 #[test]
 fn a_controller_searches_quickly(rt: HostRuntime) {
-    let alloc = rt.alloc();
-    let mut controller = quick_controller(&rt, alloc);
-    asks(&rt, &mut controller, Kind::Full);
-    controller_serves(&rt, alloc, &mut controller, &quick_run_of_two());
+    let mut controller = quick_controller(&rt, rt.alloc());
+    check_eq(&rt, controller.discover(CLIENT, Kind::Full), Ok(0));
+    controller_serves(&rt, rt.alloc(), &mut controller, &quick_run_of_two());
     let outcome = controller.next_outcome(CLIENT);
     let both = [first_device(), second_device()];
     check(&rt, is_discovery(&outcome, 0, 1, None, &both));
