@@ -106,11 +106,6 @@ fn refused<R: Threads + Wait + Sync>(
 #[test]
 fn a_refused_session_hands_all_back(rt: HostRuntime) -> Result<(), Fail> {
     assert_eq!(rt; refused(&rt, rt.alloc(), two(3))?, OpenFault::LogFull);
-    Ok(())
-}
-
-#[test]
-fn places_are_looked_at_before_any_body_runs(rt: HostRuntime) -> Result<(), Fail> {
     let ones = [1u8; 17];
     let many = Setup::new(100, 1, &ones);
     assert_eq!(rt; refused(&rt, rt.alloc(), many)?, OpenFault::TooManyClients);

@@ -1,9 +1,13 @@
 //! Discoveries over rings and a tape.
 use rdm_agent::Kind;
+use rdm_join::LineReply;
+use rdm_line::{Line, LineFault};
 use rdm_rig::{
     Act, Came, Ending, Found, Heard, Move, Said, Step, Stop, Who, says_at, says_run, tape_of,
 };
-use rdm_stage::{Play, Setup, counts_are, play_taped, play_threads, read_alone};
+use rdm_stage::{Play, Setup, counts_are, play_lanes, play_threads, read_alone};
+use rdm_wire::Frame;
+use std::sync::atomic::{AtomicUsize, Ordering};
 use std::test::Fail;
 
 // A full run finds `1234:00000001` and `5678:00000009`: three unmutes, a reply and an acknowledgement of each, and five
@@ -44,6 +48,86 @@ static BOTH_RUNS: [Came; 29] = [
     Came::Nothing,
     Came::Nothing,
 ];
+
+// What a frame asks: the last byte of its PID, and that of the UID that it is sent to (E1.20, discovery).
+type Asked = (u8, u8);
+
+const BRANCH: Asked = (1, 0xff);
+
+const MUTE_FIRST: Asked = (2, 1);
+
+const MUTE_SECOND: Asked = (2, 2);
+
+const MUTE_GONE: Asked = (2, 9);
+
+const UNMUTE: Asked = (3, 0xff);
+
+// What the frames of both runs ask.
+static WANTED: [Asked; 29] = [
+    UNMUTE,
+    UNMUTE,
+    UNMUTE,
+    BRANCH,
+    MUTE_FIRST,
+    BRANCH,
+    MUTE_GONE,
+    BRANCH,
+    BRANCH,
+    BRANCH,
+    BRANCH,
+    BRANCH,
+    // The incremental run.
+    UNMUTE,
+    UNMUTE,
+    UNMUTE,
+    MUTE_FIRST,
+    MUTE_FIRST,
+    MUTE_GONE,
+    MUTE_GONE,
+    MUTE_GONE,
+    MUTE_GONE,
+    MUTE_GONE,
+    BRANCH,
+    MUTE_SECOND,
+    BRANCH,
+    BRANCH,
+    BRANCH,
+    BRANCH,
+    BRANCH,
+];
+
+// A line, and how many of its frames asked what they were to ask.
+#[derive(Drop)]
+struct Watched<'a, X: Drop> {
+    line: X,
+    made: usize,
+    right: &'a AtomicUsize,
+}
+
+impl<X: Line + Drop> Line for Watched<'_, X> {
+    ghost step = { λ old x new. X.step old.line x new.line };
+
+    ghost failures_of = { λ line. X.failures_of line.line };
+
+    fn exchange(&mut self, frame: &Frame) -> Result<LineReply, LineFault> {
+        if WANTED.get(self.made).copied() == Some(asked_by(frame)) {
+            self.right.fetch_add(1, Ordering::SeqCst);
+        }
+        self.made = self.made.saturating_add(1);
+        self.line.exchange(frame)
+    }
+
+    fn failures(&self) -> u64 {
+        self.line.failures()
+    }
+}
+
+// What this frame asks.
+fn asked_by(frame: &Frame) -> Asked {
+    let pid = frame.get(22).copied();
+    let uid = frame.get(8).copied();
+    (pid.unwrap_or(0), uid.unwrap_or(0))
+}
 
 const NONE: Heard = Heard::Sees(0, Found::Nobody);
 
@@ -86,8 +170,15 @@ fn an_incremental_run_over_rings_has_the_frames_12_to_28(rt: HostRuntime) -> Res
     ];
     static AFTER: [Said; 2] = [Said::Answer(1, 2, Ending::Faultless), Said::Collect(0)];
     let setup = Setup::new(100, 4, &[1]);
-    let over = play_taped(&rt, rt.alloc(), setup, &BOTH_RUNS, &MOVES, &[(2, 2, 0)])?;
-    assert_eq!(rt; over.log.len(), 65);
+    let right = AtomicUsize::new(0);
+    let line = Watched {
+        line: tape_of(rt.alloc(), &BOTH_RUNS)?,
+        made: 0,
+        right: &right,
+    };
+    let over = play_lanes(&rt, rt.alloc(), setup, line, &MOVES)?;
+    counts_are(&over.left, &[(2, 2, 0)])?;
+    assert_eq!(rt; (over.log.len(), right.load(Ordering::SeqCst)), (65, 29));
     says_at(&over.log, 0, &BEFORE)?;
     says_run(&over.log, 2, 1, 0, 11)?;
     says_at(&over.log, 26, &BETWEEN)?;

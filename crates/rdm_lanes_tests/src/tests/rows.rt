@@ -1,0 +1,48 @@
+//! Rows of moves on lanes whose line fails at once.
+use rdm_rig::{Move, Said, says};
+use rdm_stage::{Failed, Setup, play_taped};
+use std::alloc::Global;
+use std::process::Abort;
+use std::sync::Wait;
+
+/// Lanes, what is done there, and what comes of it.
+pub struct Row {
+    /// What the row shows.
+    pub shows: &'static str,
+    /// How many free entries the log has.
+    pub free: usize,
+    /// How many slots each ring has.
+    pub ring: u8,
+    /// How many places each client has.
+    pub places: &'static [u8],
+    /// What is done, and what each act has to come to.
+    pub moves: &'static [Move],
+    /// For each client, how many calls it sent, how many outcomes it collected, and how many callbacks it held.
+    pub counts: &'static [(u64, u64, u64)],
+    /// Whether the session is paused at the end.
+    pub is_paused: bool,
+    /// Whether it is closed at the end.
+    pub is_closed: bool,
+    /// What its log says, if that is compared.
+    pub log: Option<&'static [Said]>,
+}
+
+/// Plays all these rows.
+pub fn play_all<R: Wait + Abort>(rt: &R, alloc: Global, rows: &[Row]) {
+    for row in rows {
+        let shows = row.shows;
+        assert_eq!(rt; plays(rt, alloc, row), Ok(()), "{shows}");
+    }
+}
+
+fn plays<R: Wait>(rt: &R, alloc: Global, row: &Row) -> Result<(), Failed> {
+    let setup = Setup::new(row.free, row.ring, row.places);
+    let over = play_taped(rt, alloc, setup, &[], row.moves, row.counts)?;
+    if over.state.is_paused != row.is_paused || over.state.is_closed != row.is_closed {
+        return Err(Failed::Unmatched);
+    }
+    if let Some(log) = row.log {
+        says(&over.log, log)?;
+    }
+    Ok(())
+}
