@@ -1,6 +1,6 @@
-// Replaces the C library's allocator, and lets one allocation of the program fail: the one whose number is in the
-// environment variable FAILING_ALLOCATION, counted from 1. It reports that it came to that allocation on the file
-// descriptor in FAILURE_REPORT.
+// Replaces the C library's allocator, and lets an allocation of the program fail: the one whose number is in the
+// environment variable FAILING_ALLOCATION, counted from 1. If FAILURES is set, that many allocations fail, from that one
+// on. It reports that it came to that allocation on the file descriptor in FAILURE_REPORT.
 //
 // Only calls that the program's own code makes are counted. Those of the C library itself, for a thread's stack or for
 // standard output, aren't.
@@ -22,6 +22,7 @@ extern void *__libc_memalign(size_t alignment, size_t size);
 static uintptr_t program_begin;
 static uintptr_t program_end;
 static unsigned long failing;
+static unsigned long failures = 1;
 static int report = -1;
 static atomic_ulong allocations;
 
@@ -46,16 +47,22 @@ __attribute__((constructor)) static void begin(void) {
     const char *number = getenv("FAILING_ALLOCATION");
     const char *descriptor = getenv("FAILURE_REPORT");
     failing = number == NULL ? 0 : strtoul(number, NULL, 10);
+    const char *count = getenv("FAILURES");
+    failures = count == NULL ? 1 : strtoul(count, NULL, 10);
     report = descriptor == NULL ? -1 : atoi(descriptor);
     dl_iterate_phdr(find_program, NULL);
 }
 
 static bool fails(void *caller) {
     uintptr_t at = (uintptr_t)caller;
-    if (at < program_begin || at >= program_end || atomic_fetch_add(&allocations, 1) + 1 != failing) {
+    if (at < program_begin || at >= program_end) {
         return false;
     }
-    if (write(report, "met\n", 4) != 4) {
+    unsigned long number = atomic_fetch_add(&allocations, 1) + 1;
+    if (failing == 0 || number < failing || number - failing >= failures) {
+        return false;
+    }
+    if (number == failing && write(report, "met\n", 4) != 4) {
         abort();
     }
     errno = ENOMEM;

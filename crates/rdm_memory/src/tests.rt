@@ -7,6 +7,7 @@ mod events;
 mod inside;
 mod lines;
 mod ports;
+mod publications;
 mod replies;
 mod rings;
 mod scenes;

@@ -14,7 +14,6 @@ use Rattle.rdm_scenes.specs.Exchanges.{exchanges}
 use Rattle.rdm_scenes.specs.Reports.{IsLogOver}
 use Rattle.rdm_locked.specs.Exchanges.{exchanges_in, recorded}
 use Rattle.rdm_locked.specs.declared.exchange.Exchange.{Exchange as Recorded}
-use Rattle.rdm_lanes.specs.Lines.{exchanges as ring_exchanges}
 use Rattle.rdm_lanes.specs.Sessions.{SessionOver}
 
 -- what follows of a result, if there is one
@@ -32,14 +31,10 @@ stay_with d (e ∷ es) here all = by_test (nat_lt e.device.uid d.device.uid) (st
     by_test false rest = (here, all)
 
 -- a log over a line, as run_session says it
-same_over_rings : (h : List Entry) → ring_exchanges h ≡ exchanges h
-unfolding ring_exchanges exchanges
-same_over_rings h = refl
-
 pub log_over_rings : (setup : Setup) (room : ℕ) (places : List ℕ) (s t : SimState) (k : LogState) → SessionOver SimStep setup room places s t k → IsLogOver s t k
 log_over_rings setup room places s t k over = record {
   legal = over.legal;
-  steps = subst (λ xs. Makes SimState SimStep s xs t) (same_over_rings k.entries) over.steps;
+  steps = over.steps;
 }
 
 -- and as the record of a port and its end say it

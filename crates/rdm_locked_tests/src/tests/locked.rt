@@ -3,7 +3,6 @@
 mod again;
 mod calls;
 mod faults;
-mod kept;
 mod kinds;
 mod refusals;
 mod runs;

@@ -1,5 +1,5 @@
 //! Boxed callbacks.
-use super::outcomes::{ended, found};
+use super::outcomes::found;
 use rdm_client::{AskCallback, AskTold, Callback, Collected, Tells, TellsAsk, Told};
 use rdm_join::{ReplyHead, Status};
 use rdm_queue::{AskCompletion, Completion};
@@ -34,18 +34,21 @@ fn of_ask(one: AskTold) -> Heard {
     told(&Some(Collected::Ask(one)))
 }
 
+// A closure may work with what it is called with: the numbers are in the ranges of their types, and so are the bytes.
 #[test]
 fn calls_the_box_with_the_answer(rt: HostRuntime) -> Result<(), Fail> {
     let calls = Arc::new(rt.alloc(), AtomicU64::new(0))?;
     let counter = Arc::try_clone(&calls)?;
     let run = Box::new(rt.alloc(), move |done: Completion| {
-        counter.fetch_add(1, Ordering::SeqCst);
+        if let (Some(head), Some(byte)) = (done.reply, done.bytes.first()) {
+            counter.fetch_add(u64::from(head.pid) + u64::from(*byte) + 1, Ordering::SeqCst);
+        }
         Told { tag: 7, done }
     })?;
     let done = answered(rt.alloc())?;
     let told = Callback::new(7, run).spend(done);
     assert_eq!(rt; of_request(told), Heard::Answered(7, 1, 0));
-    assert_eq!(rt; calls.load(Ordering::SeqCst), 1);
+    assert_eq!(rt; calls.load(Ordering::SeqCst), 0x0062);
     Ok(())
 }
 
@@ -68,15 +71,20 @@ fn calls_the_box_with_the_devices(rt: HostRuntime) -> Result<(), Fail> {
     let calls = Arc::new(rt.alloc(), AtomicU64::new(0))?;
     let counter = Arc::try_clone(&calls)?;
     let run = Box::new(rt.alloc(), move |done: AskCompletion| {
-        counter.fetch_add(1, Ordering::SeqCst);
+        if let Some(device) = done.set.as_slice().first() {
+            counter.fetch_add(
+                u64::from(device.control) + done.run / 2 + 1,
+                Ordering::SeqCst,
+            );
+        }
         AskTold { tag: 9, done }
     })?;
-    let told = AskCallback::new(9, run).spend(found(1));
+    let told = AskCallback::new(9, run).spend(found(4));
     assert_eq!(rt;
         of_ask(told),
-        Heard::Discovery(9, 1, Ending::Faultless, Found::First)
+        Heard::Discovery(9, 4, Ending::Faultless, Found::First)
     );
-    assert_eq!(rt; calls.load(Ordering::SeqCst), 1);
+    assert_eq!(rt; calls.load(Ordering::SeqCst), 5);
     Ok(())
 }
 
@@ -94,75 +102,5 @@ fn tells_a_cancelled_callback_that_no_run_was_begun(rt: HostRuntime) -> Result<(
         Heard::Discovery(10, 0, Ending::Aborted, Found::Nobody)
     );
     assert_eq!(rt; calls.load(Ordering::SeqCst), 1);
-    Ok(())
-}
-
-// Closures that work with what they are called with: its numbers are in the ranges of their types.
-#[test]
-fn lets_a_closure_count_with_the_numbers(rt: HostRuntime) -> Result<(), Fail> {
-    let last = Arc::new(rt.alloc(), AtomicU64::new(0))?;
-    let place = Arc::try_clone(&last)?;
-    let run = Box::new(rt.alloc(), move |done: Completion| {
-        if let Some(head) = done.reply {
-            place.store(u64::from(head.pid) + 1, Ordering::SeqCst);
-        }
-        Told { tag: 11, done }
-    })?;
-    let told = Callback::new(11, run).spend(ended(rt.alloc(), Status::Timeout));
-    assert_eq!(rt; of_request(told), Heard::Request(11, Status::Timeout));
-    assert_eq!(rt; last.load(Ordering::SeqCst), 0);
-    Ok(())
-}
-
-#[test]
-fn lets_a_discoverys_closure_count_with_the_numbers(rt: HostRuntime) -> Result<(), Fail> {
-    let last = Arc::new(rt.alloc(), AtomicU64::new(0))?;
-    let place = Arc::try_clone(&last)?;
-    let run = Box::new(rt.alloc(), move |done: AskCompletion| {
-        place.store(done.run / 2 + 1, Ordering::SeqCst);
-        AskTold { tag: 12, done }
-    })?;
-    let told = AskCallback::new(12, run).spend(found(4));
-    assert_eq!(rt;
-        of_ask(told),
-        Heard::Discovery(12, 4, Ending::Faultless, Found::First)
-    );
-    assert_eq!(rt; last.load(Ordering::SeqCst), 3);
-    Ok(())
-}
-
-#[test]
-fn lets_a_closure_count_with_the_bytes(rt: HostRuntime) -> Result<(), Fail> {
-    let last = Arc::new(rt.alloc(), AtomicU64::new(0))?;
-    let place = Arc::try_clone(&last)?;
-    let run = Box::new(rt.alloc(), move |done: Completion| {
-        if let Some(byte) = done.bytes.first() {
-            place.store(u64::from(*byte) + 5, Ordering::SeqCst);
-        }
-        Told { tag: 7, done }
-    })?;
-    let done = answered(rt.alloc())?;
-    let told = Callback::new(7, run).spend(done);
-    assert_eq!(rt; of_request(told), Heard::Answered(7, 1, 0));
-    assert_eq!(rt; last.load(Ordering::SeqCst), 6);
-    Ok(())
-}
-
-#[test]
-fn lets_a_discoverys_closure_count_with_the_devices(rt: HostRuntime) -> Result<(), Fail> {
-    let last = Arc::new(rt.alloc(), AtomicU64::new(0))?;
-    let place = Arc::try_clone(&last)?;
-    let run = Box::new(rt.alloc(), move |done: AskCompletion| {
-        if let Some(device) = done.set.as_slice().first() {
-            place.store(u64::from(device.control) + 5, Ordering::SeqCst);
-        }
-        AskTold { tag: 14, done }
-    })?;
-    let told = AskCallback::new(14, run).spend(found(1));
-    assert_eq!(rt;
-        of_ask(told),
-        Heard::Discovery(14, 1, Ending::Faultless, Found::First)
-    );
-    assert_eq!(rt; last.load(Ordering::SeqCst), 7);
     Ok(())
 }
