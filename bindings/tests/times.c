@@ -1,14 +1,44 @@
 /* Measures what a request costs in C, as crates/rdm_bench does in Rattle for `queue 16`: sixteen requests wait, from as
  * many clients; one is taken, answered by two bytes and collected, and another submitted. Each line has the processor
- * time of that in picoseconds: the sample in the middle of 21, and the fastest one. */
+ * time of that in picoseconds: the sample in the middle of 21, and the fastest one. Like rdm_bench, it writes the log's memory
+ * before, so none is taken from the system meanwhile: its heap writes each large block. */
 #define _POSIX_C_SOURCE 199309L
 #include "tests.h"
 #include <stdlib.h>
+#include <string.h>
 #include <time.h>
 
 #define CLIENTS 16
 #define ROUNDS 1000
 #define SAMPLES 21
+/* A request has five entries. */
+#define ENTRIES (5 * (ROUNDS * SAMPLES + CLIENTS) + 100)
+#define LARGE (1 << 20)
+
+struct wurst_block {
+    bool is_there;
+    unsigned char *at;
+};
+
+static unsigned char no_block;
+
+struct wurst_block rattle_alloc(size_t size, size_t align) {
+    unsigned char *at = malloc(size > 0 ? size : align);
+    if (at != NULL && size >= LARGE) {
+        memset(at, 1, size);
+    }
+    return (struct wurst_block){at != NULL, at != NULL ? at : &no_block};
+}
+
+struct wurst_block rattle_realloc(unsigned char *at, size_t kept, size_t size, size_t align) {
+    (void)kept;
+    unsigned char *moved = realloc(at, size > 0 ? size : align);
+    return (struct wurst_block){moved != NULL, moved != NULL ? moved : &no_block};
+}
+
+void rattle_dealloc(unsigned char *at) {
+    free(at);
+}
 
 static const struct wurst_setup whole_setup = {UINT64_C(0x7a7000000100), WURST_DEFAULT_BUDGET, WURST_STEADY,
                                                WURST_MOST_PLACES};
@@ -82,7 +112,7 @@ static bool turn_with_log(uint8_t client) {
 static bool starts(void) {
     uint8_t client = 0;
     bool is_done = wurst_controller_open(&controller, &whole_setup) == WURST_DONE &&
-                   wurst_session_open(&session, &whole_setup, WURST_MOST_ENTRIES) == WURST_DONE;
+                   wurst_session_open(&session, &whole_setup, ENTRIES) == WURST_DONE;
     for (int i = 0; i < CLIENTS; i++) {
         is_done = is_done && wurst_controller_join(&controller, 255, &client) == WURST_DONE &&
                   wurst_session_join(&session, 255, &client) == WURST_DONE;
