@@ -7,6 +7,7 @@ pub mod CollisionLemmas
 pub mod StepLemmas
 pub mod AnsweringLemmas
 pub mod PresenceLemmas
+pub mod LeavesLemmas
 pub mod HonestSteps
 pub mod HonestRuns
 pub mod LossLemmas

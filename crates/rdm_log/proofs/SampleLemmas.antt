@@ -2,3 +2,4 @@
 pub mod SampleLegal
 pub mod PartsLegal
 pub mod RunsLegal
+pub mod FailedRuns
