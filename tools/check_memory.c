@@ -1,6 +1,6 @@
 // Replaces the C library's allocator, and lets an allocation of the program fail: the one whose number is in the
-// environment variable FAILING_ALLOCATION, counted from 1. If FAILURES is set, that many allocations fail, from that one
-// on. It reports that it came to that allocation on the file descriptor in FAILURE_REPORT.
+// environment variable FAILING_ALLOCATION, counted from 1. If FAILURES is set, that many allocations fail, from that
+// one on. It reports that it came to that allocation on the file descriptor in FAILURE_REPORT.
 //
 // Only calls that the program's own code makes are counted. Those of the C library itself, for a thread's stack or for
 // standard output, aren't.

@@ -312,7 +312,8 @@ uint32_t wurst_controller_submit(struct wurst_controller *handle, uint8_t client
  * when it begins. WURST_BAD_KIND; then the first of WURST_CLOSED, WURST_UNKNOWN_CLIENT, WURST_FULL. */
 uint32_t wurst_controller_discover(struct wurst_controller *handle, uint8_t client, uint32_t kind, uint64_t *number);
 
-/* Begins no run and sends no request until _resume. A run that has begun goes on. Without effect if paused or closed. */
+/* Begins no run and sends no request until _resume. A run that has begun goes on. Without effect if paused or
+ * closed. */
 uint32_t wurst_controller_pause(struct wurst_controller *handle);
 
 /* Begins runs and sends requests again. Without effect if not paused, or closed. */

@@ -9,8 +9,8 @@
 #   adapter.sh rig:five_fixtures.json discover --source 7ff0:00000001 --quick
 #
 # The bridge talks to the adapter, and two FIFOs carry its text: frames one way, replies the other. Both ends stop when
-# one does. WURSTLINEN is the program, if it isn't `wurstlinen` on the PATH. The status is the program's, or the bridge's
-# if only that failed.
+# one does. WURSTLINEN is the program, if it isn't `wurstlinen` on the PATH. The status is the program's, or the
+# bridge's if only that failed.
 set -uo pipefail
 
 program="${WURSTLINEN:-wurstlinen}"

@@ -1,4 +1,4 @@
-"""A console: it discovers the fixtures of a line, asks each for its label, and renames one. The line is simulated here."""
+"""A console: it discovers the fixtures of a simulated line, asks each for its label, and renames one."""
 
 import wurstlinen
 from wurstlinen import (

@@ -102,9 +102,11 @@ int main() {
     wurst::Controller queue(std::move(first));
     const auto client = queue.join(2);
     CHECK(!queue.take() && !queue.oldest(client) && !queue.next_completion(client));
-    CHECK(queue.get(client, device, 0x0060) == 0 && queue.set(client, device, 0x0082, std::vector<std::uint8_t>{65}) == 1);
+    CHECK(queue.get(client, device, 0x0060) == 0);
+    CHECK(queue.set(client, device, 0x0082, std::vector<std::uint8_t>{65}) == 1);
     const auto frame = queue.take();
-    CHECK(frame && is_same(frame->data(), frame->size(), "cc0118 123400000007 7a7000000001 00 01 00 0000 20 0060 00 029e"));
+    CHECK(frame
+          && is_same(frame->data(), frame->size(), "cc0118 123400000007 7a7000000001 00 01 00 0000 20 0060 00 029e"));
     std::uint8_t reply[257];
     std::uint8_t four[] = {'f', 'o', 'u', 'r'};
     queue.deliver(wurst::Bytes(reply, answer(frame->data(), 0, four, 4, reply)));

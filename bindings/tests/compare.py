@@ -1,5 +1,5 @@
-"""Compares the header, the exports of the library's source and the Python package: names, counts of arguments, statuses,
-sizes of structs and texts. Its last line is 'N passed, M failed'."""
+"""Compares the header, the exports of the library's source and the Python package: names, counts of arguments,
+statuses, sizes of structs and texts. Its last line is 'N passed, M failed'."""
 
 import ctypes
 import glob

@@ -1,5 +1,5 @@
-/* The heap: each allocation refused in turn, and 1,000,000 requests with memory as at the start. This program has a heap
- * of its own in place of heap.c. */
+/* The heap: each allocation refused in turn, and 1,000,000 requests with memory as at the start. This program has a
+ * heap of its own in place of heap.c. */
 #include "tests.h"
 #include <stdlib.h>
 

@@ -1,4 +1,5 @@
-# Writes neighbours.json into this folder: a scene of 1,024 devices with neighbouring UIDs, whose collisions spell nobody.
+# Writes neighbours.json into this folder: a scene of 1,024 devices with neighbouring UIDs, whose collisions spell
+# nobody.
 import json
 
 devices = [{"uid": "0000:%08x" % number} for number in range(1024)]
