@@ -10,7 +10,7 @@ use crate::scene::{
 };
 use crate::session::client::{ClientFile, ClientForm};
 use rdm_agent::Search;
-use rdm_queue::MOST_CLIENTS;
+use rdm_log::MOST_CLIENTS;
 use serde_json::Value;
 use std::alloc::Global;
 
