@@ -38,8 +38,8 @@ pub use rdm_files::{
     five_losses, looks_like, read_file, read_line_session, read_scene, read_session,
 };
 pub use rdm_serving::{
-    Discovered, Discovery, LogOutput, OpensLog, Outcomes, Progress, ServeFault, Served,
-    discover, discover_in, report, serve, serve_on_line, session_text,
+    Discovered, Discovery, LogOutput, OpensLog, Outcomes, Progress, ServeFault, Served, discover,
+    discover_in, report, serve, serve_on_line, session_text,
 };
 pub use rdm_words::{
     Complaint, Job, LineDiscovery, LineJob, LineRun, PortKind, USAGE, VERSION, WordsFault,

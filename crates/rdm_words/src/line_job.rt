@@ -5,8 +5,8 @@ ghost use Rattle.clap.specs.Words.{app_of, found_of, rows_of, subcommand_rows_of
 ghost use Rattle.clap.specs.declared.builder.command.Command.TheViews.{out-Command as fields_of};
 ghost use Rattle.rdm_words.specs.Words.{texts_of};
 ghost use Rattle.rdm_words.specs.LineWords.{AsksOnLine, AsksNothingOnLine, IsGivenOnLine, IsDiscoveryOf, IsRunOf};
-ghost use Rattle.rdm_words.specs.LineWords.{IsBudget, line_commands, line_discover, line_run, line_budget, line_devices};
-ghost use Rattle.rdm_words.specs.LineWords.{line_streams, with_needed, texts_given, file_on_line};
+ghost use Rattle.rdm_words.specs.LineWords.{IsBudget, line_commands, line_discover, line_run, line_budget};
+ghost use Rattle.rdm_words.specs.LineWords.{line_devices, line_streams, with_needed, texts_given, file_on_line};
 
 use crate::job::{
     WordsFault, bare, command_named, fault_of, has_flag, port_of, with_argument, with_command,

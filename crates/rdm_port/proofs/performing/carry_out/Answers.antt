@@ -1,4 +1,4 @@
-use Rattle.std.proofs.Common.{◌≡◌, ℕ, List, Ok}
+use Rattle.std.proofs.Common.{◌≡◌, Ok}
 use Rattle.rdm_port.specs.Fault.{IsFaultOf}
 use Rattle.rdm_port.specs.Outcome.{Answers, IsLoggedWith, has_log}
 use Rattle.rdm_words.specs.declared.job.Job.{Job}
