@@ -1,7 +1,3 @@
-pub mod WordsLemmas
-mod CommandLemmas
-mod ComplaintLemmas
 mod LineLemmas
-mod LineWordLemmas
 mod LoggedLemmas
 mod RunLemmas

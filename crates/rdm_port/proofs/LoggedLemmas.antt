@@ -2,22 +2,22 @@
 use Rattle.std.proofs.Common.{◌≡◌, ◌⊎◌, inl, inr, ℕ, Bool, true, false, List, [], Option, None, Result, Ok, Err, refl}
 use Rattle.std.proofs.Common.{sym, ap, subst, ◌∙◌}
 use Rattle.std.specs.Prelude.{IfOk, IfErr, OnErr}
-use Rattle.std.specs.Io.KnownBytes.{Appends, Keeps}
+use Rattle.std.specs.Io.KnownBytes.{Keeps}
 use Rattle.std.proofs.KnownBytes.{Appends-nil, Keeps-refl, Keeps-trans}
 use Rattle.rdm_serving.specs.Report.{line_of}
-use Rattle.rdm_serving.specs.Writing.{IsCutShort, IsWritten, LogState, LogsFrom, Logs}
+use Rattle.rdm_serving.specs.Writing.{IsWritten, LogState, LogsFrom, Logs}
 use Rattle.rdm_serving.proofs.WritingLemmas.{kept_appends}
 use Rattle.rdm_port.specs.Fault.{fault_line, fault_status}
 use Rattle.rdm_port.specs.Outcome.{Answers, IsLogUnreported, IsLogged, IsLoggedWith, IsPrinted, has_log}
-use Rattle.rdm_port.specs.Words.{keeps_log}
+use Rattle.rdm_words.specs.Words.{keeps_log}
 use Rattle.rdm_port.specs.body.Logged.{IsOpened, IsTold, HasLogged, failed_or, status_after}
 use Rattle.rdm_port.specs.body.Texts.{answer_bytes}
 use Rattle.rdm_port.specs.declared.answer.Answered.{Answered}
 use Rattle.rdm_port.specs.declared.fault.Fault.{Fault}
 use Rattle.rdm_port.specs.declared.fault.Fault.TheVariants.{Memory}
-use Rattle.rdm_port.specs.declared.job.Job.{Job}
-use Rattle.rdm_port.specs.declared.job.Job.TheVariants.{Decode, Encode, Discover, Run}
-use Rattle.rdm_port.specs.declared.job.WordsFault.{WordsFault}
+use Rattle.rdm_words.specs.declared.job.Job.{Job}
+use Rattle.rdm_words.specs.declared.job.Job.TheVariants.{Decode, Encode, Discover, Run}
+use Rattle.rdm_words.specs.declared.job.WordsFault.{WordsFault}
 
 -- what is written to a writer whose bytes were kept before
 written_after : (failed : Bool) (a b c : Option (List ℕ)) (text : List ℕ) → Keeps a b → IsWritten failed b c text

@@ -1,6 +1,6 @@
 -- What is said of a session that was read, and of one that was served.
-use Rattle.std.proofs.Common.{◌≡◌, ◌⊎◌, inl, inr, ℕ, Bool, List, [], Option, Some, None, Result, Ok, Err, refl}
-use Rattle.std.specs.Prelude.{IfOk, OnOk, OnErr, unwrap_or}
+use Rattle.std.proofs.Common.{◌≡◌, ◌⊎◌, inl, inr, ℕ, Bool, List, Option, Some, None, Result, Ok, Err, refl}
+use Rattle.std.specs.Prelude.{IfOk, OnOk, unwrap_or}
 use Rattle.std.specs.Borrow.{Bor}
 use Rattle.clap.specs.Words.{Text}
 use Rattle.serde_json.specs.Data.{Data}
@@ -13,7 +13,7 @@ use Rattle.rdm_serving.specs.LoggedCalls.{HasCalls}
 use Rattle.rdm_serving.specs.SessionReport.{AllSettled, session_text}
 use Rattle.rdm_serving.specs.Writing.{LogState, Logs}
 use Rattle.rdm_serving.specs.declared.outcomes.Outcomes.{Outcomes}
-use Rattle.rdm_port.specs.Fault.{ReadsSession, IsRunFault, IsSessionTextFault, IsServeFault}
+use Rattle.rdm_port.specs.Fault.{ReadsSession, IsRunFault, IsSessionTextFault}
 use Rattle.rdm_port.specs.LineOutcome.{replies_path}
 use Rattle.rdm_port.specs.Outcome.{HasServed}
 use Rattle.rdm_port.specs.body.Logged.{IsOpened, HasLogged}

@@ -12,12 +12,12 @@ use Rattle.rdm_files.specs.declared.scene.file.SceneFile.{SceneFile}
 use Rattle.rdm_port.specs.declared.fault.Fault.{Fault}
 use Rattle.rdm_port.specs.declared.fault.Fault.TheVariants.{CommandLine, Hex, Uid, File, Json, Memory}
 use Rattle.rdm_port.specs.declared.fault.Fault.TheVariants.{DiscoveryCommand, Scene, Log, Turns}
-use Rattle.rdm_port.specs.declared.job.Job.{Job}
-use Rattle.rdm_port.specs.declared.job.Job.TheVariants.{Decode, Encode, Discover, Run}
+use Rattle.rdm_words.specs.declared.job.Job.{Job}
+use Rattle.rdm_words.specs.declared.job.Job.TheVariants.{Decode, Encode, Discover, Run}
 use Rattle.rdm_files.specs.SessionFiles.{IsSessionFile}
 use Rattle.rdm_files.specs.declared.session.file.SessionFile.{SessionFile}
-use Rattle.rdm_port.specs.declared.job.WordsFault.{WordsFault}
-use Rattle.rdm_port.specs.declared.job.WordsFault.TheVariants.{Words, NoMemory}
+use Rattle.rdm_words.specs.declared.job.WordsFault.{WordsFault}
+use Rattle.rdm_words.specs.declared.job.WordsFault.TheVariants.{Words, NoMemory}
 
 -- the line that reports a fault
 abbrev pub fault_line : Fault → List ℕ

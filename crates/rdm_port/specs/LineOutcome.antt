@@ -13,9 +13,9 @@ use Rattle.rdm_port.specs.Fault.{IsRunFault, ReadsSession, fault_line, fault_sta
 use Rattle.rdm_port.specs.Outcome.{HasServed, IsLogUnreported, kind_of, search_of}
 use Rattle.rdm_port.specs.declared.fault.Fault.{Fault}
 use Rattle.rdm_port.specs.declared.fault.Fault.TheVariants.{Uid, File, Memory}
-use Rattle.rdm_port.specs.Words.{path_text}
-use Rattle.rdm_port.specs.declared.line_job.LineDiscovery.{LineDiscovery}
-use Rattle.rdm_port.specs.declared.line_job.LineRun.{LineRun}
+use Rattle.rdm_words.specs.Words.{path_text}
+use Rattle.rdm_words.specs.declared.line_job.LineDiscovery.{LineDiscovery}
+use Rattle.rdm_words.specs.declared.line_job.LineRun.{LineRun}
 use Rattle.rdm_port.specs.declared.line_values.LineValues.{LineValues}
 use Rattle.rdm_serving.specs.Discovery.{IsDiscovery}
 use Rattle.rdm_serving.specs.LogText.{exchanges_text}

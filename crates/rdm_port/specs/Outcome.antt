@@ -13,9 +13,9 @@ use Rattle.rdm_agent.specs.declared.search.Search.TheVariants.{Steady, Quick}
 use Rattle.rdm_agent.specs.declared.kind.Kind.{Kind}
 use Rattle.rdm_agent.specs.declared.kind.Kind.TheVariants.{Full, Incremental}
 use Rattle.rdm_line.specs.SimRuns.{NoFiveSuccessive}
-use Rattle.rdm_port.specs.declared.job.Job.{Job}
-use Rattle.rdm_port.specs.declared.job.Job.TheVariants.{Decode, Encode, Discover, Run}
-use Rattle.rdm_port.specs.declared.job.WordsFault.{WordsFault}
+use Rattle.rdm_words.specs.declared.job.Job.{Job}
+use Rattle.rdm_words.specs.declared.job.Job.TheVariants.{Decode, Encode, Discover, Run}
+use Rattle.rdm_words.specs.declared.job.WordsFault.{WordsFault}
 use Rattle.rdm_files.specs.declared.scene.file.SceneFile.{SceneFile}
 use Rattle.rdm_files.specs.SessionFiles.{IsSessionFile}
 use Rattle.rdm_files.specs.declared.session.file.SessionFile.{SessionFile}
@@ -24,7 +24,7 @@ use Rattle.rdm_log.specs.declared.entry.Opening.{Opening}
 use Rattle.rdm_log.specs.declared.entry.Entry.{Entry}
 use Rattle.rdm_port.specs.declared.fault.Fault.{Fault}
 use Rattle.rdm_port.specs.declared.fault.Fault.TheVariants.{Memory}
-use Rattle.rdm_port.specs.Words.{keeps_log}
+use Rattle.rdm_words.specs.Words.{keeps_log}
 use Rattle.rdm_port.specs.Fault.{ReadsScene, ReadsSession, IsFaultOf, fault_line, fault_status}
 use Rattle.rdm_serving.specs.Report.{line_of, report_text, report_status}
 use Rattle.rdm_serving.specs.SessionReport.{AllSettled, session_text}

@@ -12,14 +12,10 @@
 #![tactic(auto)]
 
 mod answer;
-mod arguments;
 mod branch;
-mod complaint;
 mod discovering;
 mod fault;
-mod job;
 pub mod laws;
-mod line_job;
 mod line_performing;
 mod line_run;
 mod line_values;
@@ -30,12 +26,8 @@ mod reason;
 mod remark;
 mod run;
 mod telling;
-mod usage;
 
-pub use complaint::{Complaint, complaint_of};
 pub use fault::Fault;
-pub use job::{Job, WordsFault, parse_words};
-pub use line_job::{LineDiscovery, LineJob, LineRun, parse_line_words};
 pub use line_performing::{Opens, Unopened, carry_out_on_line, run_on_line};
 pub use line_values::LineValues;
 pub use performing::{Silent, carry_out, perform};
@@ -46,9 +38,12 @@ pub use rdm_files::{
     five_losses, looks_like, read_file, read_line_session, read_scene, read_session,
 };
 pub use rdm_serving::{
-    Discovered, Discovery, LogOutput, OpensLog, Outcomes, PortKind, Progress, ServeFault, Served,
-    discover, discover_in, report, serve, serve_on_line, session_text,
+    Discovered, Discovery, LogOutput, OpensLog, Outcomes, Progress, ServeFault, Served, discover,
+    discover_in, report, serve, serve_on_line, session_text,
+};
+pub use rdm_words::{
+    Complaint, Job, LineDiscovery, LineJob, LineRun, PortKind, USAGE, VERSION, WordsFault,
+    complaint_of, parse_line_words, parse_words,
 };
 pub use reason::Reason;
 pub use telling::{Progressing, tell, tell_usage};
-pub use usage::{USAGE, VERSION};

@@ -10,7 +10,6 @@ ghost use Rattle.rdm_port.specs.body.Texts.{answer_bytes};
 
 use crate::answer::{Answered, Refused};
 use crate::fault::Fault;
-use crate::line_job::LineRun;
 use crate::line_performing::Opens;
 use crate::logging::open_log;
 use crate::reason::Reason;
@@ -22,6 +21,7 @@ use rdm_files::{
 };
 use rdm_line::Line;
 use rdm_serving::{LogOutput, OpensLog, Progress, serve_on_line};
+use rdm_words::LineRun;
 use std::alloc::Global;
 use std::io::Read;
 use std::marker::Brand;

@@ -5,9 +5,9 @@ ghost use Rattle.rdm_port.specs.LineOutcome.{SaysValues, SpellsDevice, SpellDevi
 
 use crate::answer::Refused;
 use crate::fault::Fault;
-use crate::line_job::LineDiscovery;
 use crate::reason::Reason;
 use rdm_wire::{MOST_DEVICES, Uid, UidSet};
+use rdm_words::LineDiscovery;
 
 /// The UIDs that a discovery's texts spell.
 #[derive(Debug, Drop)]

@@ -1,10 +1,10 @@
 //! Why something isn't done, for people.
 use crate::place::Place;
-use crate::usage::USAGE;
 use rdm_agent::AgentFault;
 use rdm_files::{FileFault, FileKind, MOST_BYTES, Mismatch, SceneFault, looks_like};
 use rdm_serving::{Discovered, Outcomes, device_lines};
 use rdm_wire::{DeviceSet, Uid};
+use rdm_words::USAGE;
 use serde_json::Value;
 use std::alloc::Global;
 use std::io::ErrorKind;

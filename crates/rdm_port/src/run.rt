@@ -24,8 +24,9 @@ use rdm_files::{
     unknown_in_session,
 };
 use rdm_serving::{
-    LogOutput, OpensLog, PortKind, Progress, ServeFault, Served, serve, session_text, write_entries,
+    LogOutput, OpensLog, Progress, ServeFault, Served, serve, session_text, write_entries,
 };
+use rdm_words::PortKind;
 use serde_json::Value;
 use std::alloc::Global;
 use std::io::{Read, Write};

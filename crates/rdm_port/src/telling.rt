@@ -1,9 +1,9 @@
 //! Standard error, for people: why something isn't done, what they should know about a file, and how many exchanges a
 //! session or a discovery has made.
-use crate::complaint::Complaint;
 use crate::reason::Reason;
 use rdm_files::Remark;
 use rdm_serving::Progress;
+use rdm_words::Complaint;
 use std::io;
 use std::rt::Clock;
 use std::time::Instant;

@@ -20,7 +20,6 @@ mod ticket;
 mod told_line;
 
 use crate::outcomes::{Discovered, Outcomes};
-use crate::port_kind::PortKind;
 use crate::progress::Progress;
 use crate::serving::called::has_calls;
 use crate::serving::locked::serve_locked;
@@ -33,6 +32,7 @@ use rdm_files::{ClientCall, ClientFile, LineSessionFile, SceneFile, SessionFile}
 use rdm_line::{Line, SimLine};
 use rdm_queue::{Config, LEAST_FREE, Log, MOST_PLACES, Session, laws};
 use rdm_wire::Uid;
+use rdm_words::PortKind;
 use std::alloc::Global;
 use std::sync::Wait;
 use std::sync::ledger::{Blank, Ledger};

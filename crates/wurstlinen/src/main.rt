@@ -4,7 +4,7 @@
 #![tactic(auto)]
 
 ghost use Rattle.std.specs.Prelude.{◌≡◌, ◌≤◌, IfOk, length, map, string_bytes};
-ghost use Rattle.rdm_port.specs.Words.{texts_of};
+ghost use Rattle.rdm_words.specs.Words.{texts_of};
 
 mod log_file;
 mod opening;

@@ -11,7 +11,7 @@ use Rattle.rdm_serving.specs.Writing.{LogState, Logs}
 use Rattle.rdm_serving.specs.declared.discovery.Discovery.{Discovery}
 use Rattle.rdm_port.specs.LineOutcome.{DiscoversOnLine, SaysValues, replies_path}
 use Rattle.rdm_port.specs.Outcome.{kind_of, search_of}
-use Rattle.rdm_port.specs.declared.line_job.LineDiscovery.{LineDiscovery}
+use Rattle.rdm_words.specs.declared.line_job.LineDiscovery.{LineDiscovery}
 use Rattle.rdm_port.specs.declared.line_values.LineValues.{LineValues}
 use Rattle.rdm_port.proofs.LoggedLemmas.{report_logged, memory_logged}
 use Rattle.rdm_port.proofs.RunLemmas.{opened_by}

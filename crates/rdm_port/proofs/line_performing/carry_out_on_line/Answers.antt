@@ -1,4 +1,3 @@
-use Rattle.std.proofs.Common.{ℕ, List}
 use Rattle.std.specs.Prelude.{is_some}
 use Rattle.rdm_port.specs.LineOutcome.{DiscoversOnLine, IsLineFault}
 use Rattle.rdm_port.specs.Outcome.{IsLogUnreported}

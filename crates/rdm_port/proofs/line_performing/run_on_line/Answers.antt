@@ -1,4 +1,4 @@
-use Rattle.std.proofs.Common.{◌≡◌, ℕ, List, []}
+use Rattle.std.proofs.Common.{◌≡◌, []}
 use Rattle.std.specs.Prelude.{is_some}
 use Rattle.rdm_files.specs.LineSessionFiles.{IsLineSessionFile}
 use Rattle.rdm_files.specs.declared.session.line_file.LineSessionFile.{LineSessionFile}

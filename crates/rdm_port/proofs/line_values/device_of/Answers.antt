@@ -1,4 +1,4 @@
-use Rattle.std.proofs.Common.{◌≡◌, refl, true, false, sym, ◌∙◌}
+use Rattle.std.proofs.Common.{◌≡◌, refl, true, sym, ◌∙◌}
 use Rattle.rdm_wire.specs.Uid.{is_broadcast}
 use Rattle.rdm_port.proofs.line_values.device_of.Goals as goal
 

@@ -1,6 +1,6 @@
 use Rattle.std.proofs.Common.{refl, rules}
 use Rattle.std.specs.Prelude.{is_some}
-use Rattle.rdm_port.specs.declared.job.Job.TheVariants.{Discover, Run}
+use Rattle.rdm_words.specs.declared.job.Job.TheVariants.{Discover, Run}
 use Rattle.rdm_port.proofs.LoggedLemmas.{done_logged, fault_logged, fault_logged_none}
 use Rattle.rdm_port.proofs.performing.answer.Goals as goal
 

@@ -1,7 +1,7 @@
-use Rattle.std.proofs.Common.{◌≡◌, ℕ, List, Ok}
+use Rattle.std.proofs.Common.{◌≡◌, Ok}
 use Rattle.rdm_port.specs.Fault.{IsFaultOf}
 use Rattle.rdm_port.specs.Outcome.{Answers, IsLoggedWith, has_log}
-use Rattle.rdm_port.specs.declared.job.Job.{Job}
+use Rattle.rdm_words.specs.declared.job.Job.{Job}
 use Rattle.rdm_port.proofs.LoggedLemmas.{printed_after}
 use Rattle.rdm_port.proofs.performing.carry_out.Goals as goal
 

@@ -1,0 +1,4 @@
+pub mod WordsLemmas
+mod CommandLemmas
+mod ComplaintLemmas
+mod LineWordLemmas

@@ -1,0 +1,4 @@
+pub mod Words
+pub mod Complaints
+pub mod body
+pub mod LineWords
