@@ -1,10 +1,12 @@
 -- What a line that is honest to a set of devices shows of a run.
-use Rattle.std.proofs.Common.{◌≡◌, ℕ, ◌+◌, ◌≤◌, Bool, true, false, ◌&&◌, not, cond, List, [], ◌∷◌, Option, Some, None, refl, sym, ap, ◌∙◌, subst, inl, inr, true≢false, arith}
+use Rattle.std.proofs.Common.{◌≡◌, ℕ, ◌+◌, ◌≤◌, Bool, true, false, ◌&&◌, not, cond, List, [], ◌∷◌, Option, Some, None}
+use Rattle.std.proofs.Common.{refl, sym, ap, ◌∙◌, subst, inl, inr, true≢false, arith}
 use Rattle.std.specs.Prelude.{◌⊎◌, ◌==◌, MatchBool, filter}
 use Rattle.std.specs.List.{cons_option}
 use Rattle.std.proofs.lemmas.Bool.{eqb-true, eq-eqb, cases_Bool, or_cases}
 use Rattle.rdm_wire.specs.Uid.{has, is_within}
-use Rattle.rdm_wire.specs.Honest.{Asked, Heard, Seen, LineState, HonestToStep, HonestTo, HonestStep, HonestTrace, Chain, Counts, due_in, lost_after, KeepsMuted, MuteMoves, is_silent, before_run}
+use Rattle.rdm_wire.specs.Honest.{Asked, Heard, Seen, LineState, HonestToStep, HonestTo, HonestStep, HonestTrace, Chain}
+use Rattle.rdm_wire.specs.Honest.{Counts, due_in, lost_after, KeepsMuted, MuteMoves, is_silent, before_run}
 use Rattle.rdm_wire.specs.Honest.Asked.{Unmute, Branch, Mute, Other}
 use Rattle.rdm_wire.specs.Honest.Heard.{Failed, Silent, One, Acked, Noise}
 use Rattle.rdm_wire.specs.declared.mute_ack.MuteAck.{MuteAck}
@@ -28,8 +30,10 @@ acked-mute present s new u v ack false e step p = absurd (silence step.0)
     silence : Acked ack ≡ Silent → ⊥
     silence h = cc
 
-pub acked_present : (present : List ℕ) (s new : LineState) (u : ℕ) (a : Asked) (h : Heard) → HonestStep present s a h new → acked_uid a h ≡ Some u → has present u ≡ true
-acked_present present s new u (Mute v) (Acked ack) step p = acked-mute present s new u v ack (has present v) refl step.1 p
+pub acked_present : (present : List ℕ) (s new : LineState) (u : ℕ) (a : Asked) (h : Heard)
+    → HonestStep present s a h new → acked_uid a h ≡ Some u → has present u ≡ true
+acked_present present s new u (Mute v) (Acked ack) step p =
+    acked-mute present s new u v ack (has present v) refl step.1 p
 acked_present present s new u (Mute v) Failed step p = absurd (none_some u p)
 acked_present present s new u (Mute v) Silent step p = absurd (none_some u p)
 acked_present present s new u (Mute v) (One w) step p = absurd (none_some u p)
@@ -46,14 +50,19 @@ failed_none (Mute u) h failed = ap (acked_uid (Mute u)) failed
 failed_none Other h failed = refl
 
 -- where nothing stands after a failure, each acknowledged UID is present: no phantom is reported
-pub present_from : (present : List ℕ) (s : LineState) (x : List Seen) (u : ℕ) → FailureIsLast x → Chain (HonestStep present) s x → has (acked_in x) u ≡ true → has present u ≡ true
+pub present_from : (present : List ℕ) (s : LineState) (x : List Seen) (u : ℕ) → FailureIsLast x
+    → Chain (HonestStep present) s x → has (acked_in x) u ≡ true → has present u ≡ true
 present_from present s [] u ok c h = absurd (true≢false (sym h))
 present_from present s (e ∷ x) u ok c h =
     elim c [
-      | inl failed ↦ absurd (true≢false (sym (subst (λ l. has (acked_in (e ∷ l)) u ≡ true) (ok [] x e refl failed) h) ∙ ap (λ o. has (cons_option o []) u) (failed_none e.asked e.heard failed)))
+      | inl failed
+          ↦ absurd (true≢false
+          (sym (subst (λ l. has (acked_in (e ∷ l)) u ≡ true) (ok [] x e refl failed) h)
+          ∙ ap (λ o. has (cons_option o []) u) (failed_none e.asked e.heard failed)))
       | inr step ↦ elim (put-has (acked_uid e.asked e.heard) (acked_in x) u h) [
         | inl here ↦ acked_present present s step.0 u e.asked e.heard step.1 here
-        | inr later ↦ present_from present step.0 x u (λ front back d whole failed. ok (e ∷ front) back d (ap (λ l. e ∷ l) whole) failed) step.2 later
+        | inr later ↦ present_from present step.0 x u
+            (λ front back d whole failed. ok (e ∷ front) back d (ap (λ l. e ∷ l) whole) failed) step.2 later
       ]
     ]
 
@@ -77,7 +86,8 @@ lost_le test other (p ∷ present) u h a b same here le =
         → lost_after (filter other (u ∷ [])) h a ≤ lost_after (filter test (p ∷ present)) h b
     by_test onward (inr no_due) _ = rw no_due (omega arith)
     by_test onward (inl due) (inl front) = rw (due, front) (cond_le (is_silent h))
-    by_test onward (inl due) (inr after) = rw after (onward (in_rest due after (or_cases (u == p) (has present u) here)))
+    by_test onward (inl due) (inr after) =
+        rw after (onward (in_rest due after (or_cases (u == p) (has present u) here)))
 
 -- the counts of a line that is honest to u alone are no higher
 pub record IsBelow (u : ℕ) (t s : LineState) : Type 0 where
@@ -99,7 +109,8 @@ counted : (new : LineState) (b m n : ℕ) → b ≤ 4 → m ≤ 4 → Counts (wi
 unfolding with_counts
 counted new b m n p q = record { branches = refl; mutes = refl; unmutes = refl; few_branches = p; few_mutes = q }
 
-is_below : (u : ℕ) (new : LineState) (b m n c d e : ℕ) → Counts new c d e → b ≤ c → m ≤ d → n ≡ e → IsBelow u (with_counts new b m n) new
+is_below : (u : ℕ) (new : LineState) (b m n c d e : ℕ) → Counts new c d e → b ≤ c → m ≤ d → n ≡ e
+    → IsBelow u (with_counts new b m n) new
 unfolding with_counts
 is_below u new b m n c d e counts p q r = record {
   muted = refl;
@@ -111,7 +122,8 @@ is_below u new b m n c d e counts p q r = record {
     le_along : {x y z : ℕ} → z ≡ y → x ≤ y → x ≤ z
     le_along w k = rw w k
 
-below_branch : (present : List ℕ) (u lo hi : ℕ) (s t new : LineState) (h : Heard) → has present u ≡ true → IsBelow u t s → HonestStep present s (Branch lo hi) h new → Below u t new (Branch lo hi) h
+below_branch : (present : List ℕ) (u lo hi : ℕ) (s t new : LineState) (h : Heard) → has present u ≡ true → IsBelow u t s
+    → HonestStep present s (Branch lo hi) h new → Below u t new (Branch lo hi) h
 unfolding with_counts
 below_branch present u lo hi s t new h here under step = record {
   state = with_counts new lost 0 0;
@@ -123,7 +135,8 @@ below_branch present u lo hi s t new h here under step = record {
     lost = lost_after (due_in (u ∷ []) t.muted lo hi) h t.lost_branches
 
     few : lost ≤ lost_after (due_in present s.muted lo hi) h s.lost_branches
-    few = lost_le (λ v. is_within lo hi v && not (s.muted v)) (λ v. is_within lo hi v && not (t.muted v)) present u h t.lost_branches s.lost_branches
+    few = lost_le (λ v. is_within lo hi v && not (s.muted v)) (λ v. is_within lo hi v && not (t.muted v)) present u h
+        t.lost_branches s.lost_branches
         (ap (λ b. is_within lo hi u && not b) (sym under.muted)) here under.branches
 
     few_lost : {x y : ℕ} → x ≤ y → y ≤ 4 → x ≤ 4
@@ -134,16 +147,24 @@ below_mute : (present : List ℕ) (u v : ℕ) (s t new : LineState) (h : Heard) 
     → (state : LineState) × IsBelow u state new × MatchBool b (MuteMoves u t h state)
     (KeepsMuted u t state × Counts state 0 0 0)
 unfolding with_counts
-below_mute present u v s t new h true is here under step = of_moves (subst (λ (w : ℕ). MuteMoves w s h new) (sym same) (at_present step.1))
+below_mute present u v s t new h true is here under step =
+    of_moves (subst (λ (w : ℕ). MuteMoves w s h new) (sym same) (at_present step.1))
   where
     same : u ≡ v
     same = eqb-true u v is
 
-    at_present : MatchBool (has present v) (MuteMoves v s h new) ((h ≡ Silent) × KeepsMuted v s new × Counts new 0 0 0) → MuteMoves v s h new
-    at_present m = subst (λ b. MatchBool b (MuteMoves v s h new) ((h ≡ Silent) × KeepsMuted v s new × Counts new 0 0 0)) (ap (λ w. has present w) (sym same) ∙ here) m
+    at_present : MatchBool (has present v) (MuteMoves v s h new) ((h ≡ Silent) × KeepsMuted v s new × Counts new 0 0 0)
+        → MuteMoves v s h new
+    at_present m =
+        subst (λ b. MatchBool b (MuteMoves v s h new) ((h ≡ Silent) × KeepsMuted v s new × Counts new 0 0 0))
+        (ap (λ w. has present w) (sym same) ∙ here) m
 
     of_moves : MuteMoves u s h new → (state : LineState) × IsBelow u state new × MuteMoves u t h state
-    of_moves (inl acked) = (with_counts new 0 0 0, is_below u new 0 0 0 0 0 0 acked.2 (omega arith) (omega arith) refl, inl (acked.0, acked.1, counted new 0 0 0 (omega arith) (omega arith)))
+    of_moves (inl acked) = (
+      with_counts new 0 0 0,
+      is_below u new 0 0 0 0 0 0 acked.2 (omega arith) (omega arith) refl,
+      inl (acked.0, acked.1, counted new 0 0 0 (omega arith) (omega arith)),
+    )
     of_moves (inr silent) = let le = under.lost in let few = silent.2.few_mutes in (
       with_counts new 0 (t.lost_mutes + 1) 0,
       is_below u new 0 (t.lost_mutes + 1) 0 0 (s.lost_mutes + 1) 0 silent.2 (omega arith) (omega arith) refl,
@@ -163,29 +184,46 @@ below_mute present u v s t new h false other here under step = at_present (cases
         other_way (inr isnt) = isnt
 
     stays : Counts new 0 0 0 → (state : LineState) × IsBelow u state new × (KeepsMuted u t state × Counts state 0 0 0)
-    stays counts = (with_counts new 0 0 0, is_below u new 0 0 0 0 0 0 counts (omega arith) (omega arith) refl, (step.0 u vu ∙ sym under.muted, counted new 0 0 0 (omega arith) (omega arith)))
+    stays counts = (
+      with_counts new 0 0 0,
+      is_below u new 0 0 0 0 0 0 counts (omega arith) (omega arith) refl,
+      (step.0 u vu ∙ sym under.muted, counted new 0 0 0 (omega arith) (omega arith)),
+    )
 
-    lost : {m : ℕ} → Counts new 0 m 0 → (state : LineState) × IsBelow u state new × (KeepsMuted u t state × Counts state 0 0 0)
-    lost {m} counts = (with_counts new 0 0 0, is_below u new 0 0 0 0 m 0 counts (omega arith) (omega arith) refl, (step.0 u vu ∙ sym under.muted, counted new 0 0 0 (omega arith) (omega arith)))
+    lost : {m : ℕ} → Counts new 0 m 0 → (state : LineState) × IsBelow u state new
+        × (KeepsMuted u t state × Counts state 0 0 0)
+    lost {m} counts = (
+      with_counts new 0 0 0,
+      is_below u new 0 0 0 0 m 0 counts (omega arith) (omega arith) refl,
+      (step.0 u vu ∙ sym under.muted, counted new 0 0 0 (omega arith) (omega arith)),
+    )
 
-    of_moves : MuteMoves v s h new → (state : LineState) × IsBelow u state new × (KeepsMuted u t state × Counts state 0 0 0)
+    of_moves : MuteMoves v s h new → (state : LineState) × IsBelow u state new
+        × (KeepsMuted u t state × Counts state 0 0 0)
     of_moves (inl acked) = lost acked.2
     of_moves (inr silent) = lost silent.2
 
     at_present : (has present v ≡ true) ⊎ (has present v ≡ false)
         → MatchBool (has present v) (MuteMoves v s h new) ((h ≡ Silent) × KeepsMuted v s new × Counts new 0 0 0)
         → (state : LineState) × IsBelow u state new × (KeepsMuted u t state × Counts state 0 0 0)
-    at_present (inl p) m = of_moves (subst (λ b. MatchBool b (MuteMoves v s h new) ((h ≡ Silent) × KeepsMuted v s new × Counts new 0 0 0)) p m)
-    at_present (inr p) m = stays (subst (λ b. MatchBool b (MuteMoves v s h new) ((h ≡ Silent) × KeepsMuted v s new × Counts new 0 0 0)) p m).2
+    at_present (inl p) m =
+        of_moves (subst (λ b. MatchBool b (MuteMoves v s h new) ((h ≡ Silent) × KeepsMuted v s new × Counts new 0 0 0))
+        p m)
+    at_present (inr p) m =
+        stays (subst (λ b. MatchBool b (MuteMoves v s h new) ((h ≡ Silent) × KeepsMuted v s new × Counts new 0 0 0)) p
+        m).2
 
-pub below_step : (present : List ℕ) (u : ℕ) (s t new : LineState) (a : Asked) (h : Heard) → has present u ≡ true → IsBelow u t s → HonestStep present s a h new → Below u t new a h
+pub below_step : (present : List ℕ) (u : ℕ) (s t new : LineState) (a : Asked) (h : Heard) → has present u ≡ true
+    → IsBelow u t s → HonestStep present s a h new → Below u t new a h
 unfolding with_counts
 below_step present u s t new (Branch lo hi) h here under step = below_branch present u lo hi s t new h here under step
 below_step present u s t new (Mute v) h here under step =
-    let m = below_mute present u v s t new h (u == v) refl here under step in record { state = m.0; below = m.1; step = m.2 }
+    let m = below_mute present u v s t new h (u == v) refl here under step in
+    record { state = m.0; below = m.1; step = m.2 }
 below_step present u s t new Unmute h here under step = record {
   state = with_counts new 0 0 (t.unmutes + 1);
-  below = is_below u new 0 0 (t.unmutes + 1) 0 0 (s.unmutes + 1) step.1 (omega arith) (omega arith) (ap (λ n. n + 1) under.unmutes);
+  below = is_below u new 0 0 (t.unmutes + 1) 0 0 (s.unmutes + 1) step.1 (omega arith) (omega arith)
+      (ap (λ n. n + 1) under.unmutes);
   step = (
     record {
       fewer = λ m. under.muted ∙ (step.0 u).fewer m;
@@ -201,7 +239,8 @@ below_step present u s t new Other h here under step = record {
 }
 
 -- a line that is honest to a set of devices is honest to each
-pub to_one : (present : List ℕ) (u : ℕ) (s t : LineState) (x : List Seen) → has present u ≡ true → IsBelow u t s → Chain (HonestStep present) s x → Chain (HonestToStep u) t x
+pub to_one : (present : List ℕ) (u : ℕ) (s t : LineState) (x : List Seen) → has present u ≡ true → IsBelow u t s
+    → Chain (HonestStep present) s x → Chain (HonestToStep u) t x
 to_one present u s t [] here under c = tt
 to_one present u s t (e ∷ x) here under c =
     elim c [
@@ -210,6 +249,14 @@ to_one present u s t (e ∷ x) here under c =
           inr (b.state, b.step, to_one present u step.0 b.state x here b.below step.2)
     ]
 
-pub honest_to_each : (present : List ℕ) (u : ℕ) (x : List Seen) → has present u ≡ true → HonestTrace present x → HonestTo u x
-honest_to_each present u x here honest =
-    (honest.1, to_one present u (before_run honest.1) (before_run honest.1) x here (record { muted = refl; branches = omega arith; lost = omega arith; unmutes = refl }) honest.2)
+pub honest_to_each : (present : List ℕ) (u : ℕ) (x : List Seen) → has present u ≡ true → HonestTrace present x
+    → HonestTo u x
+honest_to_each present u x here honest = (
+  honest.1,
+  to_one present u (before_run honest.1) (before_run honest.1) x here (record {
+    muted = refl;
+    branches = omega arith;
+    lost = omega arith;
+    unmutes = refl;
+  }) honest.2,
+)

@@ -8,7 +8,9 @@ use Rattle.rdm_agent.specs.declared.op.Op.TheVariants.{End}
 use Rattle.rdm_agent.proofs.BoundRuns.{ends_in_bound_by}
 use Rattle.rdm_agent.proofs.CallLemmas.{runs-own, none_ends, next_none, frames-counted, end-finds_all}
 
-module _ (a : AgentState) (run : RunSoFar) (stands : HasRunBy run.search run.kind run.known run.budget run.aborted run.exchanges a) (present : List ℕ) (calm : IsUndisturbed present run) where
+module _ (a : AgentState) (run : RunSoFar)
+    (stands : HasRunBy run.search run.kind run.known run.budget run.aborted run.exchanges a) (present : List ℕ)
+    (calm : IsUndisturbed present run) where
   not_aborted : HasRunBy run.search run.kind run.known run.budget false run.exchanges a
   not_aborted = subst (λ b. HasRunBy run.search run.kind run.known run.budget b run.exchanges a) calm.not_aborted stands
 
@@ -23,7 +25,8 @@ module _ (a : AgentState) (run : RunSoFar) (stands : HasRunBy run.search run.kin
   frames-ended all = none_ends a (within.ends all)
 
   pub next-in_bound : length run.exchanges ≡ enough_by run.search present run.kind run.known → next_op a ≡ End
-  next-in_bound all = frames-ended ((frames-counted a run.kind run.known run.budget run.aborted run.exchanges stands).0 ∙ all)
+  next-in_bound all =
+      frames-ended ((frames-counted a run.kind run.known run.budget run.aborted run.exchanges stands).0 ∙ all)
 
   module _ (end : next_op a ≡ End) where
     no_fault : fault_of a.phase ≡ None
@@ -36,7 +39,10 @@ module _ (a : AgentState) (run : RunSoFar) (stands : HasRunBy run.search run.kin
         some_none p = cc
 
     pub end-finds : found_uids a ≡ present
-    end-finds = end-finds_all a end no_fault run.kind run.known run.budget run.aborted run.exchanges stands present calm.calm.honest
+    end-finds = end-finds_all a end no_fault run.kind run.known run.budget run.aborted run.exchanges stands present
+        calm.calm.honest
 
-pub stays_in_bound : (a : AgentState) (run : RunSoFar) → HasRunBy run.search run.kind run.known run.budget run.aborted run.exchanges a → StaysInBound a run
-stays_in_bound a run stands present calm = (frames-in_bound a run stands present calm, frames-ended a run stands present calm)
+pub stays_in_bound : (a : AgentState) (run : RunSoFar)
+    → HasRunBy run.search run.kind run.known run.budget run.aborted run.exchanges a → StaysInBound a run
+stays_in_bound a run stands present calm =
+    (frames-in_bound a run stands present calm, frames-ended a run stands present calm)

@@ -1,5 +1,6 @@
 -- How an agent stands after a list of exchanges, call by call.
-use Rattle.std.proofs.Common.{◌≡◌, ℕ, ◌≤◌, Bool, true, false, cond, List, [], ◌∷◌, ◌++◌, length, Option, Some, None, refl, sym, ap, ◌∙◌, subst, true≢false, arith}
+use Rattle.std.proofs.Common.{◌≡◌, ℕ, ◌≤◌, Bool, true, false, cond, List, [], ◌∷◌, ◌++◌, length, Option, Some, None}
+use Rattle.std.proofs.Common.{refl, sym, ap, ◌∙◌, subst, true≢false, arith}
 use Rattle.std.specs.Prelude.{◌≢◌, nat_lt, MatchOption, IfNone, IfSome}
 use Rattle.rdm_wire.specs.Uid.{has, IsDevice}
 use Rattle.rdm_wire.specs.Honest.{Asked, Heard, Seen, HonestTrace, HonestTo}
@@ -9,7 +10,8 @@ use Rattle.rdm_agent.specs.Run.{asked_by, heard_by, seen_op, IsReport}
 use Rattle.rdm_agent.specs.Certificate.{Certificate}
 use Rattle.rdm_agent.specs.Cause.{Cause, EndsFailed}
 use Rattle.rdm_agent.specs.Machine.{Phase, AgentState, Runs, start_by, next_of, wanted, fed, fault_of, found_uids}
-use Rattle.rdm_agent.specs.Machine.Phase.{Unmuting, MutingKnown, Searching, MutingRead, Sweeping, MutingSwept, Doubting, Ended}
+use Rattle.rdm_agent.specs.Machine.Phase.{Unmuting, MutingKnown, Searching, MutingRead, Sweeping, MutingSwept, Doubting}
+use Rattle.rdm_agent.specs.Machine.Phase.{Ended}
 use Rattle.rdm_agent.specs.Statements.{IsInOrder, IsInEach, IsInOne}
 use Rattle.rdm_agent.specs.Calls.{op_of, next_op, fits, ended_by_abort, HasRunBy}
 use Rattle.rdm_agent.specs.declared.kind.Kind.{Kind}
@@ -20,12 +22,16 @@ use Rattle.rdm_agent.specs.declared.op.Op.{Op}
 use Rattle.rdm_agent.specs.declared.op.Op.TheVariants.{End}
 use Rattle.rdm_agent.specs.declared.op.OpReply.{OpReply}
 use Rattle.rdm_agent.specs.declared.op.OpReply.TheVariants.{Done, Mute as Muted, Branch as Branched, Failed}
-use Rattle.rdm_agent.proofs.Runs.{asks_in_order_by, ends_at_failure_by, ends_at_budget_by, ends_certified_by, finds_acknowledged_by}
-use Rattle.rdm_agent.proofs.HonestRuns.{finds_all_by, finds_each_by, finds_no_phantom_by, finds_staying_by, finds_no_stranger_by}
+use Rattle.rdm_agent.proofs.Runs.{asks_in_order_by, ends_at_failure_by, ends_at_budget_by, ends_certified_by}
+use Rattle.rdm_agent.proofs.Runs.{finds_acknowledged_by}
+use Rattle.rdm_agent.proofs.HonestRuns.{finds_all_by, finds_each_by, finds_no_phantom_by, finds_staying_by}
+use Rattle.rdm_agent.proofs.HonestRuns.{finds_no_stranger_by}
 
 -- P holds of each run that the agent may stand after, part by part
 abbrev pub OfEach : Search → AgentState → (Kind → List ℕ → ℕ → Bool → List Seen → Type 0) → Type 0
-OfEach search a P = (kind : Kind) (known : List ℕ) (budget : ℕ) (aborted : Bool) (x : List Seen) → HasRunBy search kind known budget aborted x a → P kind known budget aborted x
+OfEach search a P =
+    (kind : Kind) (known : List ℕ) (budget : ℕ) (aborted : Bool) (x : List Seen)
+    → HasRunBy search kind known budget aborted x a → P kind known budget aborted x
 
 -- what an operation that isn't the end asks
 asked_op : (o : Option Asked) → op_of o ≢ End → o ≡ Some (asked_by (op_of o))
@@ -64,7 +70,8 @@ aborted_ends a = by_test (nat_lt a.frames a.budget)
     by_test false = refl
 
 -- one more exchange
-pub runs-push : (x : List Seen) (a b : AgentState) (asked : Asked) (heard : Heard) → Runs a x b → next_of b ≡ Some asked → Runs a (x ++ record { asked = asked; heard = heard } ∷ []) (fed b heard)
+pub runs-push : (x : List Seen) (a b : AgentState) (asked : Asked) (heard : Heard) → Runs a x b → next_of b ≡ Some asked
+    → Runs a (x ++ record { asked = asked; heard = heard } ∷ []) (fed b heard)
 runs-push [] a b asked heard run next = (subst (λ c. next_of c ≡ Some asked) run next, ap (λ c. fed c heard) run)
 runs-push (e ∷ x) a b asked heard run next = (run.0, runs-push x (fed a e.heard) b asked heard run.1 next)
 
@@ -92,7 +99,8 @@ hears-has_run {search} a b e next is kind known budget false x s = record {
   runs = runs-push x (start_by search kind known budget) a e.asked e.heard (runs-own kind known budget x a s) next;
   is = is;
 }
-hears-has_run {search} a b e next is kind known budget true x s = absurd (some_none (sym next ∙ next_none a (rw s.is.1 (aborted_ends s.before))))
+hears-has_run {search} a b e next is kind known budget true x s =
+    absurd (some_none (sym next ∙ next_none a (rw s.is.1 (aborted_ends s.before))))
   where
     some_none : Some e.asked ≡ None → ⊥
     some_none never = cc
@@ -100,26 +108,35 @@ hears-has_run {search} a b e next is kind known budget true x s = absurd (some_n
 pub feed-stands : {search : Search} (a b : AgentState) (reply : OpReply) → fits reply (next_op a) ≡ true
     → b ≡ fed a (heard_by reply) → OfEach search a
     (λ kind known budget aborted x. HasRunBy search kind known budget false (x ++ seen_op (next_op a, reply) ∷ []) b)
-feed-stands a b reply fitting is = hears-has_run a b (seen_op (next_op a, reply)) (next_asked a (fits_goes reply (next_op a) fitting)) is
+feed-stands a b reply fitting is =
+    hears-has_run a b (seen_op (next_op a, reply)) (next_asked a (fits_goes reply (next_op a) fitting)) is
 
 -- what is asked stands in order
-pub next-in_order : {search : Search} (a : AgentState) → OfEach search a (λ kind known budget aborted x. next_op a ≢ End → IsInOrder (length x) (asked_by (next_op a)))
+pub next-in_order : {search : Search} (a : AgentState)
+    → OfEach search a (λ kind known budget aborted x. next_op a ≢ End → IsInOrder (length x) (asked_by (next_op a)))
 next-in_order {search} a kind known budget false x s goes =
-    subst (λ o. MatchOption o (Unit {0}) (IsInOrder (length x))) (next_asked a goes) (asks_in_order_by search kind known budget x a s.devices (runs-own kind known budget x a s)).0
+    subst (λ o. MatchOption o (Unit {0}) (IsInOrder (length x))) (next_asked a goes)
+    (asks_in_order_by search kind known budget x a s.devices (runs-own kind known budget x a s)).0
 next-in_order {search} a kind known budget true x s goes = absurd (goes (rw s.is.1 (aborted_ends s.before)))
 
 pub none_ends : (a : AgentState) → next_of a ≡ None → next_op a ≡ End
 none_ends a none = ap op_of none
 
-pub next-in_budget : {search : Search} (a : AgentState) → OfEach search a (λ kind known budget aborted x. length x ≡ budget → next_op a ≡ End)
-next-in_budget {search} a kind known budget false x s full = none_ends a (ends_at_budget_by search kind known budget x a s.devices (runs-own kind known budget x a s) full)
+pub next-in_budget : {search : Search} (a : AgentState)
+    → OfEach search a (λ kind known budget aborted x. length x ≡ budget → next_op a ≡ End)
+next-in_budget {search} a kind known budget false x s full =
+    none_ends a (ends_at_budget_by search kind known budget x a s.devices (runs-own kind known budget x a s) full)
 next-in_budget {search} a kind known budget true x s full = rw s.is.1 (aborted_ends s.before)
 
-pub next-failed : {search : Search} (a : AgentState) → OfEach search a (λ kind known budget aborted x. EndsFailed x → next_op a ≡ End)
-next-failed {search} a kind known budget false x s failed = none_ends a ((ends_at_failure_by search kind known budget x a s.devices (runs-own kind known budget x a s)).1 failed)
+pub next-failed : {search : Search} (a : AgentState)
+    → OfEach search a (λ kind known budget aborted x. EndsFailed x → next_op a ≡ End)
+next-failed {search} a kind known budget false x s failed =
+    none_ends a ((ends_at_failure_by search kind known budget x a s.devices (runs-own kind known budget x a s)).1
+    failed)
 next-failed {search} a kind known budget true x s failed = rw s.is.1 (aborted_ends s.before)
 
-pub frames-counted : {search : Search} (a : AgentState) → OfEach search a (λ kind known budget aborted x. (a.frames ≡ length x) × (a.frames ≤ budget))
+pub frames-counted : {search : Search} (a : AgentState)
+    → OfEach search a (λ kind known budget aborted x. (a.frames ≡ length x) × (a.frames ≤ budget))
 frames-counted {search} a kind known budget false x s =
     let all = asks_in_order_by search kind known budget x a s.devices (runs-own kind known budget x a s) in
     let is : a.frames ≡ length x = all.1 in let most : length x ≤ budget = all.2 in (is, omega arith)
@@ -136,30 +153,46 @@ some_none o some none = cc
 
 -- what is shown of an ended agent without fault
 module _ (a : AgentState) (end : next_op a ≡ End) (no_fault : fault_of a.phase ≡ None) where
-  pub end-certified : {search : Search} → OfEach search a (λ kind known budget aborted x. Certificate kind known x a.found × IsReport x a.found)
+  pub end-certified : {search : Search}
+      → OfEach search a (λ kind known budget aborted x. Certificate kind known x a.found × IsReport x a.found)
   end-certified {search} kind known budget false x s =
-      let all = ends_certified_by search kind known budget x a s.devices (runs-own kind known budget x a s) (next_none a end) in
+      let all = ends_certified_by search kind known budget x a s.devices (runs-own kind known budget x a s)
+      (next_none a end) in
       (subst (λ o. MatchOption o (Certificate kind known x a.found) (λ f. Cause budget ⊥ f x)) no_fault all.0, all.1)
-  end-certified {search} kind known budget true x s = absurd (some_none (fault_of a.phase) (aborted-fault a s.before s.is.1) no_fault)
+  end-certified {search} kind known budget true x s =
+      absurd (some_none (fault_of a.phase) (aborted-fault a s.before s.is.1) no_fault)
 
-  pub end-finds_all : {search : Search} → OfEach search a (λ kind known budget aborted x. (present : List ℕ) → HonestTrace present x → (found_uids a) ≡ present)
-  end-finds_all {search} kind known budget false x s present honest = finds_all_by search kind known budget x a s.devices (runs-own kind known budget x a s) present (next_none a end) no_fault honest
-  end-finds_all {search} kind known budget true x s present honest = absurd (some_none (fault_of a.phase) (aborted-fault a s.before s.is.1) no_fault)
+  pub end-finds_all : {search : Search}
+      → OfEach search a
+      (λ kind known budget aborted x. (present : List ℕ) → HonestTrace present x → (found_uids a) ≡ present)
+  end-finds_all {search} kind known budget false x s present honest =
+      finds_all_by search kind known budget x a s.devices (runs-own kind known budget x a s) present (next_none a end)
+      no_fault honest
+  end-finds_all {search} kind known budget true x s present honest =
+      absurd (some_none (fault_of a.phase) (aborted-fault a s.before s.is.1) no_fault)
 
-  pub end-finds_each : {search : Search} → OfEach search a (λ kind known budget aborted x. (u : ℕ) → IsDevice u → HonestTo u x → has (found_uids a) u ≡ true)
+  pub end-finds_each : {search : Search}
+      → OfEach search a
+      (λ kind known budget aborted x. (u : ℕ) → IsDevice u → HonestTo u x → has (found_uids a) u ≡ true)
   end-finds_each {search} kind known budget false x s u device honest =
       finds_each_by search kind known budget x a s.devices (runs-own kind known budget x a s) u (next_none a end)
       no_fault device honest
-  end-finds_each {search} kind known budget true x s u device honest = absurd (some_none (fault_of a.phase) (aborted-fault a s.before s.is.1) no_fault)
+  end-finds_each {search} kind known budget true x s u device honest =
+      absurd (some_none (fault_of a.phase) (aborted-fault a s.before s.is.1) no_fault)
 
-  pub end-finds_staying : {search : Search} → OfEach search a (λ kind known budget aborted x. (sets : List (List ℕ)) (u : ℕ) → HonestOver sets x → IsInEach u sets → has (found_uids a) u ≡ true)
+  pub end-finds_staying : {search : Search}
+      → OfEach search a
+      (λ kind known budget aborted x. (sets : List (List ℕ)) (u : ℕ) → HonestOver sets x → IsInEach u sets
+      → has (found_uids a) u ≡ true)
   end-finds_staying {search} kind known budget false x s sets u honest each =
       finds_staying_by search kind known budget x a s.devices (runs-own kind known budget x a s) sets u
       (next_none a end) no_fault honest each
-  end-finds_staying {search} kind known budget true x s sets u honest each = absurd (some_none (fault_of a.phase) (aborted-fault a s.before s.is.1) no_fault)
+  end-finds_staying {search} kind known budget true x s sets u honest each =
+      absurd (some_none (fault_of a.phase) (aborted-fault a s.before s.is.1) no_fault)
 
 -- a cause's fact on the abort may be another
-cause-more : (budget : ℕ) (P Q : Type 0) (f : AgentFault) (x : List Seen) → (P → Q) → Cause budget P f x → Cause budget Q f x
+cause-more : (budget : ℕ) (P Q : Type 0) (f : AgentFault) (x : List Seen) → (P → Q) → Cause budget P f x
+    → Cause budget Q f x
 cause-more budget P Q (Corrupt u) x more cause = cause
 cause-more budget P Q TooMany x more cause = cause
 cause-more budget P Q Exhausted x more cause = cause
@@ -168,10 +201,13 @@ cause-more budget P Q Aborted x more cause = (more cause.0, cause.1)
 
 -- what is shown of an ended agent with a fault
 module _ (a : AgentState) (end : next_op a ≡ End) (fault : AgentFault) (has_fault : fault_of a.phase ≡ Some fault) where
-  pub end-caused : {search : Search} → OfEach search a (λ kind known budget aborted x. Cause budget (aborted ≡ true) fault x × IsReport x a.found)
+  pub end-caused : {search : Search}
+      → OfEach search a (λ kind known budget aborted x. Cause budget (aborted ≡ true) fault x × IsReport x a.found)
   end-caused {search} kind known budget false x s =
-      let all = ends_certified_by search kind known budget x a s.devices (runs-own kind known budget x a s) (next_none a end) in
-      let cause : Cause budget ⊥ fault x = subst (λ o. MatchOption o (Certificate kind known x a.found) (λ f. Cause budget ⊥ f x)) has_fault all.0 in
+      let all = ends_certified_by search kind known budget x a s.devices (runs-own kind known budget x a s)
+      (next_none a end) in
+      let cause : Cause budget ⊥ fault x = subst
+      (λ o. MatchOption o (Certificate kind known x a.found) (λ f. Cause budget ⊥ f x)) has_fault all.0 in
       (cause-more budget ⊥ (false ≡ true) fault x (λ never. absurd never) cause, all.1)
   end-caused {search} kind known budget true x s =
       let is : Aborted ≡ fault = cc (has_fault, aborted-fault a s.before s.is.1) in
@@ -185,27 +221,36 @@ module _ (a : AgentState) (end : next_op a ≡ End) (fault : AgentFault) (has_fa
 pub fault-certified : {search : Search} (a : AgentState) → next_op a ≡ End → (o : Option AgentFault)
     → o ≡ fault_of a.phase → OfEach search a (λ kind known budget aborted x. IfNone o
     (Certificate kind known x a.found))
-fault-certified a end None is kind known budget aborted x s = (end-certified a end (sym is) kind known budget aborted x s).0
+fault-certified a end None is kind known budget aborted x s =
+    (end-certified a end (sym is) kind known budget aborted x s).0
 fault-certified a end (Some fault) is kind known budget aborted x s = tt
 
 pub fault-caused : {search : Search} (a : AgentState) → next_op a ≡ End → (o : Option AgentFault) → o ≡ fault_of a.phase
     → OfEach search a (λ kind known budget aborted x. IfSome o (λ f. Cause budget (aborted ≡ true) f x))
 fault-caused a end None is kind known budget aborted x s = tt
-fault-caused a end (Some fault) is kind known budget aborted x s = (end-caused a end fault (sym is) kind known budget aborted x s).0
+fault-caused a end (Some fault) is kind known budget aborted x s =
+    (end-caused a end fault (sym is) kind known budget aborted x s).0
 
 -- at any moment the devices found are the run's report
-pub found-report : {search : Search} (a : AgentState) → OfEach search a (λ kind known budget aborted x. IsReport x a.found)
-found-report {search} a kind known budget false x s = (finds_acknowledged_by search kind known budget x a s.devices (runs-own kind known budget x a s)).0
-found-report {search} a kind known budget true x s = rw s.is.1 (finds_acknowledged_by search kind known budget x s.before s.devices s.runs).0
+pub found-report : {search : Search} (a : AgentState)
+    → OfEach search a (λ kind known budget aborted x. IsReport x a.found)
+found-report {search} a kind known budget false x s =
+    (finds_acknowledged_by search kind known budget x a s.devices (runs-own kind known budget x a s)).0
+found-report {search} a kind known budget true x s =
+    rw s.is.1 (finds_acknowledged_by search kind known budget x s.before s.devices s.runs).0
 
 pub found-present : {search : Search} (a : AgentState)
     → OfEach search a (λ kind known budget aborted x. (present : List ℕ) (u : ℕ) → HonestTrace present x
     → has (found_uids a) u ≡ true → has present u ≡ true)
-found-present {search} a kind known budget false x s present u honest there = finds_no_phantom_by search kind known budget x a s.devices (runs-own kind known budget x a s) present u honest there
-found-present {search} a kind known budget true x s present u honest there = finds_no_phantom_by search kind known budget x s.before s.devices s.runs present u honest (rw s.is.1 at there)
+found-present {search} a kind known budget false x s present u honest there =
+    finds_no_phantom_by search kind known budget x a s.devices (runs-own kind known budget x a s) present u honest there
+found-present {search} a kind known budget true x s present u honest there =
+    finds_no_phantom_by search kind known budget x s.before s.devices s.runs present u honest (rw s.is.1 at there)
 
 pub found-no_stranger : {search : Search} (a : AgentState)
     → OfEach search a (λ kind known budget aborted x. (sets : List (List ℕ)) (u : ℕ) → HonestOver sets x
     → has (found_uids a) u ≡ true → IsInOne u sets)
-found-no_stranger {search} a kind known budget false x s sets u honest there = finds_no_stranger_by search kind known budget x a s.devices (runs-own kind known budget x a s) sets u honest there
-found-no_stranger {search} a kind known budget true x s sets u honest there = finds_no_stranger_by search kind known budget x s.before s.devices s.runs sets u honest (rw s.is.1 at there)
+found-no_stranger {search} a kind known budget false x s sets u honest there =
+    finds_no_stranger_by search kind known budget x a s.devices (runs-own kind known budget x a s) sets u honest there
+found-no_stranger {search} a kind known budget true x s sets u honest there =
+    finds_no_stranger_by search kind known budget x s.before s.devices s.runs sets u honest (rw s.is.1 at there)

@@ -1,5 +1,6 @@
 -- The frames that the encoders write carry the agent's operations.
-use Rattle.std.proofs.Common.{◌≡◌, ℕ, ◌<◌, ◌^◌, Bool, true, false, cond, List, [], ◌∷◌, Option, Some, None, bytes_eq, refl, sym, ap, ◌∙◌, subst, arith}
+use Rattle.std.proofs.Common.{◌≡◌, ℕ, ◌<◌, ◌^◌, Bool, true, false, cond, List, [], ◌∷◌, Option, Some, None, bytes_eq}
+use Rattle.std.proofs.Common.{refl, sym, ap, ◌∙◌, subst, arith}
 use Rattle.std.specs.Prelude.{◌↔◌, nat_lt}
 use Rattle.std.proofs.lemmas.Slice.Eq.{bytes_eq-Decides}
 use Rattle.rdm_wire.specs.Span.{Span}
@@ -10,7 +11,8 @@ use Rattle.rdm_wire.specs.CommandFrames.{all_devices, branch_frame, mute_frame, 
 use Rattle.rdm_wire.specs.Commands.{FitsFrame, command_fields}
 use Rattle.rdm_wire.specs.declared.command.Command.{Command}
 use Rattle.rdm_wire.specs.declared.command.Command.TheVariants as commands
-use Rattle.rdm_wire.specs.Frames.{asked_in, asked_with, heard_in, heard_bytes, one_or_noise, acked_or_noise, seen_exchange}
+use Rattle.rdm_wire.specs.Frames.{asked_in, asked_with, heard_in, heard_bytes, one_or_noise, acked_or_noise}
+use Rattle.rdm_wire.specs.Frames.{seen_exchange}
 use Rattle.rdm_wire.specs.Honest.{Asked, Heard, Seen}
 use Rattle.rdm_wire.specs.Honest.Asked.{Unmute as unmuted, Branch as branched, Mute as muted, Other as nothing}
 use Rattle.rdm_wire.specs.Honest.Heard.{Silent, Acked, Noise}
@@ -22,7 +24,8 @@ use Rattle.rdm_wire.proofs.PacketLemmas.{fields_at-packet}
 use Rattle.rdm_wire.proofs.Text.{text_read-of, of-text_read}
 use Rattle.rdm_wire.proofs.CommandLemmas.{one_command}
 use Rattle.rdm_agent.specs.Machine.{Phase, AgentState, fed, heard_by_phase, wanted, probe, lower_pair}
-use Rattle.rdm_agent.specs.Machine.Phase.{Unmuting, MutingKnown, Searching, MutingRead, Sweeping, MutingSwept, Doubting, Ended}
+use Rattle.rdm_agent.specs.Machine.Phase.{Unmuting, MutingKnown, Searching, MutingRead, Sweeping, MutingSwept, Doubting}
+use Rattle.rdm_agent.specs.Machine.Phase.{Ended}
 use Rattle.rdm_agent.specs.Run.{asked_by, heard_by, heard_of_mute, seen_op}
 use Rattle.rdm_agent.specs.Calls.{next_op, op_of}
 use Rattle.rdm_agent.specs.OpFrames.{op_frame, IsSendable}
@@ -45,7 +48,8 @@ other_bytes b c other = by_test (bytes_eq b c) refl
 second : {W : Type 0} (p q : Bool) (a b c : W) → p ≡ false → q ≡ true → cond p a (cond q b c) ≡ b
 second p q a b c fails holds = rw (fails, holds) refl
 
-third : {W : Type 0} (p q r : Bool) (a b c d : W) → p ≡ false → q ≡ false → r ≡ true → cond p a (cond q b (cond r c d)) ≡ c
+third : {W : Type 0} (p q r : Bool) (a b c d : W) → p ≡ false → q ≡ false → r ≡ true
+    → cond p a (cond q b (cond r c d)) ≡ c
 third p q r a b c d fails too holds = rw (fails, too, holds) refl
 
 abbrev branch_of : ℕ → ℕ → Command
@@ -54,32 +58,60 @@ branch_of lo hi = commands.Branch (record { lo = lo; hi = hi })
 -- what fits the frame of one command fits those of the others
 can_unmute : (s tn : ℕ) → s < 2 ^ 48 → tn < 2 ^ 8 → FitsFrame commands.Unmute s tn
 can_unmute s tn source number = record {
-  fits = record { dest = omega arith; source = source; tn = number; port = omega arith; count = omega arith; sub_device = omega arith; class = omega arith; pid = omega arith; param = omega arith };
+  fits = record {
+    dest = omega arith;
+    source = source;
+    tn = number;
+    port = omega arith;
+    count = omega arith;
+    sub_device = omega arith;
+    class = omega arith;
+    pid = omega arith;
+    param = omega arith;
+  };
   bounds = tt;
 }
 
 can_branch : (s tn : ℕ) → s < 2 ^ 48 → tn < 2 ^ 8 → FitsFrame (branch_of 0 0) s tn
 can_branch s tn source number = record {
-  fits = record { dest = omega arith; source = source; tn = number; port = omega arith; count = omega arith; sub_device = omega arith; class = omega arith; pid = omega arith; param = omega arith };
+  fits = record {
+    dest = omega arith;
+    source = source;
+    tn = number;
+    port = omega arith;
+    count = omega arith;
+    sub_device = omega arith;
+    class = omega arith;
+    pid = omega arith;
+    param = omega arith;
+  };
   bounds = (omega arith, omega arith);
 }
 
 -- what the frames ask
 pub unmute_asks : (s tn : ℕ) → FitsFrame commands.Unmute s tn → asked_in (unmute_frame s tn) ≡ unmuted
-unmute_asks s tn can = ap (asked_with (unmute_frame s tn)) (fields_at-packet (command_fields commands.Unmute s tn) can.fits)
+unmute_asks s tn can =
+    ap (asked_with (unmute_frame s tn)) (fields_at-packet (command_fields commands.Unmute s tn) can.fits)
     ∙ rw (same_bytes (unmute_frame s tn) (unmute_frame s tn) refl) refl
 
-pub branch_asks : (lo hi s tn : ℕ) → FitsFrame (branch_of lo hi) s tn → asked_in (branch_frame lo hi s tn) ≡ branched lo hi
-branch_asks lo hi s tn can = ap (asked_with (branch_frame lo hi s tn)) (fields_at-packet (command_fields (branch_of lo hi) s tn) can.fits)
+pub branch_asks : (lo hi s tn : ℕ) → FitsFrame (branch_of lo hi) s tn
+    → asked_in (branch_frame lo hi s tn) ≡ branched lo hi
+branch_asks lo hi s tn can =
+    ap (asked_with (branch_frame lo hi s tn)) (fields_at-packet (command_fields (branch_of lo hi) s tn) can.fits)
     ∙ bounds _ _ (number_of-uid_bytes lo can.bounds.0) (number_of-uid_bytes hi can.bounds.1)
   where
     no_unmute : branch_frame lo hi s tn ≡ unmute_frame s tn → ⊥
-    no_unmute same = let one : branch_of lo hi ≡ commands.Unmute = (one_command (branch_of lo hi) commands.Unmute s tn s tn can (can_unmute s tn can.fits.source can.fits.tn) same).0 in cc
+    no_unmute same =
+        let one : branch_of lo hi
+        ≡ commands.Unmute =
+        (one_command (branch_of lo hi) commands.Unmute s tn s tn can
+        (can_unmute s tn can.fits.source can.fits.tn) same).0 in cc
 
     bounds : (low high : ℕ) → low ≡ lo → high ≡ hi
         → cond (bytes_eq (branch_frame lo hi s tn) (unmute_frame s tn)) unmuted
         (cond (bytes_eq (branch_frame lo hi s tn) (branch_frame low high s tn)) (branched low high)
-        (cond (bytes_eq (branch_frame lo hi s tn) (mute_frame all_devices s tn)) (muted all_devices) nothing)) ≡ branched lo hi
+        (cond (bytes_eq (branch_frame lo hi s tn) (mute_frame all_devices s tn)) (muted all_devices) nothing))
+        ≡ branched lo hi
     bounds low high is_low is_high =
         second _ _ unmuted (branched low high) (cond (bytes_eq (branch_frame lo hi s tn) (mute_frame all_devices s tn))
         (muted all_devices) nothing) (other_bytes (branch_frame lo hi s tn) (unmute_frame s tn) no_unmute)
@@ -88,25 +120,37 @@ branch_asks lo hi s tn can = ap (asked_with (branch_frame lo hi s tn)) (fields_a
         ∙ ap (λ n. branched n high) is_low ∙ ap (λ n. branched lo n) is_high
 
 pub mute_asks : (u s tn : ℕ) → FitsFrame (commands.Mute u) s tn → asked_in (mute_frame u s tn) ≡ muted u
-mute_asks u s tn can = ap (asked_with (mute_frame u s tn)) (fields_at-packet (command_fields (commands.Mute u) s tn) can.fits)
+mute_asks u s tn can =
+    ap (asked_with (mute_frame u s tn)) (fields_at-packet (command_fields (commands.Mute u) s tn) can.fits)
     ∙ third _ _ _ unmuted (branched 0 0) (muted u) nothing
     (other_bytes (mute_frame u s tn) (unmute_frame s tn) no_unmute)
     (other_bytes (mute_frame u s tn) (branch_frame 0 0 s tn) no_branch)
     (same_bytes (mute_frame u s tn) (mute_frame u s tn) refl)
   where
     no_unmute : mute_frame u s tn ≡ unmute_frame s tn → ⊥
-    no_unmute same = let one : commands.Mute u ≡ commands.Unmute = (one_command (commands.Mute u) commands.Unmute s tn s tn can (can_unmute s tn can.fits.source can.fits.tn) same).0 in cc
+    no_unmute same =
+        let one : commands.Mute u
+        ≡ commands.Unmute =
+        (one_command (commands.Mute u) commands.Unmute s tn s tn can
+        (can_unmute s tn can.fits.source can.fits.tn) same).0 in cc
 
     no_branch : mute_frame u s tn ≡ branch_frame 0 0 s tn → ⊥
-    no_branch same = let one : commands.Mute u ≡ branch_of 0 0 = (one_command (commands.Mute u) (branch_of 0 0) s tn s tn can (can_branch s tn can.fits.source can.fits.tn) same).0 in cc
+    no_branch same =
+        let one : commands.Mute u
+        ≡ branch_of 0 0 =
+        (one_command (commands.Mute u) (branch_of 0 0) s tn s tn can
+        (can_branch s tn can.fits.source can.fits.tn) same).0 in cc
 
 -- how bytes are heard after a frame with these fields that asks this
-heard_after : (frame : List ℕ) (f : Fields) (asked : Asked) (bytes : List ℕ) → fields_at frame ≡ f → asked_in frame ≡ asked → heard_in frame (Some bytes) ≡ heard_bytes f.source f.tn asked bytes
+heard_after : (frame : List ℕ) (f : Fields) (asked : Asked) (bytes : List ℕ) → fields_at frame ≡ f
+    → asked_in frame ≡ asked → heard_in frame (Some bytes) ≡ heard_bytes f.source f.tn asked bytes
 heard_after frame f asked bytes fields asks =
-    ap (λ (g : Fields). heard_bytes g.source g.tn (asked_in frame) bytes) fields ∙ ap (λ a. heard_bytes f.source f.tn a bytes) asks
+    ap (λ (g : Fields). heard_bytes g.source g.tn (asked_in frame) bytes) fields
+    ∙ ap (λ a. heard_bytes f.source f.tn a bytes) asks
 
 -- after a branch
-read_heard : (lo hi s tn : ℕ) (bytes : List ℕ) (reply : BranchReply) → ReadsAs bytes reply → heard_bytes s tn (branched lo hi) bytes ≡ heard_by (came.Branch reply)
+read_heard : (lo hi s tn : ℕ) (bytes : List ℕ) (reply : BranchReply) → ReadsAs bytes reply
+    → heard_bytes s tn (branched lo hi) bytes ≡ heard_by (came.Branch reply)
 read_heard lo hi s tn [] replies.Silent reads = refl
 read_heard lo hi s tn [] (replies.One u) reads = let read : text_read [] ≡ Some u = text_read-of [] u reads in cc
 read_heard lo hi s tn [] replies.Collision reads = absurd (reads.0 refl)
@@ -122,7 +166,8 @@ pub branch_seen : (r : Span) (s tn : ℕ) (bytes : List ℕ) (reply : BranchRepl
     → ReadsAs bytes reply → seen_exchange (branch_frame r.lo r.hi s tn) (Some bytes) ≡ seen_op
     (ops.Branch r, came.Branch reply)
 branch_seen r s tn bytes reply can reads = both _ _ asks
-    (heard_after (branch_frame r.lo r.hi s tn) (command_fields (commands.Branch r) s tn) (branched r.lo r.hi) bytes (fields_at-packet (command_fields (commands.Branch r) s tn) can.fits) asks
+    (heard_after (branch_frame r.lo r.hi s tn) (command_fields (commands.Branch r) s tn) (branched r.lo r.hi) bytes
+    (fields_at-packet (command_fields (commands.Branch r) s tn) can.fits) asks
     ∙ read_heard r.lo r.hi s tn bytes reply reads)
   where
     asks : asked_in (branch_frame r.lo r.hi s tn) ≡ branched r.lo r.hi
@@ -133,11 +178,13 @@ branch_seen r s tn bytes reply can reads = both _ _ asks
     both asked heard is_asked is_heard = rw (is_asked, is_heard) refl
 
 -- after a mute
-mute_hears : (u s tn : ℕ) (bytes : List ℕ) → FitsFrame (commands.Mute u) s tn → heard_in (mute_frame u s tn) (Some bytes) ≡ heard_bytes s tn (muted u) bytes
+mute_hears : (u s tn : ℕ) (bytes : List ℕ) → FitsFrame (commands.Mute u) s tn
+    → heard_in (mute_frame u s tn) (Some bytes) ≡ heard_bytes s tn (muted u) bytes
 mute_hears u s tn bytes can = heard_after (mute_frame u s tn) (command_fields (commands.Mute u) s tn) (muted u) bytes
     (fields_at-packet (command_fields (commands.Mute u) s tn) can.fits) (mute_asks u s tn can)
 
-acked_heard : (u s tn : ℕ) (bytes : List ℕ) (ack : MuteAck) → (heard_bytes s tn (muted u) bytes ≡ Acked ack) ↔ (ack_read u s tn bytes ≡ Some ack)
+acked_heard : (u s tn : ℕ) (bytes : List ℕ) (ack : MuteAck) → (heard_bytes s tn (muted u) bytes ≡ Acked ack)
+    ↔ (ack_read u s tn bytes ≡ Some ack)
 acked_heard u s tn [] ack = (λ e. cc, λ e. cc)
 acked_heard u s tn (b ∷ bs) ack = by_option (ack_read u s tn (b ∷ bs))
   where
@@ -145,11 +192,15 @@ acked_heard u s tn (b ∷ bs) ack = by_option (ack_read u s tn (b ∷ bs))
     by_option None = (λ e. cc, λ e. cc)
     by_option (Some a) = (λ e. cc, λ e. cc)
 
-pub mute_heard : (u s tn : ℕ) (bytes : List ℕ) (ack : MuteAck) → FitsFrame (commands.Mute u) s tn → (heard_in (mute_frame u s tn) (Some bytes) ≡ Acked ack) ↔ (ack_read u s tn bytes ≡ Some ack)
-mute_heard u s tn bytes ack can = subst (λ h. (h ≡ Acked ack) ↔ (ack_read u s tn bytes ≡ Some ack)) (sym (mute_hears u s tn bytes can)) (acked_heard u s tn bytes ack)
+pub mute_heard : (u s tn : ℕ) (bytes : List ℕ) (ack : MuteAck) → FitsFrame (commands.Mute u) s tn
+    → (heard_in (mute_frame u s tn) (Some bytes) ≡ Acked ack) ↔ (ack_read u s tn bytes ≡ Some ack)
+mute_heard u s tn bytes ack can =
+    subst (λ h. (h ≡ Acked ack) ↔ (ack_read u s tn bytes ≡ Some ack)) (sym (mute_hears u s tn bytes can))
+    (acked_heard u s tn bytes ack)
 
 -- an agent that doesn't search takes other bytes as silence
-noise_is_silence : (a : AgentState) (phase : Phase) → ((r : Span) → op_of (wanted phase) ≡ ops.Branch r → ⊥) → heard_by_phase a phase Noise ≡ heard_by_phase a phase Silent
+noise_is_silence : (a : AgentState) (phase : Phase) → ((r : Span) → op_of (wanted phase) ≡ ops.Branch r → ⊥)
+    → heard_by_phase a phase Noise ≡ heard_by_phase a phase Silent
 noise_is_silence a (Unmuting more known) other = refl
 noise_is_silence a (MutingKnown u tries known) other = refl
 noise_is_silence a (Searching silences top below) other = absurd (other top refl)
@@ -167,7 +218,8 @@ wants a op next goes = by_test (nat_lt a.frames a.budget) next
     by_test true is = is
     by_test false is = absurd (goes (sym is))
 
-noise_fed : (a : AgentState) (op : Op) → next_op a ≡ op → (op ≡ ops.End → ⊥) → ((r : Span) → op ≡ ops.Branch r → ⊥) → fed a Noise ≡ fed a Silent
+noise_fed : (a : AgentState) (op : Op) → next_op a ≡ op → (op ≡ ops.End → ⊥) → ((r : Span) → op ≡ ops.Branch r → ⊥)
+    → fed a Noise ≡ fed a Silent
 noise_fed a op next goes other = noise_is_silence a a.phase (λ r is. other r (sym (wants a op next goes) ∙ is))
 
 pub mute_fed : (a : AgentState) (u s tn : ℕ) (bytes : List ℕ) → next_op a ≡ ops.Mute u
@@ -203,13 +255,18 @@ op_asks ops.End s tn can goes = absurd (goes refl)
 
 -- how a reply is heard, and how the bytes after the operation's frame are
 abbrev Acks : Op → ℕ → ℕ → Option (List ℕ) → OpReply → Type 0
-Acks op s tn answer reply = (ack : MuteAck) → (reply ≡ came.Mute (Some ack)) ↔ (heard_in (op_frame op s tn) answer ≡ Acked ack)
+Acks op s tn answer reply =
+    (ack : MuteAck) → (reply ≡ came.Mute (Some ack)) ↔ (heard_in (op_frame op s tn) answer ≡ Acked ack)
 
 abbrev Feeds : Op → ℕ → ℕ → Option (List ℕ) → OpReply → Type 0
-Feeds op s tn answer reply = (a : AgentState) → next_op a ≡ op → fed a (heard_by reply) ≡ fed a (heard_in (op_frame op s tn) answer)
+Feeds op s tn answer reply =
+    (a : AgentState) → next_op a ≡ op → fed a (heard_by reply) ≡ fed a (heard_in (op_frame op s tn) answer)
 
-pub unmute_carried : (op : Op) (s tn : ℕ) (bytes : List ℕ) → IsSendable op s tn → op ≡ ops.UnmuteAll → Acks op s tn (Some bytes) came.Done × Feeds op s tn (Some bytes) came.Done
-unmute_carried op s tn bytes can is = subst (λ o. Acks o s tn (Some bytes) came.Done × Feeds o s tn (Some bytes) came.Done) (sym is) (acks, λ a next. sym (unmute_fed a s tn bytes next own))
+pub unmute_carried : (op : Op) (s tn : ℕ) (bytes : List ℕ) → IsSendable op s tn → op ≡ ops.UnmuteAll
+    → Acks op s tn (Some bytes) came.Done × Feeds op s tn (Some bytes) came.Done
+unmute_carried op s tn bytes can is =
+    subst (λ o. Acks o s tn (Some bytes) came.Done × Feeds o s tn (Some bytes) came.Done) (sym is)
+    (acks, λ a next. sym (unmute_fed a s tn bytes next own))
   where
     own : FitsFrame commands.Unmute s tn
     own = subst (λ o. IsSendable o s tn) is can
@@ -248,7 +305,9 @@ branch_carried op r s tn bytes reply can reads is =
     subst (λ o. heard_by (came.Branch reply) ≡ heard_in (op_frame o s tn) (Some bytes)) (sym is)
     (sym (ap (λ (e : Seen). e.heard) (branch_seen r s tn bytes reply (subst (λ o. IsSendable o s tn) is can) reads)))
 
-pub branch_acks : (op : Op) (s tn : ℕ) (bytes : List ℕ) (reply : BranchReply) → heard_by (came.Branch reply) ≡ heard_in (op_frame op s tn) (Some bytes) → Acks op s tn (Some bytes) (came.Branch reply)
+pub branch_acks : (op : Op) (s tn : ℕ) (bytes : List ℕ) (reply : BranchReply)
+    → heard_by (came.Branch reply) ≡ heard_in (op_frame op s tn) (Some bytes)
+    → Acks op s tn (Some bytes) (came.Branch reply)
 branch_acks op s tn bytes reply heard ack = (λ h. cc, λ h. absurd (never reply (heard ∙ h)))
   where
     never : (r : BranchReply) → heard_by (came.Branch r) ≡ Acked ack → ⊥
@@ -256,5 +315,6 @@ branch_acks op s tn bytes reply heard ack = (λ h. cc, λ h. absurd (never reply
     never (replies.One u) h = cc
     never replies.Collision h = cc
 
-pub frame_asks : (op : Op) (s tn : ℕ) (frame : List ℕ) → IsSendable op s tn → (op ≡ ops.End → ⊥) → frame ≡ op_frame op s tn → asked_in frame ≡ asked_by op
+pub frame_asks : (op : Op) (s tn : ℕ) (frame : List ℕ) → IsSendable op s tn → (op ≡ ops.End → ⊥)
+    → frame ≡ op_frame op s tn → asked_in frame ≡ asked_by op
 frame_asks op s tn frame can goes is = ap asked_in is ∙ op_asks op s tn can goes

@@ -1,5 +1,6 @@
 -- When one UID is corrupt.
-use Rattle.std.proofs.Common.{◌≡◌, ℕ, ◌<◌, ◌≤◌, ◌^◌, true, false, not, ◌&&◌, List, [], ◌∷◌, ◌++◌, length, refl, sym, ap, ap₂, ◌∙◌, subst, inl, inr, true≢false, arith, append_assoc}
+use Rattle.std.proofs.Common.{◌≡◌, ℕ, ◌<◌, ◌≤◌, ◌^◌, true, false, not, ◌&&◌, List, [], ◌∷◌, ◌++◌, length, refl, sym, ap}
+use Rattle.std.proofs.Common.{ap₂, ◌∙◌, subst, inl, inr, true≢false, arith, append_assoc}
 use Rattle.std.specs.Prelude.{◌⊎◌, ◌≢◌, nat_le}
 use Rattle.std.specs.List.{AllByRecursion}
 use Rattle.std.proofs.lemmas.Bool.{le-leb, leb-true, and_parts, not-true, not-false}
@@ -28,7 +29,12 @@ pub record IsNewDevice (found : List ℕ) (top : Span) (u : ℕ) : Type 0 where
 
 -- and only such a one passes the test
 pub is_new-device : (found : List ℕ) (top : Span) (u : ℕ) → is_new found top u ≡ true → IsNewDevice found top u
-is_new-device found top u h = record { own = not-true (is_broadcast u) parts.0; from = leb-true top.lo u within.0; to = leb-true u top.hi within.1; new = not-true (has found u) last.1 }
+is_new-device found top u h = record {
+  own = not-true (is_broadcast u) parts.0;
+  from = leb-true top.lo u within.0;
+  to = leb-true u top.hi within.1;
+  new = not-true (has found u) last.1;
+}
   where
     last : ((not (is_broadcast u) && is_within top.lo top.hi u) ≡ true) × (not (has found u) ≡ true)
     last = and_parts (not (is_broadcast u) && is_within top.lo top.hi u) (not (has found u)) h
@@ -40,14 +46,16 @@ is_new-device found top u h = record { own = not-true (is_broadcast u) parts.0; 
     within = and_parts (nat_le top.lo u) (nat_le u top.hi) parts.1
 
 -- a device of the range that may not be new is found
-pub not_new-found : (found : List ℕ) (top : Span) (u : ℕ) → is_new found top u ≡ false → is_broadcast u ≡ false → top.lo ≤ u → u ≤ top.hi → has found u ≡ true
+pub not_new-found : (found : List ℕ) (top : Span) (u : ℕ) → is_new found top u ≡ false → is_broadcast u ≡ false
+    → top.lo ≤ u → u ≤ top.hi → has found u ≡ true
 not_new-found found top u old own from to = not-false (has found u) (sym opened ∙ old)
   where
     opened : is_new found top u ≡ not (has found u)
     opened = rw (own, le-leb top.lo u from, le-leb u top.hi to) refl
 
 -- a reply to the branch of one UID that isn't a new device
-pub corrupt-reply : (top : Span) (x : List Seen) (found : List ℕ) (h : Heard) → IsFound x found → h ≢ Failed → h ≢ Silent → ((u : ℕ) → h ≡ One u → is_new found top u ≡ false) → top.lo ≡ top.hi
+pub corrupt-reply : (top : Span) (x : List Seen) (found : List ℕ) (h : Heard) → IsFound x found → h ≢ Failed
+    → h ≢ Silent → ((u : ℕ) → h ≡ One u → is_new found top u ≡ false) → top.lo ≡ top.hi
     → IsCorrupt top.lo (x ++ record { asked = Branch top.lo top.hi; heard = h } ∷ [])
 corrupt-reply top x found h is_found sound loud refused one = record {
   before = x;
@@ -66,12 +74,14 @@ corrupt-reply top x found h is_found sound loud refused one = record {
 }
 
 -- a UID that alone was spelt by its range, and whose five mutes are lost
-pub corrupt-mutes : (top : Span) (u : ℕ) (x : List Seen) (found : List ℕ) → AllByRecursion NotFailed x → IsNewDevice found top u → WasSpelt u TRIES top x → top.lo ≡ top.hi → IsCorrupt top.lo x
+pub corrupt-mutes : (top : Span) (u : ℕ) (x : List Seen) (found : List ℕ) → AllByRecursion NotFailed x
+    → IsNewDevice found top u → WasSpelt u TRIES top x → top.lo ≡ top.hi → IsCorrupt top.lo x
 corrupt-mutes top u x found sound new spelt one = record {
   before = spelt.before;
   heard = One u;
   mutes = spelt.mutes;
-  whole = spelt.whole ∙ ap (λ n. spelt.before ++ record { asked = Branch top.lo n; heard = One u } ∷ spelt.mutes) (sym one);
+  whole = spelt.whole
+      ∙ ap (λ n. spelt.before ++ record { asked = Branch top.lo n; heard = One u } ∷ spelt.mutes) (sym one);
   cause = inr (ap One is, spelt.many, subst (λ v. AllByRecursion (IsLostMute v) spelt.mutes) is spelt.lost, after.1);
 }
   where
@@ -79,7 +89,8 @@ corrupt-mutes top u x found sound new spelt one = record {
     is = let from = new.from in let to = new.to in omega arith
 
     after : AllByRecursion NotFailed (record { asked = Branch top.lo top.hi; heard = One u } ∷ spelt.mutes)
-    after = last_part NotFailed spelt.before (record { asked = Branch top.lo top.hi; heard = One u } ∷ spelt.mutes) (subst (λ l. AllByRecursion NotFailed l) spelt.whole sound)
+    after = last_part NotFailed spelt.before (record { asked = Branch top.lo top.hi; heard = One u } ∷ spelt.mutes)
+        (subst (λ l. AllByRecursion NotFailed l) spelt.whole sound)
 
 -- an exchange that branches no range
 abbrev pub NoBranch : Seen → Type 0
@@ -91,16 +102,20 @@ record SameLast (front back : List Seen) (b : Seen) (other after : List Seen) (c
   pub branches : b ≡ c
   pub backs : back ≡ after
 
-last_branch : (front back : List Seen) (b : Seen) (other after : List Seen) (c : Seen) → is_branch b ≡ true → AllByRecursion NoBranch back → is_branch c ≡ true → AllByRecursion NoBranch after
+last_branch : (front back : List Seen) (b : Seen) (other after : List Seen) (c : Seen) → is_branch b ≡ true
+    → AllByRecursion NoBranch back → is_branch c ≡ true → AllByRecursion NoBranch after
     → front ++ b ∷ back ≡ other ++ c ∷ after → SameLast front back b other after c
 last_branch [] back b [] after c p ps q qs same = record { fronts = refl; branches = cc; backs = cc }
-last_branch [] back b (d ∷ other) after c p ps q qs same = absurd (true≢false (sym q ∙ All-at NoBranch back other after c ps (tails same)))
-last_branch (d ∷ front) back b [] after c p ps q qs same = absurd (true≢false (sym p ∙ All-at NoBranch after front back b qs (tails (sym same))))
-last_branch (d ∷ front) back b (e ∷ other) after c p ps q qs same = let inner = last_branch front back b other after c p ps q qs (tails same) in record {
-  fronts = ap₂ (λ x l. x ∷ l) (heads same) inner.fronts;
-  branches = inner.branches;
-  backs = inner.backs;
-}
+last_branch [] back b (d ∷ other) after c p ps q qs same =
+    absurd (true≢false (sym q ∙ All-at NoBranch back other after c ps (tails same)))
+last_branch (d ∷ front) back b [] after c p ps q qs same =
+    absurd (true≢false (sym p ∙ All-at NoBranch after front back b qs (tails (sym same))))
+last_branch (d ∷ front) back b (e ∷ other) after c p ps q qs same =
+    let inner = last_branch front back b other after c p ps q qs (tails same) in record {
+      fronts = ap₂ (λ x l. x ∷ l) (heads same) inner.fronts;
+      branches = inner.branches;
+      backs = inner.backs;
+    }
 
 -- mutes branch no range
 pub lost_no_branches : (u : ℕ) (x : List Seen) → AllByRecursion (IsLostMute u) x → AllByRecursion NoBranch x
@@ -111,18 +126,30 @@ lost_no_branches u (e ∷ x) all = (ap asks_range all.0.0, lost_no_branches u x 
 record OfOne (u lo hi : ℕ) (front back : List Seen) (h : Heard) : Type 0 where
   pub from : lo ≡ u
   pub to : hi ≡ u
-  pub cause : ((back ≡ []) × IsCorruptReply u front h) ⊎ ((h ≡ One u) × (length back ≡ TRIES) × AllByRecursion (IsLostMute u) back)
+  pub cause : ((back ≡ []) × IsCorruptReply u front h)
+      ⊎ ((h ≡ One u) × (length back ≡ TRIES) × AllByRecursion (IsLostMute u) back)
 
 of_one : (u : ℕ) (x front back : List Seen) (lo hi : ℕ) (h : Heard)
     → x ≡ front ++ record { asked = Branch lo hi; heard = h } ∷ back → AllByRecursion NoBranch back → IsCorrupt u x
     → OfOne u lo hi front back h
-of_one u x front back lo hi h whole others c = record { from = (bounds (ap (λ e. e.asked) s.branches)).0; to = (bounds (ap (λ e. e.asked) s.branches)).1; cause = cause c.cause }
+of_one u x front back lo hi h whole others c = record {
+  from = (bounds (ap (λ e. e.asked) s.branches)).0;
+  to = (bounds (ap (λ e. e.asked) s.branches)).1;
+  cause = cause c.cause;
+}
   where
     after : AllByRecursion NoBranch c.mutes
-    after = elim c.cause [ inl bad ↦ subst (λ l. AllByRecursion NoBranch l) (sym bad.0) tt | inr lost ↦ lost_no_branches u c.mutes lost.2 ]
+    after = elim c.cause [
+      | inl bad ↦ subst (λ l. AllByRecursion NoBranch l) (sym bad.0) tt
+      | inr lost ↦ lost_no_branches u c.mutes lost.2
+    ]
 
-    s : SameLast front back (record { asked = Branch lo hi; heard = h }) c.before c.mutes (record { asked = Branch u u; heard = c.heard })
-    s = last_branch front back (record { asked = Branch lo hi; heard = h }) c.before c.mutes (record { asked = Branch u u; heard = c.heard }) refl others refl after (sym whole ∙ c.whole)
+    s : SameLast front back (record { asked = Branch lo hi; heard = h }) c.before c.mutes (record {
+      asked = Branch u u;
+      heard = c.heard;
+    })
+    s = last_branch front back (record { asked = Branch lo hi; heard = h }) c.before c.mutes
+        (record { asked = Branch u u; heard = c.heard }) refl others refl after (sym whole ∙ c.whole)
 
     bounds : Branch lo hi ≡ Branch u u → (lo ≡ u) × (hi ≡ u)
     bounds p = (cc, cc)
@@ -130,34 +157,47 @@ of_one u x front back lo hi h whole others c = record { from = (bounds (ap (λ e
     heard : h ≡ c.heard
     heard = ap (λ e. e.heard) s.branches
 
-    cause : ((c.mutes ≡ []) × IsCorruptReply u c.before c.heard) ⊎ ((c.heard ≡ One u) × (length c.mutes ≡ TRIES) × AllByRecursion (IsLostMute u) c.mutes × AllByRecursion NotFailed c.mutes)
-        → ((back ≡ []) × IsCorruptReply u front h) ⊎ ((h ≡ One u) × (length back ≡ TRIES) × AllByRecursion (IsLostMute u) back)
+    cause : ((c.mutes ≡ []) × IsCorruptReply u c.before c.heard)
+        ⊎ ((c.heard ≡ One u) × (length c.mutes ≡ TRIES) × AllByRecursion (IsLostMute u) c.mutes
+        × AllByRecursion NotFailed c.mutes)
+        → ((back ≡ []) × IsCorruptReply u front h)
+        ⊎ ((h ≡ One u) × (length back ≡ TRIES) × AllByRecursion (IsLostMute u) back)
     cause (inl bad) = inl (
       s.backs ∙ bad.0,
       record {
         not_failed = λ p. bad.1.not_failed (sym heard ∙ p);
         not_silent = λ p. bad.1.not_silent (sym heard ∙ p);
-        not_found = λ is device. subst (λ l. has (acked_in l) u ≡ true) (sym s.fronts) (bad.1.not_found (sym heard ∙ is) device);
+        not_found = λ is device. subst (λ l. has (acked_in l) u ≡ true) (sym s.fronts)
+            (bad.1.not_found (sym heard ∙ is) device);
       },
     )
-    cause (inr lost) = inr (heard ∙ lost.0, ap length s.backs ∙ lost.1, subst (λ l. AllByRecursion (IsLostMute u) l) (sym s.backs) lost.2)
+    cause (inr lost) =
+        inr (
+          heard ∙ lost.0,
+          ap length s.backs ∙ lost.1,
+          subst (λ l. AllByRecursion (IsLostMute u) l) (sym s.backs) lost.2,
+        )
 
 -- nothing is corrupt without a branch,
 pub not_corrupt-no_branch : (u : ℕ) (x : List Seen) → AllByRecursion NoBranch x → IsCorrupt u x → ⊥
-not_corrupt-no_branch u x none c = true≢false (All-at NoBranch x c.before c.mutes (record { asked = Branch u u; heard = c.heard }) none c.whole)
+not_corrupt-no_branch u x none c =
+    true≢false (All-at NoBranch x c.before c.mutes (record { asked = Branch u u; heard = c.heard }) none c.whole)
 
 -- nor where the last branch is of several UIDs,
 pub not_corrupt-several : (u : ℕ) (x front back : List Seen) (lo hi : ℕ) (h : Heard)
     → x ≡ front ++ record { asked = Branch lo hi; heard = h } ∷ back → AllByRecursion NoBranch back → (lo ≡ hi → ⊥)
     → IsCorrupt u x → ⊥
-not_corrupt-several u x front back lo hi h whole others several c = let o = of_one u x front back lo hi h whole others c in several (o.from ∙ sym o.to)
+not_corrupt-several u x front back lo hi h whole others several c =
+    let o = of_one u x front back lo hi h whole others c in several (o.from ∙ sym o.to)
 
 -- or silent,
-pub not_corrupt-silent : (u : ℕ) (x : List Seen) (lo hi : ℕ) → IsCorrupt u (x ++ record { asked = Branch lo hi; heard = Silent } ∷ []) → ⊥
-not_corrupt-silent u x lo hi c = elim (of_one u (x ++ record { asked = Branch lo hi; heard = Silent } ∷ []) x [] lo hi Silent refl tt c).cause [
-  | inl bad ↦ bad.1.not_silent refl
-  | inr lost ↦ not_one lost.0
-]
+pub not_corrupt-silent : (u : ℕ) (x : List Seen) (lo hi : ℕ)
+    → IsCorrupt u (x ++ record { asked = Branch lo hi; heard = Silent } ∷ []) → ⊥
+not_corrupt-silent u x lo hi c =
+    elim (of_one u (x ++ record { asked = Branch lo hi; heard = Silent } ∷ []) x [] lo hi Silent refl tt c).cause [
+      | inl bad ↦ bad.1.not_silent refl
+      | inr lost ↦ not_one lost.0
+    ]
   where
     not_one : Silent ≡ One u → ⊥
     not_one p = cc
@@ -171,7 +211,8 @@ not_corrupt-spelt w u tries top x found is_found end new spelt few c = elim o.ca
 ]
   where
     o : OfOne w top.lo top.hi spelt.before spelt.mutes (One u)
-    o = of_one w x spelt.before spelt.mutes top.lo top.hi (One u) spelt.whole (lost_no_branches u spelt.mutes spelt.lost) c
+    o = of_one w x spelt.before spelt.mutes top.lo top.hi (One u) spelt.whole
+        (lost_no_branches u spelt.mutes spelt.lost) c
 
     same : u ≡ w
     same = let from = new.from in let to = new.to in let lo = o.from in let hi = o.to in omega arith
@@ -186,10 +227,12 @@ not_corrupt-spelt w u tries top x found is_found end new spelt few c = elim o.ca
         device = let to = new.to in record { in_range = omega arith; own = new.own }
 
         before : has (acked_in spelt.before) u ≡ true
-        before = subst (λ (v : ℕ). has (acked_in spelt.before) v ≡ true) (sym same) (bad.not_found (ap One same) (subst (λ (v : ℕ). IsDevice v) same device))
+        before = subst (λ (v : ℕ). has (acked_in spelt.before) v ≡ true) (sym same)
+            (bad.not_found (ap One same) (subst (λ (v : ℕ). IsDevice v) same device))
 
 -- or acknowledges
-pub not_corrupt-acked : (w u tries : ℕ) (ack : MuteAck) (top : Span) (x : List Seen) → WasSpelt u tries top x → IsCorrupt w (x ++ record { asked = Mute u; heard = Acked ack } ∷ []) → ⊥
+pub not_corrupt-acked : (w u tries : ℕ) (ack : MuteAck) (top : Span) (x : List Seen) → WasSpelt u tries top x
+    → IsCorrupt w (x ++ record { asked = Mute u; heard = Acked ack } ∷ []) → ⊥
 not_corrupt-acked w u tries ack top x spelt c = elim o.cause [
   | inl bad ↦ none_after spelt.mutes bad.0
   | inr lost ↦ true≢false (last_part (IsLostMute w) spelt.mutes (e ∷ []) lost.2).0.1

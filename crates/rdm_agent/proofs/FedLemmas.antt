@@ -6,11 +6,13 @@ use Rattle.rdm_wire.specs.declared.mute_ack.MuteAck.{MuteAck}
 use Rattle.rdm_agent.specs.Machine.{AgentState, fed, heard_by_phase}
 use Rattle.rdm_agent.specs.Run.{heard_of_mute, heard_of_branch}
 
-pub fed-mute : (a : AgentState) (ack : Option MuteAck) → fed a (heard_of_mute ack) ≡ heard_by_phase a a.phase (heard_of_mute ack)
+pub fed-mute : (a : AgentState) (ack : Option MuteAck)
+    → fed a (heard_of_mute ack) ≡ heard_by_phase a a.phase (heard_of_mute ack)
 fed-mute a None = refl
 fed-mute a (Some ack) = refl
 
-pub fed-branch : (a : AgentState) (reply : BranchReply) → fed a (heard_of_branch reply) ≡ heard_by_phase a a.phase (heard_of_branch reply)
+pub fed-branch : (a : AgentState) (reply : BranchReply)
+    → fed a (heard_of_branch reply) ≡ heard_by_phase a a.phase (heard_of_branch reply)
 fed-branch a Silent = refl
 fed-branch a (One u) = refl
 fed-branch a Collision = refl

@@ -30,35 +30,45 @@ certificate search kind known budget x b set run end fault =
 
 -- on an honest line that is the devices
 pub finds_all_by : (search : Search) → FindsAll search
-finds_all_by search kind known budget x b set run present end fault honest = devices kind known x (found_uids b) present (certificate search kind known budget x b set run end fault).search honest
+finds_all_by search kind known budget x b set run present end fault honest =
+    devices kind known x (found_uids b) present (certificate search kind known budget x b set run end fault).search
+    honest
 
 -- and it has each device to which the line was honest
 pub finds_each_by : (search : Search) → FindsEach search
-finds_each_by search kind known budget x b set run u end fault device honest = found kind known x (found_uids b) u device (certificate search kind known budget x b set run end fault).search honest
+finds_each_by search kind known budget x b set run u end fault device honest =
+    found kind known x (found_uids b) u device (certificate search kind known budget x b set run end fault).search
+    honest
 
 -- what is found is acknowledged
 acked : (search : Search) (kind : Kind) (known : List ℕ) (budget : ℕ) (x : List Seen) (b : AgentState) (u : ℕ)
     → IsDeviceSet known → Runs (start_by search kind known budget) x b → has (found_uids b) u ≡ true
     → has (acked_in x) u ≡ true
-acked search kind known budget x b u set run here = sym (has-once (acked_in x) u) ∙ has-take MOST_DEVICES (once (acked_in x)) u first
+acked search kind known budget x b u set run here =
+    sym (has-once (acked_in x) u) ∙ has-take MOST_DEVICES (once (acked_in x)) u first
   where
     first : has (take MOST_DEVICES (once (acked_in x))) u ≡ true
-    first = sym (has-set_of (take MOST_DEVICES (once (acked_in x))) u) ∙ ap (λ us. has us u) (sym (stands_by search kind known budget x b set run).reports) ∙ here
+    first = sym (has-set_of (take MOST_DEVICES (once (acked_in x))) u)
+        ∙ ap (λ us. has us u) (sym (stands_by search kind known budget x b set run).reports) ∙ here
 
 -- and so a device
 pub finds_no_phantom_by : (search : Search) → FindsNoPhantom search
 finds_no_phantom_by search kind known budget x b set run present u honest here =
-    no_phantom present x u (ends_at_failure_by search kind known budget x b set run).0 honest (acked search kind known budget x b u set run here)
+    no_phantom present x u (ends_at_failure_by search kind known budget x b set run).0 honest
+    (acked search kind known budget x b u set run here)
 
 -- that was present at some exchange
 pub finds_no_stranger_by : (search : Search) → FindsNoStranger search
 finds_no_stranger_by search kind known budget x b set run sets u honest here =
-    no_stranger sets x u (ends_at_failure_by search kind known budget x b set run).0 honest (acked search kind known budget x b u set run here)
+    no_stranger sets x u (ends_at_failure_by search kind known budget x b set run).0 honest
+    (acked search kind known budget x b u set run here)
 
 -- a device that stays is found
 pub finds_staying_by : (search : Search) → FindsStaying search
 finds_staying_by search kind known budget x b set run sets u end fault honest each =
-    finds_each_by search kind known budget x b set run u end fault (device x (certificate search kind known budget x b set run end fault) honest) (honest_over_to_each sets u x each honest)
+    finds_each_by search kind known budget x b set run u end fault
+    (device x (certificate search kind known budget x b set run end fault) honest)
+    (honest_over_to_each sets u x each honest)
   where
     device : (y : List Seen) → Certificate kind known y b.found → HonestOver sets y → IsDevice u
     device [] c h = let begun = c.search.unmutes in cc

@@ -1,5 +1,6 @@
 -- What holds of an agent after its exchanges: the invariant of a run.
-use Rattle.std.proofs.Common.{◌≡◌, ℕ, ◌+◌, ◌<◌, ◌≤◌, true, false, List, [], ◌∷◌, ◌++◌, length, map, take, Option, Some, None}
+use Rattle.std.proofs.Common.{◌≡◌, ℕ, ◌+◌, ◌<◌, ◌≤◌, true, false, List, [], ◌∷◌, ◌++◌, length, map, take, Option, Some}
+use Rattle.std.proofs.Common.{None}
 use Rattle.std.specs.Prelude.{◌⊎◌, MatchOption, replicate}
 use Rattle.std.specs.List.{AllByRecursion, before_first}
 use Rattle.rdm_wire.specs.Uid.{has, set_of, IsDevice}
@@ -13,7 +14,8 @@ use Rattle.rdm_agent.specs.Run.{muted_in, acked_in, reported, is_branch, AsFirst
 use Rattle.rdm_agent.specs.Certificate.{SearchShows, IsTried, IsCleared, MutesNamed, known_of}
 use Rattle.rdm_agent.specs.Cause.{Cause, IsCorrupt}
 use Rattle.rdm_agent.specs.Machine.{Phase, AgentState, Sweep, is_new, found_uids, probe}
-use Rattle.rdm_agent.specs.Machine.Phase.{Unmuting, MutingKnown, Searching, MutingRead, Sweeping, MutingSwept, Doubting, Ended}
+use Rattle.rdm_agent.specs.Machine.Phase.{Unmuting, MutingKnown, Searching, MutingRead, Sweeping, MutingSwept, Doubting}
+use Rattle.rdm_agent.specs.Machine.Phase.{Ended}
 use Rattle.rdm_agent.specs.declared.kind.Kind.{Kind}
 use Rattle.rdm_agent.specs.declared.fault.AgentFault.{AgentFault}
 use Rattle.rdm_agent.proofs.OneDevice.{NotFailed}
@@ -51,7 +53,8 @@ pub record MutesKnown (known : List ℕ) (busy : Option ℕ) (left : List ℕ) (
   pub others_muted : (u : ℕ) → has known u ≡ true → (has (muted_in x) u ≡ true) ⊎ (has left u ≡ true)
 
 -- these ranges are open, and each UID below them is found or cleared
-pub record Searches (known : List ℕ) (busy : Option ℕ) (top : Span) (below : List Span) (x : List Seen) (found : List ℕ) : Type 0 where
+pub record Searches (known : List ℕ) (busy : Option ℕ) (top : Span) (below : List Span) (x : List Seen)
+    (found : List ℕ) : Type 0 where
   pub under_way : IsUnderWay known busy x found
   pub known_first : (u : ℕ) → has known u ≡ true → has (muted_in (before_first is_branch x)) u ≡ true
   pub stack : IsStack top below
@@ -73,7 +76,8 @@ pub record IsMutingKnown (known : List ℕ) (u tries : ℕ) (left : List ℕ) (x
   pub lost : EndsWith tries (IsLostMute u) x
 
 -- the top range is branched, so often in silence
-pub record IsSearching (known : List ℕ) (silences : ℕ) (top : Span) (below : List Span) (x : List Seen) (found : List ℕ) : Type 0 where
+pub record IsSearching (known : List ℕ) (silences : ℕ) (top : Span) (below : List Span) (x : List Seen)
+    (found : List ℕ) : Type 0 where
   pub searches : Searches known None top below x found
   pub few : silences < TRIES
   pub silent : EndsWith silences (IsSilentBranch top.lo top.hi) x
@@ -88,7 +92,8 @@ pub record WasSpelt (u tries : ℕ) (top : Span) (x : List Seen) : Type 0 where
   pub lost : AllByRecursion (IsLostMute u) mutes
 
 -- what the top range spelt may be a new device, and is muted, so far in vain
-pub record IsMutingRead (known : List ℕ) (u tries : ℕ) (top : Span) (below : List Span) (x : List Seen) (found : List ℕ) : Type 0 where
+pub record IsMutingRead (known : List ℕ) (u tries : ℕ) (top : Span) (below : List Span) (x : List Seen)
+    (found : List ℕ) : Type 0 where
   pub searches : Searches known (Some u) top below x found
   pub few : tries < TRIES
   pub new : is_new found top u ≡ true
@@ -101,7 +106,8 @@ pub record IsSweeping (known : List ℕ) (top : Span) (below : List Span) (x : L
   pub not_corrupt : (u : ℕ) → IsCorrupt u x → ⊥
 
 -- what a sweep's top range spelt, as it was asked, is muted, so far in vain
-pub record IsMutingSwept (known : List ℕ) (u tries : ℕ) (sweep : Sweep) (top : Span) (below : List Span) (x : List Seen) (found : List ℕ) : Type 0 where
+pub record IsMutingSwept (known : List ℕ) (u tries : ℕ) (sweep : Sweep) (top : Span) (below : List Span) (x : List Seen)
+    (found : List ℕ) : Type 0 where
   pub searches : Searches known (Some u) whole [] x found
   pub stack : IsStack top below
   pub few : tries < TRIES
@@ -114,7 +120,8 @@ pub record IsDoubting (known : List ℕ) (top : Span) (below : List Span) (x : L
   pub some : 1 < top.lo
 
 -- a run without fault has its certificate, one with a fault its cause; a failure is last
-pub record HasEnded (kind : Kind) (known : List ℕ) (budget : ℕ) (fault : Option AgentFault) (x : List Seen) (found : List ℕ) : Type 0 where
+pub record HasEnded (kind : Kind) (known : List ℕ) (budget : ℕ) (fault : Option AgentFault) (x : List Seen)
+    (found : List ℕ) : Type 0 where
   pub before : List Seen
   pub last : Seen
   pub whole : x ≡ before ++ last ∷ []
@@ -125,10 +132,13 @@ pub record HasEnded (kind : Kind) (known : List ℕ) (budget : ℕ) (fault : Opt
 abbrev pub InPhase : Kind → List ℕ → ℕ → Phase → List Seen → List ℕ → Type 0
 InPhase kind known budget (Unmuting more left) x found = (1 ≤ more) × IsUnmuting (known_of kind known) more left x found
 InPhase kind known budget (MutingKnown u tries left) x found = IsMutingKnown (known_of kind known) u tries left x found
-InPhase kind known budget (Searching silences top below) x found = IsSearching (known_of kind known) silences top below x found
-InPhase kind known budget (MutingRead u tries top below) x found = IsMutingRead (known_of kind known) u tries top below x found
+InPhase kind known budget (Searching silences top below) x found =
+    IsSearching (known_of kind known) silences top below x found
+InPhase kind known budget (MutingRead u tries top below) x found =
+    IsMutingRead (known_of kind known) u tries top below x found
 InPhase kind known budget (Sweeping sweep top below) x found = IsSweeping (known_of kind known) top below x found
-InPhase kind known budget (MutingSwept u tries sweep top below) x found = IsMutingSwept (known_of kind known) u tries sweep top below x found
+InPhase kind known budget (MutingSwept u tries sweep top below) x found =
+    IsMutingSwept (known_of kind known) u tries sweep top below x found
 InPhase kind known budget (Doubting sweep top below) x found = IsDoubting (known_of kind known) top below x found
 InPhase kind known budget (Ended fault) x found = HasEnded kind known budget fault x found
 

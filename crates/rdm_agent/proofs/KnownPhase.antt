@@ -1,5 +1,6 @@
 -- The mutes of known UIDs, up to the search.
-use Rattle.std.proofs.Common.{◌≡◌, ℕ, true, false, List, [], ◌∷◌, ◌++◌, length, None, Some, refl, sym, ap, ◌∙◌, subst, inl, inr, true≢false, append_assoc, arith}
+use Rattle.std.proofs.Common.{◌≡◌, ℕ, true, false, List, [], ◌∷◌, ◌++◌, length, None, Some, refl, sym, ap, ◌∙◌, subst}
+use Rattle.std.proofs.Common.{inl, inr, true≢false, append_assoc, arith}
 use Rattle.std.specs.Prelude.{◌⊎◌, ◌==◌}
 use Rattle.std.specs.List.{AllByRecursion}
 use Rattle.std.proofs.lemmas.Bool.{eqb-true, or_cases}
@@ -21,26 +22,35 @@ use Rattle.rdm_agent.proofs.Pushes.{All-push, has-front, has-at, no_branch-befor
 use Rattle.rdm_agent.proofs.Stacks.{IsStack-whole}
 use Rattle.rdm_agent.proofs.CorruptLemmas.{not_corrupt-no_branch}
 use Rattle.rdm_agent.proofs.FoundLemmas.{found-same}
-use Rattle.rdm_agent.proofs.UnderWay.{EndsWith-none, named-mute, lost-acks_none, under_way-lost, under_way-acked, under_way-given_up, under_way-taken_up}
+use Rattle.rdm_agent.proofs.UnderWay.{EndsWith-none, named-mute, lost-acks_none, under_way-lost, under_way-acked}
+use Rattle.rdm_agent.proofs.UnderWay.{under_way-given_up, under_way-taken_up}
 use Rattle.rdm_agent.proofs.Invariant.{IsFound, MutesKnown, Searches, InPhase}
 
 five_muted : (u : ℕ) (x : List Seen) → InSuccession TRIES (IsLostMute u) x → has (muted_in x) u ≡ true
 five_muted u x s = by_run s.run s.many s.each s.whole
   where
-    by_run : (run : List Seen) → length run ≡ TRIES → AllByRecursion (IsLostMute u) run → x ≡ s.front ++ run ++ s.back → has (muted_in x) u ≡ true
+    by_run : (run : List Seen) → length run ≡ TRIES → AllByRecursion (IsLostMute u) run → x ≡ s.front ++ run ++ s.back
+        → has (muted_in x) u ≡ true
     by_run [] five each whole = absurd (omega (arith, five))
     by_run (e ∷ run) five each whole =
-        subst (λ l. has (muted_in l) u ≡ true) (sym (whole ∙ append_assoc s.front (e ∷ run) s.back)) (has-at muted_by s.front e (run ++ s.back) u (ap muted_uid each.0.0))
+        subst (λ l. has (muted_in l) u ≡ true) (sym (whole ∙ append_assoc s.front (e ∷ run) s.back))
+        (has-at muted_by s.front e (run ++ s.back) u (ap muted_uid each.0.0))
 
-module _ (known : List ℕ) (u : ℕ) (left : List ℕ) (x : List Seen) (found : List ℕ) (m : MutesKnown known (Some u) (u ∷ left) x found) where
+module _ (known : List ℕ) (u : ℕ) (left : List ℕ) (x : List Seen) (found : List ℕ)
+    (m : MutesKnown known (Some u) (u ∷ left) x found) where
   -- a mute of u is lost
-  pub known-lost : (h : Heard) → NotFailed (record { asked = Mute u; heard = h }) → is_acked h ≡ false → MutesKnown known (Some u) (u ∷ left) (x ++ record { asked = Mute u; heard = h } ∷ []) found
+  pub known-lost : (h : Heard) → NotFailed (record { asked = Mute u; heard = h }) → is_acked h ≡ false
+      → MutesKnown known (Some u) (u ∷ left) (x ++ record { asked = Mute u; heard = h } ∷ []) found
   known-lost h sound lost = record {
-    under_way = under_way-lost known x found u h m.under_way sound (found-same x found e m.under_way.is_found (lost-acks_none u h lost)) (named-mute known x u h (inl m.are_known.0));
+    under_way = under_way-lost known x found u h m.under_way sound
+        (found-same x found e m.under_way.is_found (lost-acks_none u h lost))
+        (named-mute known x u h (inl m.are_known.0));
     no_branch = All-push (λ d. is_branch d ≡ false) x e m.no_branch refl;
     devices = m.devices;
     are_known = m.are_known;
-    others_muted = λ v k. elim (m.others_muted v k) [ inl muted ↦ inl (has-front muted_by x (e ∷ []) v muted) | inr rest ↦ inr rest ];
+    others_muted =
+        λ v k. elim (m.others_muted v k)
+        [ inl muted ↦ inl (has-front muted_by x (e ∷ []) v muted) | inr rest ↦ inr rest ];
   }
     where
       e : Seen
@@ -58,14 +68,18 @@ module _ (known : List ℕ) (u : ℕ) (left : List ℕ) (x : List Seen) (found :
   ]
 
   -- one is acknowledged
-  pub known-acked : (ack : MuteAck) (more : List ℕ) → IsFound (x ++ record { asked = Mute u; heard = Acked ack } ∷ []) more → ((v : ℕ) → has found v ≡ true → has more v ≡ true) → has more u ≡ true
+  pub known-acked : (ack : MuteAck) (more : List ℕ)
+      → IsFound (x ++ record { asked = Mute u; heard = Acked ack } ∷ []) more
+      → ((v : ℕ) → has found v ≡ true → has more v ≡ true) → has more u ≡ true
       → MutesKnown known None left (x ++ record { asked = Mute u; heard = Acked ack } ∷ []) more
   known-acked ack more is_found grows here = record {
-    under_way = under_way-acked known x found u ack more m.devices.0 m.under_way is_found grows here (named-mute known x u (Acked ack) (inl m.are_known.0));
+    under_way = under_way-acked known x found u ack more m.devices.0 m.under_way is_found grows here
+        (named-mute known x u (Acked ack) (inl m.are_known.0));
     no_branch = All-push (λ d. is_branch d ≡ false) x e m.no_branch refl;
     devices = m.devices.1;
     are_known = m.are_known.1;
-    others_muted = others (x ++ e ∷ []) (λ v muted. has-front muted_by x (e ∷ []) v muted) (has-at muted_by x e [] u refl);
+    others_muted =
+        others (x ++ e ∷ []) (λ v muted. has-front muted_by x (e ∷ []) v muted) (has-at muted_by x e [] u refl);
   }
     where
       e : Seen
@@ -82,7 +96,8 @@ module _ (known : List ℕ) (u : ℕ) (left : List ℕ) (x : List Seen) (found :
   }
 
 -- where no known UID is left the search begins, of either kind
-module _ (kind : Kind) (known : List ℕ) (budget : ℕ) (x : List Seen) (found : List ℕ) (m : MutesKnown (known_of kind known) None [] x found) where
+module _ (kind : Kind) (known : List ℕ) (budget : ℕ) (x : List Seen) (found : List ℕ)
+    (m : MutesKnown (known_of kind known) None [] x found) where
   searches : Searches (known_of kind known) None whole [] x found
   searches = record {
     under_way = m.under_way;
@@ -95,8 +110,17 @@ module _ (kind : Kind) (known : List ℕ) (budget : ℕ) (x : List Seen) (found 
   }
 
   begins : (search : Search) → InPhase kind known budget (first_phase search) x found
-  begins Steady = record { searches = searches; few = omega arith; silent = EndsWith-none _ x; not_corrupt = λ u c. not_corrupt-no_branch u x m.no_branch c }
-  begins Quick = record { searches = searches; stack = IsStack-whole; not_corrupt = λ u c. not_corrupt-no_branch u x m.no_branch c }
+  begins Steady = record {
+    searches = searches;
+    few = omega arith;
+    silent = EndsWith-none _ x;
+    not_corrupt = λ u c. not_corrupt-no_branch u x m.no_branch c;
+  }
+  begins Quick = record {
+    searches = searches;
+    stack = IsStack-whole;
+    not_corrupt = λ u c. not_corrupt-no_branch u x m.no_branch c;
+  }
 
 -- the next known UID is muted, or the search begins
 pub known-next : (kind : Kind) (known : List ℕ) (budget : ℕ) (search : Search) (left : List ℕ) (x : List Seen)

@@ -1,5 +1,6 @@
 -- Members of lists of UIDs.
-use Rattle.std.proofs.Common.{◌≡◌, ℕ, true, ◌||◌, List, [], ◌∷◌, ◌++◌, Option, Some, None, refl, sym, ap, ◌∙◌, inl, inr, true≢false}
+use Rattle.std.proofs.Common.{◌≡◌, ℕ, true, ◌||◌, List, [], ◌∷◌, ◌++◌, Option, Some, None, refl, sym, ap, ◌∙◌, inl, inr}
+use Rattle.std.proofs.Common.{true≢false}
 use Rattle.std.specs.Prelude.{◌⊎◌, ◌==◌}
 use Rattle.std.specs.List.{AllByRecursion, cons_option}
 use Rattle.std.proofs.lemmas.Bool.{eqb-true, eq-eqb, or_cases}
@@ -17,13 +18,15 @@ has-first o us u e = rw e (ap (λ b. b || has us u) (eq-eqb u u refl))
 -- a member is in front or in the rest
 pub put-has : (o : Option ℕ) (us : List ℕ) (u : ℕ) → has (cons_option o us) u ≡ true → (o ≡ Some u) ⊎ (has us u ≡ true)
 put-has None us u h = inr h
-put-has (Some v) us u h = elim (or_cases (u == v) (has us u) h) [ inl e ↦ inl (ap Some (sym (eqb-true u v e))) | inr i ↦ inr i ]
+put-has (Some v) us u h =
+    elim (or_cases (u == v) (has us u) h) [ inl e ↦ inl (ap Some (sym (eqb-true u v e))) | inr i ↦ inr i ]
 
 -- what holds of each holds of a member
 pub member : (P : ℕ → Type 0) (us : List ℕ) (u : ℕ) → AllByRecursion P us → has us u ≡ true → P u
 member P [] u all h = absurd (true≢false (sym h))
 member P (v ∷ us) u all h =
-    elim (or_cases (u == v) (has us u) h) [ inl e ↦ subst_member (eqb-true u v e) all.0 | inr i ↦ member P us u all.1 i ]
+    elim (or_cases (u == v) (has us u) h)
+    [ inl e ↦ subst_member (eqb-true u v e) all.0 | inr i ↦ member P us u all.1 i ]
   where
     subst_member : u ≡ v → P v → P u
     subst_member e p = rw e p

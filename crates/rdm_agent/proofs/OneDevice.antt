@@ -1,10 +1,12 @@
 -- What a line that is honest to one device shows of a run.
-use Rattle.std.proofs.Common.{◌≡◌, ℕ, ◌+◌, ◌≤◌, Bool, true, false, List, [], ◌∷◌, ◌++◌, length, suc, map, take, append_assoc, Some, refl, sym, ap, ◌∙◌, subst, inl, inr, true≢false, arith}
+use Rattle.std.proofs.Common.{◌≡◌, ℕ, ◌+◌, ◌≤◌, Bool, true, false, List, [], ◌∷◌, ◌++◌, length, suc, map, take}
+use Rattle.std.proofs.Common.{append_assoc, Some, refl, sym, ap, ◌∙◌, subst, inl, inr, true≢false, arith}
 use Rattle.std.specs.Prelude.{◌⊎◌, ◌≢◌, ◌==◌, MatchBool}
 use Rattle.std.specs.List.{AllByRecursion}
 use Rattle.std.proofs.lemmas.Bool.{eqb-true, eq-eqb, cases_Bool}
 use Rattle.rdm_wire.specs.Uid.{has, is_within, IsDevice}
-use Rattle.rdm_wire.specs.Honest.{Asked, Heard, Seen, LineState, HonestToStep, HonestTo, Chain, Counts, due_in, lost_after, KeepsMuted, MuteMoves, is_acked, before_run}
+use Rattle.rdm_wire.specs.Honest.{Asked, Heard, Seen, LineState, HonestToStep, HonestTo, Chain, Counts, due_in}
+use Rattle.rdm_wire.specs.Honest.{lost_after, KeepsMuted, MuteMoves, is_acked, before_run}
 use Rattle.rdm_wire.specs.Honest.Asked.{Unmute, Branch, Mute, Other}
 use Rattle.rdm_wire.specs.Honest.Heard.{Failed, Silent}
 use Rattle.rdm_agent.specs.Run.{muted_uid, muted_by, muted_in, InSuccession, IsSilentBranch, IsLostMute}
@@ -24,7 +26,8 @@ moved-mute : (u v : ℕ) (s new : LineState) (h : Heard) (b : Bool) → (u == v)
 moved-mute u v s new h true e step m = inr (ap Some (sym (eqb-true u v e)))
 moved-mute u v s new h false e step m = inl (sym step.0 ∙ m)
 
-moved : (u : ℕ) (s new : LineState) (a : Asked) (h : Heard) → HonestToStep u s a h new → new.muted u ≡ true → (s.muted u ≡ true) ⊎ (muted_uid a ≡ Some u)
+moved : (u : ℕ) (s new : LineState) (a : Asked) (h : Heard) → HonestToStep u s a h new → new.muted u ≡ true
+    → (s.muted u ≡ true) ⊎ (muted_uid a ≡ Some u)
 moved u s new Unmute h step m = inl (step.0.fewer m)
 moved u s new (Branch lo hi) h step m = inl (sym step.0 ∙ m)
 moved u s new (Mute v) h step m = moved-mute u v s new h (u == v) refl step m
@@ -36,24 +39,32 @@ pub record Reached (u : ℕ) (s : LineState) (front rest : List Seen) : Type 0 w
   pub chain : Chain (HonestToStep u) state rest
   pub muted : state.muted u ≡ true → (s.muted u ≡ true) ⊎ (has (muted_in front) u ≡ true)
 
-onward : (u : ℕ) (s new : LineState) (e : Seen) (front rest : List Seen) → HonestToStep u s e.asked e.heard new → Reached u new front rest → Reached u s (e ∷ front) rest
+onward : (u : ℕ) (s new : LineState) (e : Seen) (front rest : List Seen) → HonestToStep u s e.asked e.heard new
+    → Reached u new front rest → Reached u s (e ∷ front) rest
 onward u s new e front rest step r = record { state = r.state; chain = r.chain; muted = λ m. was (r.muted m) }
   where
     now : (s.muted u ≡ true) ⊎ (muted_uid e.asked ≡ Some u) → (s.muted u ≡ true) ⊎ (has (muted_in (e ∷ front)) u ≡ true)
     now (inl before) = inl before
     now (inr asked) = inr (has-first (muted_uid e.asked) (muted_in front) u asked)
 
-    was : (new.muted u ≡ true) ⊎ (has (muted_in front) u ≡ true) → (s.muted u ≡ true) ⊎ (has (muted_in (e ∷ front)) u ≡ true)
+    was : (new.muted u ≡ true) ⊎ (has (muted_in front) u ≡ true) → (s.muted u ≡ true)
+        ⊎ (has (muted_in (e ∷ front)) u ≡ true)
     was (inl here) = now (moved u s new e.asked e.heard step here)
     was (inr later) = inr (has-put (muted_uid e.asked) (muted_in front) u later)
 
-pub reached : (u : ℕ) (s : LineState) (front rest : List Seen) → AllByRecursion NotFailed front → Chain (HonestToStep u) s (front ++ rest) → Reached u s front rest
+pub reached : (u : ℕ) (s : LineState) (front rest : List Seen) → AllByRecursion NotFailed front
+    → Chain (HonestToStep u) s (front ++ rest) → Reached u s front rest
 reached u s [] rest ok c = record { state = s; chain = c; muted = λ m. inl m }
 reached u s (e ∷ front) rest ok c =
-    elim c [ inl failed ↦ absurd (ok.0 failed) | inr step ↦ onward u s step.0 e front rest step.1 (reached u step.0 front rest ok.1 step.2) ]
+    elim c [
+      | inl failed ↦ absurd (ok.0 failed)
+      | inr step ↦ onward u s step.0 e front rest step.1
+          (reached u step.0 front rest ok.1 step.2)
+    ]
 
 -- a step at what is known of its exchange
-step_at : (u : ℕ) (s new : LineState) (a b : Asked) (h k : Heard) → a ≡ b → h ≡ k → HonestToStep u s a h new → HonestToStep u s b k new
+step_at : (u : ℕ) (s new : LineState) (a b : Asked) (h k : Heard) → a ≡ b → h ≡ k → HonestToStep u s a h new
+    → HonestToStep u s b k new
 step_at u s new a b h k p q step =
     subst (λ x. HonestToStep u s x k new) p (subst (λ y. HonestToStep u s a y new) q step)
 
@@ -63,8 +74,13 @@ pub record LostBranch (u : ℕ) (s new : LineState) : Type 0 where
   pub more : new.lost_branches ≡ s.lost_branches + 1
   pub few : s.lost_branches + 1 ≤ 4
 
-lost_branch : (u lo hi : ℕ) (s new : LineState) → is_within lo hi u ≡ true → s.muted u ≡ false → HonestToStep u s (Branch lo hi) Silent new → LostBranch u s new
-lost_branch u lo hi s new within unmuted step = record { muted = moves.0 ∙ unmuted; more = moves.1.branches; few = moves.1.few_branches }
+lost_branch : (u lo hi : ℕ) (s new : LineState) → is_within lo hi u ≡ true → s.muted u ≡ false
+    → HonestToStep u s (Branch lo hi) Silent new → LostBranch u s new
+lost_branch u lo hi s new within unmuted step = record {
+  muted = moves.0 ∙ unmuted;
+  more = moves.1.branches;
+  few = moves.1.few_branches;
+}
   where
     due : due_in (u ∷ []) s.muted lo hi ≡ u ∷ []
     due = rw (within, unmuted) refl
@@ -80,8 +96,10 @@ silences u lo hi s [] rest within unmuted each c = inl refl
 silences u lo hi s (e ∷ run) rest within unmuted each c =
     elim c [
       | inl failed ↦ absurd (not_both e.heard each.0.1 failed)
-      | inr step ↦ let l = lost_branch u lo hi s step.0 within unmuted (step_at u s step.0 e.asked (Branch lo hi) e.heard Silent each.0.0 each.0.1 step.1) in
-          inr (longer s.lost_branches step.0.lost_branches (length run) l.more l.few (silences u lo hi step.0 run rest within l.muted each.1 step.2))
+      | inr step ↦ let l = lost_branch u lo hi s step.0 within unmuted
+          (step_at u s step.0 e.asked (Branch lo hi) e.heard Silent each.0.0 each.0.1 step.1) in
+          inr (longer s.lost_branches step.0.lost_branches (length run) l.more l.few
+          (silences u lo hi step.0 run rest within l.muted each.1 step.2))
     ]
   where
     not_both : (h : Heard) → h ≡ Silent → h ≡ Failed → ⊥
@@ -96,8 +114,11 @@ pub record LostMute (s new : LineState) : Type 0 where
   pub more : new.lost_mutes ≡ s.lost_mutes + 1
   pub few : s.lost_mutes + 1 ≤ 4
 
-lost_mute : (u : ℕ) (s new : LineState) (h : Heard) → is_acked h ≡ false → HonestToStep u s (Mute u) h new → LostMute s new
-lost_mute u s new h lost step = of_moves (subst (λ b. MatchBool b (MuteMoves u s h new) (KeepsMuted u s new × Counts new 0 0 0)) (eq-eqb u u refl) step)
+lost_mute : (u : ℕ) (s new : LineState) (h : Heard) → is_acked h ≡ false → HonestToStep u s (Mute u) h new
+    → LostMute s new
+lost_mute u s new h lost step =
+    of_moves (subst (λ b. MatchBool b (MuteMoves u s h new) (KeepsMuted u s new × Counts new 0 0 0)) (eq-eqb u u refl)
+    step)
   where
     of_moves : MuteMoves u s h new → LostMute s new
     of_moves m = elim m [
@@ -112,8 +133,10 @@ mutes u s [] rest each ok c = inl refl
 mutes u s (e ∷ run) rest each ok c =
     elim c [
       | inl failed ↦ absurd (ok.0 failed)
-      | inr step ↦ let l = lost_mute u s step.0 e.heard each.0.1 (step_at u s step.0 e.asked (Mute u) e.heard e.heard each.0.0 refl step.1) in
-          inr (longer s.lost_mutes step.0.lost_mutes (length run) l.more l.few (mutes u step.0 run rest each.1 ok.1 step.2))
+      | inr step ↦ let l = lost_mute u s step.0 e.heard each.0.1
+          (step_at u s step.0 e.asked (Mute u) e.heard e.heard each.0.0 refl step.1) in
+          inr (longer s.lost_mutes step.0.lost_mutes (length run) l.more l.few
+          (mutes u step.0 run rest each.1 ok.1 step.2))
     ]
   where
     longer : (a b n : ℕ) → b ≡ a + 1 → a + 1 ≤ 4 → (n ≡ 0) ⊎ (b + n ≤ 4) → a + suc n ≤ 4
@@ -168,8 +191,10 @@ peel lo hi e xs [] (r ∷ run) back p each five whole =
 peel lo hi e xs (f ∷ front) run back p each five whole = (front, tails whole)
 
 -- five mutes of the device in succession aren't lost
-pub five_mutes : (u : ℕ) (s : LineState) (x : List Seen) → AllByRecursion NotFailed x → Chain (HonestToStep u) s x → InSuccession TRIES (IsLostMute u) x → ⊥
-five_mutes u s x ok chain five = too_many (mutes u r.state five.run five.back five.each (first_part NotFailed five.run five.back after) r.chain)
+pub five_mutes : (u : ℕ) (s : LineState) (x : List Seen) → AllByRecursion NotFailed x → Chain (HonestToStep u) s x
+    → InSuccession TRIES (IsLostMute u) x → ⊥
+five_mutes u s x ok chain five =
+    too_many (mutes u r.state five.run five.back five.each (first_part NotFailed five.run five.back after) r.chain)
   where
     whole : x ≡ five.front ++ (five.run ++ five.back)
     whole = five.whole ∙ append_assoc five.front five.run five.back
@@ -181,7 +206,8 @@ five_mutes u s x ok chain five = too_many (mutes u r.state five.run five.back fi
     after = last_part NotFailed five.front (five.run ++ five.back) all
 
     r : Reached u s five.front (five.run ++ five.back)
-    r = reached u s five.front (five.run ++ five.back) (first_part NotFailed five.front (five.run ++ five.back) all) (subst (λ l. Chain (HonestToStep u) s l) whole chain)
+    r = reached u s five.front (five.run ++ five.back) (first_part NotFailed five.front (five.run ++ five.back) all)
+        (subst (λ l. Chain (HonestToStep u) s l) whole chain)
 
     too_many : (length five.run ≡ 0) ⊎ (r.state.lost_mutes + length five.run ≤ 4) → ⊥
     too_many (inl none) = let many = five.many in omega arith
@@ -197,7 +223,8 @@ cleared_muted u x rest ok begun lo hi within front run back whole five each = by
     all = subst (λ l. AllByRecursion NotFailed l) whole ok
 
     r : Reached u begun.state front (run ++ back)
-    r = reached u begun.state front (run ++ back) (first_part NotFailed front (run ++ back) all) (subst (λ l. Chain (HonestToStep u) begun.state l) whole begun.chain)
+    r = reached u begun.state front (run ++ back) (first_part NotFailed front (run ++ back) all)
+        (subst (λ l. Chain (HonestToStep u) begun.state l) whole begun.chain)
 
     too_many : (length run ≡ 0) ⊎ (r.state.lost_branches + length run ≤ 4) → ⊥
     too_many (inl none) = omega arith
@@ -205,15 +232,18 @@ cleared_muted u x rest ok begun lo hi within front run back whole five each = by
 
     in_front : (begun.state.muted u ≡ true) ⊎ (has (muted_in front) u ≡ true) → has (muted_in rest) u ≡ true
     in_front (inl before) = absurd (true≢false (sym before ∙ begun.muted))
-    in_front (inr inside) = subst (λ l. has (muted_in l) u ≡ true) (sym whole) (has-front muted_by front (run ++ back) u inside)
+    in_front (inr inside) =
+        subst (λ l. has (muted_in l) u ≡ true) (sym whole) (has-front muted_by front (run ++ back) u inside)
 
     by_muted : (r.state.muted u ≡ true) ⊎ (r.state.muted u ≡ false) → has (muted_in rest) u ≡ true
     by_muted (inl muted) = in_front (r.muted muted)
     by_muted (inr unmuted) = absurd (too_many (silences u lo hi r.state run back within unmuted each r.chain))
 
 -- a muted device is acknowledged
-tried_found : (u : ℕ) (s : List ℕ) (x : List Seen) (t : LineState) → AllByRecursion NotFailed x → Chain (HonestToStep u) t x → IsTried s x u → has s u ≡ true
-tried_found u s x t ok chain tried = elim tried.tried [ inl found ↦ found | inr five ↦ absurd (five_mutes u t x ok chain five) ]
+tried_found : (u : ℕ) (s : List ℕ) (x : List Seen) (t : LineState) → AllByRecursion NotFailed x
+    → Chain (HonestToStep u) t x → IsTried s x u → has s u ≡ true
+tried_found u s x t ok chain tried =
+    elim tried.tried [ inl found ↦ found | inr five ↦ absurd (five_mutes u t x ok chain five) ]
 
 -- a cleared device is in the set
 cleared_found : (u : ℕ) (s : List ℕ) (m : ℕ → Bool) (x : List Seen)
@@ -233,7 +263,8 @@ cleared_found u s m (a ∷ b ∷ []) unmutes ok tried chain cleared = absurd (sh
     short : (p q : Asked) → p ∷ q ∷ [] ≡ Unmute ∷ Unmute ∷ Unmute ∷ [] → ⊥
     short p q h = cc
 cleared_found u s m (a ∷ b ∷ c ∷ rest) unmutes ok tried chain cleared =
-    tried_found u s (a ∷ b ∷ c ∷ rest) (before_run m) ok chain (member (IsTried s (a ∷ b ∷ c ∷ rest)) (muted_in (a ∷ b ∷ c ∷ rest)) u tried in_all)
+    tried_found u s (a ∷ b ∷ c ∷ rest) (before_run m) ok chain
+    (member (IsTried s (a ∷ b ∷ c ∷ rest)) (muted_in (a ∷ b ∷ c ∷ rest)) u tried in_all)
   where
     pa : a.asked ≡ Unmute
     pa = heads unmutes
@@ -248,7 +279,8 @@ cleared_found u s m (a ∷ b ∷ c ∷ rest) unmutes ok tried chain cleared =
     five = cleared.silent
 
     one : (others : List Seen) × (b ∷ c ∷ rest ≡ others ++ (five.run ++ five.back))
-    one = peel cleared.lo cleared.hi a (b ∷ c ∷ rest) five.front five.run five.back pa five.each five.many (five.whole ∙ append_assoc five.front five.run five.back)
+    one = peel cleared.lo cleared.hi a (b ∷ c ∷ rest) five.front five.run five.back pa five.each five.many
+        (five.whole ∙ append_assoc five.front five.run five.back)
 
     two : (others : List Seen) × (c ∷ rest ≡ others ++ (five.run ++ five.back))
     two = peel cleared.lo cleared.hi b (c ∷ rest) one.0 five.run five.back pb five.each five.many one.1
@@ -262,10 +294,12 @@ cleared_found u s m (a ∷ b ∷ c ∷ rest) unmutes ok tried chain cleared =
         three.0 five.run five.back three.1 five.many five.each
 
     in_all : has (muted_in (a ∷ b ∷ c ∷ rest)) u ≡ true
-    in_all = has-put (muted_uid a.asked) (muted_in (b ∷ c ∷ rest)) u (has-put (muted_uid b.asked) (muted_in (c ∷ rest)) u (has-put (muted_uid c.asked) (muted_in rest) u in_rest))
+    in_all = has-put (muted_uid a.asked) (muted_in (b ∷ c ∷ rest)) u
+        (has-put (muted_uid b.asked) (muted_in (c ∷ rest)) u (has-put (muted_uid c.asked) (muted_in rest) u in_rest))
 
 -- on a line that is honest to a device, a certificate's set has it
-pub found : (kind : Kind) (known : List ℕ) (x : List Seen) (s : List ℕ) (u : ℕ) → IsDevice u → SearchShows kind known x s → HonestTo u x → has s u ≡ true
+pub found : (kind : Kind) (known : List ℕ) (x : List Seen) (s : List ℕ) (u : ℕ) → IsDevice u
+    → SearchShows kind known x s → HonestTo u x → has s u ≡ true
 found kind known x s u device c honest =
     elim (c.cleared u device.in_range) [
       | inl h ↦ h

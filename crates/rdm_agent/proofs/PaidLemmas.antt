@@ -1,20 +1,25 @@
 -- What an exchange on an honest line pays.
-use Rattle.std.proofs.Common.{◌≡◌, ℕ, ◌+◌, ◌-◌, ◌*◌, ◌<◌, ◌≤◌, Bool, true, false, ◌&&◌, not, cond, List, [], ◌∷◌, length, Some, refl, sym, ap, ◌∙◌, subst, inl, inr, true≢false, arith}
+use Rattle.std.proofs.Common.{◌≡◌, ℕ, ◌+◌, ◌-◌, ◌*◌, ◌<◌, ◌≤◌, Bool, true, false, ◌&&◌, not, cond, List, [], ◌∷◌}
+use Rattle.std.proofs.Common.{length, Some, refl, sym, ap, ◌∙◌, subst, inl, inr, true≢false, arith}
 use Rattle.std.specs.Prelude.{filter, nat_lt, ◌==◌, ◌⊎◌, ◌≢◌, MatchBool}
-use Rattle.std.proofs.lemmas.Bool.{and_parts, and_from, cases_Bool, cond_both, or_cases, or_right, or_left, eqb-true, eqb-false, eq-eqb, ltb-true, ltb-false}
+use Rattle.std.proofs.lemmas.Bool.{and_parts, and_from, cases_Bool, cond_both, or_cases, or_right, or_left, eqb-true}
+use Rattle.std.proofs.lemmas.Bool.{eqb-false, eq-eqb, ltb-true, ltb-false}
 use Rattle.rdm_wire.specs.Uid.{has, is_within, is_broadcast, with_uid, IsAscending, IsDevice, IsDeviceSet}
 use Rattle.rdm_wire.specs.Devices.{uids_of, with_device}
 use Rattle.rdm_wire.specs.declared.uid_set.TheConstants.{MOST_DEVICES}
 use Rattle.rdm_wire.proofs.DeviceLemmas.{uids_of-with_device}
 use Rattle.rdm_agent.specs.Run.{device_from}
 use Rattle.rdm_wire.specs.Span.{Span, whole}
-use Rattle.rdm_wire.specs.Honest.{Heard, LineState, HonestStep, MayReply, MuteMoves, KeepsMuted, Counts, due_in, is_acked}
+use Rattle.rdm_wire.specs.Honest.{Heard, LineState, HonestStep, MayReply, MuteMoves, KeepsMuted, Counts, due_in}
+use Rattle.rdm_wire.specs.Honest.{is_acked}
 use Rattle.rdm_wire.specs.Honest.Asked.{Branch, Mute}
 use Rattle.rdm_wire.specs.Honest.Heard.{Failed, Silent, One, Acked, Noise}
 use Rattle.rdm_wire.specs.declared.mute_ack.MuteAck.{MuteAck}
-use Rattle.rdm_agent.specs.Machine.{Phase, AgentState, to_phase, to_found, split, search_from, search_below, is_new, found_uids, branch_heard, known_heard, mute_heard, heard_by_phase}
+use Rattle.rdm_agent.specs.Machine.{Phase, AgentState, to_phase, to_found, split, search_from, search_below, is_new}
+use Rattle.rdm_agent.specs.Machine.{found_uids, branch_heard, known_heard, mute_heard, heard_by_phase}
 use Rattle.rdm_agent.specs.Machine.Phase.{Unmuting, MutingKnown, Searching, MutingRead, Ended}
-use Rattle.rdm_agent.proofs.Potential.{Ahead, sweep_cost, unfound, is_left, left_in, Covers, Costs, CostsKnown, CostsSearching, CostsRead, Finds, Affords}
+use Rattle.rdm_agent.proofs.Potential.{Ahead, sweep_cost, unfound, is_left, left_in, Covers, Costs, CostsKnown}
+use Rattle.rdm_agent.proofs.Potential.{CostsSearching, CostsRead, Finds, Affords}
 use Rattle.rdm_agent.specs.declared.limits.TheConstants.{TRIES}
 use Rattle.rdm_agent.specs.declared.search.Search.{Search}
 use Rattle.rdm_agent.specs.declared.search.Search.TheVariants.{Steady, Quick}
@@ -25,7 +30,8 @@ use Rattle.rdm_agent.proofs.LeftLemmas.{no_more, one_fewer, first_passes}
 use Rattle.rdm_agent.proofs.CoverLemmas.{Covers-some, Covers-left, Covers-found, Covers-device, Covers-split}
 
 -- a phase that costs an exchange less
-pub record Cheaper (search : Search) (present : List ℕ) (line : LineState) (found : List ℕ) (cost : ℕ) (phase : Phase) : Type 0 where
+pub record Cheaper (search : Search) (present : List ℕ) (line : LineState) (found : List ℕ) (cost : ℕ)
+    (phase : Phase) : Type 0 where
   pub left : ℕ
   pub saves : left + 2 ≤ cost
   pub costs : Costs search present line found phase left
@@ -35,16 +41,28 @@ pub search_from-costs : (search : Search) (present found : List ℕ) (line : Lin
     (n : ℕ) → 10 * length known + n + 2 ≤ cost → Ahead search present found n
     → Cheaper search present line found cost (search_from search known)
 search_from-costs Steady present found line cost [] n enough ahead =
-    record { left = n; saves = omega arith; costs = record { ranges = n; few = omega arith; covered = ahead; cost_is = omega arith } }
+    record {
+      left = n;
+      saves = omega arith;
+      costs = record { ranges = n; few = omega arith; covered = ahead; cost_is = omega arith };
+    }
 search_from-costs Quick present found line cost [] n enough ahead =
     record { left = n; saves = omega arith; costs = record { below = omega arith; enough = omega (arith, ahead) } }
 search_from-costs search present found line cost (u ∷ known) n enough ahead =
-    record { left = 10 + 10 * length known + n; saves = omega arith; costs = record { ranges = n; few = omega arith; ahead = ahead; cost_is = omega arith } }
+    record {
+      left = 10 + 10 * length known + n;
+      saves = omega arith;
+      costs = record { ranges = n; few = omega arith; ahead = ahead; cost_is = omega arith };
+    }
 
 -- the next range is searched, or none is left
 pub search_below-costs : (search : Search) (present found : List ℕ) (line : LineState) (cost : ℕ) (below : List Span)
     (n : ℕ) → n + 2 ≤ cost → Covers present found below n → Cheaper search present line found cost (search_below below)
-search_below-costs search present found line cost [] n enough covered = record { left = 0; saves = omega arith; costs = refl }
+search_below-costs search present found line cost [] n enough covered = record {
+  left = 0;
+  saves = omega arith;
+  costs = refl;
+}
 search_below-costs search present found line cost (r ∷ rs) n enough covered =
     record {
       left = n;
@@ -64,45 +82,62 @@ pub split-costs : (search : Search) (present found : List ℕ) (line : LineState
     → Cheaper search present line found cost (split top below)
 split-costs search present found line cost top below n ascending two enough covered =
     let halved = Covers-split present found top below n ascending two covered in let pays = halved.2 in
-    cond_both (top.lo == top.hi) _ _ (Cheaper search present line found cost) (λ one. absurd (halved.0 (eqb-true top.lo top.hi one)))
-    (λ several. record { left = halved.1; saves = omega arith; costs = record { ranges = halved.1; few = omega arith; covered = halved.3; cost_is = omega arith } })
+    cond_both (top.lo == top.hi) _ _ (Cheaper search present line found cost)
+    (λ one. absurd (halved.0 (eqb-true top.lo top.hi one)))
+    (λ several. record {
+      left = halved.1;
+      saves = omega arith;
+      costs = record { ranges = halved.1; few = omega arith; covered = halved.3; cost_is = omega arith };
+    })
 
 -- a device that is acknowledged is found already, or one more is found and one fewer left
 abbrev pub CountsOneMore : List ℕ → List ℕ → ℕ → List ℕ → Type 0
-CountsOneMore present found u more = ((has found u ≡ true) × (more ≡ found)) ⊎ ((length more ≡ length found + 1) × (length (unfound present more) + 1 ≤ length (unfound present found)))
+CountsOneMore present found u more =
+    ((has found u ≡ true) × (more ≡ found))
+    ⊎ ((length more ≡ length found + 1) × (length (unfound present more) + 1 ≤ length (unfound present found)))
 
 -- what is enough for the search stays so
 Ahead-found : (search : Search) (present found more : List ℕ) (u : ℕ)
     → ((v : ℕ) → has found v ≡ true → has more v ≡ true) → CountsOneMore present found u more → (n : ℕ)
     → Ahead search present found n → Ahead search present more n
-Ahead-found Steady present found more u grows one_more n ahead = Covers-found present found more grows (whole ∷ []) n ahead
-Ahead-found Quick present found more u grows (inl same) n ahead = subst (λ us. sweep_cost present us ≤ n) (sym same.1) ahead
-Ahead-found Quick present found more u grows (inr one_more) n ahead = let longer = one_more.0 in let fewer = one_more.1 in omega (arith, ahead, longer, fewer)
+Ahead-found Steady present found more u grows one_more n ahead =
+    Covers-found present found more grows (whole ∷ []) n ahead
+Ahead-found Quick present found more u grows (inl same) n ahead =
+    subst (λ us. sweep_cost present us ≤ n) (sym same.1) ahead
+Ahead-found Quick present found more u grows (inr one_more) n ahead =
+    let longer = one_more.0 in let fewer = one_more.1 in omega (arith, ahead, longer, fewer)
 
 -- a mute unmutes nobody
-pub mute-keeps : (present : List ℕ) (s new : LineState) (u : ℕ) (h : Heard) → HonestStep present s (Mute u) h new → (v : ℕ) → s.muted v ≡ true → new.muted v ≡ true
+pub mute-keeps : (present : List ℕ) (s new : LineState) (u : ℕ) (h : Heard) → HonestStep present s (Mute u) h new
+    → (v : ℕ) → s.muted v ≡ true → new.muted v ≡ true
 mute-keeps present s new u h step v muted = elim (cases_Bool (u == v)) [
   | inl is ↦ of_same (eqb-true u v is)
   | inr other ↦ step.0 v other ∙ muted
 ]
   where
-    at_own : s.muted u ≡ true → (b : Bool) → MatchBool b (MuteMoves u s h new) ((h ≡ Silent) × KeepsMuted u s new × Counts new 0 0 0) → new.muted u ≡ true
+    at_own : s.muted u ≡ true → (b : Bool)
+        → MatchBool b (MuteMoves u s h new) ((h ≡ Silent) × KeepsMuted u s new × Counts new 0 0 0) → new.muted u ≡ true
     at_own before true (inl acked) = acked.1
     at_own before true (inr (silent, inl now, counts)) = now
     at_own before true (inr (silent, inr kept, counts)) = kept ∙ before
     at_own before false absent = absent.1 ∙ before
 
     of_same : u ≡ v → new.muted v ≡ true
-    of_same is = subst (λ (w : ℕ). new.muted w ≡ true) is (at_own (subst (λ (w : ℕ). s.muted w ≡ true) (sym is) muted) (has present u) step.1)
+    of_same is =
+        subst (λ (w : ℕ). new.muted w ≡ true) is
+        (at_own (subst (λ (w : ℕ). s.muted w ≡ true) (sym is) muted) (has present u) step.1)
 
 -- who acknowledges is present, and muted
-pub acked-mute : (present : List ℕ) (s new : LineState) (u : ℕ) (ack : MuteAck) → HonestStep present s (Mute u) (Acked ack) new → (has present u ≡ true) × (new.muted u ≡ true)
+pub acked-mute : (present : List ℕ) (s new : LineState) (u : ℕ) (ack : MuteAck)
+    → HonestStep present s (Mute u) (Acked ack) new → (has present u ≡ true) × (new.muted u ≡ true)
 acked-mute present s new u ack step = by_presence (has present u) step.1
   where
     loud : Acked ack ≡ Silent → ⊥
     loud p = cc
 
-    by_presence : (b : Bool) → MatchBool b (MuteMoves u s (Acked ack) new) ((Acked ack ≡ Silent) × KeepsMuted u s new × Counts new 0 0 0) → (b ≡ true) × (new.muted u ≡ true)
+    by_presence : (b : Bool)
+        → MatchBool b (MuteMoves u s (Acked ack) new) ((Acked ack ≡ Silent) × KeepsMuted u s new × Counts new 0 0 0)
+        → (b ≡ true) × (new.muted u ≡ true)
     by_presence true (inl acked) = (refl, acked.1)
     by_presence true (inr silent) = absurd (loud silent.0)
     by_presence false absent = absurd (loud absent.0)
@@ -111,24 +146,34 @@ acked-mute present s new u ack step = by_presence (has present u) step.1
 pub lost-mute : (present : List ℕ) (s new : LineState) (u : ℕ) (h : Heard) → is_acked h ≡ false
     → HonestStep present s (Mute u) h new → has present u ≡ true
     → (new.lost_mutes ≡ s.lost_mutes + 1) × (s.lost_mutes + 1 ≤ 4)
-lost-mute present s new u h lost step here = of_moves (subst (λ b. MatchBool b (MuteMoves u s h new) ((h ≡ Silent) × KeepsMuted u s new × Counts new 0 0 0)) here step.1)
+lost-mute present s new u h lost step here =
+    of_moves (subst (λ b. MatchBool b (MuteMoves u s h new) ((h ≡ Silent) × KeepsMuted u s new × Counts new 0 0 0)) here
+    step.1)
   where
     of_moves : MuteMoves u s h new → (new.lost_mutes ≡ s.lost_mutes + 1) × (s.lost_mutes + 1 ≤ 4)
     of_moves (inl acked) = absurd (true≢false (sym acked.0 ∙ lost))
     of_moves (inr silent) = (silent.2.mutes, silent.2.few_mutes)
 
 -- what is found stays so while no device is unmuted
-pub Finds-keeps : (present found : List ℕ) (s new : LineState) → ((u : ℕ) → s.muted u ≡ true → new.muted u ≡ true) → Finds present s found → Finds present new found
-Finds-keeps present found s new keeps f = record { devices = f.devices; muted = λ u here. keeps u (f.muted u here); counted = f.counted }
+pub Finds-keeps : (present found : List ℕ) (s new : LineState) → ((u : ℕ) → s.muted u ≡ true → new.muted u ≡ true)
+    → Finds present s found → Finds present new found
+Finds-keeps present found s new keeps f = record {
+  devices = f.devices;
+  muted = λ u here. keeps u (f.muted u here);
+  counted = f.counted;
+}
 
 -- what may be a new device of a range is left there, and a device that is left may be new
 pub new-left : (found : List ℕ) (r : Span) (u : ℕ) → is_new found r u ≡ true → is_left found r u ≡ true
-new-left found r u new = let parts = and_parts (not (is_broadcast u) && is_within r.lo r.hi u) (not (has found u)) new in
-    and_from (is_within r.lo r.hi u) (not (has found u)) (and_parts (not (is_broadcast u)) (is_within r.lo r.hi u) parts.0).1 parts.1
+new-left found r u new =
+    let parts = and_parts (not (is_broadcast u) && is_within r.lo r.hi u) (not (has found u)) new in
+    and_from (is_within r.lo r.hi u) (not (has found u))
+    (and_parts (not (is_broadcast u)) (is_within r.lo r.hi u) parts.0).1 parts.1
 
 left-new : (found : List ℕ) (r : Span) (u : ℕ) → IsDevice u → is_left found r u ≡ true → is_new found r u ≡ true
 left-new found r u device left = let parts = and_parts (is_within r.lo r.hi u) (not (has found u)) left in
-    and_from (not (is_broadcast u) && is_within r.lo r.hi u) (not (has found u)) (and_from (not (is_broadcast u)) (is_within r.lo r.hi u) (ap not device.own) parts.0) parts.1
+    and_from (not (is_broadcast u) && is_within r.lo r.hi u) (not (has found u))
+    (and_from (not (is_broadcast u)) (is_within r.lo r.hi u) (ap not device.own) parts.0) parts.1
 
 -- what came spells a device that isn't found yet
 pub record SpellsNew (present found : List ℕ) (top : Span) (h : Heard) : Type 0 where
@@ -153,9 +198,12 @@ answered present found s top h set loud f reply = by_due (due_in present s.muted
     absent u true there due = absurd (true≢false (sym due ∙ ap not (f.muted u there)))
 
     due_left : (u : ℕ) → is_due s top u ≡ true → is_left found top u ≡ true
-    due_left u due = let parts = and_parts (is_within top.lo top.hi u) (not (s.muted u)) due in and_from (is_within top.lo top.hi u) (not (has found u)) parts.0 (absent u (has found u) refl parts.1)
+    due_left u due =
+        let parts = and_parts (is_within top.lo top.hi u) (not (s.muted u)) due in
+        and_from (is_within top.lo top.hi u) (not (has found u)) parts.0 (absent u (has found u) refl parts.1)
 
-    by_due : (due : List ℕ) → filter (is_due s top) present ≡ due → MayReply due h → SpellsNew present found top h ⊎ (2 ≤ left_in present found top)
+    by_due : (due : List ℕ) → filter (is_due s top) present ≡ due → MayReply due h → SpellsNew present found top h
+        ⊎ (2 ≤ left_in present found top)
     by_due [] is silent = absurd (loud silent)
     by_due (u ∷ []) is (inl heard) = let first = first_passes (is_due s top) present [] u is in inl (record {
       uid = u;
@@ -176,7 +224,8 @@ module _ (present found : List ℕ) (u : ℕ) (here : has present u ≡ true) (a
     where
       by_found : (v : ℕ) (b : Bool) → has found v ≡ b → not (has (with_uid u found) v) ≡ true → not b ≡ true
       by_found v false out still = refl
-      by_found v true in_it still = absurd (true≢false (sym still ∙ ap not (has-with_uid u found v ∙ or_right (v == u) (has found v) in_it)))
+      by_found v true in_it still =
+          absurd (true≢false (sym still ∙ ap not (has-with_uid u found v ∙ or_right (v == u) (has found v) in_it)))
 
       stricter : (v : ℕ) → not (has (with_uid u found) v) ≡ true → not (has found v) ≡ true
       stricter v still = by_found v (has found v) refl still
@@ -185,11 +234,13 @@ module _ (present found : List ℕ) (u : ℕ) (here : has present u ≡ true) (a
   has_room : (s : LineState) → length present ≤ MOST_DEVICES → Finds present s found → length found < MOST_DEVICES
   has_room s few f = let counted = f.counted in let fewer = unfound-fewer in omega arith
 
-  Finds-more : (s new : LineState) → new.muted u ≡ true → ((v : ℕ) → s.muted v ≡ true → new.muted v ≡ true) → Finds present s found → Finds present new (with_uid u found)
+  Finds-more : (s new : LineState) → new.muted u ≡ true → ((v : ℕ) → s.muted v ≡ true → new.muted v ≡ true)
+      → Finds present s found → Finds present new (with_uid u found)
   Finds-more s new muted keeps f = record {
     devices = λ v there. of_either (λ (w : ℕ). has present w ≡ true) v here (λ old. f.devices v old) there;
     muted = λ v there. of_either (λ (w : ℕ). new.muted w ≡ true) v muted (λ old. keeps v (f.muted v old)) there;
-    counted = let counted = f.counted in let fewer = unfound-fewer in let longer = length-with_uid u found absent in omega arith;
+    counted = let counted = f.counted in let fewer = unfound-fewer in let longer = length-with_uid u found absent in
+        omega arith;
   }
     where
       of_either : (P : ℕ → Type 0) (v : ℕ) → P u → (has found v ≡ true → P v) → has (with_uid u found) v ≡ true → P v
@@ -199,20 +250,29 @@ module _ (present found : List ℕ) (u : ℕ) (here : has present u ≡ true) (a
       ]
 
 -- while a UID that was spelt is muted, a device is left
-pub read-some : (present : List ℕ) (s : LineState) (found : List ℕ) (u tries : ℕ) (top : Span) (below : List Span) (cost : ℕ) → (c : CostsRead present s found u tries top below cost) → 30 ≤ c.ranges
-read-some present s found u tries top below cost c = Covers-left present found top below c.ranges (some_left c.spelt) c.covered
+pub read-some : (present : List ℕ) (s : LineState) (found : List ℕ) (u tries : ℕ) (top : Span) (below : List Span)
+    (cost : ℕ) → (c : CostsRead present s found u tries top below cost) → 30 ≤ c.ranges
+read-some present s found u tries top below cost c =
+    Covers-left present found top below c.ranges (some_left c.spelt) c.covered
   where
     some_left : (has present u ≡ true) ⊎ (2 ≤ left_in present found top) → 1 ≤ left_in present found top
-    some_left (inl here) = let fewer = one_fewer (is_left found top) (λ v. false) present u (λ v never. absurd (true≢false (sym never))) (new-left found top u c.new) refl here in omega arith
+    some_left (inl here) =
+        let fewer = one_fewer (is_left found top) (λ v. false) present u (λ v never. absurd (true≢false (sym never)))
+        (new-left found top u c.new) refl here in omega arith
     some_left (inr two) = omega arith
 
-module _ (present : List ℕ) (set : IsDeviceSet present) (few : length present ≤ MOST_DEVICES) (total cost : ℕ) (s new : LineState) (a : AgentState) (within : 2 * a.frames + cost ≤ total) where
+module _ (present : List ℕ) (set : IsDeviceSet present) (few : length present ≤ MOST_DEVICES) (total cost : ℕ)
+    (s new : LineState) (a : AgentState) (within : 2 * a.frames + cost ≤ total) where
   -- the phase goes on
-  pub to_phase-affords : (phase : Phase) → Finds present new (found_uids a) → Cheaper a.search present new (found_uids a) cost phase → Affords present total new (to_phase a phase)
-  to_phase-affords phase f cheaper = let saves = cheaper.saves in record { cost = cheaper.left; costs = cheaper.costs; within = omega arith; finds = f }
+  pub to_phase-affords : (phase : Phase) → Finds present new (found_uids a)
+      → Cheaper a.search present new (found_uids a) cost phase → Affords present total new (to_phase a phase)
+  to_phase-affords phase f cheaper =
+      let saves = cheaper.saves in
+      record { cost = cheaper.left; costs = cheaper.costs; within = omega arith; finds = f }
 
   -- a device is found
-  pub to_found-affords : (u : ℕ) (ack : MuteAck) (phase : Phase) → has present u ≡ true → new.muted u ≡ true → ((v : ℕ) → s.muted v ≡ true → new.muted v ≡ true) → Finds present s (found_uids a)
+  pub to_found-affords : (u : ℕ) (ack : MuteAck) (phase : Phase) → has present u ≡ true → new.muted u ≡ true
+      → ((v : ℕ) → s.muted v ≡ true → new.muted v ≡ true) → Finds present s (found_uids a)
       → ((more : List ℕ) → ((v : ℕ) → has (found_uids a) v ≡ true → has more v ≡ true) → has more u ≡ true
       → CountsOneMore present (found_uids a) u more → Cheaper a.search present new more cost phase)
       → Affords present total new (to_found a (device_from u ack) phase)
@@ -224,13 +284,21 @@ module _ (present : List ℕ) (set : IsDeviceSet present) (few : length present 
       P b = Affords present total new b
 
       at_old : has (found_uids a) u ≡ true → P (to_phase a phase)
-      at_old old = to_phase-affords phase (Finds-keeps present (found_uids a) s new keeps f) (onward (found_uids a) (λ v there. there) old (inl (old, refl)))
+      at_old old =
+          to_phase-affords phase (Finds-keeps present (found_uids a) s new keeps f)
+          (onward (found_uids a) (λ v there. there) old (inl (old, refl)))
 
       grown : uids_of (with_device (device_from u ack) a.found) ≡ with_uid u (found_uids a)
       grown = uids_of-with_device (device_from u ack) a.found
 
       at_new : has (found_uids a) u ≡ false → nat_lt (length (found_uids a)) MOST_DEVICES ≡ true
-          → P (record { budget = a.budget; frames = a.frames + 1; search = a.search; found = with_device (device_from u ack) a.found; phase = phase })
+          → P (record {
+            budget = a.budget;
+            frames = a.frames + 1;
+            search = a.search;
+            found = with_device (device_from u ack) a.found;
+            phase = phase;
+          })
       at_new absent room =
           let cheaper = onward (with_uid u (found_uids a))
           (λ v there. has-with_uid u (found_uids a) v ∙ or_right (v == u) (has (found_uids a) v) there)
@@ -240,11 +308,15 @@ module _ (present : List ℕ) (set : IsDeviceSet present) (few : length present 
             cost = cheaper.left;
             costs = subst (λ us. Costs a.search present new us phase cheaper.left) (sym grown) cheaper.costs;
             within = omega arith;
-            finds = subst (Finds present new) (sym grown) (Finds-more present (found_uids a) u here absent s new muted keeps f);
+            finds = subst (Finds present new) (sym grown)
+                (Finds-more present (found_uids a) u here absent s new muted keeps f);
           }
 
-      at_full : has (found_uids a) u ≡ false → nat_lt (length (found_uids a)) MOST_DEVICES ≡ false → P (to_phase a (Ended (Some TooMany)))
-      at_full absent full = let room = has_room present (found_uids a) u here absent s few f in let none = ltb-false (length (found_uids a)) MOST_DEVICES full in absurd (omega arith)
+      at_full : has (found_uids a) u ≡ false → nat_lt (length (found_uids a)) MOST_DEVICES ≡ false
+          → P (to_phase a (Ended (Some TooMany)))
+      at_full absent full =
+          let room = has_room present (found_uids a) u here absent s few f in
+          let none = ltb-false (length (found_uids a)) MOST_DEVICES full in absurd (omega arith)
 
   -- an unmute
   pub unmuting-affords : (more : ℕ) (known : List ℕ) (h : Heard) → Finds present s (found_uids a)
@@ -255,26 +327,49 @@ module _ (present : List ℕ) (set : IsDeviceSet present) (few : length present 
       (cond_both (nat_lt 1 more) _ _ (Cheaper a.search present new (found_uids a) cost) goes_on ends)
     where
       finds : Finds present new (found_uids a)
-      finds = record { devices = f.devices; muted = λ u there. absurd (true≢false (sym there ∙ ap (λ us. has us u) costs.none_found)); counted = f.counted }
+      finds = record {
+        devices = f.devices;
+        muted = λ u there. absurd (true≢false (sym there ∙ ap (λ us. has us u) costs.none_found));
+        counted = f.counted;
+      }
 
       goes_on : nat_lt 1 more ≡ true → Cheaper a.search present new (found_uids a) cost (Unmuting (more - 1) known)
       goes_on two = let above : 1 < more = ltb-true 1 more two in let is = costs.cost_is in
-          record { left = cost - 2; saves = omega arith; costs = record { ranges = costs.ranges; some = omega arith; none_found = costs.none_found; ahead = costs.ahead; cost_is = omega arith } }
+          record {
+            left = cost - 2;
+            saves = omega arith;
+            costs = record {
+              ranges = costs.ranges;
+              some = omega arith;
+              none_found = costs.none_found;
+              ahead = costs.ahead;
+              cost_is = omega arith;
+            };
+          }
 
       ends : nat_lt 1 more ≡ false → Cheaper a.search present new (found_uids a) cost (search_from a.search known)
-      ends one = let some = costs.some in let is = costs.cost_is in search_from-costs a.search present (found_uids a) new cost known costs.ranges (omega arith) costs.ahead
+      ends one = let some = costs.some in let is = costs.cost_is in
+          search_from-costs a.search present (found_uids a) new cost known costs.ranges (omega arith) costs.ahead
 
   -- a mute of a known UID that is lost
-  known_lost-affords : (u tries : ℕ) (known : List ℕ) (h : Heard) → Finds present s (found_uids a) → HonestStep present s (Mute u) h new → CostsKnown a.search present (found_uids a) tries known cost
-      → Affords present total new (to_phase a (cond ((tries + 1) == TRIES) (search_from a.search known) (MutingKnown u (tries + 1) known)))
+  known_lost-affords : (u tries : ℕ) (known : List ℕ) (h : Heard) → Finds present s (found_uids a)
+      → HonestStep present s (Mute u) h new → CostsKnown a.search present (found_uids a) tries known cost
+      → Affords present total new
+      (to_phase a (cond ((tries + 1) == TRIES) (search_from a.search known) (MutingKnown u (tries + 1) known)))
   known_lost-affords u tries known h f step costs =
       let few = costs.few in let is = costs.cost_is in
-      to_phase-affords (cond ((tries + 1) == TRIES) (search_from a.search known) (MutingKnown u (tries + 1) known)) (Finds-keeps present (found_uids a) s new (mute-keeps present s new u h step) f)
+      to_phase-affords (cond ((tries + 1) == TRIES) (search_from a.search known) (MutingKnown u (tries + 1) known))
+      (Finds-keeps present (found_uids a) s new (mute-keeps present s new u h step) f)
       (cond_both ((tries + 1) == TRIES) _ _ (Cheaper a.search present new (found_uids a) cost)
       (λ five. search_from-costs a.search present (found_uids a) new cost known costs.ranges (omega arith)
       costs.ahead)
-      (λ fewer. let other : tries + 1 ≡ TRIES → ⊥ = eqb-false (tries + 1) TRIES fewer in let less : tries + 1 ≤ 4 = grind arith in
-      record { left = cost - 2; saves = omega arith; costs = record { ranges = costs.ranges; few = less; ahead = costs.ahead; cost_is = omega arith } }))
+      (λ fewer. let other : tries + 1 ≡ TRIES → ⊥ = eqb-false (tries + 1) TRIES fewer in
+      let less : tries + 1 ≤ 4 = grind arith in
+      record {
+        left = cost - 2;
+        saves = omega arith;
+        costs = record { ranges = costs.ranges; few = less; ahead = costs.ahead; cost_is = omega arith };
+      }))
 
   -- a mute of a known UID
   pub known-affords : (u tries : ℕ) (known : List ℕ) (h : Heard) → h ≢ Failed → Finds present s (found_uids a)
@@ -282,7 +377,8 @@ module _ (present : List ℕ) (set : IsDeviceSet present) (few : length present 
       → Affords present total new (known_heard a u tries known h)
   known-affords u tries known (Acked ack) sound f step costs =
       let acked = acked-mute present s new u ack step in let few = costs.few in let is = costs.cost_is in
-      to_found-affords u ack (search_from a.search known) acked.0 acked.1 (mute-keeps present s new u (Acked ack) step) f
+      to_found-affords u ack (search_from a.search known) acked.0 acked.1 (mute-keeps present s new u (Acked ack) step)
+      f
       (λ more grows now one_more. search_from-costs a.search present more new cost known costs.ranges (omega arith)
       (Ahead-found a.search present (found_uids a) more u grows one_more costs.ranges costs.ahead))
   known-affords u tries known Failed sound f step costs = absurd (sound refl)
@@ -295,23 +391,37 @@ module _ (present : List ℕ) (set : IsDeviceSet present) (few : length present 
       → CostsSearching present (found_uids a) silences (top ∷ below) cost → 2 ≤ left_in present (found_uids a) top
       → Affords present total new (to_phase a (split top below))
   split-affords silences top below f costs two = let few = costs.few in let is = costs.cost_is in
-      to_phase-affords (split top below) f (split-costs a.search present (found_uids a) new cost top below costs.ranges set.ascending two (omega arith) costs.covered)
+      to_phase-affords (split top below) f
+      (split-costs a.search present (found_uids a) new cost top below costs.ranges set.ascending two (omega arith)
+      costs.covered)
 
   -- it is silent
-  silent-affords : (silences : ℕ) (top : Span) (below : List Span) → Finds present new (found_uids a) → CostsSearching present (found_uids a) silences (top ∷ below) cost
-      → Affords present total new (to_phase a (cond ((silences + 1) == TRIES) (search_below below) (Searching (silences + 1) top below)))
+  silent-affords : (silences : ℕ) (top : Span) (below : List Span) → Finds present new (found_uids a)
+      → CostsSearching present (found_uids a) silences (top ∷ below) cost
+      → Affords present total new
+      (to_phase a (cond ((silences + 1) == TRIES) (search_below below) (Searching (silences + 1) top below)))
   silent-affords silences top below f costs =
-      let few = costs.few in let is = costs.cost_is in let some : 10 ≤ costs.ranges = Covers-some present (found_uids a) top below costs.ranges costs.covered in
+      let few = costs.few in let is = costs.cost_is in
+      let some : 10 ≤ costs.ranges = Covers-some present (found_uids a) top below costs.ranges costs.covered in
       to_phase-affords (cond ((silences + 1) == TRIES) (search_below below) (Searching (silences + 1) top below)) f
       (cond_both ((silences + 1) == TRIES) _ _ (Cheaper a.search present new (found_uids a) cost)
-      (λ five. let fits = costs.covered.3 in search_below-costs a.search present (found_uids a) new cost below costs.covered.1 (omega arith) costs.covered.4)
-      (λ fewer. let other : silences + 1 ≡ TRIES → ⊥ = eqb-false (silences + 1) TRIES fewer in let less : silences + 1 ≤ 4 = grind arith in
-      record { left = cost - 2; saves = omega arith; costs = record { ranges = costs.ranges; few = less; covered = costs.covered; cost_is = omega arith } }))
+      (λ five. let fits = costs.covered.3 in
+      search_below-costs a.search present (found_uids a) new cost below costs.covered.1 (omega arith)
+      costs.covered.4)
+      (λ fewer. let other : silences + 1 ≡ TRIES → ⊥ = eqb-false (silences + 1) TRIES fewer in
+      let less : silences + 1 ≤ 4 = grind arith in
+      record {
+        left = cost - 2;
+        saves = omega arith;
+        costs = record { ranges = costs.ranges; few = less; covered = costs.covered; cost_is = omega arith };
+      }))
 
   -- it spells a UID
-  spelt-affords : (silences : ℕ) (top : Span) (below : List Span) (u : ℕ) → Finds present new (found_uids a) → CostsSearching present (found_uids a) silences (top ∷ below) cost
+  spelt-affords : (silences : ℕ) (top : Span) (below : List Span) (u : ℕ) → Finds present new (found_uids a)
+      → CostsSearching present (found_uids a) silences (top ∷ below) cost
       → SpellsNew present (found_uids a) top (One u) ⊎ (2 ≤ left_in present (found_uids a) top)
-      → Affords present total new (to_phase a (cond (is_new (found_uids a) top u) (MutingRead u 0 top below) (split top below)))
+      → Affords present total new
+      (to_phase a (cond (is_new (found_uids a) top u) (MutingRead u 0 top below) (split top below)))
   spelt-affords silences top below u f costs answer =
       cond_both (is_new (found_uids a) top u) _ _ (λ p. Affords present total new (to_phase a p)) muted
       (λ old. split-affords silences top below f costs (several old answer))
@@ -319,21 +429,33 @@ module _ (present : List ℕ) (set : IsDeviceSet present) (few : length present 
       same : (v : ℕ) → One u ≡ One v → u ≡ v
       same v p = cc
 
-      several : is_new (found_uids a) top u ≡ false → SpellsNew present (found_uids a) top (One u) ⊎ (2 ≤ left_in present (found_uids a) top) → 2 ≤ left_in present (found_uids a) top
-      several old (inl one) = absurd (true≢false (sym one.new ∙ ap (is_new (found_uids a) top) (sym (same one.uid one.heard)) ∙ old))
+      several : is_new (found_uids a) top u ≡ false → SpellsNew present (found_uids a) top (One u)
+          ⊎ (2 ≤ left_in present (found_uids a) top) → 2 ≤ left_in present (found_uids a) top
+      several old (inl one) =
+          absurd (true≢false (sym one.new ∙ ap (is_new (found_uids a) top) (sym (same one.uid one.heard)) ∙ old))
       several old (inr two) = two
 
-      spelt : SpellsNew present (found_uids a) top (One u) ⊎ (2 ≤ left_in present (found_uids a) top) → (has present u ≡ true) ⊎ (2 ≤ left_in present (found_uids a) top)
+      spelt : SpellsNew present (found_uids a) top (One u) ⊎ (2 ≤ left_in present (found_uids a) top)
+          → (has present u ≡ true) ⊎ (2 ≤ left_in present (found_uids a) top)
       spelt (inl one) = inl (ap (has present) (same one.uid one.heard) ∙ one.here)
       spelt (inr two) = inr two
 
       muted : is_new (found_uids a) top u ≡ true → Affords present total new (to_phase a (MutingRead u 0 top below))
       muted fresh =
-          let few = costs.few in let is = costs.cost_is in let some : 10 ≤ costs.ranges = Covers-some present (found_uids a) top below costs.ranges costs.covered in
+          let few = costs.few in let is = costs.cost_is in
+          let some : 10 ≤ costs.ranges = Covers-some present (found_uids a) top below costs.ranges costs.covered in
           to_phase-affords (MutingRead u 0 top below) f (record {
             left = costs.ranges - 10;
             saves = omega arith;
-            costs = record { ranges = costs.ranges; few = omega arith; new = fresh; lost = λ here. omega arith; spelt = spelt answer; covered = costs.covered; cost_is = omega arith };
+            costs = record {
+              ranges = costs.ranges;
+              few = omega arith;
+              new = fresh;
+              lost = λ here. omega arith;
+              spelt = spelt answer;
+              covered = costs.covered;
+              cost_is = omega arith;
+            };
           })
 
   -- a branch of the top range
@@ -346,42 +468,66 @@ module _ (present : List ℕ) (set : IsDeviceSet present) (few : length present 
       finds : Finds present new (found_uids a)
       finds = Finds-keeps present (found_uids a) s new (λ u muted. step.1 u ∙ muted) f
 
-      collided : (h : Heard) → h ≢ Silent → ((u : ℕ) → h ≡ One u → ⊥) → MayReply (due_in present s.muted top.lo top.hi) h → 2 ≤ left_in present (found_uids a) top
+      collided : (h : Heard) → h ≢ Silent → ((u : ℕ) → h ≡ One u → ⊥)
+          → MayReply (due_in present s.muted top.lo top.hi) h → 2 ≤ left_in present (found_uids a) top
       collided h loud noise reply = of_answer (answered present (found_uids a) s top h set loud f reply)
         where
-          of_answer : SpellsNew present (found_uids a) top h ⊎ (2 ≤ left_in present (found_uids a) top) → 2 ≤ left_in present (found_uids a) top
+          of_answer : SpellsNew present (found_uids a) top h ⊎ (2 ≤ left_in present (found_uids a) top)
+              → 2 ≤ left_in present (found_uids a) top
           of_answer (inl one) = absurd (noise one.uid one.heard)
           of_answer (inr two) = two
 
-      of_heard : (h : Heard) → h ≢ Failed → MayReply (due_in present s.muted top.lo top.hi) h → Affords present total new (branch_heard a silences top below h)
+      of_heard : (h : Heard) → h ≢ Failed → MayReply (due_in present s.muted top.lo top.hi) h
+          → Affords present total new (branch_heard a silences top below h)
       of_heard Silent sound reply = silent-affords silences top below finds costs
-      of_heard (One u) sound reply = spelt-affords silences top below u finds costs (answered present (found_uids a) s top (One u) set (λ p. cc) f reply)
+      of_heard (One u) sound reply =
+          spelt-affords silences top below u finds costs
+          (answered present (found_uids a) s top (One u) set (λ p. cc) f reply)
       of_heard Failed sound reply = absurd (sound refl)
-      of_heard (Acked ack) sound reply = split-affords silences top below finds costs (collided (Acked ack) (λ p. cc) (λ u p. cc) reply)
-      of_heard Noise sound reply = split-affords silences top below finds costs (collided Noise (λ p. cc) (λ u p. cc) reply)
+      of_heard (Acked ack) sound reply =
+          split-affords silences top below finds costs (collided (Acked ack) (λ p. cc) (λ u p. cc) reply)
+      of_heard Noise sound reply =
+          split-affords silences top below finds costs (collided Noise (λ p. cc) (λ u p. cc) reply)
 
   -- a mute of what the top range spelt is lost
   read_lost-affords : (u tries : ℕ) (top : Span) (below : List Span) (h : Heard) → is_acked h ≡ false
       → Finds present s (found_uids a) → HonestStep present s (Mute u) h new
       → CostsRead present s (found_uids a) u tries top below cost
-      → Affords present total new (to_phase a (cond ((tries + 1) == TRIES) (split top below) (MutingRead u (tries + 1) top below)))
+      → Affords present total new
+      (to_phase a (cond ((tries + 1) == TRIES) (split top below) (MutingRead u (tries + 1) top below)))
   read_lost-affords u tries top below h lost f step costs =
-      let few = costs.few in let is = costs.cost_is in let some = read-some present s (found_uids a) u tries top below cost costs in
-      to_phase-affords (cond ((tries + 1) == TRIES) (split top below) (MutingRead u (tries + 1) top below)) (Finds-keeps present (found_uids a) s new (mute-keeps present s new u h step) f)
+      let few = costs.few in let is = costs.cost_is in
+      let some = read-some present s (found_uids a) u tries top below cost costs in
+      to_phase-affords (cond ((tries + 1) == TRIES) (split top below) (MutingRead u (tries + 1) top below))
+      (Finds-keeps present (found_uids a) s new (mute-keeps present s new u h step) f)
       (cond_both ((tries + 1) == TRIES) _ _ (Cheaper a.search present new (found_uids a) cost)
-      (λ five. split-costs a.search present (found_uids a) new cost top below costs.ranges set.ascending (two (eqb-true (tries + 1) TRIES five) costs.spelt) (omega arith) costs.covered)
-      (λ fewer. let other : tries + 1 ≡ TRIES → ⊥ = eqb-false (tries + 1) TRIES fewer in let less : tries + 1 ≤ 4 = grind arith in record {
+      (λ five. split-costs a.search present (found_uids a) new cost top below costs.ranges set.ascending
+      (two (eqb-true (tries + 1) TRIES five) costs.spelt) (omega arith) costs.covered)
+      (λ fewer. let other : tries + 1 ≡ TRIES → ⊥ = eqb-false (tries + 1) TRIES fewer in
+      let less : tries + 1 ≤ 4 = grind arith in record {
         left = cost - 2;
         saves = omega arith;
-        costs = record { ranges = costs.ranges; few = less; new = costs.new; lost = more_lost; spelt = costs.spelt; covered = costs.covered; cost_is = omega arith };
+        costs = record {
+          ranges = costs.ranges;
+          few = less;
+          new = costs.new;
+          lost = more_lost;
+          spelt = costs.spelt;
+          covered = costs.covered;
+          cost_is = omega arith;
+        };
       }))
     where
-      two : tries + 1 ≡ TRIES → (has present u ≡ true) ⊎ (2 ≤ left_in present (found_uids a) top) → 2 ≤ left_in present (found_uids a) top
-      two five (inl here) = let few = (lost-mute present s new u h lost step here).1 in let so_far = costs.lost here in absurd (omega arith)
+      two : tries + 1 ≡ TRIES → (has present u ≡ true) ⊎ (2 ≤ left_in present (found_uids a) top)
+          → 2 ≤ left_in present (found_uids a) top
+      two five (inl here) =
+          let few = (lost-mute present s new u h lost step here).1 in let so_far = costs.lost here in
+          absurd (omega arith)
       two five (inr several) = several
 
       more_lost : has present u ≡ true → tries + 1 ≤ new.lost_mutes
-      more_lost here = let one_more = (lost-mute present s new u h lost step here).0 in let so_far = costs.lost here in omega arith
+      more_lost here =
+          let one_more = (lost-mute present s new u h lost step here).0 in let so_far = costs.lost here in omega arith
 
   -- a mute of what the top range spelt
   pub read-affords : (u tries : ℕ) (top : Span) (below : List Span) (h : Heard) → h ≢ Failed
@@ -392,9 +538,16 @@ module _ (present : List ℕ) (set : IsDeviceSet present) (few : length present 
       let acked = acked-mute present s new u ack step in let few = costs.few in let is = costs.cost_is in
       to_found-affords u ack (Searching 0 top below) acked.0 acked.1 (mute-keeps present s new u (Acked ack) step) f
       (λ more grows now one_more.
-      let paid = Covers-device present (found_uids a) more grows u top below costs.ranges acked.0 (new-left (found_uids a) top u costs.new) now costs.covered in let fewer = paid.1 in
-      record { left = paid.0; saves = omega arith; costs = record { ranges = paid.0; few = omega arith; covered = paid.2; cost_is = omega arith } })
+      let paid = Covers-device present (found_uids a) more grows u top below costs.ranges acked.0
+      (new-left (found_uids a) top u costs.new) now costs.covered in let fewer = paid.1 in
+      record {
+        left = paid.0;
+        saves = omega arith;
+        costs = record { ranges = paid.0; few = omega arith; covered = paid.2; cost_is = omega arith };
+      })
   read-affords u tries top below Failed sound f step costs = absurd (sound refl)
-  read-affords u tries top below Silent sound f step costs = read_lost-affords u tries top below Silent refl f step costs
-  read-affords u tries top below (One v) sound f step costs = read_lost-affords u tries top below (One v) refl f step costs
+  read-affords u tries top below Silent sound f step costs =
+      read_lost-affords u tries top below Silent refl f step costs
+  read-affords u tries top below (One v) sound f step costs =
+      read_lost-affords u tries top below (One v) refl f step costs
   read-affords u tries top below Noise sound f step costs = read_lost-affords u tries top below Noise refl f step costs

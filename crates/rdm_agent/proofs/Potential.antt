@@ -5,7 +5,8 @@ use Rattle.rdm_wire.specs.Uid.{has, is_within}
 use Rattle.rdm_wire.specs.Span.{Span, whole}
 use Rattle.rdm_wire.specs.Honest.{LineState}
 use Rattle.rdm_agent.specs.Machine.{Phase, AgentState, Sweep, found_uids, is_new, probe}
-use Rattle.rdm_agent.specs.Machine.Phase.{Unmuting, MutingKnown, Searching, MutingRead, Sweeping, MutingSwept, Doubting, Ended}
+use Rattle.rdm_agent.specs.Machine.Phase.{Unmuting, MutingKnown, Searching, MutingRead, Sweeping, MutingSwept, Doubting}
+use Rattle.rdm_agent.specs.Machine.Phase.{Ended}
 use Rattle.rdm_agent.specs.declared.search.Search.{Search}
 use Rattle.rdm_agent.specs.declared.search.Search.TheVariants.{Steady, Quick}
 
@@ -42,12 +43,13 @@ Ahead Steady present found n = Covers present found (whole ∷ []) n
 Ahead Quick present found n = sweep_cost present found ≤ n
 
 -- two half exchanges for each unmute, ten for each known UID, and what covers all UIDs
-pub record CostsUnmuting (search : Search) (present found : List ℕ) (more : ℕ) (known : List ℕ) (cost : ℕ) : Type 0 where
-  pub ranges : ℕ
-  pub some : 1 ≤ more
-  pub none_found : found ≡ []
-  pub ahead : Ahead search present found ranges
-  pub cost_is : cost ≡ 2 * more + 10 * length known + ranges
+pub record CostsUnmuting (search : Search) (present found : List ℕ) (more : ℕ) (known : List ℕ) (cost : ℕ) : Type 0
+  where
+    pub ranges : ℕ
+    pub some : 1 ≤ more
+    pub none_found : found ≡ []
+    pub ahead : Ahead search present found ranges
+    pub cost_is : cost ≡ 2 * more + 10 * length known + ranges
 
 -- ten for each known UID without the tries made, and what covers all UIDs
 pub record CostsKnown (search : Search) (present found : List ℕ) (tries : ℕ) (known : List ℕ) (cost : ℕ) : Type 0 where
@@ -94,10 +96,13 @@ pub record CostsSwept (present : List ℕ) (line : LineState) (found : List ℕ)
 abbrev pub Costs : Search → List ℕ → LineState → List ℕ → Phase → ℕ → Type 0
 Costs search present line found (Unmuting more known) cost = CostsUnmuting search present found more known cost
 Costs search present line found (MutingKnown u tries known) cost = CostsKnown search present found tries known cost
-Costs search present line found (Searching silences top below) cost = CostsSearching present found silences (top ∷ below) cost
-Costs search present line found (MutingRead u tries top below) cost = CostsRead present line found u tries top below cost
+Costs search present line found (Searching silences top below) cost =
+    CostsSearching present found silences (top ∷ below) cost
+Costs search present line found (MutingRead u tries top below) cost =
+    CostsRead present line found u tries top below cost
 Costs search present line found (Sweeping sweep top below) cost = CostsSweeping present found sweep cost
-Costs search present line found (MutingSwept u tries sweep top below) cost = CostsSwept present line found u tries sweep top cost
+Costs search present line found (MutingSwept u tries sweep top below) cost =
+    CostsSwept present line found u tries sweep top cost
 Costs search present line found (Doubting sweep top below) cost = CostsSweeping present found sweep cost
 Costs search present line found (Ended fault) cost = fault ≡ None
 

@@ -1,5 +1,6 @@
 -- What a list of exchanges keeps as it grows at its end.
-use Rattle.std.proofs.Common.{◌≡◌, ℕ, ◌+◌, Bool, true, false, cond, not, one-add, List, [], ◌∷◌, ◌++◌, map, take, append_assoc, Option, None, Some, refl, sym, ap, ◌∙◌, subst, inl, inr, true≢false}
+use Rattle.std.proofs.Common.{◌≡◌, ℕ, ◌+◌, Bool, true, false, cond, not, one-add, List, [], ◌∷◌, ◌++◌, map, take}
+use Rattle.std.proofs.Common.{append_assoc, Option, None, Some, refl, sym, ap, ◌∙◌, subst, inl, inr, true≢false}
 use Rattle.std.specs.Prelude.{◌⊎◌, filter_map, replicate}
 use Rattle.std.specs.List.{AllByRecursion, before_first, position_or_len, cons_option}
 use Rattle.rdm_wire.specs.Uid.{has}
@@ -11,15 +12,18 @@ use Rattle.rdm_agent.specs.declared.limits.TheConstants.{UNMUTES}
 use Rattle.rdm_agent.proofs.Members.{has-put, has-first, put-has, last_part}
 
 -- what holds of each holds of each of the longer list
-pub All-push : {X : Type 0} (P : X → Type 0) (xs : List X) (x : X) → AllByRecursion P xs → P x → AllByRecursion P (xs ++ x ∷ [])
+pub All-push : {X : Type 0} (P : X → Type 0) (xs : List X) (x : X) → AllByRecursion P xs → P x
+    → AllByRecursion P (xs ++ x ∷ [])
 All-push P [] x all p = (p, tt)
 All-push P (y ∷ ys) x all p = (all.0, All-push P ys x all.1 p)
 
 -- what holds of each holds of the one at a place
-pub All-at : {X : Type 0} (P : X → Type 0) (xs front back : List X) (x : X) → AllByRecursion P xs → xs ≡ front ++ x ∷ back → P x
+pub All-at : {X : Type 0} (P : X → Type 0) (xs front back : List X) (x : X) → AllByRecursion P xs
+    → xs ≡ front ++ x ∷ back → P x
 All-at P xs front back x all whole = (last_part P front (x ∷ back) (subst (λ l. AllByRecursion P l) whole all)).0
 
-before_branch-cons : (e : Seen) (x : List Seen) → before_first is_branch (e ∷ x) ≡ cond (is_branch e) [] (e ∷ before_first is_branch x)
+before_branch-cons : (e : Seen) (x : List Seen)
+    → before_first is_branch (e ∷ x) ≡ cond (is_branch e) [] (e ∷ before_first is_branch x)
 before_branch-cons e x = by_test (is_branch e) (position_or_len is_branch x)
   where
     by_test : (b : Bool) (n : ℕ) → take (cond (not b) (1 + n) 0) (e ∷ x) ≡ cond b [] (e ∷ take n x)
@@ -36,12 +40,14 @@ module _ (f : Seen → Option ℕ) where
         | inr later ↦ has-put (f e) (filter_map f (x ++ y)) u (has-front x y u later)
       ]
 
-  pub has-at : (x : List Seen) (e : Seen) (y : List Seen) (u : ℕ) → f e ≡ Some u → has (filter_map f (x ++ e ∷ y)) u ≡ true
+  pub has-at : (x : List Seen) (e : Seen) (y : List Seen) (u : ℕ) → f e ≡ Some u
+      → has (filter_map f (x ++ e ∷ y)) u ≡ true
   has-at [] e y u is = has-first (f e) (filter_map f y) u is
   has-at (d ∷ x) e y u is = has-put (f d) (filter_map f (x ++ e ∷ y)) u (has-at x e y u is)
 
   -- and it is one of those before or of the last
-  pub push-has : (x : List Seen) (e : Seen) (u : ℕ) → has (filter_map f (x ++ e ∷ [])) u ≡ true → (has (filter_map f x) u ≡ true) ⊎ (f e ≡ Some u)
+  pub push-has : (x : List Seen) (e : Seen) (u : ℕ) → has (filter_map f (x ++ e ∷ [])) u ≡ true
+      → (has (filter_map f x) u ≡ true) ⊎ (f e ≡ Some u)
   push-has [] e u h = elim (put-has (f e) [] u h) [ inl last ↦ inr last | inr none ↦ inl none ]
   push-has (d ∷ x) e u h =
       elim (put-has (f d) (filter_map f (x ++ e ∷ [])) u h) [
@@ -58,7 +64,8 @@ module _ (f : Seen → Option ℕ) where
   read-push_none (d ∷ x) e none = ap (cons_option (f d)) (read-push_none x e none)
 
   -- one off which something is read adds that
-  pub read-push_some : (x : List Seen) (e : Seen) (u : ℕ) → f e ≡ Some u → filter_map f (x ++ e ∷ []) ≡ filter_map f x ++ u ∷ []
+  pub read-push_some : (x : List Seen) (e : Seen) (u : ℕ) → f e ≡ Some u
+      → filter_map f (x ++ e ∷ []) ≡ filter_map f x ++ u ∷ []
   read-push_some [] e u some = rw some refl
   read-push_some (d ∷ x) e u some = ap (cons_option (f d)) (read-push_some x e u some) ∙ after (f d) (filter_map f x) u
     where
@@ -67,12 +74,18 @@ module _ (f : Seen → Option ℕ) where
       after (Some v) us u = refl
 
   -- what is read before the first branch
-  pub has-before_branch : (x y : List Seen) (u : ℕ) → has (filter_map f (before_first is_branch x)) u ≡ true → has (filter_map f (before_first is_branch (x ++ y))) u ≡ true
+  pub has-before_branch : (x y : List Seen) (u : ℕ) → has (filter_map f (before_first is_branch x)) u ≡ true
+      → has (filter_map f (before_first is_branch (x ++ y))) u ≡ true
   has-before_branch [] y u h = absurd (true≢false (sym h))
-  has-before_branch (e ∷ x) y u h = rw (before_branch-cons e (x ++ y)) (by_test (is_branch e) (λ later. has-before_branch x y u later) (rw (before_branch-cons e x) at h))
+  has-before_branch (e ∷ x) y u h =
+      rw (before_branch-cons e (x ++ y))
+      (by_test (is_branch e) (λ later. has-before_branch x y u later) (rw (before_branch-cons e x) at h))
     where
-      by_test : (b : Bool) → (has (filter_map f (before_first is_branch x)) u ≡ true → has (filter_map f (before_first is_branch (x ++ y))) u ≡ true)
-          → has (filter_map f (cond b [] (e ∷ before_first is_branch x))) u ≡ true → has (filter_map f (cond b [] (e ∷ before_first is_branch (x ++ y)))) u ≡ true
+      by_test : (b : Bool)
+          → (has (filter_map f (before_first is_branch x)) u ≡ true
+          → has (filter_map f (before_first is_branch (x ++ y))) u ≡ true)
+          → has (filter_map f (cond b [] (e ∷ before_first is_branch x))) u ≡ true
+          → has (filter_map f (cond b [] (e ∷ before_first is_branch (x ++ y)))) u ≡ true
       by_test true onward none = none
       by_test false onward i = elim (put-has (f e) (filter_map f (before_first is_branch x)) u i) [
         | inl here ↦ has-first (f e) (filter_map f (before_first is_branch (x ++ y))) u here
@@ -85,7 +98,8 @@ no_branch-before [] none = refl
 no_branch-before (e ∷ x) none = before_branch-cons e x ∙ rw none.0 (ap (λ l. e ∷ l) (no_branch-before x none.1))
 
 -- exchanges in succession stay so
-pub InSuccession-push : {n : ℕ} {P : Seen → Type 0} {x : List Seen} (y : List Seen) → InSuccession n P x → InSuccession n P (x ++ y)
+pub InSuccession-push : {n : ℕ} {P : Seen → Type 0} {x : List Seen} (y : List Seen) → InSuccession n P x
+    → InSuccession n P (x ++ y)
 InSuccession-push y s = record {
   front = s.front;
   run = s.run;
@@ -99,11 +113,16 @@ InSuccession-push y s = record {
 pub IsCleared-push : {x : List Seen} {u : ℕ} (y : List Seen) → IsCleared x u → IsCleared (x ++ y) u
 IsCleared-push y c = record { lo = c.lo; hi = c.hi; within = c.within; silent = InSuccession-push y c.silent }
 
-pub IsTried-push : {s : List ℕ} {x : List Seen} {u : ℕ} (t : List ℕ) (y : List Seen) → (has s u ≡ true → has t u ≡ true) → IsTried s x u → IsTried t (x ++ y) u
-IsTried-push t y more tried = record { device = tried.device; tried = elim tried.tried [ inl found ↦ inl (more found) | inr lost ↦ inr (InSuccession-push y lost) ] }
+pub IsTried-push : {s : List ℕ} {x : List Seen} {u : ℕ} (t : List ℕ) (y : List Seen) → (has s u ≡ true → has t u ≡ true)
+    → IsTried s x u → IsTried t (x ++ y) u
+IsTried-push t y more tried = record {
+  device = tried.device;
+  tried = elim tried.tried [ inl found ↦ inl (more found) | inr lost ↦ inr (InSuccession-push y lost) ];
+}
 
 -- the first three are unmutes
-pub begun-push : (x y : List Seen) → take UNMUTES (map (λ (e : Seen). e.asked) x) ≡ replicate UNMUTES Unmute → take UNMUTES (map (λ (e : Seen). e.asked) (x ++ y)) ≡ replicate UNMUTES Unmute
+pub begun-push : (x y : List Seen) → take UNMUTES (map (λ (e : Seen). e.asked) x) ≡ replicate UNMUTES Unmute
+    → take UNMUTES (map (λ (e : Seen). e.asked) (x ++ y)) ≡ replicate UNMUTES Unmute
 begun-push (a ∷ b ∷ c ∷ x) y begun = begun
 begun-push [] y begun = absurd (short begun)
   where

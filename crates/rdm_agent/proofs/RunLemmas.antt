@@ -1,5 +1,6 @@
 -- An agent that ran stands after its exchanges.
-use Rattle.std.proofs.Common.{◌≡◌, ℕ, ◌+◌, ◌-◌, ◌<◌, ◌≤◌, true, false, cond, List, [], ◌∷◌, ◌++◌, length, take, None, Some, refl, sym, ap, ◌∙◌, subst, append_assoc, append-nil, arith}
+use Rattle.std.proofs.Common.{◌≡◌, ℕ, ◌+◌, ◌-◌, ◌<◌, ◌≤◌, true, false, cond, List, [], ◌∷◌, ◌++◌, length, take, None}
+use Rattle.std.proofs.Common.{Some, refl, sym, ap, ◌∙◌, subst, append_assoc, append-nil, arith}
 use Rattle.std.specs.Prelude.{◌≢◌, ◌==◌, nat_lt}
 use Rattle.std.specs.List.{AllByRecursion}
 use Rattle.std.proofs.lemmas.Bool.{cond_both, or_left, or_right, eq-eqb, eqb-true, eqb-false, ltb-true, ltb-false}
@@ -15,9 +16,11 @@ use Rattle.rdm_wire.specs.Honest.{Asked, Heard, Seen, is_acked}
 use Rattle.rdm_wire.specs.Honest.Asked.{Unmute, Branch, Mute}
 use Rattle.rdm_wire.specs.Honest.Heard.{Acked, Failed, Silent, One, Noise}
 use Rattle.rdm_wire.specs.declared.mute_ack.MuteAck.{MuteAck}
-use Rattle.rdm_agent.specs.Run.{acked_by, device_from, read_by, read_in, reported, InSuccession, IsSilentBranch, IsLostMute}
+use Rattle.rdm_agent.specs.Run.{acked_by, device_from, read_by, read_in, reported, InSuccession, IsSilentBranch}
+use Rattle.rdm_agent.specs.Run.{IsLostMute}
 use Rattle.rdm_agent.specs.Certificate.{known_of}
-use Rattle.rdm_agent.specs.Machine.{Phase, AgentState, heard_by_phase, branch_heard, known_heard, mute_heard, to_phase, to_found, search_from, search_below, split, is_new, found_uids}
+use Rattle.rdm_agent.specs.Machine.{Phase, AgentState, heard_by_phase, branch_heard, known_heard, mute_heard, to_phase}
+use Rattle.rdm_agent.specs.Machine.{to_found, search_from, search_below, split, is_new, found_uids}
 use Rattle.rdm_agent.specs.Machine.Phase.{Unmuting, MutingKnown, Searching, MutingRead, Ended}
 use Rattle.rdm_agent.specs.declared.kind.Kind.{Kind}
 use Rattle.rdm_agent.specs.declared.fault.AgentFault.TheVariants.{TooMany}
@@ -26,15 +29,19 @@ use Rattle.rdm_agent.proofs.OneDevice.{NotFailed}
 use Rattle.rdm_agent.proofs.Pushes.{All-push, read-push_none, has-at}
 use Rattle.rdm_agent.proofs.Sets.{has-with_uid}
 use Rattle.rdm_agent.proofs.Stacks.{IsStack-ends}
-use Rattle.rdm_agent.proofs.FoundLemmas.{IsFound-reported, IsFound-has, found-again, found-new, found-reports, found-one_too_many}
+use Rattle.rdm_agent.proofs.FoundLemmas.{IsFound-reported, IsFound-has, found-again, found-new, found-reports}
+use Rattle.rdm_agent.proofs.FoundLemmas.{found-one_too_many}
 use Rattle.rdm_agent.proofs.FirstAcked.{AsFirstAcked-push, AsFirstAcked-new}
 use Rattle.rdm_agent.proofs.UnmutePhase.{unmuting-push, unmuted}
 use Rattle.rdm_agent.proofs.KnownPhase.{known-lost, known-acked, known-given_up, known-next}
 use Rattle.rdm_agent.proofs.UnderWay.{EndsWith-none, EndsWith-push, EndsWith-succession, lost-acks_none}
-use Rattle.rdm_agent.proofs.SearchPhase.{search-branch, search-lost, search-acked, search-given_up, search-next, search-collided}
-use Rattle.rdm_agent.proofs.CorruptLemmas.{is_new-device, corrupt-reply, corrupt-mutes, lost_no_branches, not_corrupt-several, not_corrupt-silent, not_corrupt-acked}
+use Rattle.rdm_agent.proofs.SearchPhase.{search-branch, search-lost, search-acked, search-given_up, search-next}
+use Rattle.rdm_agent.proofs.SearchPhase.{search-collided}
+use Rattle.rdm_agent.proofs.CorruptLemmas.{is_new-device, corrupt-reply, corrupt-mutes, lost_no_branches}
+use Rattle.rdm_agent.proofs.CorruptLemmas.{not_corrupt-several, not_corrupt-silent, not_corrupt-acked}
 use Rattle.rdm_agent.specs.Cause.{IsCorrupt}
-use Rattle.rdm_agent.proofs.Invariant.{EndsWith, IsFound, MutesKnown, Searches, IsUnmuting, IsMutingKnown, IsSearching, IsMutingRead, WasSpelt, InPhase, RunInvariant}
+use Rattle.rdm_agent.proofs.Invariant.{EndsWith, IsFound, MutesKnown, Searches, IsUnmuting, IsMutingKnown, IsSearching}
+use Rattle.rdm_agent.proofs.Invariant.{IsMutingRead, WasSpelt, InPhase, RunInvariant}
 
 -- an exchange
 abbrev pub exchange : Asked → Heard → Seen
@@ -44,11 +51,13 @@ pub few_more : (n : ℕ) → n < TRIES → (n + 1 ≡ TRIES → ⊥) → n + 1 <
 few_more n few fewer = grind arith
 
 -- one more mute of what was spelt is lost
-pub WasSpelt-push : (u tries : ℕ) (top : Span) (x : List Seen) (h : Heard) → is_acked h ≡ false → WasSpelt u tries top x → WasSpelt u (tries + 1) top (x ++ exchange (Mute u) h ∷ [])
+pub WasSpelt-push : (u tries : ℕ) (top : Span) (x : List Seen) (h : Heard) → is_acked h ≡ false → WasSpelt u tries top x
+    → WasSpelt u (tries + 1) top (x ++ exchange (Mute u) h ∷ [])
 WasSpelt-push u tries top x h lost w = record {
   before = w.before;
   mutes = w.mutes ++ exchange (Mute u) h ∷ [];
-  whole = ap (λ l. l ++ exchange (Mute u) h ∷ []) w.whole ∙ append_assoc w.before (exchange (Branch top.lo top.hi) (One u) ∷ w.mutes) (exchange (Mute u) h ∷ []);
+  whole = ap (λ l. l ++ exchange (Mute u) h ∷ []) w.whole
+      ∙ append_assoc w.before (exchange (Branch top.lo top.hi) (One u) ∷ w.mutes) (exchange (Mute u) h ∷ []);
   many = length_push w.mutes (exchange (Mute u) h) ∙ ap (λ n. n + 1) w.many;
   lost = All-push (IsLostMute u) w.mutes (exchange (Mute u) h) w.lost (refl, lost);
 }
@@ -58,19 +67,24 @@ WasSpelt-succession u n top x w = record {
   front = w.before ++ exchange (Branch top.lo top.hi) (One u) ∷ [];
   run = w.mutes;
   back = [];
-  whole = w.whole ∙ sym (append_assoc w.before (exchange (Branch top.lo top.hi) (One u) ∷ []) w.mutes) ∙ sym (append-nil ((w.before ++ exchange (Branch top.lo top.hi) (One u) ∷ []) ++ w.mutes));
+  whole = w.whole ∙ sym (append_assoc w.before (exchange (Branch top.lo top.hi) (One u) ∷ []) w.mutes)
+      ∙ sym (append-nil ((w.before ++ exchange (Branch top.lo top.hi) (One u) ∷ []) ++ w.mutes));
   many = w.many;
   each = w.lost;
 }
 
 -- a UID that was spelt is a device's
-pub is_muting_read-device : (known : List ℕ) (u tries : ℕ) (top : Span) (below : List Span) (x : List Seen) (found : List ℕ) → IsMutingRead known u tries top below x found → IsDevice u
+pub is_muting_read-device : (known : List ℕ) (u tries : ℕ) (top : Span) (below : List Span) (x : List Seen)
+    (found : List ℕ) → IsMutingRead known u tries top below x found → IsDevice u
 is_muting_read-device known u tries top below x found p =
-    let new = is_new-device found top u p.new in let to = new.to in let end = (IsStack-ends top below p.searches.stack).1 in record { in_range = omega arith; own = new.own }
+    let new = is_new-device found top u p.new in let to = new.to in
+    let end = (IsStack-ends top below p.searches.stack).1 in record { in_range = omega arith; own = new.own }
 
-module _ (kind : Kind) (known : List ℕ) (budget : ℕ) (x : List Seen) (a : AgentState) (s : RunInvariant kind known budget x a) (goes : nat_lt a.frames a.budget ≡ true) where
+module _ (kind : Kind) (known : List ℕ) (budget : ℕ) (x : List Seen) (a : AgentState)
+    (s : RunInvariant kind known budget x a) (goes : nat_lt a.frames a.budget ≡ true) where
   counted : (e : Seen) → (a.frames + 1 ≡ length (x ++ e ∷ [])) × (length (x ++ e ∷ []) ≤ budget)
-  counted e = let longer = length_push x e in let same = s.budget_is in let frames = s.frames_are in let below : a.frames < a.budget = ltb-true a.frames a.budget goes in (omega arith, omega arith)
+  counted e = let longer = length_push x e in let same = s.budget_is in let frames = s.frames_are in
+      let below : a.frames < a.budget = ltb-true a.frames a.budget goes in (omega arith, omega arith)
 
   -- nothing is found, and the phase goes on
   pub to_phase-stands : (e : Seen) (phase : Phase) → (found_uids a) ≡ reported (x ++ e ∷ [])
@@ -87,7 +101,8 @@ module _ (kind : Kind) (known : List ℕ) (budget : ℕ) (x : List Seen) (a : Ag
 
   -- without an acknowledgement the same is reported
   pub reported-same : (e : Seen) → acked_by e ≡ None → (found_uids a) ≡ reported (x ++ e ∷ [])
-  reported-same e none = s.reports ∙ ap (λ us. set_of (take MOST_DEVICES (once us))) (sym (read-push_none acked_by x e none))
+  reported-same e none =
+      s.reports ∙ ap (λ us. set_of (take MOST_DEVICES (once us))) (sym (read-push_none acked_by x e none))
 
   -- an acknowledgement comes
   pub to_found-stands : (u : ℕ) (ack : MuteAck) (phase : Phase) → AllByRecursion NotFailed x → IsFound x (found_uids a)
@@ -95,7 +110,9 @@ module _ (kind : Kind) (known : List ℕ) (budget : ℕ) (x : List Seen) (a : Ag
       → ((v : ℕ) → has (found_uids a) v ≡ true → has more v ≡ true) → has more u ≡ true
       → InPhase kind known budget phase (x ++ exchange (Mute u) (Acked ack) ∷ []) more)
       → RunInvariant kind known budget (x ++ exchange (Mute u) (Acked ack) ∷ []) (to_found a (device_from u ack) phase)
-  to_found-stands u ack phase sound f onward = cond_both (has (found_uids a) u) _ _ P at_old (λ new. cond_both (nat_lt (length (found_uids a)) MOST_DEVICES) _ _ P (at_new new) (at_full new))
+  to_found-stands u ack phase sound f onward =
+      cond_both (has (found_uids a) u) _ _ P at_old
+      (λ new. cond_both (nat_lt (length (found_uids a)) MOST_DEVICES) _ _ P (at_new new) (at_full new))
     where
       e : Seen
       e = exchange (Mute u) (Acked ack)
@@ -105,7 +122,8 @@ module _ (kind : Kind) (known : List ℕ) (budget : ℕ) (x : List Seen) (a : Ag
 
       at_old : has (found_uids a) u ≡ true → P (to_phase a phase)
       at_old old = let is_found : IsFound (x ++ e ∷ []) (found_uids a) = found-again x (found_uids a) e f u refl old in
-          to_phase-stands e phase (IsFound-reported (x ++ e ∷ []) (found_uids a) is_found) (onward (found_uids a) is_found (λ v here. here) old)
+          to_phase-stands e phase (IsFound-reported (x ++ e ∷ []) (found_uids a) is_found)
+          (onward (found_uids a) is_found (λ v here. here) old)
 
       d : Device
       d = device_from u ack
@@ -121,26 +139,30 @@ module _ (kind : Kind) (known : List ℕ) (budget : ℕ) (x : List Seen) (a : Ag
             found = with_device d a.found;
             phase = phase;
           })
-      at_new new space = let is_found : IsFound (x ++ e ∷ []) (with_uid u (found_uids a)) = found-new x (found_uids a) e f u refl new (ltb-true (length (found_uids a)) MOST_DEVICES space) in record {
-        budget_is = s.budget_is;
-        frames_are = (counted e).0;
-        within = (counted e).1;
-        reports = grown ∙ IsFound-reported (x ++ e ∷ []) (with_uid u (found_uids a)) is_found;
-        first = AsFirstAcked-new x e d a.found refl (IsFound-has x (found_uids a) f u ∙ new) s.first;
-        phase = subst (λ us. InPhase kind known budget phase (x ++ e ∷ []) us) (sym grown)
-            (onward (with_uid u (found_uids a)) is_found (λ v here. has-with_uid u (found_uids a) v
-            ∙ or_right (v == u) (has (found_uids a) v) here)
-            (has-with_uid u (found_uids a) u ∙ or_left (u == u) (has (found_uids a) u) (eq-eqb u u refl)));
-      }
+      at_new new space =
+          let is_found : IsFound (x ++ e ∷ []) (with_uid u (found_uids a)) = found-new x (found_uids a) e f u refl new
+          (ltb-true (length (found_uids a)) MOST_DEVICES space) in record {
+            budget_is = s.budget_is;
+            frames_are = (counted e).0;
+            within = (counted e).1;
+            reports = grown ∙ IsFound-reported (x ++ e ∷ []) (with_uid u (found_uids a)) is_found;
+            first = AsFirstAcked-new x e d a.found refl (IsFound-has x (found_uids a) f u ∙ new) s.first;
+            phase = subst (λ us. InPhase kind known budget phase (x ++ e ∷ []) us) (sym grown)
+                (onward (with_uid u (found_uids a)) is_found (λ v here. has-with_uid u (found_uids a) v
+                ∙ or_right (v == u) (has (found_uids a) v) here)
+                (has-with_uid u (found_uids a) u ∙ or_left (u == u) (has (found_uids a) u) (eq-eqb u u refl)));
+          }
 
-      at_full : has (found_uids a) u ≡ false → nat_lt (length (found_uids a)) MOST_DEVICES ≡ false → P (to_phase a (Ended (Some TooMany)))
-      at_full new full = to_phase-stands e (Ended (Some TooMany)) (found-reports x (found_uids a) e f u refl new all) (record {
-        before = x;
-        last = e;
-        whole = refl;
-        no_failure = sound;
-        certified = found-one_too_many x (found_uids a) e f u ack refl new all;
-      })
+      at_full : has (found_uids a) u ≡ false → nat_lt (length (found_uids a)) MOST_DEVICES ≡ false
+          → P (to_phase a (Ended (Some TooMany)))
+      at_full new full =
+          to_phase-stands e (Ended (Some TooMany)) (found-reports x (found_uids a) e f u refl new all) (record {
+            before = x;
+            last = e;
+            whole = refl;
+            no_failure = sound;
+            certified = found-one_too_many x (found_uids a) e f u ack refl new all;
+          })
         where
           all : length (found_uids a) ≡ MOST_DEVICES
           all = let room = f.room in let least = ltb-false (length (found_uids a)) MOST_DEVICES full in omega arith
@@ -149,21 +171,27 @@ module _ (kind : Kind) (known : List ℕ) (budget : ℕ) (x : List Seen) (a : Ag
   pub unmuting-stands : (more : ℕ) (left : List ℕ) (h : Heard) → h ≢ Failed
       → InPhase kind known budget (Unmuting more left) x (found_uids a)
       → RunInvariant kind known budget (x ++ exchange Unmute h ∷ []) (heard_by_phase a (Unmuting more left) h)
-  unmuting-stands more left h sound p = to_phase-stands (exchange Unmute h) (cond (nat_lt 1 more) (Unmuting (more - 1) left) (search_from a.search left)) (reported-same (exchange Unmute h) refl)
+  unmuting-stands more left h sound p =
+      to_phase-stands (exchange Unmute h) (cond (nat_lt 1 more) (Unmuting (more - 1) left) (search_from a.search left))
+      (reported-same (exchange Unmute h) refl)
       (cond_both (nat_lt 1 more) _ _ (λ q. InPhase kind known budget q (x ++ exchange Unmute h ∷ []) (found_uids a))
       (λ two. let above : 1 < more = ltb-true 1 more two in (omega arith, pushed))
-      (λ one. known-next kind known budget a.search left (x ++ exchange Unmute h ∷ []) (found_uids a) (unmuted (known_of kind known) left (x ++ exchange Unmute h ∷ []) (found_uids a) (at_end one))))
+      (λ one. known-next kind known budget a.search left (x ++ exchange Unmute h ∷ []) (found_uids a)
+      (unmuted (known_of kind known) left (x ++ exchange Unmute h ∷ []) (found_uids a) (at_end one))))
     where
       pushed : IsUnmuting (known_of kind known) (more - 1) left (x ++ exchange Unmute h ∷ []) (found_uids a)
       pushed = unmuting-push (known_of kind known) more left x (found_uids a) h p.0 sound p.1
 
-      at_end : nat_lt 1 more ≡ false → IsUnmuting (known_of kind known) 0 left (x ++ exchange Unmute h ∷ []) (found_uids a)
+      at_end : nat_lt 1 more ≡ false
+          → IsUnmuting (known_of kind known) 0 left (x ++ exchange Unmute h ∷ []) (found_uids a)
       at_end one = subst (λ n. IsUnmuting (known_of kind known) n left (x ++ exchange Unmute h ∷ []) (found_uids a))
           (let few : more ≤ 1 = ltb-false 1 more one in let none : more - 1 ≡ 0 = omega arith in none) pushed
 
   -- a known UID is muted
-  known_lost-stands : (u tries : ℕ) (left : List ℕ) (h : Heard) → h ≢ Failed → is_acked h ≡ false → IsMutingKnown (known_of kind known) u tries left x (found_uids a)
-      → RunInvariant kind known budget (x ++ exchange (Mute u) h ∷ []) (to_phase a (cond ((tries + 1) == TRIES) (search_from a.search left) (MutingKnown u (tries + 1) left)))
+  known_lost-stands : (u tries : ℕ) (left : List ℕ) (h : Heard) → h ≢ Failed → is_acked h ≡ false
+      → IsMutingKnown (known_of kind known) u tries left x (found_uids a)
+      → RunInvariant kind known budget (x ++ exchange (Mute u) h ∷ [])
+      (to_phase a (cond ((tries + 1) == TRIES) (search_from a.search left) (MutingKnown u (tries + 1) left)))
   known_lost-stands u tries left h sound lost p =
       to_phase-stands e (cond ((tries + 1) == TRIES) (search_from a.search left) (MutingKnown u (tries + 1) left))
       (reported-same e (lost-acks_none u h lost))
@@ -172,7 +200,11 @@ module _ (kind : Kind) (known : List ℕ) (budget : ℕ) (x : List Seen) (a : Ag
       (known-given_up (known_of kind known) u left (x ++ e ∷ []) (found_uids a) muting
       (EndsWith-succession (subst (λ n. EndsWith n (IsLostMute u) (x ++ e ∷ [])) (eqb-true (tries + 1) TRIES five)
       ends))))
-      (λ fewer. record { muting = muting; few = few_more tries p.few (eqb-false (tries + 1) TRIES fewer); lost = ends }))
+      (λ fewer. record {
+        muting = muting;
+        few = few_more tries p.few (eqb-false (tries + 1) TRIES fewer);
+        lost = ends;
+      }))
     where
       e : Seen
       e = exchange (Mute u) h
@@ -186,7 +218,8 @@ module _ (kind : Kind) (known : List ℕ) (budget : ℕ) (x : List Seen) (a : Ag
   pub known-stands : (u tries : ℕ) (left : List ℕ) (h : Heard) → h ≢ Failed
       → IsMutingKnown (known_of kind known) u tries left x (found_uids a)
       → RunInvariant kind known budget (x ++ exchange (Mute u) h ∷ []) (known_heard a u tries left h)
-  known-stands u tries left (Acked ack) sound p = to_found-stands u ack (search_from a.search left) p.muting.under_way.no_failure p.muting.under_way.is_found
+  known-stands u tries left (Acked ack) sound p =
+      to_found-stands u ack (search_from a.search left) p.muting.under_way.no_failure p.muting.under_way.is_found
       (λ more is_found grows here. known-next kind known budget a.search left (x ++ exchange (Mute u) (Acked ack) ∷ [])
       more (known-acked (known_of kind known) u left x (found_uids a) p.muting ack more is_found grows here))
   known-stands u tries left Failed sound p = absurd (sound refl)
@@ -208,14 +241,23 @@ module _ (kind : Kind) (known : List ℕ) (budget : ℕ) (x : List Seen) (a : Ag
       e : Seen
       e = exchange (Branch top.lo top.hi) h
 
-  silent-stands : (silences : ℕ) (top : Span) (below : List Span) → IsSearching (known_of kind known) silences top below x (found_uids a)
-      → RunInvariant kind known budget (x ++ exchange (Branch top.lo top.hi) Silent ∷ []) (to_phase a (cond ((silences + 1) == TRIES) (search_below below) (Searching (silences + 1) top below)))
-  silent-stands silences top below p = to_phase-stands e (cond ((silences + 1) == TRIES) (search_below below) (Searching (silences + 1) top below)) (reported-same e refl)
+  silent-stands : (silences : ℕ) (top : Span) (below : List Span)
+      → IsSearching (known_of kind known) silences top below x (found_uids a)
+      → RunInvariant kind known budget (x ++ exchange (Branch top.lo top.hi) Silent ∷ [])
+      (to_phase a (cond ((silences + 1) == TRIES) (search_below below) (Searching (silences + 1) top below)))
+  silent-stands silences top below p =
+      to_phase-stands e (cond ((silences + 1) == TRIES) (search_below below) (Searching (silences + 1) top below))
+      (reported-same e refl)
       (cond_both ((silences + 1) == TRIES) _ _ (λ q. InPhase kind known budget q (x ++ e ∷ []) (found_uids a))
       (λ five. search-next kind known budget top below x e (found_uids a) searches
       (EndsWith-succession (subst (λ n. EndsWith n (IsSilentBranch top.lo top.hi) (x ++ e ∷ []))
       (eqb-true (silences + 1) TRIES five) ends)) not_corrupt)
-      (λ fewer. record { searches = searches; few = few_more silences p.few (eqb-false (silences + 1) TRIES fewer); silent = ends; not_corrupt = not_corrupt }))
+      (λ fewer. record {
+        searches = searches;
+        few = few_more silences p.few (eqb-false (silences + 1) TRIES fewer);
+        silent = ends;
+        not_corrupt = not_corrupt;
+      }))
     where
       e : Seen
       e = exchange (Branch top.lo top.hi) Silent
@@ -224,7 +266,8 @@ module _ (kind : Kind) (known : List ℕ) (budget : ℕ) (x : List Seen) (a : Ag
       sound q = cc
 
       searches : Searches (known_of kind known) None top below (x ++ e ∷ []) (found_uids a)
-      searches = search-branch (known_of kind known) top below x (found_uids a) None top.lo top.hi Silent p.searches sound
+      searches = search-branch (known_of kind known) top below x (found_uids a) None top.lo top.hi Silent p.searches
+          sound
 
       not_corrupt : (u : ℕ) → IsCorrupt u (x ++ e ∷ []) → ⊥
       not_corrupt u c = not_corrupt-silent u x top.lo top.hi c
@@ -232,16 +275,21 @@ module _ (kind : Kind) (known : List ℕ) (budget : ℕ) (x : List Seen) (a : Ag
       ends : EndsWith (silences + 1) (IsSilentBranch top.lo top.hi) (x ++ e ∷ [])
       ends = EndsWith-push e p.silent (refl, refl)
 
-  spelt-stands : (silences : ℕ) (top : Span) (below : List Span) (u : ℕ) → IsSearching (known_of kind known) silences top below x (found_uids a)
-      → RunInvariant kind known budget (x ++ exchange (Branch top.lo top.hi) (One u) ∷ []) (to_phase a (cond (is_new (found_uids a) top u) (MutingRead u 0 top below) (split top below)))
-  spelt-stands silences top below u p = cond_both (is_new (found_uids a) top u) _ _ (λ q. RunInvariant kind known budget (x ++ e ∷ []) (to_phase a q))
+  spelt-stands : (silences : ℕ) (top : Span) (below : List Span) (u : ℕ)
+      → IsSearching (known_of kind known) silences top below x (found_uids a)
+      → RunInvariant kind known budget (x ++ exchange (Branch top.lo top.hi) (One u) ∷ [])
+      (to_phase a (cond (is_new (found_uids a) top u) (MutingRead u 0 top below) (split top below)))
+  spelt-stands silences top below u p =
+      cond_both (is_new (found_uids a) top u) _ _ (λ q. RunInvariant kind known budget (x ++ e ∷ []) (to_phase a q))
       (λ new. to_phase-stands e (MutingRead u 0 top below) (reported-same e refl) (record {
-        searches = search-branch (known_of kind known) top below x (found_uids a) (Some u) top.lo top.hi (One u) p.searches sound;
+        searches = search-branch (known_of kind known) top below x (found_uids a) (Some u) top.lo top.hi (One u)
+            p.searches sound;
         few = omega arith;
         new = new;
         spelt = record { before = x; mutes = []; whole = refl; many = refl; lost = tt };
       }))
-      (λ old. collided-stands silences top below (One u) sound loud (λ v is. subst (λ (w : ℕ). is_new (found_uids a) top w ≡ false) (same v is) old) p)
+      (λ old. collided-stands silences top below (One u) sound loud
+      (λ v is. subst (λ (w : ℕ). is_new (found_uids a) top w ≡ false) (same v is) old) p)
     where
       e : Seen
       e = exchange (Branch top.lo top.hi) (One u)
@@ -262,24 +310,39 @@ module _ (kind : Kind) (known : List ℕ) (budget : ℕ) (x : List Seen) (a : Ag
   searching-stands silences top below Silent sound p = silent-stands silences top below p
   searching-stands silences top below (One u) sound p = spelt-stands silences top below u p
   searching-stands silences top below Failed sound p = absurd (sound refl)
-  searching-stands silences top below (Acked ack) sound p = collided-stands silences top below (Acked ack) sound (λ q. cc) (λ u q. cc) p
-  searching-stands silences top below Noise sound p = collided-stands silences top below Noise sound (λ q. cc) (λ u q. cc) p
+  searching-stands silences top below (Acked ack) sound p =
+      collided-stands silences top below (Acked ack) sound (λ q. cc) (λ u q. cc) p
+  searching-stands silences top below Noise sound p =
+      collided-stands silences top below Noise sound (λ q. cc) (λ u q. cc) p
 
   -- what the top range spelt is muted
   pub read_is : (u tries : ℕ) (top : Span) → WasSpelt u tries top x → has (read_in x) u ≡ true
-  read_is u tries top w = subst (λ l. has (read_in l) u ≡ true) (sym w.whole) (has-at read_by w.before (exchange (Branch top.lo top.hi) (One u)) w.mutes u refl)
+  read_is u tries top w =
+      subst (λ l. has (read_in l) u ≡ true) (sym w.whole)
+      (has-at read_by w.before (exchange (Branch top.lo top.hi) (One u)) w.mutes u refl)
 
-  mute_lost-stands : (u tries : ℕ) (top : Span) (below : List Span) (h : Heard) → h ≢ Failed → is_acked h ≡ false → IsMutingRead (known_of kind known) u tries top below x (found_uids a)
-      → RunInvariant kind known budget (x ++ exchange (Mute u) h ∷ []) (to_phase a (cond ((tries + 1) == TRIES) (split top below) (MutingRead u (tries + 1) top below)))
-  mute_lost-stands u tries top below h sound lost p = to_phase-stands e (cond ((tries + 1) == TRIES) (split top below) (MutingRead u (tries + 1) top below)) (reported-same e (lost-acks_none u h lost))
-      (cond_both ((tries + 1) == TRIES) _ _ (λ q. InPhase kind known budget q (x ++ e ∷ []) (found_uids a)) (λ last. given_up (spelt_five (eqb-true (tries + 1) TRIES last)))
-      (λ fewer. record { searches = searches; few = few_more tries p.few (eqb-false (tries + 1) TRIES fewer); new = p.new; spelt = spelt }))
+  mute_lost-stands : (u tries : ℕ) (top : Span) (below : List Span) (h : Heard) → h ≢ Failed → is_acked h ≡ false
+      → IsMutingRead (known_of kind known) u tries top below x (found_uids a)
+      → RunInvariant kind known budget (x ++ exchange (Mute u) h ∷ [])
+      (to_phase a (cond ((tries + 1) == TRIES) (split top below) (MutingRead u (tries + 1) top below)))
+  mute_lost-stands u tries top below h sound lost p =
+      to_phase-stands e (cond ((tries + 1) == TRIES) (split top below) (MutingRead u (tries + 1) top below))
+      (reported-same e (lost-acks_none u h lost))
+      (cond_both ((tries + 1) == TRIES) _ _ (λ q. InPhase kind known budget q (x ++ e ∷ []) (found_uids a))
+      (λ last. given_up (spelt_five (eqb-true (tries + 1) TRIES last)))
+      (λ fewer. record {
+        searches = searches;
+        few = few_more tries p.few (eqb-false (tries + 1) TRIES fewer);
+        new = p.new;
+        spelt = spelt;
+      }))
     where
       e : Seen
       e = exchange (Mute u) h
 
       searches : Searches (known_of kind known) (Some u) top below (x ++ e ∷ []) (found_uids a)
-      searches = search-lost (known_of kind known) top below x (found_uids a) u h p.searches (read_is u tries top p.spelt) sound lost
+      searches = search-lost (known_of kind known) top below x (found_uids a) u h p.searches
+          (read_is u tries top p.spelt) sound lost
 
       spelt : WasSpelt u (tries + 1) top (x ++ e ∷ [])
       spelt = WasSpelt-push u tries top x h lost p.spelt
@@ -287,18 +350,22 @@ module _ (kind : Kind) (known : List ℕ) (budget : ℕ) (x : List Seen) (a : Ag
       spelt_five : tries + 1 ≡ TRIES → WasSpelt u TRIES top (x ++ e ∷ [])
       spelt_five five = subst (λ n. WasSpelt u n top (x ++ e ∷ [])) five spelt
 
-      given_up : WasSpelt u TRIES top (x ++ e ∷ []) → InPhase kind known budget (split top below) (x ++ e ∷ []) (found_uids a)
+      given_up : WasSpelt u TRIES top (x ++ e ∷ [])
+          → InPhase kind known budget (split top below) (x ++ e ∷ []) (found_uids a)
       given_up five = search-collided kind known budget top below x e (found_uids a)
           (search-given_up (known_of kind known) top below (x ++ e ∷ []) (found_uids a) u
           (is_muting_read-device (known_of kind known) u tries top below x (found_uids a) p)
           (WasSpelt-succession u TRIES top (x ++ e ∷ []) five) searches)
-          (corrupt-mutes top u (x ++ e ∷ []) (found_uids a) searches.under_way.no_failure (is_new-device (found_uids a) top u p.new) five)
-          (λ several w c. not_corrupt-several w (x ++ e ∷ []) five.before five.mutes top.lo top.hi (One u) five.whole (lost_no_branches u five.mutes five.lost) several c)
+          (corrupt-mutes top u (x ++ e ∷ []) (found_uids a) searches.under_way.no_failure
+          (is_new-device (found_uids a) top u p.new) five)
+          (λ several w c. not_corrupt-several w (x ++ e ∷ []) five.before five.mutes top.lo top.hi (One u) five.whole
+          (lost_no_branches u five.mutes five.lost) several c)
 
   pub muting-stands : (u tries : ℕ) (top : Span) (below : List Span) (h : Heard) → h ≢ Failed
       → IsMutingRead (known_of kind known) u tries top below x (found_uids a)
       → RunInvariant kind known budget (x ++ exchange (Mute u) h ∷ []) (mute_heard a u tries top below h)
-  muting-stands u tries top below (Acked ack) sound p = to_found-stands u ack (Searching 0 top below) p.searches.under_way.no_failure p.searches.under_way.is_found
+  muting-stands u tries top below (Acked ack) sound p =
+      to_found-stands u ack (Searching 0 top below) p.searches.under_way.no_failure p.searches.under_way.is_found
       (λ more is_found grows here. record {
         searches = search-acked (known_of kind known) top below x (found_uids a) u ack more
             (is_muting_read-device (known_of kind known) u tries top below x (found_uids a) p) p.searches

@@ -1,5 +1,6 @@
 -- What is shown of whole runs.
-use Rattle.std.proofs.Common.{◌≡◌, ℕ, ◌+◌, ◌-◌, ◌<◌, ◌≤◌, Bool, true, false, cond, List, [], ◌∷◌, ◌++◌, length, map, Option, None, Some, refl, sym, ap, ◌∙◌, subst, append_assoc, append-nil, arith}
+use Rattle.std.proofs.Common.{◌≡◌, ℕ, ◌+◌, ◌-◌, ◌<◌, ◌≤◌, Bool, true, false, cond, List, [], ◌∷◌, ◌++◌, length, map}
+use Rattle.std.proofs.Common.{Option, None, Some, refl, sym, ap, ◌∙◌, subst, append_assoc, append-nil, arith}
 use Rattle.std.specs.Prelude.{◌≢◌, nat_lt, MatchOption}
 use Rattle.std.specs.List.{AllByRecursion}
 use Rattle.std.proofs.lemmas.Bool.{ltb-false, le-ltb, cond-false}
@@ -11,9 +12,12 @@ use Rattle.rdm_wire.specs.Honest.Heard.{Acked, Failed, Silent, One, Noise}
 use Rattle.rdm_agent.specs.Run.{FailureIsLast}
 use Rattle.rdm_agent.specs.Certificate.{Certificate, SearchShows, known_of}
 use Rattle.rdm_agent.specs.Cause.{Cause, IsCorrupt, EndsFailed, AllReported}
-use Rattle.rdm_agent.specs.Machine.{Phase, AgentState, Runs, start, start_by, next_of, wanted, fed, fault_of, heard_by_phase, to_phase, open_ranges, found_uids, probe}
-use Rattle.rdm_agent.specs.Machine.Phase.{Unmuting, MutingKnown, Searching, MutingRead, Sweeping, MutingSwept, Doubting, Ended}
-use Rattle.rdm_agent.specs.Statements.{AsksInOrder, EndsAtFailure, EndsAtBudget, GoesOnSoundly, FindsAcknowledged, HasFewRanges, EndsCertified, IsInOrder}
+use Rattle.rdm_agent.specs.Machine.{Phase, AgentState, Runs, start, start_by, next_of, wanted, fed, fault_of}
+use Rattle.rdm_agent.specs.Machine.{heard_by_phase, to_phase, open_ranges, found_uids, probe}
+use Rattle.rdm_agent.specs.Machine.Phase.{Unmuting, MutingKnown, Searching, MutingRead, Sweeping, MutingSwept, Doubting}
+use Rattle.rdm_agent.specs.Machine.Phase.{Ended}
+use Rattle.rdm_agent.specs.Statements.{AsksInOrder, EndsAtFailure, EndsAtBudget, GoesOnSoundly, FindsAcknowledged}
+use Rattle.rdm_agent.specs.Statements.{HasFewRanges, EndsCertified, IsInOrder}
 use Rattle.rdm_agent.specs.declared.kind.Kind.{Kind}
 use Rattle.rdm_agent.specs.declared.search.Search.{Search}
 use Rattle.rdm_agent.specs.declared.search.Search.TheVariants.{Steady}
@@ -29,7 +33,8 @@ use Rattle.rdm_agent.proofs.FoundLemmas.{IsFound-all_reported, found-same}
 use Rattle.rdm_agent.proofs.CorruptLemmas.{is_new-device, not_corrupt-no_branch, not_corrupt-spelt}
 use Rattle.rdm_agent.proofs.UnmutePhase.{no_branches}
 use Rattle.rdm_agent.proofs.Stacks.{IsStack-length, IsStack-ends}
-use Rattle.rdm_agent.proofs.RunLemmas.{to_phase-stands, reported-same, unmuting-stands, known-stands, searching-stands, muting-stands, is_muting_read-device}
+use Rattle.rdm_agent.proofs.RunLemmas.{to_phase-stands, reported-same, unmuting-stands, known-stands, searching-stands}
+use Rattle.rdm_agent.proofs.RunLemmas.{muting-stands, is_muting_read-device}
 use Rattle.rdm_agent.proofs.SweepPhase.{probe_is, probe-new}
 use Rattle.rdm_agent.proofs.SweepRuns.{sweeping-stands, swept-stands, doubting-stands, is_muting_swept-device}
 use Rattle.rdm_agent.proofs.Invariant.{IsFound, InPhase, IsUnderWay, RunInvariant}
@@ -41,21 +46,32 @@ module _ (kind : Kind) (known : List ℕ) (budget : ℕ) where
     pub is_found : IsFound x found
     pub not_corrupt : (u : ℕ) → IsCorrupt u x → ⊥
 
-  is_open : (phase : Phase) (x : List Seen) (found : List ℕ) → InPhase kind known budget phase x found → MatchOption (wanted phase) (Unit {0}) (λ asked. IsOpen x found)
-  is_open (Unmuting more left) x found p = record { no_failure = p.1.no_failure; is_found = p.1.is_found; not_corrupt = λ u c. not_corrupt-no_branch u x (no_branches x p.1.unmutes) c }
+  is_open : (phase : Phase) (x : List Seen) (found : List ℕ) → InPhase kind known budget phase x found
+      → MatchOption (wanted phase) (Unit {0}) (λ asked. IsOpen x found)
+  is_open (Unmuting more left) x found p = record {
+    no_failure = p.1.no_failure;
+    is_found = p.1.is_found;
+    not_corrupt = λ u c. not_corrupt-no_branch u x (no_branches x p.1.unmutes) c;
+  }
   is_open (MutingKnown u tries left) x found p =
       let w = p.muting.under_way in record {
         no_failure = w.no_failure;
         is_found = w.is_found;
         not_corrupt = λ v c. not_corrupt-no_branch v x p.muting.no_branch c;
       }
-  is_open (Searching silences top below) x found p = let w = p.searches.under_way in record { no_failure = w.no_failure; is_found = w.is_found; not_corrupt = p.not_corrupt }
+  is_open (Searching silences top below) x found p =
+      let w = p.searches.under_way in
+      record { no_failure = w.no_failure; is_found = w.is_found; not_corrupt = p.not_corrupt }
   is_open (MutingRead u tries top below) x found p = let w = p.searches.under_way in record {
     no_failure = w.no_failure;
     is_found = w.is_found;
-    not_corrupt = λ v c. not_corrupt-spelt v u tries top x found w.is_found (IsStack-ends top below p.searches.stack).1 (is_new-device found top u p.new) p.spelt p.few c;
+    not_corrupt =
+        λ v c. not_corrupt-spelt v u tries top x found w.is_found (IsStack-ends top below p.searches.stack).1
+        (is_new-device found top u p.new) p.spelt p.few c;
   }
-  is_open (Sweeping sweep top below) x found p = let w = p.searches.under_way in record { no_failure = w.no_failure; is_found = w.is_found; not_corrupt = p.not_corrupt }
+  is_open (Sweeping sweep top below) x found p =
+      let w = p.searches.under_way in
+      record { no_failure = w.no_failure; is_found = w.is_found; not_corrupt = p.not_corrupt }
   is_open (MutingSwept u tries sweep top below) x found p = let w = p.searches.under_way in record {
     no_failure = w.no_failure;
     is_found = w.is_found;
@@ -63,67 +79,95 @@ module _ (kind : Kind) (known : List ℕ) (budget : ℕ) where
         (let end = (IsStack-ends top below p.stack).1 in let to = (probe_is sweep.suspect top).to in omega arith)
         (probe-new sweep.suspect found top u p.new) p.spelt p.few c;
   }
-  is_open (Doubting sweep top below) x found p = let w = p.sweeps.searches.under_way in record { no_failure = w.no_failure; is_found = w.is_found; not_corrupt = p.sweeps.not_corrupt }
+  is_open (Doubting sweep top below) x found p =
+      let w = p.sweeps.searches.under_way in
+      record { no_failure = w.no_failure; is_found = w.is_found; not_corrupt = p.sweeps.not_corrupt }
   is_open (Ended fault) x found p = tt
 
-  module _ (x : List Seen) (a : AgentState) (s : RunInvariant kind known budget x a) (goes : nat_lt a.frames a.budget ≡ true) where
+  module _ (x : List Seen) (a : AgentState) (s : RunInvariant kind known budget x a)
+      (goes : nat_lt a.frames a.budget ≡ true) where
     -- the agent stands after what is wanted and its reply
     After : AgentState → Heard → Option Asked → Type 0
-    After b h o = MatchOption o (Unit {0}) (λ asked. RunInvariant kind known budget (x ++ record { asked = asked; heard = h } ∷ []) b)
+    After b h o =
+        MatchOption o (Unit {0})
+        (λ asked. RunInvariant kind known budget (x ++ record { asked = asked; heard = h } ∷ []) b)
 
-    by_phase : (phase : Phase) (h : Heard) → h ≢ Failed → InPhase kind known budget phase x (found_uids a) → After (heard_by_phase a phase h) h (wanted phase)
+    by_phase : (phase : Phase) (h : Heard) → h ≢ Failed → InPhase kind known budget phase x (found_uids a)
+        → After (heard_by_phase a phase h) h (wanted phase)
     unfolding After
     by_phase (Unmuting more left) h sound p = unmuting-stands kind known budget x a s goes more left h sound p
     by_phase (MutingKnown u tries left) h sound p = known-stands kind known budget x a s goes u tries left h sound p
-    by_phase (Searching silences top below) h sound p = searching-stands kind known budget x a s goes silences top below h sound p
-    by_phase (MutingRead u tries top below) h sound p = muting-stands kind known budget x a s goes u tries top below h sound p
-    by_phase (Sweeping sweep top below) h sound p = sweeping-stands kind known budget x a s goes sweep top below h sound p
-    by_phase (MutingSwept u tries sweep top below) h sound p = swept-stands kind known budget x a s goes u tries sweep top below h sound p
-    by_phase (Doubting sweep top below) h sound p = doubting-stands kind known budget x a s goes sweep top below h sound p
+    by_phase (Searching silences top below) h sound p =
+        searching-stands kind known budget x a s goes silences top below h sound p
+    by_phase (MutingRead u tries top below) h sound p =
+        muting-stands kind known budget x a s goes u tries top below h sound p
+    by_phase (Sweeping sweep top below) h sound p =
+        sweeping-stands kind known budget x a s goes sweep top below h sound p
+    by_phase (MutingSwept u tries sweep top below) h sound p =
+        swept-stands kind known budget x a s goes u tries sweep top below h sound p
+    by_phase (Doubting sweep top below) h sound p =
+        doubting-stands kind known budget x a s goes sweep top below h sound p
     by_phase (Ended fault) h sound p = tt
 
-    failed-stands : (asked : Asked) → wanted a.phase ≡ Some asked → RunInvariant kind known budget (x ++ record { asked = asked; heard = Failed } ∷ []) (to_phase a (Ended (Some LineFailed)))
-    failed-stands asked w = to_phase-stands kind known budget x a s goes e (Ended (Some LineFailed)) (reported-same kind known budget x a s goes e (failed_none asked Failed refl)) (record {
-      before = x;
-      last = e;
-      whole = refl;
-      no_failure = before.no_failure;
-      certified = (
-        record { before = x; asked = asked; whole = refl },
-        IsFound-all_reported (x ++ e ∷ []) (found_uids a)
-            (found-same x (found_uids a) e before.is_found (failed_none asked Failed refl)),
-      );
-    })
+    failed-stands : (asked : Asked) → wanted a.phase ≡ Some asked
+        → RunInvariant kind known budget (x ++ record { asked = asked; heard = Failed } ∷ [])
+        (to_phase a (Ended (Some LineFailed)))
+    failed-stands asked w =
+        to_phase-stands kind known budget x a s goes e (Ended (Some LineFailed))
+        (reported-same kind known budget x a s goes e (failed_none asked Failed refl)) (record {
+          before = x;
+          last = e;
+          whole = refl;
+          no_failure = before.no_failure;
+          certified = (
+            record { before = x; asked = asked; whole = refl },
+            IsFound-all_reported (x ++ e ∷ []) (found_uids a)
+                (found-same x (found_uids a) e before.is_found (failed_none asked Failed refl)),
+          );
+        })
       where
         before : IsOpen x (found_uids a)
-        before = subst (λ o. MatchOption o (Unit {0}) (λ q. IsOpen x (found_uids a))) w (is_open a.phase x (found_uids a) s.phase)
+        before = subst (λ o. MatchOption o (Unit {0}) (λ q. IsOpen x (found_uids a))) w
+            (is_open a.phase x (found_uids a) s.phase)
 
         e : Seen
         e = record { asked = asked; heard = Failed }
 
-    fed-stands : (asked : Asked) (h : Heard) → wanted a.phase ≡ Some asked → RunInvariant kind known budget (x ++ record { asked = asked; heard = h } ∷ []) (fed a h)
+    fed-stands : (asked : Asked) (h : Heard) → wanted a.phase ≡ Some asked
+        → RunInvariant kind known budget (x ++ record { asked = asked; heard = h } ∷ []) (fed a h)
     unfolding After
     fed-stands asked Failed w = failed-stands asked w
-    fed-stands asked Silent w = subst (After (heard_by_phase a a.phase Silent) Silent) w (by_phase a.phase Silent (λ q. cc) s.phase)
-    fed-stands asked (One u) w = subst (After (heard_by_phase a a.phase (One u)) (One u)) w (by_phase a.phase (One u) (λ q. cc) s.phase)
-    fed-stands asked (Acked ack) w = subst (After (heard_by_phase a a.phase (Acked ack)) (Acked ack)) w (by_phase a.phase (Acked ack) (λ q. cc) s.phase)
-    fed-stands asked Noise w = subst (After (heard_by_phase a a.phase Noise) Noise) w (by_phase a.phase Noise (λ q. cc) s.phase)
+    fed-stands asked Silent w =
+        subst (After (heard_by_phase a a.phase Silent) Silent) w (by_phase a.phase Silent (λ q. cc) s.phase)
+    fed-stands asked (One u) w =
+        subst (After (heard_by_phase a a.phase (One u)) (One u)) w (by_phase a.phase (One u) (λ q. cc) s.phase)
+    fed-stands asked (Acked ack) w =
+        subst (After (heard_by_phase a a.phase (Acked ack)) (Acked ack)) w
+        (by_phase a.phase (Acked ack) (λ q. cc) s.phase)
+    fed-stands asked Noise w =
+        subst (After (heard_by_phase a a.phase Noise) Noise) w (by_phase a.phase Noise (λ q. cc) s.phase)
 
   -- what is asked next is wanted, within the budget
-  pub wanted_next : (a : AgentState) (asked : Asked) → next_of a ≡ Some asked → (nat_lt a.frames a.budget ≡ true) × (wanted a.phase ≡ Some asked)
+  pub wanted_next : (a : AgentState) (asked : Asked) → next_of a ≡ Some asked → (nat_lt a.frames a.budget ≡ true)
+      × (wanted a.phase ≡ Some asked)
   wanted_next a asked next = by_test (nat_lt a.frames a.budget) refl next
     where
-      by_test : (b : Bool) → nat_lt a.frames a.budget ≡ b → cond b (wanted a.phase) None ≡ Some asked → (nat_lt a.frames a.budget ≡ true) × (wanted a.phase ≡ Some asked)
+      by_test : (b : Bool) → nat_lt a.frames a.budget ≡ b → cond b (wanted a.phase) None ≡ Some asked
+          → (nat_lt a.frames a.budget ≡ true) × (wanted a.phase ≡ Some asked)
       by_test true goes w = (goes, w)
       by_test false out w = absurd (none_some w)
         where
           none_some : None ≡ Some asked → ⊥
           none_some q = cc
 
-  runs-stand : (front x : List Seen) (a b : AgentState) → RunInvariant kind known budget front a → Runs a x b → RunInvariant kind known budget (front ++ x) b
-  runs-stand front [] a b s end = subst (λ l. RunInvariant kind known budget l b) (sym (append-nil front)) (subst (λ c. RunInvariant kind known budget front c) (sym end) s)
+  runs-stand : (front x : List Seen) (a b : AgentState) → RunInvariant kind known budget front a → Runs a x b
+      → RunInvariant kind known budget (front ++ x) b
+  runs-stand front [] a b s end =
+      subst (λ l. RunInvariant kind known budget l b) (sym (append-nil front))
+      (subst (λ c. RunInvariant kind known budget front c) (sym end) s)
   runs-stand front (e ∷ x) a b s run = let w = wanted_next a e.asked run.0 in
-      subst (λ l. RunInvariant kind known budget l b) (append_assoc front (e ∷ []) x) (runs-stand (front ++ e ∷ []) x (fed a e.heard) b (fed-stands front a s w.0 e.asked e.heard w.1) run.1)
+      subst (λ l. RunInvariant kind known budget l b) (append_assoc front (e ∷ []) x)
+      (runs-stand (front ++ e ∷ []) x (fed a e.heard) b (fed-stands front a s w.0 e.asked e.heard w.1) run.1)
 
 known_devices : (kind : Kind) (known : List ℕ) → IsDeviceSet known → AllByRecursion IsDevice (known_of kind known)
 known_devices Full known set = tt
@@ -132,29 +176,37 @@ known_devices Incremental known set = set.devices
 -- an agent that ran stands after its exchanges
 pub stands_by : (search : Search) (kind : Kind) (known : List ℕ) (budget : ℕ) (x : List Seen) (b : AgentState)
     → IsDeviceSet known → Runs (start_by search kind known budget) x b → RunInvariant kind known budget x b
-stands_by search kind known budget x b set run = runs-stand kind known budget [] x (start_by search kind known budget) b (record {
-  budget_is = refl;
-  frames_are = refl;
-  within = omega arith;
-  reports = refl;
-  first = tt;
-  phase = (
-    omega arith,
-    record {
-      unmutes = tt;
-      no_failure = tt;
-      counted = refl;
-      is_found = record { set = refl; counted = refl; room = omega arith };
-      left_is = refl;
-      devices =
-          known_devices kind known set;
-    },
-  );
-}) run
+stands_by search kind known budget x b set run =
+    runs-stand kind known budget [] x (start_by search kind known budget) b (record {
+      budget_is = refl;
+      frames_are = refl;
+      within = omega arith;
+      reports = refl;
+      first = tt;
+      phase = (
+        omega arith,
+        record {
+          unmutes = tt;
+          no_failure = tt;
+          counted = refl;
+          is_found = record { set = refl; counted = refl; room = omega arith };
+          left_is = refl;
+          devices =
+              known_devices kind known set;
+        },
+      );
+    }) run
 
 -- three unmutes were made
-begun-length : (known : List ℕ) (busy : Option ℕ) (x : List Seen) (found : List ℕ) → IsUnderWay known busy x found → UNMUTES ≤ length x
-begun-length known busy x found w = omega (arith, length-take UNMUTES (map (λ (e : Seen). e.asked) x), length-map x (λ (e : Seen). e.asked), ap length w.begun)
+begun-length : (known : List ℕ) (busy : Option ℕ) (x : List Seen) (found : List ℕ) → IsUnderWay known busy x found
+    → UNMUTES ≤ length x
+begun-length known busy x found w =
+    omega (
+      arith,
+      length-take UNMUTES (map (λ (e : Seen). e.asked) x),
+      length-map x (λ (e : Seen). e.asked),
+      ap length w.begun,
+    )
 
 too_early : {n : ℕ} → UNMUTES ≤ n → n < UNMUTES → ⊥
 too_early some early = omega arith
@@ -169,7 +221,8 @@ not_wanted true asked end = absurd (some_none end)
 -- what is wanted is in order
 wants_in_order : (kind : Kind) (known : List ℕ) (budget : ℕ) (phase : Phase) (x : List Seen) (found : List ℕ)
     → InPhase kind known budget phase x found → MatchOption (wanted phase) (Unit {0}) (IsInOrder (length x))
-wants_in_order kind known budget (Unmuting more left) x found p = ((λ early. refl), λ late. absurd (too_late p.0 p.1.counted late))
+wants_in_order kind known budget (Unmuting more left) x found p =
+    ((λ early. refl), λ late. absurd (too_late p.0 p.1.counted late))
   where
     too_late : 1 ≤ more → length x + more ≡ UNMUTES → UNMUTES ≤ length x → ⊥
     too_late some counted late = omega arith
@@ -188,7 +241,8 @@ wants_in_order kind known budget (MutingRead u tries top below) x found p = (
 wants_in_order kind known budget (Sweeping sweep top below) x found p = (
   (λ early. absurd (too_early (begun-length (known_of kind known) None x found p.searches.under_way) early)),
   λ late. let ends = IsStack-ends top below p.stack in let low = ends.0 in let high = ends.1 in
-      let asked = probe_is sweep.suspect top in let from = asked.from in let to = asked.to in (omega arith, omega arith),
+      let asked = probe_is sweep.suspect top in let from = asked.from in let to = asked.to in
+      (omega arith, omega arith),
 )
 wants_in_order kind known budget (MutingSwept u tries sweep top below) x found p = (
   (λ early. absurd (too_early (begun-length (known_of kind known) (Some u) x found p.searches.under_way) early)),
@@ -196,7 +250,8 @@ wants_in_order kind known budget (MutingSwept u tries sweep top below) x found p
 )
 wants_in_order kind known budget (Doubting sweep top below) x found p = (
   (λ early. absurd (too_early (begun-length (known_of kind known) None x found p.sweeps.searches.under_way) early)),
-  λ late. let ends = IsStack-ends top below p.sweeps.stack in let low = ends.0 in let high = ends.1 in (omega arith, omega arith),
+  λ late. let ends = IsStack-ends top below p.sweeps.stack in let low = ends.0 in let high = ends.1 in
+      (omega arith, omega arith),
 )
 wants_in_order kind known budget (Ended fault) x found p = tt
 
@@ -212,9 +267,15 @@ asks_in_order_by search kind known budget x b set run = (asked (nat_lt b.frames 
     asked false = tt
 
 -- a run that ended without being over used up its budget
-exhausted : (kind : Kind) (known : List ℕ) (budget : ℕ) (x : List Seen) (found : List ℕ) → IsOpen kind known budget x found → length x ≡ budget → Cause budget ⊥ Exhausted x
+exhausted : (kind : Kind) (known : List ℕ) (budget : ℕ) (x : List Seen) (found : List ℕ)
+    → IsOpen kind known budget x found → length x ≡ budget → Cause budget ⊥ Exhausted x
 exhausted kind known budget x found o used = (
-  record { used = used; not_failed = λ f. All-at NotFailed x f.before [] (record { asked = f.asked; heard = Failed }) o.no_failure f.whole refl; not_corrupt = o.not_corrupt },
+  record {
+    used = used;
+    not_failed =
+        λ f. All-at NotFailed x f.before [] (record { asked = f.asked; heard = Failed }) o.no_failure f.whole refl;
+    not_corrupt = o.not_corrupt;
+  },
   IsFound-all_reported x found o.is_found,
 )
 
@@ -230,14 +291,17 @@ ended kind known budget (MutingKnown u tries left) x found goes p end used =
     exhausted kind known budget x found (is_open kind known budget (MutingKnown u tries left) x found p)
     (used (not_wanted goes (Mute u) end))
 ended kind known budget (Searching silences top below) x found goes p end used =
-    exhausted kind known budget x found (is_open kind known budget (Searching silences top below) x found p) (used (not_wanted goes (Branch top.lo top.hi) end))
+    exhausted kind known budget x found (is_open kind known budget (Searching silences top below) x found p)
+    (used (not_wanted goes (Branch top.lo top.hi) end))
 ended kind known budget (Sweeping sweep top below) x found goes p end used =
-    exhausted kind known budget x found (is_open kind known budget (Sweeping sweep top below) x found p) (used (not_wanted goes (Branch (probe sweep.suspect top).lo (probe sweep.suspect top).hi) end))
+    exhausted kind known budget x found (is_open kind known budget (Sweeping sweep top below) x found p)
+    (used (not_wanted goes (Branch (probe sweep.suspect top).lo (probe sweep.suspect top).hi) end))
 ended kind known budget (MutingSwept u tries sweep top below) x found goes p end used =
     exhausted kind known budget x found (is_open kind known budget (MutingSwept u tries sweep top below) x found p)
     (used (not_wanted goes (Mute u) end))
 ended kind known budget (Doubting sweep top below) x found goes p end used =
-    exhausted kind known budget x found (is_open kind known budget (Doubting sweep top below) x found p) (used (not_wanted goes (Branch (top.lo - 2) (top.lo - 1)) end))
+    exhausted kind known budget x found (is_open kind known budget (Doubting sweep top below) x found p)
+    (used (not_wanted goes (Branch (top.lo - 2) (top.lo - 1)) end))
 ended kind known budget (MutingRead u tries top below) x found goes p end used =
     exhausted kind known budget x found (is_open kind known budget (MutingRead u tries top below) x found p)
     (used (not_wanted goes (Mute u) end))
@@ -245,23 +309,28 @@ ended kind known budget (MutingRead u tries top below) x found goes p end used =
 -- its certificate, or its fault's cause; and it reports what was acknowledged
 pub ends_certified_by : (search : Search) → EndsCertified search
 ends_certified_by search kind known budget x b set run end = (
-  certified (fault_of b.phase) (ended kind known budget b.phase x (found_uids b) (nat_lt b.frames b.budget) s.phase end used),
+  certified (fault_of b.phase)
+      (ended kind known budget b.phase x (found_uids b) (nat_lt b.frames b.budget) s.phase end used),
   record { uids = s.reports; first = s.first },
 )
   where
     s : RunInvariant kind known budget x b
     s = stands_by search kind known budget x b set run
 
-    certified : (f : Option AgentFault) → MatchOption f (SearchShows kind known x (found_uids b)) (λ g. Cause budget ⊥ g x) → MatchOption f (Certificate kind known x b.found) (λ g. Cause budget ⊥ g x)
+    certified : (f : Option AgentFault)
+        → MatchOption f (SearchShows kind known x (found_uids b)) (λ g. Cause budget ⊥ g x)
+        → MatchOption f (Certificate kind known x b.found) (λ g. Cause budget ⊥ g x)
     certified None shows = record { search = shows; first = s.first }
     certified (Some f) cause = cause
 
     used : nat_lt b.frames b.budget ≡ false → length x ≡ budget
-    used out = let most : b.budget ≤ b.frames = ltb-false b.frames b.budget out in let same = s.budget_is in let frames = s.frames_are in let within = s.within in omega arith
+    used out = let most : b.budget ≤ b.frames = ltb-false b.frames b.budget out in let same = s.budget_is in
+        let frames = s.frames_are in let within = s.within in omega arith
 
 -- no more than 49 ranges are open
 pub few_open_ranges_by : (search : Search) → HasFewRanges search
-few_open_ranges_by search kind known budget x b set run = few b.phase (stands_by search kind known budget x b set run).phase
+few_open_ranges_by search kind known budget x b set run =
+    few b.phase (stands_by search kind known budget x b set run).phase
   where
     few : (phase : Phase) → InPhase kind known budget phase x (found_uids b) → open_ranges phase ≤ 49
     few (Unmuting more left) p = omega arith
@@ -274,7 +343,8 @@ few_open_ranges_by search kind known budget x b set run = few b.phase (stands_by
     few (Ended fault) p = omega arith
 
 -- a failure is the last exchange
-not_before : (before front back : List Seen) (last e : Seen) → AllByRecursion NotFailed before → before ++ last ∷ [] ≡ front ++ e ∷ back → e.heard ≡ Failed → back ≡ []
+not_before : (before front back : List Seen) (last e : Seen) → AllByRecursion NotFailed before
+    → before ++ last ∷ [] ≡ front ++ e ∷ back → e.heard ≡ Failed → back ≡ []
 not_before [] [] back last e sound same failed = sym (tails same)
 not_before [] (d ∷ front) back last e sound same failed = absurd (nothing front (tails same))
   where
@@ -282,9 +352,11 @@ not_before [] (d ∷ front) back last e sound same failed = absurd (nothing fron
     nothing [] p = cc
     nothing (c ∷ l) p = cc
 not_before (d ∷ before) [] back last e sound same failed = absurd (sound.0 (ap (λ x. x.heard) (heads same) ∙ failed))
-not_before (d ∷ before) (c ∷ front) back last e sound same failed = not_before before front back last e sound.1 (tails same) failed
+not_before (d ∷ before) (c ∷ front) back last e sound same failed =
+    not_before before front back last e sound.1 (tails same) failed
 
-none_failed : {o : Option Asked} (x : List Seen) → AllByRecursion NotFailed x → FailureIsLast x × (EndsFailed x → o ≡ None)
+none_failed : {o : Option Asked} (x : List Seen) → AllByRecursion NotFailed x → FailureIsLast x
+    × (EndsFailed x → o ≡ None)
 none_failed x sound = (
   (λ front back e whole failed. absurd (All-at NotFailed x front back e sound whole failed)),
   λ f. absurd (All-at NotFailed x f.before [] (record { asked = f.asked; heard = Failed }) sound f.whole refl),
@@ -292,18 +364,29 @@ none_failed x sound = (
 
 failed_phase : (kind : Kind) (known : List ℕ) (budget : ℕ) (phase : Phase) (x : List Seen) (found : List ℕ)
     → InPhase kind known budget phase x found → FailureIsLast x × (EndsFailed x → wanted phase ≡ None)
-failed_phase kind known budget (Ended fault) x found p = ((λ front back e whole failed. not_before p.before front back p.last e p.no_failure (sym p.whole ∙ whole) failed), λ f. refl)
-failed_phase kind known budget (Unmuting more left) x found p = none_failed x (is_open kind known budget (Unmuting more left) x found p).no_failure
-failed_phase kind known budget (MutingKnown u tries left) x found p = none_failed x (is_open kind known budget (MutingKnown u tries left) x found p).no_failure
-failed_phase kind known budget (Searching silences top below) x found p = none_failed x (is_open kind known budget (Searching silences top below) x found p).no_failure
-failed_phase kind known budget (Sweeping sweep top below) x found p = none_failed x (is_open kind known budget (Sweeping sweep top below) x found p).no_failure
-failed_phase kind known budget (MutingSwept u tries sweep top below) x found p = none_failed x (is_open kind known budget (MutingSwept u tries sweep top below) x found p).no_failure
-failed_phase kind known budget (Doubting sweep top below) x found p = none_failed x (is_open kind known budget (Doubting sweep top below) x found p).no_failure
-failed_phase kind known budget (MutingRead u tries top below) x found p = none_failed x (is_open kind known budget (MutingRead u tries top below) x found p).no_failure
+failed_phase kind known budget (Ended fault) x found p = (
+  (λ front back e whole failed. not_before p.before front back p.last e p.no_failure (sym p.whole ∙ whole) failed),
+  λ f. refl,
+)
+failed_phase kind known budget (Unmuting more left) x found p =
+    none_failed x (is_open kind known budget (Unmuting more left) x found p).no_failure
+failed_phase kind known budget (MutingKnown u tries left) x found p =
+    none_failed x (is_open kind known budget (MutingKnown u tries left) x found p).no_failure
+failed_phase kind known budget (Searching silences top below) x found p =
+    none_failed x (is_open kind known budget (Searching silences top below) x found p).no_failure
+failed_phase kind known budget (Sweeping sweep top below) x found p =
+    none_failed x (is_open kind known budget (Sweeping sweep top below) x found p).no_failure
+failed_phase kind known budget (MutingSwept u tries sweep top below) x found p =
+    none_failed x (is_open kind known budget (MutingSwept u tries sweep top below) x found p).no_failure
+failed_phase kind known budget (Doubting sweep top below) x found p =
+    none_failed x (is_open kind known budget (Doubting sweep top below) x found p).no_failure
+failed_phase kind known budget (MutingRead u tries top below) x found p =
+    none_failed x (is_open kind known budget (MutingRead u tries top below) x found p).no_failure
 
 -- an agent asks nothing after a failure
 pub ends_at_failure_by : (search : Search) → EndsAtFailure search
-ends_at_failure_by search kind known budget x b set run = (f.0, λ failed. nothing (nat_lt b.frames b.budget) (f.1 failed))
+ends_at_failure_by search kind known budget x b set run =
+    (f.0, λ failed. nothing (nat_lt b.frames b.budget) (f.1 failed))
   where
     f : FailureIsLast x × (EndsFailed x → wanted b.phase ≡ None)
     f = failed_phase kind known budget b.phase x (found_uids b) (stands_by search kind known budget x b set run).phase
@@ -338,11 +421,13 @@ goes_on_soundly_by search kind known budget x b set run goes = by_next (next_of 
 -- one whose budget is used up asks nothing
 pub ends_at_budget_by : (search : Search) → EndsAtBudget search
 ends_at_budget_by search kind known budget x b set run used = let s = stands_by search kind known budget x b set run in
-    cond-false (nat_lt b.frames b.budget) (wanted b.phase) None (le-ltb b.frames b.budget (let same = s.budget_is in let frames = s.frames_are in omega arith))
+    cond-false (nat_lt b.frames b.budget) (wanted b.phase) None
+    (le-ltb b.frames b.budget (let same = s.budget_is in let frames = s.frames_are in omega arith))
 
 -- at any moment an agent has found what it reports
 pub finds_acknowledged_by : (search : Search) → FindsAcknowledged search
-finds_acknowledged_by search kind known budget x b set run = (record { uids = s.reports; first = s.first }, λ goes. by_next goes (next_of b) refl)
+finds_acknowledged_by search kind known budget x b set run =
+    (record { uids = s.reports; first = s.first }, λ goes. by_next goes (next_of b) refl)
   where
     s : RunInvariant kind known budget x b
     s = stands_by search kind known budget x b set run
@@ -355,7 +440,8 @@ finds_acknowledged_by search kind known budget x b set run = (record { uids = s.
 pub goes_on_soundly : GoesOnSoundly Steady
 goes_on_soundly = goes_on_soundly_by Steady
 
-pub stands : (kind : Kind) (known : List ℕ) (budget : ℕ) (x : List Seen) (b : AgentState) → IsDeviceSet known → Runs (start kind known budget) x b → RunInvariant kind known budget x b
+pub stands : (kind : Kind) (known : List ℕ) (budget : ℕ) (x : List Seen) (b : AgentState) → IsDeviceSet known
+    → Runs (start kind known budget) x b → RunInvariant kind known budget x b
 stands = stands_by Steady
 
 pub asks_in_order : AsksInOrder Steady

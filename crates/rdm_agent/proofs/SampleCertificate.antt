@@ -36,7 +36,8 @@ first_five =
     (EachAfter-push WasRead (take 3 sample_run) (exchange all_branch (One sample_uid))
     (EachAfter-push WasRead (take 2 sample_run) (exchange Unmute Silent)
     (EachAfter-push WasRead (take 1 sample_run) (exchange Unmute Silent)
-    (EachAfter-push WasRead [] (exchange Unmute Silent) (λ front back e w. absurd (no_element front back e w)) (λ u m. absurd (no_mute u m)))
+    (EachAfter-push WasRead [] (exchange Unmute Silent) (λ front back e w. absurd (no_element front back e w))
+    (λ u m. absurd (no_mute u m)))
     (λ u m. absurd (no_mute u m)))
     (λ u m. absurd (no_mute u m)))
     (λ u m. absurd (no_mute u m)))
@@ -61,13 +62,20 @@ read_before =
 shown : SearchShows Full [] sample_run (sample_uid ∷ [])
 shown = record {
   unmutes = refl;
-  no_failure = ((λ h. cc), ((λ h. cc), ((λ h. cc), ((λ h. cc), ((λ h. cc), ((λ h. cc), ((λ h. cc), ((λ h. cc), ((λ h. cc), ((λ h. cc), tt))))))))));
+  no_failure = (
+    (λ h. cc),
+    (
+      (λ h. cc),
+      ((λ h. cc), ((λ h. cc), ((λ h. cc), ((λ h. cc), ((λ h. cc), ((λ h. cc), ((λ h. cc), ((λ h. cc), tt)))))))),
+    ),
+  );
   set = refl;
   tried = (record { device = record { in_range = omega arith; own = refl }; tried = inl refl }, tt);
   cleared = λ u below. inr (record {
     lo = 0;
     hi = 0xffffffffffff;
-    within = and_from (nat_le 0 u) (nat_le u 0xffffffffffff) (le-leb 0 u (omega arith)) (le-leb u 0xffffffffffff (omega arith));
+    within = and_from (nat_le 0 u) (nat_le u 0xffffffffffff) (le-leb 0 u (omega arith))
+        (le-leb u 0xffffffffffff (omega arith));
     silent = record {
       front = take 5 sample_run;
       run = drop 5 sample_run;

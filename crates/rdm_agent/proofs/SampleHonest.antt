@@ -1,5 +1,6 @@
 -- The sample runs are an honest line's, and not where five replies are lost in succession.
-use Rattle.std.proofs.Common.{◌≡◌, ℕ, zero, suc, ◌+◌, ◌≤◌, Bool, false, List, [], ◌∷◌, ◌++◌, replicate, length, take, drop, refl, inl, inr, arith}
+use Rattle.std.proofs.Common.{◌≡◌, ℕ, zero, suc, ◌+◌, ◌≤◌, Bool, false, List, [], ◌∷◌, ◌++◌, replicate, length, take}
+use Rattle.std.proofs.Common.{drop, refl, inl, inr, arith}
 use Rattle.std.specs.Prelude.{◌==◌, ◌⊎◌}
 use Rattle.std.specs.List.{AllByRecursion}
 use Rattle.rdm_wire.specs.Honest.{Seen, LineState, HonestStep, HonestTo, HonestTrace, Chain, Counts, due_in, before_run}
@@ -18,20 +19,39 @@ one_muted u = sample_uid == u
 
 -- a line that lost this many branch replies and acknowledgements in succession, and was unmuted this often
 abbrev pub line : (ℕ → Bool) → ℕ → ℕ → ℕ → LineState
-line muted branches mutes unmutes = record { muted = muted; lost_branches = branches; lost_mutes = mutes; unmutes = unmutes }
+line muted branches mutes unmutes = record {
+  muted = muted;
+  lost_branches = branches;
+  lost_mutes = mutes;
+  unmutes = unmutes;
+}
 
 pub counts : (muted : ℕ → Bool) (b m n : ℕ) → b ≤ 4 → m ≤ 4 → Counts (line muted b m n) b m n
-counts muted b m n few_branches few_mutes = record { branches = refl; mutes = refl; unmutes = refl; few_branches = few_branches; few_mutes = few_mutes }
+counts muted b m n few_branches few_mutes = record {
+  branches = refl;
+  mutes = refl;
+  unmutes = refl;
+  few_branches = few_branches;
+  few_mutes = few_mutes;
+}
 
 -- a line with these devices may go on so
 abbrev pub Goes : List ℕ → LineState → List Seen → Type 0
 Goes present s x = Chain (HonestStep present) s x
 
 -- unmutes
-pub unmutes : (present : List ℕ) (n left : ℕ) (x : List Seen) → ((m : ℕ) → Goes present (line none_muted 0 0 m) x) → Goes present (line none_muted 0 0 n) (replicate left (exchange Unmute Silent) ++ x)
+pub unmutes : (present : List ℕ) (n left : ℕ) (x : List Seen) → ((m : ℕ) → Goes present (line none_muted 0 0 m) x)
+    → Goes present (line none_muted 0 0 n) (replicate left (exchange Unmute Silent) ++ x)
 unmutes present n zero x onward = onward n
 unmutes present n (suc left) x onward =
-    inr (line none_muted 0 0 (n + 1), ((λ u. record { fewer = λ m. m; third = λ h. refl }), counts none_muted 0 0 (n + 1) (omega arith) (omega arith)), unmutes present (n + 1) left x onward)
+    inr (
+      line none_muted 0 0 (n + 1),
+      (
+        (λ u. record { fewer = λ m. m; third = λ h. refl }),
+        counts none_muted 0 0 (n + 1) (omega arith) (omega arith),
+      ),
+      unmutes present (n + 1) left x onward,
+    )
 
 -- branches of a range where nobody unmuted is
 pub silent : (present : List ℕ) (muted : ℕ → Bool) (lo hi left : ℕ) (x : List Seen) → due_in present muted lo hi ≡ []
@@ -39,7 +59,11 @@ pub silent : (present : List ℕ) (muted : ℕ → Bool) (lo hi left : ℕ) (x :
     (replicate left (exchange (Branch lo hi) Silent) ++ x)
 silent present muted lo hi zero x nobody onward = onward
 silent present muted lo hi (suc left) x nobody onward =
-    inr (line muted 0 0 0, (rw nobody refl, (λ u. refl), rw nobody (counts muted 0 0 0 (omega arith) (omega arith))), silent present muted lo hi left x nobody onward)
+    inr (
+      line muted 0 0 0,
+      (rw nobody refl, (λ u. refl), rw nobody (counts muted 0 0 0 (omega arith) (omega arith))),
+      silent present muted lo hi left x nobody onward,
+    )
 
 -- branches whose reply is lost, and mutes whose acknowledgement is
 
@@ -48,16 +72,25 @@ lost_branches : (k n left : ℕ) (x : List Seen) → k + left ≤ 4
     → Goes (sample_uid ∷ []) (line none_muted k 0 n) (replicate left (exchange all_branch Silent) ++ x)
 lost_branches k n zero x few onward = onward k n
 lost_branches k n (suc left) x few onward =
-    inr (line none_muted (k + 1) 0 0, (inr refl, (λ u. refl), counts none_muted (k + 1) 0 0 (omega arith) (omega arith)), lost_branches (k + 1) 0 left x (omega arith) onward)
+    inr (
+      line none_muted (k + 1) 0 0,
+      (inr refl, (λ u. refl), counts none_muted (k + 1) 0 0 (omega arith) (omega arith)),
+      lost_branches (k + 1) 0 left x (omega arith) onward,
+    )
 
 lost_mutes : (k left : ℕ) (x : List Seen) → k + left ≤ 4 → ((j : ℕ) → Goes (sample_uid ∷ []) (line none_muted 0 j 0) x)
     → Goes (sample_uid ∷ []) (line none_muted 0 k 0) (replicate left (exchange (Mute sample_uid) Silent) ++ x)
 lost_mutes k zero x few onward = onward k
 lost_mutes k (suc left) x few onward =
-    inr (line none_muted 0 (k + 1) 0, ((λ v other. refl), inr (refl, inr refl, counts none_muted 0 (k + 1) 0 (omega arith) (omega arith))), lost_mutes (k + 1) left x (omega arith) onward)
+    inr (
+      line none_muted 0 (k + 1) 0,
+      ((λ v other. refl), inr (refl, inr refl, counts none_muted 0 (k + 1) 0 (omega arith) (omega arith))),
+      lost_mutes (k + 1) left x (omega arith) onward,
+    )
 
 -- up to four replies of each kind may be lost in succession
-pub lossy_honest : (branches mutes : ℕ) → branches ≤ 4 → mutes ≤ 4 → HonestTrace (sample_uid ∷ []) (lossy_run branches mutes)
+pub lossy_honest : (branches mutes : ℕ) → branches ≤ 4 → mutes ≤ 4
+    → HonestTrace (sample_uid ∷ []) (lossy_run branches mutes)
 lossy_honest branches mutes few_branches few_mutes = (
   record { devices = (record { in_range = omega arith; own = refl }, tt); ascending = (tt, tt) },
   none_muted,
@@ -78,12 +111,15 @@ lossy_honest branches mutes few_branches few_mutes = (
     none_lost : 0 + mutes ≤ 4
     none_lost = omega arith
 
-never_failed : (n : ℕ) (e : Seen) (x : List Seen) → NotFailed e → AllByRecursion NotFailed x → AllByRecursion NotFailed (replicate n e ++ x)
+never_failed : (n : ℕ) (e : Seen) (x : List Seen) → NotFailed e → AllByRecursion NotFailed x
+    → AllByRecursion NotFailed (replicate n e ++ x)
 never_failed zero e x one all = all
 never_failed (suc n) e x one all = (one, never_failed n e x one all)
 
 pub sample-not_failed : AllByRecursion NotFailed sample_run
-sample-not_failed = never_failed 3 (exchange Unmute Silent) (drop 3 sample_run) (λ h. cc) ((λ h. cc), ((λ h. cc), never_failed 5 (exchange all_branch Silent) [] (λ h. cc) tt))
+sample-not_failed =
+    never_failed 3 (exchange Unmute Silent) (drop 3 sample_run) (λ h. cc)
+    ((λ h. cc), ((λ h. cc), never_failed 5 (exchange all_branch Silent) [] (λ h. cc) tt))
 
 -- five of either kind may not
 pub five_branches_lost : HonestTrace (sample_uid ∷ []) (lossy_run 5 0) → ⊥
@@ -95,9 +131,11 @@ five_branches_lost honest = too_many b.state.lost_branches
     one = honest_to_each (sample_uid ∷ []) sample_uid (lossy_run 5 0) refl honest
 
     b : Begun sample_uid (lossy_run 5 0) (drop 3 (lossy_run 5 0))
-    b = begin sample_uid one.0 (exchange Unmute Silent) (exchange Unmute Silent) (exchange Unmute Silent) (drop 3 (lossy_run 5 0)) refl refl refl ((λ h. cc), ((λ h. cc), ((λ h. cc), tt))) one.1
+    b = begin sample_uid one.0 (exchange Unmute Silent) (exchange Unmute Silent) (exchange Unmute Silent)
+        (drop 3 (lossy_run 5 0)) refl refl refl ((λ h. cc), ((λ h. cc), ((λ h. cc), tt))) one.1
 
-    too_many : (n : ℕ) → (length (replicate 5 (exchange all_branch Silent)) ≡ 0) ⊎ (n + length (replicate 5 (exchange all_branch Silent)) ≤ 4) → ⊥
+    too_many : (n : ℕ) → (length (replicate 5 (exchange all_branch Silent)) ≡ 0)
+        ⊎ (n + length (replicate 5 (exchange all_branch Silent)) ≤ 4) → ⊥
     too_many n (inl none) = absurd (omega (arith, none))
     too_many n (inr few) = absurd (omega (arith, few))
 

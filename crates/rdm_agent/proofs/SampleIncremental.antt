@@ -1,5 +1,6 @@
 -- The incremental sample run is an honest line's, and has its certificate.
-use Rattle.std.proofs.Common.{ℕ, zero, suc, List, [], ◌∷◌, ◌++◌, drop, replicate, None, refl, ap, cond, true, inl, inr, arith}
+use Rattle.std.proofs.Common.{ℕ, zero, suc, List, [], ◌∷◌, ◌++◌, drop, replicate, None, refl, ap, cond, true, inl, inr}
+use Rattle.std.proofs.Common.{arith}
 use Rattle.rdm_wire.specs.Uid.{IsDeviceSet}
 use Rattle.rdm_wire.specs.Honest.{Seen, HonestTrace}
 use Rattle.rdm_wire.specs.Honest.Asked.{Mute}
@@ -16,10 +17,15 @@ use Rattle.rdm_agent.proofs.SampleHonest.{none_muted, one_muted, line, counts, G
 use Rattle.rdm_agent.proofs.SampleLines.{both, both_muted}
 
 -- mutes of a UID that isn't there
-absent_mutes : (left : ℕ) (x : List Seen) → Goes both (line one_muted 0 0 0) x → Goes both (line one_muted 0 0 0) (replicate left (exchange (Mute absent_uid) Silent) ++ x)
+absent_mutes : (left : ℕ) (x : List Seen) → Goes both (line one_muted 0 0 0) x
+    → Goes both (line one_muted 0 0 0) (replicate left (exchange (Mute absent_uid) Silent) ++ x)
 absent_mutes zero x onward = onward
 absent_mutes (suc left) x onward =
-    inr (line one_muted 0 0 0, ((λ v other. refl), (refl, refl, counts one_muted 0 0 0 (omega arith) (omega arith))), absent_mutes left x onward)
+    inr (
+      line one_muted 0 0 0,
+      ((λ v other. refl), (refl, refl, counts one_muted 0 0 0 (omega arith) (omega arith))),
+      absent_mutes left x onward,
+    )
 
 pub incremental_honest : HonestTrace both incremental_run
 incremental_honest = (
@@ -40,7 +46,10 @@ incremental_honest = (
             (inl refl, (λ u. refl), counts one_muted 0 0 0 (omega arith) (omega arith)),
             inr (
               line both_muted 0 0 0,
-              ((λ v other. ap (λ t. cond t true (one_muted v)) other), inl (refl, refl, counts both_muted 0 0 0 (omega arith) (omega arith))),
+              (
+                (λ v other. ap (λ t. cond t true (one_muted v)) other),
+                inl (refl, refl, counts both_muted 0 0 0 (omega arith) (omega arith)),
+              ),
               silent both both_muted 0 0xffffffffffff 5 [] refl tt,
             ),
           )),
@@ -50,7 +59,13 @@ incremental_honest = (
 
 -- what it comes to
 abbrev ended : AgentState
-ended = record { budget = DEFAULT_BUDGET; frames = 17; search = Steady; found = sample_device ∷ other_device ∷ []; phase = Ended None }
+ended = record {
+  budget = DEFAULT_BUDGET;
+  frames = 17;
+  search = Steady;
+  found = sample_device ∷ other_device ∷ [];
+  phase = Ended None;
+}
 
 abbrev known : List ℕ
 known = sample_uid ∷ absent_uid ∷ []
@@ -62,7 +77,21 @@ known_devices = record {
 }
 
 pub incremental_runs : Runs (start Incremental known DEFAULT_BUDGET) incremental_run ended
-incremental_runs = (refl, (refl, (refl, (refl, (refl, (refl, (refl, (refl, (refl, (refl, (refl, (refl, (refl, (refl, (refl, (refl, (refl, refl)))))))))))))))))
+incremental_runs = (
+  refl,
+  (
+    refl,
+    (
+      refl,
+      (
+        refl,
+        (refl, (refl, (refl, (refl, (refl, (refl, (refl, (refl, (refl, (refl, (refl, (refl, (refl, refl))))))))))))),
+      ),
+    ),
+  ),
+)
 
 pub incremental_certified : Certificate Incremental known incremental_run (sample_device ∷ other_device ∷ [])
-incremental_certified = (ends_certified_by Steady Incremental known DEFAULT_BUDGET incremental_run ended known_devices incremental_runs refl).0
+incremental_certified =
+    (ends_certified_by Steady Incremental known DEFAULT_BUDGET incremental_run ended known_devices incremental_runs
+    refl).0

@@ -2,7 +2,8 @@
 use Rattle.std.proofs.Common.{◌≡◌, ℕ, Bool, true, false, cond, List, [], ◌∷◌, drop, refl, ap, inl, inr, arith}
 use Rattle.std.specs.Prelude.{◌==◌, MatchBool}
 use Rattle.rdm_wire.specs.Uid.{has}
-use Rattle.rdm_wire.specs.Honest.{LineState, HonestTo, HonestTrace, HonestStep, KeepsMuted, MuteMoves, Counts, before_run}
+use Rattle.rdm_wire.specs.Honest.{LineState, HonestTo, HonestTrace, HonestStep, KeepsMuted, MuteMoves, Counts}
+use Rattle.rdm_wire.specs.Honest.{before_run}
 use Rattle.rdm_wire.specs.Honest.Asked.{Mute}
 use Rattle.rdm_wire.specs.Honest.Heard.{Failed, Silent, Noise}
 use Rattle.rdm_agent.specs.SampleRun.{sample_uid, other_uid, colliding_run, swept_run, failed_run, garbled_run}
@@ -37,7 +38,10 @@ colliding_honest = (
                   (inl refl, (λ u. refl), counts one_muted 0 0 0 (omega arith) (omega arith)),
                   inr (
                     line both_muted 0 0 0,
-                    ((λ v other. ap (λ t. cond t true (one_muted v)) other), inl (refl, refl, counts both_muted 0 0 0 (omega arith) (omega arith))),
+                    (
+                      (λ v other. ap (λ t. cond t true (one_muted v)) other),
+                      inl (refl, refl, counts both_muted 0 0 0 (omega arith) (omega arith)),
+                    ),
                     silent both both_muted 0x800000000000 0xffffffffffff 5 [] refl tt,
                   ),
                 )),
@@ -65,7 +69,10 @@ swept_honest = (
               (inl refl, (λ u. refl), counts one_muted 0 0 0 (omega arith) (omega arith)),
               inr (
                 line both_muted 0 0 0,
-                ((λ v other. ap (λ t. cond t true (one_muted v)) other), inl (refl, refl, counts both_muted 0 0 0 (omega arith) (omega arith))),
+                (
+                  (λ v other. ap (λ t. cond t true (one_muted v)) other),
+                  inl (refl, refl, counts both_muted 0 0 0 (omega arith) (omega arith)),
+                ),
                 silent both both_muted 0 0xffffffffffff 5 [] refl tt,
               ),
             ),
@@ -82,13 +89,16 @@ failed_honest = (
 )
 
 pub garbled_to_one : HonestTo sample_uid garbled_run
-garbled_to_one = (none_muted, inr (line none_muted 0 0 0, (refl, counts none_muted 0 0 0 (omega arith) (omega arith)), tt))
+garbled_to_one =
+    (none_muted, inr (line none_muted 0 0 0, (refl, counts none_muted 0 0 0 (omega arith) (omega arith)), tt))
 
 -- no mute is answered so
 no_noise : (present : List ℕ) (old new : LineState) → HonestStep present old (Mute other_uid) Noise new → ⊥
 no_noise present old new step = by_test (has present other_uid) step.1
   where
-    by_test : (b : Bool) → MatchBool b (MuteMoves other_uid old Noise new) ((Noise ≡ Silent) × KeepsMuted other_uid old new × Counts new 0 0 0) → ⊥
+    by_test : (b : Bool)
+        → MatchBool b (MuteMoves other_uid old Noise new)
+        ((Noise ≡ Silent) × KeepsMuted other_uid old new × Counts new 0 0 0) → ⊥
     by_test true (inl acked) = let never = acked.0 in cc
     by_test true (inr silent) = let never = silent.0 in cc
     by_test false nobody = let never = nobody.0 in cc

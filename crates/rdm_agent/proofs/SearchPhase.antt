@@ -1,5 +1,6 @@
 -- The search: branches of the top range, and mutes of what it spells.
-use Rattle.std.proofs.Common.{◌≡◌, ℕ, ◌+◌, ◌<◌, ◌^◌, true, false, List, [], ◌∷◌, ◌++◌, Option, None, Some, refl, sym, subst, inl, inr, arith}
+use Rattle.std.proofs.Common.{◌≡◌, ℕ, ◌+◌, ◌<◌, ◌^◌, true, false, List, [], ◌∷◌, ◌++◌, Option, None, Some, refl, sym}
+use Rattle.std.proofs.Common.{subst, inl, inr, arith}
 use Rattle.std.specs.Prelude.{◌⊎◌, ◌==◌, nat_le}
 use Rattle.std.specs.List.{before_first}
 use Rattle.std.proofs.lemmas.Bool.{eqb-true, eqb-false, le-leb, and_from, cases_lt, cond_both}
@@ -21,7 +22,8 @@ use Rattle.rdm_agent.proofs.Pushes.{has-before_branch, IsCleared-push}
 use Rattle.rdm_agent.proofs.Sets.{each_member}
 use Rattle.rdm_agent.proofs.Stacks.{IsStack-pop, IsStack-split}
 use Rattle.rdm_agent.proofs.FoundLemmas.{IsFound-all_reported, found-same}
-use Rattle.rdm_agent.proofs.UnderWay.{EndsWith-none, named-mute, lost-acks_none, under_way-branch, under_way-lost, under_way-acked, under_way-given_up}
+use Rattle.rdm_agent.proofs.UnderWay.{EndsWith-none, named-mute, lost-acks_none, under_way-branch, under_way-lost}
+use Rattle.rdm_agent.proofs.UnderWay.{under_way-acked, under_way-given_up}
 use Rattle.rdm_agent.proofs.Invariant.{IsFound, IsUnderWay, Searches, InPhase}
 
 module _ (known : List ℕ) (top : Span) (below : List Span) (x : List Seen) (found : List ℕ) where
@@ -30,23 +32,28 @@ module _ (known : List ℕ) (top : Span) (below : List Span) (x : List Seen) (fo
       → NotFailed (record { asked = Branch lo hi; heard = h })
       → Searches known busy top below (x ++ record { asked = Branch lo hi; heard = h } ∷ []) found
   search-branch busy lo hi h s sound = record {
-    under_way = under_way-branch known x found busy lo hi h s.under_way sound (found-same x found e s.under_way.is_found refl);
+    under_way = under_way-branch known x found busy lo hi h s.under_way sound
+        (found-same x found e s.under_way.is_found refl);
     known_first = λ u k. has-before_branch muted_by x (e ∷ []) u (s.known_first u k);
     stack = s.stack;
-    cleared = λ u low. elim (s.cleared u low) [ inl here ↦ inl here | inr cleared ↦ inr (IsCleared-push (e ∷ []) cleared) ];
+    cleared = λ u low. elim (s.cleared u low)
+        [ inl here ↦ inl here | inr cleared ↦ inr (IsCleared-push (e ∷ []) cleared) ];
   }
     where
       e : Seen
       e = record { asked = Branch lo hi; heard = h }
 
   -- a mute of what it spelt is lost
-  pub search-lost : (u : ℕ) (h : Heard) → Searches known (Some u) top below x found → has (read_in x) u ≡ true → NotFailed (record { asked = Mute u; heard = h }) → is_acked h ≡ false
+  pub search-lost : (u : ℕ) (h : Heard) → Searches known (Some u) top below x found → has (read_in x) u ≡ true
+      → NotFailed (record { asked = Mute u; heard = h }) → is_acked h ≡ false
       → Searches known (Some u) top below (x ++ record { asked = Mute u; heard = h } ∷ []) found
   search-lost u h s was sound lost = record {
-    under_way = under_way-lost known x found u h s.under_way sound (found-same x found e s.under_way.is_found (lost-acks_none u h lost)) (named-mute known x u h (inr was));
+    under_way = under_way-lost known x found u h s.under_way sound
+        (found-same x found e s.under_way.is_found (lost-acks_none u h lost)) (named-mute known x u h (inr was));
     known_first = λ v k. has-before_branch muted_by x (e ∷ []) v (s.known_first v k);
     stack = s.stack;
-    cleared = λ v low. elim (s.cleared v low) [ inl here ↦ inl here | inr cleared ↦ inr (IsCleared-push (e ∷ []) cleared) ];
+    cleared = λ v low. elim (s.cleared v low)
+        [ inl here ↦ inl here | inr cleared ↦ inr (IsCleared-push (e ∷ []) cleared) ];
   }
     where
       e : Seen
@@ -55,19 +62,23 @@ module _ (known : List ℕ) (top : Span) (below : List Span) (x : List Seen) (fo
   -- one is acknowledged
   pub search-acked : (u : ℕ) (ack : MuteAck) (more : List ℕ) → IsDevice u → Searches known (Some u) top below x found
       → has (read_in x) u ≡ true → IsFound (x ++ record { asked = Mute u; heard = Acked ack } ∷ []) more
-      → ((v : ℕ) → has found v ≡ true → has more v ≡ true) → has more u ≡ true → Searches known None top below (x ++ record { asked = Mute u; heard = Acked ack } ∷ []) more
+      → ((v : ℕ) → has found v ≡ true → has more v ≡ true) → has more u ≡ true
+      → Searches known None top below (x ++ record { asked = Mute u; heard = Acked ack } ∷ []) more
   search-acked u ack more device s was is_found grows here = record {
-    under_way = under_way-acked known x found u ack more device s.under_way is_found grows here (named-mute known x u (Acked ack) (inr was));
+    under_way = under_way-acked known x found u ack more device s.under_way is_found grows here
+        (named-mute known x u (Acked ack) (inr was));
     known_first = λ v k. has-before_branch muted_by x (e ∷ []) v (s.known_first v k);
     stack = s.stack;
-    cleared = λ v low. elim (s.cleared v low) [ inl old ↦ inl (grows v old) | inr cleared ↦ inr (IsCleared-push (e ∷ []) cleared) ];
+    cleared = λ v low. elim (s.cleared v low)
+        [ inl old ↦ inl (grows v old) | inr cleared ↦ inr (IsCleared-push (e ∷ []) cleared) ];
   }
     where
       e : Seen
       e = record { asked = Mute u; heard = Acked ack }
 
   -- five were lost
-  pub search-given_up : (u : ℕ) → IsDevice u → InSuccession TRIES (IsLostMute u) x → Searches known (Some u) top below x found → Searches known None top below x found
+  pub search-given_up : (u : ℕ) → IsDevice u → InSuccession TRIES (IsLostMute u) x
+      → Searches known (Some u) top below x found → Searches known None top below x found
   search-given_up u device five s = record {
     under_way = under_way-given_up known u x found device five s.under_way;
     known_first = s.known_first;
@@ -79,24 +90,37 @@ module _ (known : List ℕ) (top : Span) (below : List Span) (x : List Seen) (fo
   pub search-split : (top.lo ≡ top.hi → ⊥) → Searches known None top below x found
       → Searches known None (record { lo = top.lo; hi = middle top })
       (record { lo = middle top + 1; hi = top.hi } ∷ below) x found
-  search-split two s = record { under_way = s.under_way; known_first = s.known_first; stack = IsStack-split top below two s.stack; cleared = s.cleared }
+  search-split two s = record {
+    under_way = s.under_way;
+    known_first = s.known_first;
+    stack = IsStack-split top below two s.stack;
+    cleared = s.cleared;
+  }
 
   -- five silences clear the top range
-  pub search-cleared : InSuccession TRIES (IsSilentBranch top.lo top.hi) x → Searches known None top below x found → (u : ℕ) → u < top.hi + 1 → (has found u ≡ true) ⊎ IsCleared x u
+  pub search-cleared : InSuccession TRIES (IsSilentBranch top.lo top.hi) x → Searches known None top below x found
+      → (u : ℕ) → u < top.hi + 1 → (has found u ≡ true) ⊎ IsCleared x u
   search-cleared five s u low = elim (cases_lt u top.lo) [
     | inl lower ↦ s.cleared u lower
-    | inr inside ↦ inr (record { lo = top.lo; hi = top.hi; within = and_from (nat_le top.lo u) (nat_le u top.hi) (le-leb top.lo u inside) (le-leb u top.hi (omega arith)); silent = five })
+    | inr inside ↦ inr (record {
+      lo = top.lo;
+      hi = top.hi;
+      within = and_from (nat_le top.lo u) (nat_le u top.hi) (le-leb top.lo u inside) (le-leb u top.hi (omega arith));
+      silent = five;
+    })
   ]
 
 -- all is cleared
-pub all_cleared : (kind : Kind) (known : List ℕ) (x : List Seen) (found : List ℕ) → IsUnderWay (known_of kind known) None x found
+pub all_cleared : (kind : Kind) (known : List ℕ) (x : List Seen) (found : List ℕ)
+    → IsUnderWay (known_of kind known) None x found
     → ((u : ℕ) → has (known_of kind known) u ≡ true → has (muted_in (before_first is_branch x)) u ≡ true)
     → ((u : ℕ) → u < 2 ^ 48 → (has found u ≡ true) ⊎ IsCleared x u) → SearchShows kind known x found
 all_cleared kind known x found w known_first cleared = record {
   unmutes = w.begun;
   no_failure = w.no_failure;
   set = w.is_found.set;
-  tried = each_member (IsTried found x) (muted_in x) (λ u muted. elim (w.tried u muted) [ inl nobody ↦ absurd (none_some u nobody) | inr tried ↦ tried ]);
+  tried = each_member (IsTried found x) (muted_in x)
+      (λ u muted. elim (w.tried u muted) [ inl nobody ↦ absurd (none_some u nobody) | inr tried ↦ tried ]);
   cleared = cleared;
   known_first = each_member _ (known_of kind known) known_first;
   read_first = w.named;
@@ -108,7 +132,8 @@ all_cleared kind known x found w known_first cleared = record {
 -- the top range is taken off: the next one is searched, or the run ends
 pub search-next : (kind : Kind) (known : List ℕ) (budget : ℕ) (top : Span) (below : List Span) (x : List Seen)
     (e : Seen) (found : List ℕ) → Searches (known_of kind known) None top below (x ++ e ∷ []) found
-    → InSuccession TRIES (IsSilentBranch top.lo top.hi) (x ++ e ∷ []) → ((u : ℕ) → IsCorrupt u (x ++ e ∷ []) → ⊥) → InPhase kind known budget (search_below below) (x ++ e ∷ []) found
+    → InSuccession TRIES (IsSilentBranch top.lo top.hi) (x ++ e ∷ []) → ((u : ℕ) → IsCorrupt u (x ++ e ∷ []) → ⊥)
+    → InPhase kind known budget (search_below below) (x ++ e ∷ []) found
 search-next kind known budget top [] x e found s five not_corrupt = record {
   before = x;
   last = e;
@@ -123,7 +148,8 @@ search-next kind known budget top (r ∷ rs) x e found s five not_corrupt = reco
     under_way = s.under_way;
     known_first = s.known_first;
     stack = IsStack-pop top r rs s.stack;
-    cleared = λ u low. search-cleared (known_of kind known) top (r ∷ rs) (x ++ e ∷ []) found five s u (subst (λ n. u < n) s.stack.rest.3 low);
+    cleared = λ u low. search-cleared (known_of kind known) top (r ∷ rs) (x ++ e ∷ []) found five s u
+        (subst (λ n. u < n) s.stack.rest.3 low);
   };
   few = omega arith;
   silent = EndsWith-none _ (x ++ e ∷ []);
@@ -133,8 +159,11 @@ search-next kind known budget top (r ∷ rs) x e found s five not_corrupt = reco
 -- a collision splits the top range; one UID is corrupt
 pub search-collided : (kind : Kind) (known : List ℕ) (budget : ℕ) (top : Span) (below : List Span) (x : List Seen)
     (e : Seen) (found : List ℕ) → Searches (known_of kind known) None top below (x ++ e ∷ []) found
-    → (top.lo ≡ top.hi → IsCorrupt top.lo (x ++ e ∷ [])) → ((top.lo ≡ top.hi → ⊥) → (u : ℕ) → IsCorrupt u (x ++ e ∷ []) → ⊥) → InPhase kind known budget (split top below) (x ++ e ∷ []) found
-search-collided kind known budget top below x e found s corrupt not_corrupt = cond_both (top.lo == top.hi) _ _ (λ p. InPhase kind known budget p (x ++ e ∷ []) found)
+    → (top.lo ≡ top.hi → IsCorrupt top.lo (x ++ e ∷ []))
+    → ((top.lo ≡ top.hi → ⊥) → (u : ℕ) → IsCorrupt u (x ++ e ∷ []) → ⊥)
+    → InPhase kind known budget (split top below) (x ++ e ∷ []) found
+search-collided kind known budget top below x e found s corrupt not_corrupt =
+    cond_both (top.lo == top.hi) _ _ (λ p. InPhase kind known budget p (x ++ e ∷ []) found)
     (λ one. record {
       before = x;
       last = e;

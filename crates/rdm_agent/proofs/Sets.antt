@@ -1,5 +1,6 @@
 -- Ascending lists as sets.
-use Rattle.std.proofs.Common.{◌≡◌, ℕ, ◌<◌, Bool, true, false, ◌||◌, cond, List, [], ◌∷◌, ◌++◌, length, ◌+◌, fold, take, zero, suc, refl, sym, ap, ◌∙◌, inl, inr, true≢false, arith}
+use Rattle.std.proofs.Common.{◌≡◌, ℕ, ◌<◌, Bool, true, false, ◌||◌, cond, List, [], ◌∷◌, ◌++◌, length, ◌+◌, fold, take}
+use Rattle.std.proofs.Common.{zero, suc, refl, sym, ap, ◌∙◌, inl, inr, true≢false, arith}
 use Rattle.std.specs.Prelude.{◌⊎◌, ◌==◌, nat_lt}
 use Rattle.std.specs.List.{AllByRecursion}
 use Rattle.std.proofs.lemmas.Bool.{eqb-true, eq-eqb, or_cases, or_parts, cases_Bool, cond-true, cond-false}
@@ -26,7 +27,8 @@ each_member P [] each = tt
 each_member P (u ∷ us) each = (each u (has-head u us), each_member P us (λ v here. each v (has-rest u us v here)))
 
 -- ascending lists with the same members are equal
-pub same_members : (us vs : List ℕ) → IsAscending us → IsAscending vs → ((w : ℕ) → has us w ≡ true → has vs w ≡ true) → ((w : ℕ) → has vs w ≡ true → has us w ≡ true) → us ≡ vs
+pub same_members : (us vs : List ℕ) → IsAscending us → IsAscending vs → ((w : ℕ) → has us w ≡ true → has vs w ≡ true)
+    → ((w : ℕ) → has vs w ≡ true → has us w ≡ true) → us ≡ vs
 same_members [] [] a b f g = refl
 same_members [] (v ∷ vs) a b f g = absurd (true≢false (sym (g v (has-head v vs))))
 same_members (u ∷ us) [] a b f g = absurd (true≢false (sym (f u (has-head u us))))
@@ -37,13 +39,15 @@ same_members (u ∷ us) (v ∷ vs) a b f g = rw (heads, same_members us vs a.1 b
       | inl is ↦ eqb-true u v is
       | inr above ↦ elim (or_cases (v == u) (has us v) (g v (has-head v vs))) [
         | inl is ↦ sym (eqb-true v u is)
-        | inr below ↦ let p : v < u = member (λ w. v < w) vs u b.0 above in let q : u < v = member (λ w. u < w) us v a.0 below in omega arith
+        | inr below ↦ let p : v < u = member (λ w. v < w) vs u b.0 above in
+            let q : u < v = member (λ w. u < w) us v a.0 below in omega arith
       ]
     ]
 
     down : (w : ℕ) → has us w ≡ true → has vs w ≡ true
     down w h = elim (or_cases (w == v) (has vs w) (f w (has-rest u us w h))) [
-      | inl is ↦ let p : u < w = member (λ w. u < w) us w a.0 h in let q : w ≡ v = eqb-true w v is in let r : u ≡ v = heads in absurd (no_order p q r)
+      | inl is ↦ let p : u < w = member (λ w. u < w) us w a.0 h in let q : w ≡ v = eqb-true w v is in
+          let r : u ≡ v = heads in absurd (no_order p q r)
       | inr rest ↦ rest
     ]
       where
@@ -52,7 +56,8 @@ same_members (u ∷ us) (v ∷ vs) a b f g = rw (heads, same_members us vs a.1 b
 
     up : (w : ℕ) → has vs w ≡ true → has us w ≡ true
     up w h = elim (or_cases (w == u) (has us w) (g w (has-rest v vs w h))) [
-      | inl is ↦ let p : v < w = member (λ w. v < w) vs w b.0 h in let q : w ≡ u = eqb-true w u is in let r : u ≡ v = heads in absurd (no_order p q r)
+      | inl is ↦ let p : v < w = member (λ w. v < w) vs w b.0 h in let q : w ≡ u = eqb-true w u is in
+          let r : u ≡ v = heads in absurd (no_order p q r)
       | inr rest ↦ rest
     ]
       where
@@ -77,7 +82,8 @@ has-with_uid u (v ∷ vs) w = by_test (nat_lt u v) (u == v) refl (has-with_uid u
     twice true b = refl
     twice false b = refl
 
-    by_test : (b c : Bool) → (u == v) ≡ c → has (with_uid u vs) w ≡ ((w == u) || has vs w) → has (cond b (u ∷ v ∷ vs) (cond c (v ∷ vs) (v ∷ with_uid u vs))) w ≡ ((w == u) || ((w == v) || has vs w))
+    by_test : (b c : Bool) → (u == v) ≡ c → has (with_uid u vs) w ≡ ((w == u) || has vs w)
+        → has (cond b (u ∷ v ∷ vs) (cond c (v ∷ vs) (v ∷ with_uid u vs))) w ≡ ((w == u) || ((w == v) || has vs w))
     by_test true c same rest = refl
     by_test false true same rest = rw (eqb-true u v same) (twice (w == v) (has vs w))
     by_test false false same rest = ap (λ b. (w == v) || b) rest ∙ swapped (w == v) (w == u) (has vs w)
@@ -90,12 +96,14 @@ has-set_of (u ∷ us) w = has-with_uid u (set_of us) w ∙ ap (λ b. (w == u) ||
 -- lists with the same members are the same set
 pub same_sets : (us vs : List ℕ) → ((w : ℕ) → has us w ≡ has vs w) → set_of us ≡ set_of vs
 same_sets us vs same = same_members (set_of us) (set_of vs) (ascending-set_of us) (ascending-set_of vs)
-    (λ w h. has-set_of vs w ∙ sym (same w) ∙ sym (has-set_of us w) ∙ h) (λ w h. has-set_of us w ∙ same w ∙ sym (has-set_of vs w) ∙ h)
+    (λ w h. has-set_of vs w ∙ sym (same w) ∙ sym (has-set_of us w) ∙ h)
+    (λ w h. has-set_of us w ∙ same w ∙ sym (has-set_of vs w) ∙ h)
 
 -- a new member makes a set longer by one
 pub length-with_uid : (u : ℕ) (vs : List ℕ) → has vs u ≡ false → length (with_uid u vs) ≡ length vs + 1
 length-with_uid u [] new = omega arith
-length-with_uid u (v ∷ vs) new = by_test (nat_lt u v) (u == v) (or_parts (u == v) (has vs u) new) (λ n. length-with_uid u vs n)
+length-with_uid u (v ∷ vs) new =
+    by_test (nat_lt u v) (u == v) (or_parts (u == v) (has vs u) new) (λ n. length-with_uid u vs n)
   where
     by_test : (b c : Bool) → (c ≡ false) × (has vs u ≡ false)
         → (has vs u ≡ false → length (with_uid u vs) ≡ length vs + 1)
@@ -133,7 +141,9 @@ has-with_new us u w = by_test (has us u) refl
 
 has-without_repeats : (us vs : List ℕ) (w : ℕ) → has (fold with_new us vs) w ≡ (has vs w || has us w)
 has-without_repeats us [] w = refl
-has-without_repeats us (v ∷ vs) w = has-without_repeats (with_new us v) vs w ∙ ap (λ b. has vs w || b) (has-with_new us v w) ∙ swapped_first (has vs w) (w == v) (has us w)
+has-without_repeats us (v ∷ vs) w =
+    has-without_repeats (with_new us v) vs w ∙ ap (λ b. has vs w || b) (has-with_new us v w)
+    ∙ swapped_first (has vs w) (w == v) (has us w)
   where
     swapped_first : (a b c : Bool) → (a || (b || c)) ≡ ((b || a) || c)
     swapped_first true true c = refl
@@ -150,10 +160,12 @@ set_of-once us = same_sets (once us) us (λ w. has-once us w)
 
 -- a list's end, without repeats
 pub once-again : (us : List ℕ) (u : ℕ) → has us u ≡ true → once (us ++ u ∷ []) ≡ once us
-once-again us u here = fold_push with_new [] us u ∙ cond-true (has (once us) u) (once us) (once us ++ u ∷ []) (has-once us u ∙ here)
+once-again us u here =
+    fold_push with_new [] us u ∙ cond-true (has (once us) u) (once us) (once us ++ u ∷ []) (has-once us u ∙ here)
 
 pub once-new : (us : List ℕ) (u : ℕ) → has us u ≡ false → once (us ++ u ∷ []) ≡ once us ++ u ∷ []
-once-new us u new = fold_push with_new [] us u ∙ cond-false (has (once us) u) (once us) (once us ++ u ∷ []) (has-once us u ∙ new)
+once-new us u new =
+    fold_push with_new [] us u ∙ cond-false (has (once us) u) (once us) (once us ++ u ∷ []) (has-once us u ∙ new)
 
 -- a member of a list's front is the list's
 pub has-take : (n : ℕ) (us : List ℕ) (u : ℕ) → has (take n us) u ≡ true → has us u ≡ true

@@ -10,7 +10,8 @@ use Rattle.rdm_agent.specs.body.Sound.{Ascends, IsStack}
 -- they begin among the UIDs
 pub Ascends-below : (from level : ℕ) (rs : List Span) → Ascends from level rs → from ≤ 2 ^ 48
 Ascends-below from level [] a = omega (arith, a)
-Ascends-below from level (r ∷ rs) a = let up = Ascends-below (r.hi + 1) (suc a.0) rs a.5 in let size = a.4 in omega arith
+Ascends-below from level (r ∷ rs) a =
+    let up = Ascends-below (r.hi + 1) (suc a.0) rs a.5 in let size = a.4 in omega arith
 
 Ascends-weaker : (from level : ℕ) (rs : List Span) → Ascends from (suc level) rs → Ascends from level rs
 Ascends-weaker from level [] a = a
@@ -32,15 +33,20 @@ IsStack-whole = record { level = 48; height = omega arith; size = refl; rest = r
 
 -- a range ends after its begin, and within all UIDs
 pub IsStack-ends : (top : Span) (below : List Span) → IsStack top below → (top.lo ≤ top.hi) × (top.hi < 2 ^ 48)
-IsStack-ends top below s = let end = Ascends-below (top.hi + 1) s.level below s.rest in let size = s.size in let some : 0 < 2 ^ s.level = pow_pos s.level in (omega arith, omega arith)
+IsStack-ends top below s =
+    let end = Ascends-below (top.hi + 1) s.level below s.rest in let size = s.size in
+    let some : 0 < 2 ^ s.level = pow_pos s.level in (omega arith, omega arith)
 
 -- the top range is taken off
 pub IsStack-pop : (top r : Span) (rs : List Span) → IsStack top (r ∷ rs) → IsStack r rs
-IsStack-pop top r rs s = let a = s.rest in let height : a.0 ≤ 47 = a.2 in let at : r.lo ≡ top.hi + 1 = a.3 in let size : r.hi + 1 ≡ top.hi + 1 + 2 ^ a.0 = a.4 in
+IsStack-pop top r rs s =
+    let a = s.rest in let height : a.0 ≤ 47 = a.2 in let at : r.lo ≡ top.hi + 1 = a.3 in
+    let size : r.hi + 1 ≡ top.hi + 1 + 2 ^ a.0 = a.4 in
     record { level = a.0; height = omega arith; size = omega arith; rest = Ascends-weaker (r.hi + 1) a.0 rs a.5 }
 
 -- the top range is split in halves
-pub IsStack-split : (top : Span) (below : List Span) → (top.lo ≡ top.hi → ⊥) → IsStack top below → IsStack (lower_half top) (upper_half top ∷ below)
+pub IsStack-split : (top : Span) (below : List Span) → (top.lo ≡ top.hi → ⊥) → IsStack top below
+    → IsStack (lower_half top) (upper_half top ∷ below)
 IsStack-split top below two s = by_level s.level s.height s.size s.rest
   where
     by_level : (level : ℕ) → level ≤ 48 → top.hi + 1 ≡ top.lo + 2 ^ level → Ascends (top.hi + 1) level below
@@ -61,14 +67,18 @@ IsStack-split top below two s = by_level s.level s.height s.size s.rest
 
 -- where the top range has two halves there is room for one more below it
 pub IsStack-room : (top : Span) (below : List Span) → (top.lo ≡ top.hi → ⊥) → IsStack top below → length below < 48
-IsStack-room top below two s = let few = IsStack-length (lower_half top) (upper_half top ∷ below) (IsStack-split top below two s) in omega arith
+IsStack-room top below two s =
+    let few = IsStack-length (lower_half top) (upper_half top ∷ below) (IsStack-split top below two s) in omega arith
 
 -- the halves that a range has, as they are answered
-pub IsStack-halves : (top : Span) (below : List Span) (halves : Span × Span) → Some halves ≡ (if top.lo == top.hi then None else Some (lower_half top, upper_half top)) → IsStack top below
+pub IsStack-halves : (top : Span) (below : List Span) (halves : Span × Span)
+    → Some halves ≡ (if top.lo == top.hi then None else Some (lower_half top, upper_half top)) → IsStack top below
     → IsStack halves.0 (halves.1 ∷ below) × (length below < 48)
 IsStack-halves top below halves shown s = by_test (top.lo == top.hi) refl shown
   where
-    by_test : (b : Bool) → (top.lo == top.hi) ≡ b → Some halves ≡ (if b then None else Some (lower_half top, upper_half top)) → IsStack halves.0 (halves.1 ∷ below) × (length below < 48)
+    by_test : (b : Bool) → (top.lo == top.hi) ≡ b
+        → Some halves ≡ (if b then None else Some (lower_half top, upper_half top))
+        → IsStack halves.0 (halves.1 ∷ below) × (length below < 48)
     by_test true e some = cc
     by_test false e some =
         let two : top.lo ≡ top.hi → ⊥ = eqb-false top.lo top.hi e in

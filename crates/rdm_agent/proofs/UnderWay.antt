@@ -1,5 +1,6 @@
 -- What an exchange after the unmutes keeps.
-use Rattle.std.proofs.Common.{◌≡◌, ℕ, true, false, List, [], ◌∷◌, ◌++◌, ◌+◌, Option, None, Some, refl, sym, ap, ◌∙◌, subst, inl, inr, true≢false, append_assoc, append-nil}
+use Rattle.std.proofs.Common.{◌≡◌, ℕ, true, false, List, [], ◌∷◌, ◌++◌, ◌+◌, Option, None, Some, refl, sym, ap, ◌∙◌}
+use Rattle.std.proofs.Common.{subst, inl, inr, true≢false, append_assoc, append-nil}
 use Rattle.std.specs.Prelude.{◌⊎◌}
 use Rattle.std.proofs.lemmas.List.{length_push}
 use Rattle.rdm_wire.specs.Uid.{has, IsDevice}
@@ -19,7 +20,8 @@ use Rattle.rdm_agent.proofs.Invariant.{EndsWith, IsFound, IsUnderWay}
 pub EndsWith-none : (P : Seen → Type 0) (x : List Seen) → EndsWith 0 P x
 EndsWith-none P x = record { front = x; run = []; whole = sym (append-nil x); many = refl; each = tt }
 
-pub EndsWith-push : {n : ℕ} {P : Seen → Type 0} {x : List Seen} (e : Seen) → EndsWith n P x → P e → EndsWith (n + 1) P (x ++ e ∷ [])
+pub EndsWith-push : {n : ℕ} {P : Seen → Type 0} {x : List Seen} (e : Seen) → EndsWith n P x → P e
+    → EndsWith (n + 1) P (x ++ e ∷ [])
 EndsWith-push {n} {P} e s p = record {
   front = s.front;
   run = s.run ++ e ∷ [];
@@ -29,7 +31,14 @@ EndsWith-push {n} {P} e s p = record {
 }
 
 pub EndsWith-succession : {n : ℕ} {P : Seen → Type 0} {x : List Seen} → EndsWith n P x → InSuccession n P x
-EndsWith-succession s = record { front = s.front; run = s.run; back = []; whole = s.whole ∙ sym (append-nil (s.front ++ s.run)); many = s.many; each = s.each }
+EndsWith-succession s = record {
+  front = s.front;
+  run = s.run;
+  back = [];
+  whole = s.whole ∙ sym (append-nil (s.front ++ s.run));
+  many = s.many;
+  each = s.each;
+}
 
 -- a mute that is lost acknowledges nothing
 pub lost-acks_none : (u : ℕ) (h : Heard) → is_acked h ≡ false → acked_uid (Mute u) h ≡ None
@@ -40,7 +49,8 @@ lost-acks_none u (One v) lost = refl
 lost-acks_none u Noise lost = refl
 
 -- a mute of a UID that is known, or was read
-pub named-mute : (known : List ℕ) (x : List Seen) (u : ℕ) (h : Heard) → (has known u ≡ true) ⊎ (has (read_in x) u ≡ true) → MutesNamed known x (record { asked = Mute u; heard = h })
+pub named-mute : (known : List ℕ) (x : List Seen) (u : ℕ) (h : Heard) → (has known u ≡ true)
+    ⊎ (has (read_in x) u ≡ true) → MutesNamed known x (record { asked = Mute u; heard = h })
 named-mute known x u h was v p = subst (λ (w : ℕ). (has known w ≡ true) ⊎ (has (read_in x) w ≡ true)) (same p) was
   where
     same : Some u ≡ Some v → u ≡ v
@@ -48,8 +58,10 @@ named-mute known x u h was v p = subst (λ (w : ℕ). (has known w ≡ true) ⊎
 
 module _ (known : List ℕ) (x : List Seen) (found : List ℕ) where
   -- what one more exchange keeps: later and more are what is busy and found after it
-  pushed : (busy later : Option ℕ) (more : List ℕ) (e : Seen) → IsUnderWay known busy x found → NotFailed e → IsFound (x ++ e ∷ []) more → ((u : ℕ) → has found u ≡ true → has more u ≡ true)
-      → ((u : ℕ) → (busy ≡ Some u) ⊎ (muted_by e ≡ Some u) → (later ≡ Some u) ⊎ IsTried more (x ++ e ∷ []) u) → MutesNamed known x e → IsUnderWay known later (x ++ e ∷ []) more
+  pushed : (busy later : Option ℕ) (more : List ℕ) (e : Seen) → IsUnderWay known busy x found → NotFailed e
+      → IsFound (x ++ e ∷ []) more → ((u : ℕ) → has found u ≡ true → has more u ≡ true)
+      → ((u : ℕ) → (busy ≡ Some u) ⊎ (muted_by e ≡ Some u) → (later ≡ Some u) ⊎ IsTried more (x ++ e ∷ []) u)
+      → MutesNamed known x e → IsUnderWay known later (x ++ e ∷ []) more
   pushed busy later more e w sound is_found grows moved named = record {
     begun = begun-push x (e ∷ []) w.begun;
     no_failure = All-push NotFailed x e w.no_failure sound;
@@ -70,7 +82,8 @@ module _ (known : List ℕ) (x : List Seen) (found : List ℕ) where
       → IsFound (x ++ record { asked = Branch lo hi; heard = h } ∷ []) found
       → IsUnderWay known busy (x ++ record { asked = Branch lo hi; heard = h } ∷ []) found
   under_way-branch busy lo hi h w sound is_found =
-      pushed None busy found (record { asked = Branch lo hi; heard = h }) w sound is_found (λ u here. here) (λ u was. absurd (nobody u was)) (λ u was. absurd (none_some u was))
+      pushed None busy found (record { asked = Branch lo hi; heard = h }) w sound is_found (λ u here. here)
+      (λ u was. absurd (nobody u was)) (λ u was. absurd (none_some u was))
     where
       none_some : (u : ℕ) → None ≡ Some u → ⊥
       none_some u p = cc
@@ -80,18 +93,23 @@ module _ (known : List ℕ) (x : List Seen) (found : List ℕ) where
       nobody u (inr p) = none_some u p
 
   -- a mute that is lost
-  pub under_way-lost : (u : ℕ) (h : Heard) → IsUnderWay known (Some u) x found → NotFailed (record { asked = Mute u; heard = h }) → IsFound (x ++ record { asked = Mute u; heard = h } ∷ []) found
-      → MutesNamed known x (record { asked = Mute u; heard = h }) → IsUnderWay known (Some u) (x ++ record { asked = Mute u; heard = h } ∷ []) found
+  pub under_way-lost : (u : ℕ) (h : Heard) → IsUnderWay known (Some u) x found
+      → NotFailed (record { asked = Mute u; heard = h })
+      → IsFound (x ++ record { asked = Mute u; heard = h } ∷ []) found
+      → MutesNamed known x (record { asked = Mute u; heard = h })
+      → IsUnderWay known (Some u) (x ++ record { asked = Mute u; heard = h } ∷ []) found
   under_way-lost u h w sound is_found named = pushed (Some u) (Some u) found (record { asked = Mute u; heard = h }) w
       sound is_found (λ v here. here) (λ v was. inl (elim was [ inl p ↦ p | inr p ↦ p ])) named
 
   -- one that is acknowledged
-  pub under_way-acked : (u : ℕ) (ack : MuteAck) (more : List ℕ) → IsDevice u → IsUnderWay known (Some u) x found → IsFound (x ++ record { asked = Mute u; heard = Acked ack } ∷ []) more
+  pub under_way-acked : (u : ℕ) (ack : MuteAck) (more : List ℕ) → IsDevice u → IsUnderWay known (Some u) x found
+      → IsFound (x ++ record { asked = Mute u; heard = Acked ack } ∷ []) more
       → ((v : ℕ) → has found v ≡ true → has more v ≡ true) → has more u ≡ true
       → MutesNamed known x (record { asked = Mute u; heard = Acked ack })
       → IsUnderWay known None (x ++ record { asked = Mute u; heard = Acked ack } ∷ []) more
   under_way-acked u ack more device w is_found grows here named =
-      pushed (Some u) None more (record { asked = Mute u; heard = Acked ack }) w sound is_found grows (λ v was. inr (tried v (elim was [ inl p ↦ p | inr p ↦ p ]))) named
+      pushed (Some u) None more (record { asked = Mute u; heard = Acked ack }) w sound is_found grows
+      (λ v was. inr (tried v (elim was [ inl p ↦ p | inr p ↦ p ]))) named
     where
       sound : Acked ack ≡ Failed → ⊥
       sound p = cc
@@ -100,7 +118,8 @@ module _ (known : List ℕ) (x : List Seen) (found : List ℕ) where
       same v p = cc
 
       tried : (v : ℕ) → Some u ≡ Some v → IsTried more (x ++ record { asked = Mute u; heard = Acked ack } ∷ []) v
-      tried v p = subst (λ (w : ℕ). IsTried more (x ++ record { asked = Mute u; heard = Acked ack } ∷ []) w) (same v p) (record { device = device; tried = inl here })
+      tried v p = subst (λ (w : ℕ). IsTried more (x ++ record { asked = Mute u; heard = Acked ack } ∷ []) w) (same v p)
+          (record { device = device; tried = inl here })
 
 -- what is given up was lost five times
 pub under_way-given_up : (known : List ℕ) (u : ℕ) (x : List Seen) (found : List ℕ) → IsDevice u
@@ -120,7 +139,8 @@ under_way-given_up known u x found device five w = record {
     same v p = cc
 
 -- one is taken up
-pub under_way-taken_up : (known : List ℕ) (u : ℕ) (x : List Seen) (found : List ℕ) → IsUnderWay known None x found → IsUnderWay known (Some u) x found
+pub under_way-taken_up : (known : List ℕ) (u : ℕ) (x : List Seen) (found : List ℕ) → IsUnderWay known None x found
+    → IsUnderWay known (Some u) x found
 under_way-taken_up known u x found w = record {
   begun = w.begun;
   no_failure = w.no_failure;

@@ -1,5 +1,6 @@
 -- The three unmutes, with which a run begins.
-use Rattle.std.proofs.Common.{◌≡◌, ℕ, ◌-◌, ◌≤◌, false, true, List, [], ◌∷◌, ◌++◌, length, map, take, Option, None, Some, refl, sym, ap, ◌∙◌, subst, inr, true≢false, arith}
+use Rattle.std.proofs.Common.{◌≡◌, ℕ, ◌-◌, ◌≤◌, false, true, List, [], ◌∷◌, ◌++◌, length, map, take, Option, None, Some}
+use Rattle.std.proofs.Common.{refl, sym, ap, ◌∙◌, subst, inr, true≢false, arith}
 use Rattle.std.specs.Prelude.{filter_map, replicate}
 use Rattle.std.specs.List.{AllByRecursion}
 use Rattle.std.proofs.lemmas.List.{length_push}
@@ -31,14 +32,16 @@ unmuting-push known more left x found h some sound s = record {
   devices = s.devices;
 }
 
-three_unmutes : (x : List Seen) → length x ≡ UNMUTES → AllByRecursion IsUnmute x → take UNMUTES (map (λ e. e.asked) x) ≡ replicate UNMUTES Unmute
+three_unmutes : (x : List Seen) → length x ≡ UNMUTES → AllByRecursion IsUnmute x
+    → take UNMUTES (map (λ e. e.asked) x) ≡ replicate UNMUTES Unmute
 three_unmutes (a ∷ b ∷ c ∷ x) three all = rw (all.0, all.1.0, all.1.1.0) refl
 three_unmutes [] three all = absurd (omega (arith, three))
 three_unmutes (a ∷ []) three all = absurd (omega (arith, three))
 three_unmutes (a ∷ b ∷ []) three all = absurd (omega (arith, three))
 
 -- unmutes mute nobody, and branch no range
-none_read : (f : Seen → Option ℕ) → ((e : Seen) → IsUnmute e → f e ≡ None) → (x : List Seen) → AllByRecursion IsUnmute x → filter_map f x ≡ []
+none_read : (f : Seen → Option ℕ) → ((e : Seen) → IsUnmute e → f e ≡ None) → (x : List Seen) → AllByRecursion IsUnmute x
+    → filter_map f x ≡ []
 none_read f none [] all = refl
 none_read f none (e ∷ x) all = rw (none e all.0) (none_read f none x all.1)
 
@@ -50,18 +53,22 @@ no_branches [] all = tt
 no_branches (e ∷ x) all = (ap asks_range all.0, no_branches x all.1)
 
 -- after the third unmute the known UIDs are left
-pub unmuted : (known left : List ℕ) (x : List Seen) (found : List ℕ) → IsUnmuting known 0 left x found → MutesKnown known None left x found
+pub unmuted : (known left : List ℕ) (x : List Seen) (found : List ℕ) → IsUnmuting known 0 left x found
+    → MutesKnown known None left x found
 unmuted known left x found s = record {
   under_way = record {
     begun = three_unmutes x (let counted = s.counted in omega arith) s.unmutes;
     no_failure = s.no_failure;
     is_found = s.is_found;
-    tried = λ u muted. absurd (true≢false (sym muted ∙ ap (λ us. has us u) (none_read muted_by mutes_none x s.unmutes)));
-    named = λ front back e whole u mutes. absurd (none_some u (sym (mutes_none e (All-at IsUnmute x front back e s.unmutes whole)) ∙ mutes));
+    tried = λ u muted. absurd (true≢false
+        (sym muted ∙ ap (λ us. has us u) (none_read muted_by mutes_none x s.unmutes)));
+    named = λ front back e whole u
+        mutes. absurd (none_some u (sym (mutes_none e (All-at IsUnmute x front back e s.unmutes whole)) ∙ mutes));
   };
   no_branch = no_branches x s.unmutes;
   devices = subst (λ us. AllByRecursion IsDevice us) (sym s.left_is) s.devices;
-  are_known = subst (λ us. AllByRecursion (λ u. has known u ≡ true) us) (sym s.left_is) (each_member (λ u. has known u ≡ true) known (λ u here. here));
+  are_known = subst (λ us. AllByRecursion (λ u. has known u ≡ true) us) (sym s.left_is)
+      (each_member (λ u. has known u ≡ true) known (λ u here. here));
   others_muted = λ u here. inr (subst (λ us. has us u ≡ true) (sym s.left_is) here);
 }
   where

@@ -1,5 +1,6 @@
 -- Devices of a scene file, one after another.
-use Rattle.std.proofs.Common.{◌≡◌, ℕ, suc, ◌+◌, ◌<◌, ◌≤◌, Bool, true, false, cond, List, [], ◌∷◌, ◌++◌, length, take, get_or, Option, Some, refl, sym, ap, ◌∙◌, subst, true≢false, arith}
+use Rattle.std.proofs.Common.{◌≡◌, ℕ, suc, ◌+◌, ◌<◌, ◌≤◌, Bool, true, false, cond, List, [], ◌∷◌, ◌++◌, length, take}
+use Rattle.std.proofs.Common.{get_or, Option, Some, refl, sym, ap, ◌∙◌, subst, true≢false, arith}
 use Rattle.std.specs.Prelude.{◌==◌, ◌||◌, nat_lt, codes}
 use Rattle.std.proofs.lemmas.Grind.{fold-append}
 use Rattle.std.proofs.lemmas.List.{map-append, take_all}
@@ -15,15 +16,21 @@ use Rattle.rdm_line.specs.declared.scene.SceneDevice.{SceneDevice}
 use Rattle.rdm_files.specs.Forms.{Each, IsWhole, IsOwnUid, MayHave, MayGive}
 use Rattle.rdm_files.specs.SceneFiles.{IsDeviceOf, AreDevices, AllDiffer, in_place, leaves_first}
 use Rattle.rdm_files.specs.body.Elements.{IsAdded}
-use Rattle.rdm_files.proofs.FormLemmas.{one_has, one_may_have, one_may_give, one_whole, one_own_uid, each_next, each_many, cut_at, listed_items}
+use Rattle.rdm_files.proofs.FormLemmas.{one_has, one_may_have, one_may_give, one_whole, one_own_uid, each_next}
+use Rattle.rdm_files.proofs.FormLemmas.{each_many, cut_at, listed_items}
 
 -- a value says when its device comes and leaves
 pub leaves : (d : Data) (device : SceneDevice) (from : ℕ) (until : Option ℕ) → IsDeviceOf d device
     → MayHave (codes "from") (IsWhole 0 1000000000) 0 d from → MayGive (codes "until") (IsWhole 1 1000000000) d until
     → true ≡ leaves_first from until → ⊥
 leaves d device from until h f u first =
-    let came : from ≡ device.from = one_may_have (codes "from") (IsWhole 0 1000000000) 0 (one_whole 0 1000000000) d from device.from f h.from in
-    let left : until ≡ device.until = one_may_give (codes "until") (IsWhole 1 1000000000) (one_whole 1 1000000000) d until device.until u h.until in
+    let came : from
+    ≡ device.from =
+    one_may_have (codes "from") (IsWhole 0 1000000000) 0 (one_whole 0 1000000000) d from device.from f h.from in
+    let left : until
+    ≡ device.until =
+    one_may_give (codes "until") (IsWhole 1 1000000000) (one_whole 1 1000000000) d until device.until u
+    h.until in
     true≢false (first ∙ ap (λ n. leaves_first n until) came ∙ ap (leaves_first device.from) left ∙ h.comes_first)
 
 -- and its UID
@@ -34,7 +41,8 @@ one_device d a b p q = one_has (codes "uid") IsOwnUid one_own_uid d a.device.uid
 in_place-more : (xs : List SceneDevice) (x : SceneDevice) → in_place (xs ++ x ∷ []) ≡ with_scene_device x (in_place xs)
 in_place-more xs x = fold-append (λ placed d. with_scene_device d placed) [] xs (x ∷ [])
 
-has-with : (x : SceneDevice) (ds : List SceneDevice) (u : ℕ) → has (uids_of_scene (with_scene_device x ds)) u ≡ ((u == x.device.uid) || has (uids_of_scene ds) u)
+has-with : (x : SceneDevice) (ds : List SceneDevice) (u : ℕ)
+    → has (uids_of_scene (with_scene_device x ds)) u ≡ ((u == x.device.uid) || has (uids_of_scene ds) u)
 has-with x [] u = refl
 has-with x (d ∷ ds) u = by_test (nat_lt d.device.uid x.device.uid) (has-with x ds u)
   where
@@ -43,16 +51,21 @@ has-with x (d ∷ ds) u = by_test (nat_lt d.device.uid x.device.uid) (has-with x
     swap true false c = refl
     swap false b c = refl
 
-    by_test : (t : Bool) → has (uids_of_scene (with_scene_device x ds)) u ≡ ((u == x.device.uid) || has (uids_of_scene ds) u)
-        → has (uids_of_scene (cond t (d ∷ with_scene_device x ds) (x ∷ d ∷ ds))) u ≡ ((u == x.device.uid) || ((u == d.device.uid) || has (uids_of_scene ds) u))
-    by_test true rest = ap (λ b. (u == d.device.uid) || b) rest ∙ swap (u == d.device.uid) (u == x.device.uid) (has (uids_of_scene ds) u)
+    by_test : (t : Bool)
+        → has (uids_of_scene (with_scene_device x ds)) u ≡ ((u == x.device.uid) || has (uids_of_scene ds) u)
+        → has (uids_of_scene (cond t (d ∷ with_scene_device x ds) (x ∷ d ∷ ds))) u
+        ≡ ((u == x.device.uid) || ((u == d.device.uid) || has (uids_of_scene ds) u))
+    by_test true rest =
+        ap (λ b. (u == d.device.uid) || b) rest
+        ∙ swap (u == d.device.uid) (u == x.device.uid) (has (uids_of_scene ds) u)
     by_test false rest = refl
 
 length-with : (x : SceneDevice) (ds : List SceneDevice) → length (with_scene_device x ds) ≡ length ds + 1
 length-with x [] = refl
 length-with x (d ∷ ds) = by_test (nat_lt d.device.uid x.device.uid) (length-with x ds)
   where
-    by_test : (t : Bool) → length (with_scene_device x ds) ≡ length ds + 1 → length (cond t (d ∷ with_scene_device x ds) (x ∷ d ∷ ds)) ≡ suc (length ds) + 1
+    by_test : (t : Bool) → length (with_scene_device x ds) ≡ length ds + 1
+        → length (cond t (d ∷ with_scene_device x ds) (x ∷ d ∷ ds)) ≡ suc (length ds) + 1
     by_test true rest = omega (arith, rest)
     by_test false rest = omega arith
 
@@ -74,9 +87,12 @@ or-right : (a b : Bool) → (a || b) ≡ false → b ≡ false
 or-right true b h = cc
 or-right false b h = h
 
-has-pushed : (xs : List SceneDevice) (x : SceneDevice) (u : ℕ) → has (uids_of_scene (xs ++ x ∷ [])) u ≡ ((u == x.device.uid) || has (uids_of_scene xs) u)
+has-pushed : (xs : List SceneDevice) (x : SceneDevice) (u : ℕ)
+    → has (uids_of_scene (xs ++ x ∷ [])) u ≡ ((u == x.device.uid) || has (uids_of_scene xs) u)
 has-pushed [] x u = refl
-has-pushed (y ∷ xs) x u = ap (λ b. (u == y.device.uid) || b) (has-pushed xs x u) ∙ swap (u == y.device.uid) (u == x.device.uid) (has (uids_of_scene xs) u)
+has-pushed (y ∷ xs) x u =
+    ap (λ b. (u == y.device.uid) || b) (has-pushed xs x u)
+    ∙ swap (u == y.device.uid) (u == x.device.uid) (has (uids_of_scene xs) u)
   where
     swap : (a b c : Bool) → (a || (b || c)) ≡ (b || (a || c))
     swap true true c = refl
@@ -93,19 +109,28 @@ pub record Placed (vs : List Value) (i : ℕ) (devices : List SceneDevice) : Typ
   pub many : length devices ≡ i
 
 pub none_placed : (vs : List Value) (devices : List SceneDevice) → devices ≡ [] → Placed vs 0 devices
-none_placed vs devices none = record { listed = []; each = tt; differ = tt; placed = none; same = λ u. ap (λ ds. has (uids_of_scene ds) u) none; many = ap length none }
+none_placed vs devices none = record {
+  listed = [];
+  each = tt;
+  differ = tt;
+  placed = none;
+  same = λ u. ap (λ ds. has (uids_of_scene ds) u) none;
+  many = ap length none;
+}
 
 differ-more : (us : List ℕ) (u : ℕ) → AllDiffer us → has us u ≡ false → AllDiffer (us ++ u ∷ [])
 differ-more [] u all new = (refl, tt)
 differ-more (v ∷ us) u all new = (
-  list_any-append (λ w. v == w) us (u ∷ []) ∙ ap (λ b. b || ((v == u) || false)) all.0 ∙ others (v == u) (eq-sym v u ∙ or-left (u == v) (has us u) new),
+  list_any-append (λ w. v == w) us (u ∷ []) ∙ ap (λ b. b || ((v == u) || false)) all.0
+      ∙ others (v == u) (eq-sym v u ∙ or-left (u == v) (has us u) new),
   differ-more us u all.1 (or-right (u == v) (has us u) new),
 )
   where
     others : (b : Bool) → b ≡ false → (b || false) ≡ false
     others b is = ap (λ c. c || false) is
 
-pub one_placed : (vs : List Value) (i : ℕ) (v : Value) (old new : List SceneDevice) → i < length vs → v ≡ get_or vs i v → Placed vs i old → IsAdded (view v) old new → Placed vs (i + 1) new
+pub one_placed : (vs : List Value) (i : ℕ) (v : Value) (old new : List SceneDevice) → i < length vs → v ≡ get_or vs i v
+    → Placed vs i old → IsAdded (view v) old new → Placed vs (i + 1) new
 one_placed vs i v old new lt is p a = record {
   listed = p.listed ++ a.device ∷ [];
   each = each_next IsDeviceOf vs p.listed i v a.device lt is p.each a.read;
@@ -113,39 +138,55 @@ one_placed vs i v old new lt is p a = record {
       (differ-more (uids_of_scene p.listed) a.device.device.uid p.differ
       (sym (p.same a.device.device.uid) ∙ a.differs));
   placed = a.added ∙ ap (with_scene_device a.device) p.placed ∙ sym (in_place-more p.listed a.device);
-  same = λ u. ap (λ ds. has (uids_of_scene ds) u) a.added ∙ has-with a.device old u ∙ ap (λ b. (u == a.device.device.uid) || b) (p.same u) ∙ sym (has-pushed p.listed a.device u);
+  same = λ u. ap (λ ds. has (uids_of_scene ds) u) a.added ∙ has-with a.device old u
+      ∙ ap (λ b. (u == a.device.device.uid) || b) (p.same u) ∙ sym (has-pushed p.listed a.device u);
   many = ap length a.added ∙ length-with a.device old ∙ ap (λ k. k + 1) p.many;
 }
 
 -- at the end
-pub all_placed : (d : Data) (vs : List Value) (i : ℕ) (devices : List SceneDevice) → Some (items_view vs) ≡ as_array d → length vs ≡ i → length vs ≤ 1024 → Placed vs i devices → AreDevices d devices
+pub all_placed : (d : Data) (vs : List Value) (i : ℕ) (devices : List SceneDevice) → Some (items_view vs) ≡ as_array d
+    → length vs ≡ i → length vs ≤ 1024 → Placed vs i devices → AreDevices d devices
 all_placed d vs i devices is all few p =
-    let each : Each IsDeviceOf (items_view vs) p.listed = subst (λ ws. Each IsDeviceOf (items_view ws) p.listed) (take_all i vs (omega (arith, all))) p.each in
+    let each : Each IsDeviceOf (items_view vs) p.listed = subst (λ ws. Each IsDeviceOf (items_view ws) p.listed)
+    (take_all i vs (omega (arith, all))) p.each in
     let many = each_many IsDeviceOf vs p.listed each in record {
       listed = p.listed;
-      list = record { items = items_view vs; is_list = sym is; each = each; at_least = omega arith; at_most = omega (arith, many, few) };
+      list = record {
+        items = items_view vs;
+        is_list = sym is;
+        each = each;
+        at_least = omega arith;
+        at_most = omega (arith, many, few);
+      };
       differ = p.differ;
       placed = p.placed;
     }
 
 -- the devices of the same values have the same UIDs
-same_uids : (vs : List Value) (xs ys : List SceneDevice) → Each IsDeviceOf (items_view vs) xs → Each IsDeviceOf (items_view vs) ys → uids_of_scene xs ≡ uids_of_scene ys
+same_uids : (vs : List Value) (xs ys : List SceneDevice) → Each IsDeviceOf (items_view vs) xs
+    → Each IsDeviceOf (items_view vs) ys → uids_of_scene xs ≡ uids_of_scene ys
 same_uids [] [] [] a b = refl
 same_uids [] [] (y ∷ ys) a b = absurd b
 same_uids [] (x ∷ xs) ys a b = absurd a
 same_uids (v ∷ vs) [] ys a b = absurd a
 same_uids (v ∷ vs) (x ∷ xs) [] a b = absurd b
-same_uids (v ∷ vs) (x ∷ xs) (y ∷ ys) a b = ap (λ u. u ∷ uids_of_scene xs) (one_device (view v) x y a.0 b.0) ∙ ap (λ us. y.device.uid ∷ us) (same_uids vs xs ys a.1 b.1)
+same_uids (v ∷ vs) (x ∷ xs) (y ∷ ys) a b =
+    ap (λ u. u ∷ uids_of_scene xs) (one_device (view v) x y a.0 b.0)
+    ∙ ap (λ us. y.device.uid ∷ us) (same_uids vs xs ys a.1 b.1)
 
 differ-before : (us : List ℕ) (u : ℕ) (ws : List ℕ) → AllDiffer (us ++ u ∷ ws) → has us u ≡ false
 differ-before [] u ws all = refl
 differ-before (v ∷ us) u ws all =
-    let other : (v == u) ≡ false = or-left (v == u) (has ws v) (or-right (has us v) _ (sym (list_any-append (λ w. v == w) us (u ∷ ws)) ∙ all.0)) in
+    let other : (v == u)
+    ≡ false = or-left (v == u) (has ws v)
+    (or-right (has us v) _ (sym (list_any-append (λ w. v == w) us (u ∷ ws)) ∙ all.0)) in
     ap (λ b. b || has us u) (eq-sym u v ∙ other) ∙ differ-before us u ws all.1
 
 -- a device that can't be added makes a list that says nothing
-pub none_listed : (d : Data) (vs : List Value) (i : ℕ) (v : Value) (old : List SceneDevice) → Some (items_view vs) ≡ as_array d → i < length vs → length vs ≤ 1024 → v ≡ get_or vs i v → Placed vs i old
-    → ((x : SceneDevice) → IsDeviceOf (view v) x → has (uids_of_scene old) x.device.uid ≡ false → length old ≡ 1024) → (devices : List SceneDevice) → AreDevices d devices → ⊥
+pub none_listed : (d : Data) (vs : List Value) (i : ℕ) (v : Value) (old : List SceneDevice)
+    → Some (items_view vs) ≡ as_array d → i < length vs → length vs ≤ 1024 → v ≡ get_or vs i v → Placed vs i old
+    → ((x : SceneDevice) → IsDeviceOf (view v) x → has (uids_of_scene old) x.device.uid ≡ false → length old ≡ 1024)
+    → (devices : List SceneDevice) → AreDevices d devices → ⊥
 none_listed d vs i v old is lt few at p refused devices h =
     let cut = cut_at IsDeviceOf vs h.listed i v lt at (listed_items IsDeviceOf 0 1024 d vs h.listed is h.list) in
     let differ : AllDiffer (uids_of_scene cut.front ++ cut.here.device.uid ∷ uids_of_scene cut.back) =
@@ -159,7 +200,8 @@ none_listed d vs i v old is lt few at p refused devices h =
     omega (arith, full, p.many, lt, few)
 
 -- a list that is too long says nothing
-pub too_many : (d : Data) (vs : List Value) → Some (items_view vs) ≡ as_array d → 1024 < length vs → (devices : List SceneDevice) → AreDevices d devices → ⊥
+pub too_many : (d : Data) (vs : List Value) → Some (items_view vs) ≡ as_array d → 1024 < length vs
+    → (devices : List SceneDevice) → AreDevices d devices → ⊥
 too_many d vs is long devices h =
     let many = each_many IsDeviceOf vs h.listed (listed_items IsDeviceOf 0 1024 d vs h.listed is h.list) in
     let most : length h.listed ≤ 1024 = h.list.at_most in

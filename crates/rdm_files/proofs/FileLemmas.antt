@@ -6,11 +6,15 @@ use Rattle.std.proofs.lemmas.List.{take_all, length-take}
 use Rattle.rdm_files.specs.Input.{IsContent}
 
 -- a reader that gives more than the limit has more
-pub longer : (known : Option (List ℕ)) (bytes : List ℕ) → 1048576 < length bytes → IfSome (option_map (take 1048577) known) (λ xs. bytes ≡ xs) → IfSome known (λ xs. 1048576 < length xs)
+pub longer : (known : Option (List ℕ)) (bytes : List ℕ) → 1048576 < length bytes
+    → IfSome (option_map (take 1048577) known) (λ xs. bytes ≡ xs) → IfSome known (λ xs. 1048576 < length xs)
 longer None bytes many read = tt
-longer (Some xs) bytes many read = let taken : length bytes ≡ min 1048577 (length xs) = ap length read ∙ length-take 1048577 xs in omega (arith, taken, many)
+longer (Some xs) bytes many read =
+    let taken : length bytes ≡ min 1048577 (length xs) = ap length read ∙ length-take 1048577 xs in
+    omega (arith, taken, many)
 
-pub content : (known : Option (List ℕ)) (bytes : List ℕ) → length bytes ≤ 1048576 → IfSome (option_map (take 1048577) known) (λ xs. bytes ≡ xs) → IsContent known bytes
+pub content : (known : Option (List ℕ)) (bytes : List ℕ) → length bytes ≤ 1048576
+    → IfSome (option_map (take 1048577) known) (λ xs. bytes ≡ xs) → IsContent known bytes
 content None bytes few read = record { all = tt; few = few }
 content (Some xs) bytes few read = record { all = by_length (long (length xs)); few = few }
   where
@@ -19,4 +23,6 @@ content (Some xs) bytes few read = record { all = by_length (long (length xs)); 
 
     by_length : (length xs ≤ 1048577) ⊎ (1048577 < length xs) → bytes ≡ xs
     by_length (inl short) = read ∙ take_all 1048577 xs short
-    by_length (inr more) = let taken : length bytes ≡ min 1048577 (length xs) = ap length read ∙ length-take 1048577 xs in absurd (omega (arith, taken, few, more))
+    by_length (inr more) =
+        let taken : length bytes ≡ min 1048577 (length xs) = ap length read ∙ length-take 1048577 xs in
+        absurd (omega (arith, taken, few, more))

@@ -1,5 +1,6 @@
 -- Five successive numbers among ascending ones.
-use Rattle.std.proofs.Common.{◌≡◌, ℕ, zero, suc, ◌+◌, ◌<◌, ◌≤◌, Bool, true, false, List, length, get_or, Option, Some, None, Result, Ok, Err, refl, ap, sym, subst, ◌∙◌, arith}
+use Rattle.std.proofs.Common.{◌≡◌, ℕ, zero, suc, ◌+◌, ◌<◌, ◌≤◌, Bool, true, false, List, length, get_or, Option, Some}
+use Rattle.std.proofs.Common.{None, Result, Ok, Err, refl, ap, sym, subst, ◌∙◌, arith}
 use Rattle.std.specs.Prelude.{◌==◌, ◌&&◌, is_ok, nat_lt, IfSome, IfNone}
 use Rattle.std.specs.Cmp.Derive.{both_true}
 use Rattle.std.specs.Ordering.{nat_cmp}
@@ -15,9 +16,11 @@ use Rattle.rdm_files.specs.Losses.{HasFive, IsFirstOfFive}
 use Rattle.rdm_files.specs.body.Losses.{has_five}
 
 -- what a search by halves says
-pub has-searched : (numbers : List ℕ) (u : ℕ) (r : Result ℕ ℕ) → IsNonDecreasing numbers → IsBinarySearchResult (λ v. nat_cmp v u) numbers r → has numbers u ≡ is_ok r
+pub has-searched : (numbers : List ℕ) (u : ℕ) (r : Result ℕ ℕ) → IsNonDecreasing numbers
+    → IsBinarySearchResult (λ v. nat_cmp v u) numbers r → has numbers u ≡ is_ok r
 has-searched numbers u (Ok i) ascending found =
-    let at : (i < length numbers) × (get_or numbers i 0 ≡ u) = searched numbers u (Ok i) found (λ j k. ascending j k 0) in
+    let at : (i < length numbers)
+    × (get_or numbers i 0 ≡ u) = searched numbers u (Ok i) found (λ j k. ascending j k 0) in
     list_any_at (λ v. u == v) numbers i 0 at.0 (eq-eqb u (get_or numbers i 0) (sym at.1))
 has-searched numbers u (Err i) ascending found =
     let at : (i ≤ length numbers) × ((k : ℕ) → k < i → get_or numbers k 0 < u)
@@ -43,7 +46,8 @@ at xs n h =
 -- what the test says of each of the five
 five-from_test : (xs : List ℕ) (first : ℕ) → has_five xs first ≡ true → HasFive xs first
 five-from_test xs first h =
-    let four = and_parts (has xs first && has xs (first + 1) && has xs (first + 2) && has xs (first + 3)) (has xs (first + 4)) h in
+    let four = and_parts (has xs first && has xs (first + 1) && has xs (first + 2) && has xs (first + 3))
+    (has xs (first + 4)) h in
     let three = and_parts (has xs first && has xs (first + 1) && has xs (first + 2)) (has xs (first + 3)) four.0 in
     let two = and_parts (has xs first && has xs (first + 1)) (has xs (first + 2)) three.0 in
     let one = and_parts (has xs first) (has xs (first + 1)) two.0 in
@@ -52,7 +56,8 @@ five-from_test xs first h =
     same : first ≡ first + 0
     same = omega arith
 
-    each : has xs first ≡ true → has xs (first + 1) ≡ true → has xs (first + 2) ≡ true → has xs (first + 3) ≡ true → has xs (first + 4) ≡ true → HasFive xs first
+    each : has xs first ≡ true → has xs (first + 1) ≡ true → has xs (first + 2) ≡ true → has xs (first + 3) ≡ true
+        → has xs (first + 4) ≡ true → HasFive xs first
     each a b c d e zero lt = subst (λ n. has xs n ≡ true) same a
     each a b c d e (suc zero) lt = b
     each a b c d e (suc (suc zero)) lt = c
@@ -62,7 +67,9 @@ five-from_test xs first h =
 
 test-from_five : (xs : List ℕ) (first : ℕ) → HasFive xs first → has_five xs first ≡ true
 test-from_five xs first all =
-    both_true (both_true (both_true (both_true (subst (λ n. has xs n ≡ true) same (all 0 (omega arith))) (all 1 (omega arith))) (all 2 (omega arith))) (all 3 (omega arith))) (all 4 (omega arith))
+    both_true (both_true
+    (both_true (both_true (subst (λ n. has xs n ≡ true) same (all 0 (omega arith))) (all 1 (omega arith)))
+    (all 2 (omega arith))) (all 3 (omega arith))) (all 4 (omega arith))
   where
     same : first + 0 ≡ first
     same = omega arith
@@ -71,7 +78,8 @@ test-from_five xs first all =
 abbrev pub NoneEnd : List ℕ → ℕ → Type 0
 NoneEnd xs i = (k : ℕ) → k < i → (first : ℕ) → first + 4 ≡ get_or xs k 0 → has_five xs first ≡ false
 
-pub none_end-next : (xs : List ℕ) (i : ℕ) → NoneEnd xs i → ((first : ℕ) → first + 4 ≡ get_or xs i 0 → has_five xs first ≡ false) → NoneEnd xs (i + 1)
+pub none_end-next : (xs : List ℕ) (i : ℕ) → NoneEnd xs i
+    → ((first : ℕ) → first + 4 ≡ get_or xs i 0 → has_five xs first ≡ false) → NoneEnd xs (i + 1)
 none_end-next xs i before here k lt first is = by_place (nat_lt k i) refl
   where
     by_place : (b : Bool) → nat_lt k i ≡ b → has_five xs first ≡ false
@@ -88,7 +96,8 @@ none-at_all xs none i all =
     let yes = test-from_five xs i all in cc
 
 -- and those that end first are the least
-pub first-least : (xs : List ℕ) (i first : ℕ) → IsNonDecreasing xs → i < length xs → NoneEnd xs i → first + 4 ≡ get_or xs i 0 → has_five xs first ≡ true → IsFirstOfFive xs first
+pub first-least : (xs : List ℕ) (i first : ℕ) → IsNonDecreasing xs → i < length xs → NoneEnd xs i
+    → first + 4 ≡ get_or xs i 0 → has_five xs first ≡ true → IsFirstOfFive xs first
 first-least xs i first ascending within before ends test = record { all = five-from_test xs first test; least = least }
   where
     least : (other : ℕ) → HasFive xs other → first ≤ other
@@ -109,16 +118,20 @@ first-least xs i first ascending within before ends test = record { all = five-f
 first-permuted : (xs ys : List ℕ) (first : ℕ) → IsPermutation xs ys → IsFirstOfFive ys first → IsFirstOfFive xs first
 first-permuted xs ys first same h = record {
   all = λ j lt. list_any-IsPermutation (λ v. (first + j) == v) xs ys same ∙ h.all j lt;
-  least = λ other all. h.least other (λ j lt. sym (list_any-IsPermutation (λ v. (other + j) == v) xs ys same) ∙ all j lt);
+  least = λ other all. h.least other
+      (λ j lt. sym (list_any-IsPermutation (λ v. (other + j) == v) xs ys same) ∙ all j lt);
 }
 
 none-permuted : (xs ys : List ℕ) → IsPermutation xs ys → NoFiveSuccessive ys → NoFiveSuccessive xs
-none-permuted xs ys same none i all = none i (λ j lt. sym (list_any-IsPermutation (λ v. (i + j) == v) xs ys same) ∙ all j lt)
+none-permuted xs ys same none i all =
+    none i (λ j lt. sym (list_any-IsPermutation (λ v. (i + j) == v) xs ys same) ∙ all j lt)
 
-pub some-permuted : (xs ys : List ℕ) (o : Option ℕ) → IsPermutation xs ys → IfSome o (IsFirstOfFive ys) → IfSome o (IsFirstOfFive xs)
+pub some-permuted : (xs ys : List ℕ) (o : Option ℕ) → IsPermutation xs ys → IfSome o (IsFirstOfFive ys)
+    → IfSome o (IsFirstOfFive xs)
 some-permuted xs ys None same h = tt
 some-permuted xs ys (Some first) same h = first-permuted xs ys first same h
 
-pub none_found-permuted : (xs ys : List ℕ) (o : Option ℕ) → IsPermutation xs ys → IfNone o (NoFiveSuccessive ys) → IfNone o (NoFiveSuccessive xs)
+pub none_found-permuted : (xs ys : List ℕ) (o : Option ℕ) → IsPermutation xs ys → IfNone o (NoFiveSuccessive ys)
+    → IfNone o (NoFiveSuccessive xs)
 none_found-permuted xs ys None same h = none-permuted xs ys same h
 none_found-permuted xs ys (Some first) same h = tt

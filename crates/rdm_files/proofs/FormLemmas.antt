@@ -1,5 +1,6 @@
 -- Lists of values, read one after another, and texts that say nothing.
-use Rattle.std.proofs.Common.{◌≡◌, ℕ, zero, suc, ◌+◌, ◌<◌, List, [], ◌∷◌, ◌++◌, length, take, drop, get_or, Option, Some, None, Result, Ok, Err, false, refl, sym, ap, ◌∙◌, subst, arith}
+use Rattle.std.proofs.Common.{◌≡◌, ℕ, zero, suc, ◌+◌, ◌<◌, List, [], ◌∷◌, ◌++◌, length, take, drop, get_or, Option}
+use Rattle.std.proofs.Common.{Some, None, Result, Ok, Err, false, refl, sym, ap, ◌∙◌, subst, arith}
 use Rattle.std.proofs.Math.Seq.{take-suc}
 use Rattle.std.specs.Prelude.{IsErrAnd, MatchOption}
 use Rattle.std.proofs.lemmas.List.{take-append-drop}
@@ -13,25 +14,29 @@ use Rattle.hex.specs.declared.error.FromHexError.{FromHexError}
 use Rattle.rdm_wire.specs.UidText.{UidText, colon}
 use Rattle.rdm_wire.proofs.BytesLemmas.{number_of-uid_bytes}
 use Rattle.hex.specs.Hex.{decode_of, decode_sized}
-use Rattle.rdm_files.specs.Forms.{is_memory, Reads, Each, IsListOf, IsWhole, IsUid, IsOwnUid, IsFourDigits, Has, MayHave, MayGive}
+use Rattle.rdm_files.specs.Forms.{is_memory, Reads, Each, IsListOf, IsWhole, IsUid, IsOwnUid, IsFourDigits, Has}
+use Rattle.rdm_files.specs.Forms.{MayHave, MayGive}
 use Rattle.rdm_files.specs.declared.scene.fault.SceneFault.{SceneFault}
 
 -- one more item
-pub each_more : {A : Type 0} (P : Data → A → Type 0) (vs : List Value) (xs : List A) (v : Value) (x : A) → Each P (items_view vs) xs → P (view v) x → Each P (items_view (vs ++ v ∷ [])) (xs ++ x ∷ [])
+pub each_more : {A : Type 0} (P : Data → A → Type 0) (vs : List Value) (xs : List A) (v : Value) (x : A)
+    → Each P (items_view vs) xs → P (view v) x → Each P (items_view (vs ++ v ∷ [])) (xs ++ x ∷ [])
 each_more P [] [] v x all here = (here, tt)
 each_more P [] (y ∷ ys) v x all here = absurd all
 each_more P (w ∷ ws) [] v x all here = absurd all
 each_more P (w ∷ ws) (y ∷ ys) v x all here = (all.0, each_more P ws ys v x all.1 here)
 
 -- as many as there are items
-pub each_many : {A : Type 0} (P : Data → A → Type 0) (vs : List Value) (xs : List A) → Each P (items_view vs) xs → length xs ≡ length vs
+pub each_many : {A : Type 0} (P : Data → A → Type 0) (vs : List Value) (xs : List A) → Each P (items_view vs) xs
+    → length xs ≡ length vs
 each_many P [] [] all = refl
 each_many P [] (y ∷ ys) all = absurd all
 each_many P (w ∷ ws) [] all = absurd all
 each_many P (w ∷ ws) (y ∷ ys) all = ap suc (each_many P ws ys all.1)
 
 -- one of the items
-pub each_at : {A : Type 0} (P : Data → A → Type 0) (vs : List Value) (xs : List A) (i : ℕ) (v : Value) → i < length vs → v ≡ get_or vs i v → Each P (items_view vs) xs → (x : A) × P (view v) x
+pub each_at : {A : Type 0} (P : Data → A → Type 0) (vs : List Value) (xs : List A) (i : ℕ) (v : Value) → i < length vs
+    → v ≡ get_or vs i v → Each P (items_view vs) xs → (x : A) × P (view v) x
 each_at P [] xs i v lt is all = absurd (omega (arith, lt))
 each_at P (w ∷ ws) [] i v lt is all = absurd all
 each_at P (w ∷ ws) (y ∷ ys) zero v lt is all = (y, subst (λ t. P (view t) y) (sym is) all.0)
@@ -42,7 +47,8 @@ pub each_next : {A : Type 0} (P : Data → A → Type 0) (vs : List Value) (xs :
     → i < length vs → v ≡ get_or vs i v → Each P (items_view (take i vs)) xs → P (view v) x
     → Each P (items_view (take (i + 1) vs)) (xs ++ x ∷ [])
 each_next P vs xs i v x lt is all here =
-    let more : take (i + 1) vs ≡ take i vs ++ v ∷ [] = ap (λ k. take k vs) (next i) ∙ take-suc vs i v lt ∙ ap (λ w. take i vs ++ w ∷ []) (sym is) in
+    let more : take (i + 1) vs ≡ take i vs ++ v ∷ [] = ap (λ k. take k vs) (next i) ∙ take-suc vs i v lt
+    ∙ ap (λ w. take i vs ++ w ∷ []) (sym is) in
     subst (λ us. Each P (items_view us) (xs ++ x ∷ [])) (sym more) (each_more P (take i vs) xs v x all here)
   where
     next : (n : ℕ) → n + 1 ≡ suc n
@@ -53,7 +59,9 @@ pub no_list : {A : Type 0} (P : Data → A → Type 0) (least most : ℕ) (d : D
     → Some (items_view vs) ≡ as_array d → i < length vs → v ≡ get_or vs i v → ((x : A) → P (view v) x → ⊥)
     → (xs : List A) → IsListOf A P least most d xs → ⊥
 no_list P least most d vs i v is lt at none xs list =
-    let one = each_at P vs xs i v lt at (subst (λ ds. Each P ds xs) (same list.items (items_view vs) (sym list.is_list ∙ sym is)) list.each) in none one.0 one.1
+    let one = each_at P vs xs i v
+    lt at (subst (λ ds. Each P ds xs) (same list.items (items_view vs) (sym list.is_list ∙ sym is)) list.each) in
+    none one.0 one.1
   where
     same : (a b : Items) → Some a ≡ Some b → a ≡ b
     same a b e = cc
@@ -61,17 +69,21 @@ no_list P least most d vs i v is lt at none xs list =
 -- how many items a list has
 pub list_many : {A : Type 0} (P : Data → A → Type 0) (least most : ℕ) (d : Data) (vs : List Value)
     → Some (items_view vs) ≡ as_array d → (xs : List A) → IsListOf A P least most d xs → length xs ≡ length vs
-list_many P least most d vs is xs list = each_many P vs xs (subst (λ ds. Each P ds xs) (same list.items (items_view vs) (sym list.is_list ∙ sym is)) list.each)
+list_many P least most d vs is xs list =
+    each_many P vs xs
+    (subst (λ ds. Each P ds xs) (same list.items (items_view vs) (sym list.is_list ∙ sym is)) list.each)
   where
     same : (a b : Items) → Some a ≡ Some b → a ≡ b
     same a b e = cc
 
 -- what is no list says nothing
-pub not_a_list : {A : Type 0} (P : Data → A → Type 0) (least most : ℕ) (d : Data) → as_array d ≡ None → (xs : List A) → IsListOf A P least most d xs → ⊥
+pub not_a_list : {A : Type 0} (P : Data → A → Type 0) (least most : ℕ) (d : Data) → as_array d ≡ None → (xs : List A)
+    → IsListOf A P least most d xs → ⊥
 not_a_list P least most d none xs list = let never = sym none ∙ list.is_list in cc
 
 -- a text that spells no UID
-pub no_uid : (d : Data) (text : List ℕ) → Some text ≡ as_str d → ((u : ℕ) → UidText text u → ⊥) → (u : ℕ) → IsUid d u → ⊥
+pub no_uid : (d : Data) (text : List ℕ) → Some text ≡ as_str d → ((u : ℕ) → UidText text u → ⊥) → (u : ℕ) → IsUid d u
+    → ⊥
 no_uid d text is none u h = none u (subst (λ t. UidText t u) (same h.text text (sym h.is_text ∙ sym is)) h.spells)
   where
     same : (a b : List ℕ) → Some a ≡ Some b → a ≡ b
@@ -83,7 +95,8 @@ each_none P [] is = tt
 each_none P (x ∷ xs) is = cc
 
 -- a text that isn't four digits: they decode to two bytes, and so into room for two
-pub no_digits : (d : Data) (text : List ℕ) → Some text ≡ as_str d → ((bytes : List ℕ) → decode_sized text 2 ≡ Ok bytes → ⊥) → (n : ℕ) → IsFourDigits d n → ⊥
+pub no_digits : (d : Data) (text : List ℕ) → Some text ≡ as_str d
+    → ((bytes : List ℕ) → decode_sized text 2 ≡ Ok bytes → ⊥) → (n : ℕ) → IsFourDigits d n → ⊥
 no_digits d text is none n h =
     let digits = ap decode_of (same text h.text (is ∙ h.is_text)) ∙ h.digits in
     none (h.high ∷ h.low ∷ []) (decode_sized-twice text 2 (decode_of-ok text (h.high ∷ h.low ∷ []) digits).2 ∙ digits)
@@ -92,7 +105,8 @@ no_digits d text is none n h =
     same a b e = cc
 
 -- a fault that is passed on
-pub passed : {A : Type 0} (r : Result A SceneFault) (fault : SceneFault) (P : A → Type 0) → IsErrAnd r (λ e. e ≡ fault) → (is_memory fault ≡ false → (x : A) → P x → ⊥) → Reads r P
+pub passed : {A : Type 0} (r : Result A SceneFault) (fault : SceneFault) (P : A → Type 0) → IsErrAnd r (λ e. e ≡ fault)
+    → (is_memory fault ≡ false → (x : A) → P x → ⊥) → Reads r P
 passed (Ok x) fault P is none = absurd is
 passed (Err e) fault P is none = λ other. none (ap is_memory (sym is) ∙ other)
 
@@ -110,7 +124,8 @@ append_same (suc n) (x ∷ a) b (y ∷ c) d p q h =
 
 pub one_text_uid : (text : List ℕ) (u v : ℕ) → UidText text u → UidText text v → u ≡ v
 one_text_uid text u v a b =
-    let parts = append_same 4 a.manufacturer (colon ∷ a.device) b.manufacturer (colon ∷ b.device) a.manufacturer_length b.manufacturer_length (sym a.parts ∙ b.parts) in
+    let parts = append_same 4 a.manufacturer (colon ∷ a.device) b.manufacturer (colon ∷ b.device) a.manufacturer_length
+    b.manufacturer_length (sym a.parts ∙ b.parts) in
     let device : a.device ≡ b.device = tail a.device b.device parts.1 in
     let high = ok_same _ _ (sym a.manufacturer_digits ∙ ap decode_of parts.0 ∙ b.manufacturer_digits) in
     let low = ok_same _ _ (sym a.device_digits ∙ ap decode_of device ∙ b.device_digits) in
@@ -125,7 +140,9 @@ one_text_uid text u v a b =
     ok_same c d h = cc
 
 pub one_uid : (d : Data) (u v : ℕ) → IsUid d u → IsUid d v → u ≡ v
-one_uid d u v a b = one_text_uid b.text u v (subst (λ t. UidText t u) (same a.text b.text (sym a.is_text ∙ b.is_text)) a.spells) b.spells
+one_uid d u v a b =
+    one_text_uid b.text u v (subst (λ t. UidText t u) (same a.text b.text (sym a.is_text ∙ b.is_text)) a.spells)
+    b.spells
   where
     same : (s t : List ℕ) → Some s ≡ Some t → s ≡ t
     same s t e = cc
@@ -151,17 +168,20 @@ one_has key P one d x y a b = by_option (get key d) a b
     by_option None a b = absurd a
     by_option (Some v) a b = one v x y a b
 
-pub one_may_have : {A : Type 0} (key : List ℕ) (P : Data → A → Type 0) (default : A) → SaysOne P → SaysOne (MayHave key P default)
+pub one_may_have : {A : Type 0} (key : List ℕ) (P : Data → A → Type 0) (default : A) → SaysOne P
+    → SaysOne (MayHave key P default)
 one_may_have key P default one d x y a b = by_option (get key d) a b
   where
-    by_option : (o : Option Data) → MatchOption o (x ≡ default) (λ v. P v x) → MatchOption o (y ≡ default) (λ v. P v y) → x ≡ y
+    by_option : (o : Option Data) → MatchOption o (x ≡ default) (λ v. P v x) → MatchOption o (y ≡ default) (λ v. P v y)
+        → x ≡ y
     by_option None a b = a ∙ sym b
     by_option (Some v) a b = one v x y a b
 
 pub one_may_give : {A : Type 0} (key : List ℕ) (P : Data → A → Type 0) → SaysOne P → SaysOne (MayGive key P)
 one_may_give {A = A} key P one d x y a b = by_option (get key d) x y a b
   where
-    by_option : (o : Option Data) (s t : Option A) → MatchOption o (s ≡ None) (λ v. MatchOption s ⊥ (P v)) → MatchOption o (t ≡ None) (λ v. MatchOption t ⊥ (P v)) → s ≡ t
+    by_option : (o : Option Data) (s t : Option A) → MatchOption o (s ≡ None) (λ v. MatchOption s ⊥ (P v))
+        → MatchOption o (t ≡ None) (λ v. MatchOption t ⊥ (P v)) → s ≡ t
     by_option None s t a b = a ∙ sym b
     by_option (Some v) None t a b = absurd a
     by_option (Some v) (Some s) None a b = absurd b
@@ -176,10 +196,18 @@ pub record IsCut {A : Type 0} (P : Data → A → Type 0) (before : List Value) 
   pub each : Each P (items_view before) front
   pub says : P (view v) here
 
-pub cut_at : {A : Type 0} (P : Data → A → Type 0) (vs : List Value) (xs : List A) (i : ℕ) (v : Value) → i < length vs → v ≡ get_or vs i v → Each P (items_view vs) xs → IsCut P (take i vs) v xs
+pub cut_at : {A : Type 0} (P : Data → A → Type 0) (vs : List Value) (xs : List A) (i : ℕ) (v : Value) → i < length vs
+    → v ≡ get_or vs i v → Each P (items_view vs) xs → IsCut P (take i vs) v xs
 cut_at P [] xs i v lt is all = absurd (omega (arith, lt))
 cut_at P (w ∷ ws) [] i v lt is all = absurd all
-cut_at P (w ∷ ws) (y ∷ ys) zero v lt is all = record { front = []; here = y; back = ys; whole = refl; each = tt; says = subst (λ t. P (view t) y) (sym is) all.0 }
+cut_at P (w ∷ ws) (y ∷ ys) zero v lt is all = record {
+  front = [];
+  here = y;
+  back = ys;
+  whole = refl;
+  each = tt;
+  says = subst (λ t. P (view t) y) (sym is) all.0;
+}
 cut_at P (w ∷ ws) (y ∷ ys) (suc i) v lt is all =
     let rest = cut_at P ws ys i v (omega (arith, lt)) is all.1 in record {
       front = y ∷ rest.front;
@@ -193,11 +221,13 @@ cut_at P (w ∷ ws) (y ∷ ys) (suc i) v lt is all =
 -- the items of a list that is read as such
 pub listed_items : {A : Type 0} (P : Data → A → Type 0) (least most : ℕ) (d : Data) (vs : List Value) (xs : List A)
     → Some (items_view vs) ≡ as_array d → IsListOf A P least most d xs → Each P (items_view vs) xs
-listed_items P least most d vs xs is list = subst (λ ds. Each P ds xs) (same list.items (items_view vs) (sym list.is_list ∙ sym is)) list.each
+listed_items P least most d vs xs is list =
+    subst (λ ds. Each P ds xs) (same list.items (items_view vs) (sym list.is_list ∙ sym is)) list.each
   where
     same : (a b : Items) → Some a ≡ Some b → a ≡ b
     same a b e = cc
 
 -- a key with the same default
-pub by_default : {A : Type 0} (key : List ℕ) (P : Data → A → Type 0) (a b : A) (d : Data) (x : A) → a ≡ b → MayHave key P a d x → MayHave key P b d x
+pub by_default : {A : Type 0} (key : List ℕ) (P : Data → A → Type 0) (a b : A) (d : Data) (x : A) → a ≡ b
+    → MayHave key P a d x → MayHave key P b d x
 by_default key P a b d x same h = subst (λ e. MayHave key P e d x) same h

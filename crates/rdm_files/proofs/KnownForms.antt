@@ -1,5 +1,6 @@
 -- Known devices of a scene file, one after another.
-use Rattle.std.proofs.Common.{◌≡◌, ℕ, suc, ◌+◌, ◌<◌, ◌≤◌, Bool, true, false, cond, List, [], ◌∷◌, ◌++◌, length, take, get_or, Some, Result, refl, sym, ap, ◌∙◌, subst, arith, length-append}
+use Rattle.std.proofs.Common.{◌≡◌, ℕ, suc, ◌+◌, ◌<◌, ◌≤◌, Bool, true, false, cond, List, [], ◌∷◌, ◌++◌, length, take}
+use Rattle.std.proofs.Common.{get_or, Some, Result, refl, sym, ap, ◌∙◌, subst, arith, length-append}
 use Rattle.std.specs.Prelude.{◌==◌, nat_lt, OnOk, IsErr}
 use Rattle.std.proofs.lemmas.List.{take_all}
 use Rattle.serde_json.specs.Data.{Data}
@@ -28,7 +29,8 @@ length-with_uid : (u : ℕ) (us : List ℕ) → length (with_uid u us) ≤ lengt
 length-with_uid u [] = omega arith
 length-with_uid u (v ∷ us) = by_test (nat_lt u v) (u == v) (length-with_uid u us)
   where
-    by_test : (s t : Bool) → length (with_uid u us) ≤ length us + 1 → length (cond s (u ∷ v ∷ us) (cond t (v ∷ us) (v ∷ with_uid u us))) ≤ suc (length us) + 1
+    by_test : (s t : Bool) → length (with_uid u us) ≤ length us + 1
+        → length (cond s (u ∷ v ∷ us) (cond t (v ∷ us) (v ∷ with_uid u us))) ≤ suc (length us) + 1
     by_test true t rest = omega arith
     by_test false true rest = omega arith
     by_test false false rest = omega (arith, rest)
@@ -37,7 +39,8 @@ few_in_set : (us : List ℕ) → length (set_of us) ≤ length us
 few_in_set [] = omega arith
 few_in_set (u ∷ us) = let rest = few_in_set us in let one = length-with_uid u (set_of us) in omega (arith, rest, one)
 
-pub one_known : (vs : List Value) (i u : ℕ) (v : Value) (old new : List ℕ) (r : Result Bool SetFull) → i < length vs → length vs ≤ 1024 → v ≡ get_or vs i v → KnownSoFar vs i old → IsOwnUid (view v) u
+pub one_known : (vs : List Value) (i u : ℕ) (v : Value) (old new : List ℕ) (r : Result Bool SetFull) → i < length vs
+    → length vs ≤ 1024 → v ≡ get_or vs i v → KnownSoFar vs i old → IsOwnUid (view v) u
     → OnOk r (new ≡ with_uid u old) → (IsErr r → (has old u ≡ false) × (length old ≡ 1024)) → KnownSoFar vs (i + 1) new
 one_known vs i u v old new r lt few at k own ok err = record {
   listed = k.listed ++ u ∷ [];
@@ -47,19 +50,29 @@ one_known vs i u v old new r lt few at k own ok err = record {
 }
   where
     room : length old ≡ 1024 → ⊥
-    room full = let most = few_in_set k.listed in let same = ap length k.set in omega (arith, full, most, same, k.many, lt, few)
+    room full = let most = few_in_set k.listed in let same = ap length k.set in
+        omega (arith, full, most, same, k.many, lt, few)
 
-pub all_known : (d : Data) (vs : List Value) (i : ℕ) (known : List ℕ) → Some (items_view vs) ≡ as_array d → length vs ≡ i → length vs ≤ 1024 → KnownSoFar vs i known → AreKnown d known
+pub all_known : (d : Data) (vs : List Value) (i : ℕ) (known : List ℕ) → Some (items_view vs) ≡ as_array d
+    → length vs ≡ i → length vs ≤ 1024 → KnownSoFar vs i known → AreKnown d known
 all_known d vs i known is all few k =
-    let each : Each IsOwnUid (items_view vs) k.listed = subst (λ ws. Each IsOwnUid (items_view ws) k.listed) (take_all i vs (omega (arith, all))) k.each in
+    let each : Each IsOwnUid (items_view vs) k.listed = subst (λ ws. Each IsOwnUid (items_view ws) k.listed)
+    (take_all i vs (omega (arith, all))) k.each in
     let many = each_many IsOwnUid vs k.listed each in record {
       listed = k.listed;
-      list = record { items = items_view vs; is_list = sym is; each = each; at_least = omega arith; at_most = omega (arith, many, few) };
+      list = record {
+        items = items_view vs;
+        is_list = sym is;
+        each = each;
+        at_least = omega arith;
+        at_most = omega (arith, many, few);
+      };
       set = k.set;
     }
 
 -- a list that is too long says nothing, and one with another item
-pub too_many_known : (d : Data) (vs : List Value) → Some (items_view vs) ≡ as_array d → 1024 < length vs → (known : List ℕ) → AreKnown d known → ⊥
+pub too_many_known : (d : Data) (vs : List Value) → Some (items_view vs) ≡ as_array d → 1024 < length vs
+    → (known : List ℕ) → AreKnown d known → ⊥
 too_many_known d vs is long known h =
     let many = each_many IsOwnUid vs h.listed (listed_items IsOwnUid 0 1024 d vs h.listed is h.list) in
     let most : length h.listed ≤ 1024 = h.list.at_most in

@@ -14,12 +14,15 @@ use Rattle.rdm_files.specs.declared.session.call.ClientCall.TheVariants.{Submit,
 use Rattle.rdm_files.specs.declared.scene.fault.SceneFault.{SceneFault}
 use Rattle.rdm_files.proofs.FormLemmas.{by_default}
 
-pub no_sub : (key : List ℕ) (class : ReqClass) (d : Data) → ((n : ℕ) → MayHave (codes "sub") (IsWhole 0 65535) 0 d n → ⊥) → (call : ClientCall) → IsRequest key class d call → ⊥
+pub no_sub : (key : List ℕ) (class : ReqClass) (d : Data)
+    → ((n : ℕ) → MayHave (codes "sub") (IsWhole 0 65535) 0 d n → ⊥) → (call : ClientCall) → IsRequest key class d call
+    → ⊥
 no_sub key class d none (Submit r) h = none r.sub_device h.sub
 no_sub key class d none (Discover kind) h = absurd h
 
 pub no_param : (key : List ℕ) (class : ReqClass) (d : Data) (default : ArrayVec ℕ) → default.items ≡ []
-    → ((p : ArrayVec ℕ) → MayHave (codes "param") (λ v (b : ArrayVec ℕ). IsBytesText 0 231 v b.items) default d p → ⊥) → (call : ClientCall) → IsRequest key class d call → ⊥
+    → ((p : ArrayVec ℕ) → MayHave (codes "param") (λ v (b : ArrayVec ℕ). IsBytesText 0 231 v b.items) default d p → ⊥)
+    → (call : ClientCall) → IsRequest key class d call → ⊥
 no_param key class d default is none (Submit r) h =
     none r.param (by_default (codes "param") (λ v (b : ArrayVec ℕ). IsBytesText 0 231 v b.items) (record { items = [] })
     default d r.param (ap (λ items. record { items = items }) (sym is)) h.param)
@@ -30,11 +33,13 @@ absent : (key : List ℕ) {A : Type 0} (P : Data → A → Type 0) (d : Data) (x
 absent key P d x none has = subst (λ o. MatchOption o ⊥ (λ v. P v x)) none has
 
 -- a call with the key `get` alone is a request of that class, and says nothing else; so are the others
-pub is_get : (d : Data) (call : ClientCall) → HasNeither (codes "set") (codes "discover") d → IsRequest (codes "get") classes.Get d call → IsCall d call
+pub is_get : (d : Data) (call : ClientCall) → HasNeither (codes "set") (codes "discover") d
+    → IsRequest (codes "get") classes.Get d call → IsCall d call
 is_get d (Submit r) neither h = subst (λ k. IsSubmit d k r) (sym h.class_is) (h, neither)
 is_get d (Discover kind) neither h = absurd h
 
-pub is_set : (d : Data) (call : ClientCall) → HasNeither (codes "get") (codes "discover") d → IsRequest (codes "set") classes.Set d call → IsCall d call
+pub is_set : (d : Data) (call : ClientCall) → HasNeither (codes "get") (codes "discover") d
+    → IsRequest (codes "set") classes.Set d call → IsCall d call
 is_set d (Submit r) neither h = subst (λ k. IsSubmit d k r) (sym h.class_is) (h, neither)
 is_set d (Discover kind) neither h = absurd h
 
@@ -43,7 +48,8 @@ is_ask d (Submit r) neither h = absurd h
 is_ask d (Discover kind) neither h = (h, neither)
 
 -- what a call says, where only one of the keys is there
-pub only_get : (d : Data) (call : ClientCall) → HasNeither (codes "set") (codes "discover") d → IsCall d call → IsRequest (codes "get") classes.Get d call
+pub only_get : (d : Data) (call : ClientCall) → HasNeither (codes "set") (codes "discover") d → IsCall d call
+    → IsRequest (codes "get") classes.Get d call
 only_get d (Submit r) neither h = by_class r.class h
   where
     by_class : (k : ReqClass) → IsSubmit d k r → IsRequestTo (codes "get") classes.Get d r
@@ -51,7 +57,8 @@ only_get d (Submit r) neither h = by_class r.class h
     by_class classes.Set s = absurd (absent (codes "set") IsUid d r.target neither.0 s.0.target)
 only_get d (Discover kind) neither h = absurd (absent (codes "discover") IsKind d kind neither.1 h.0)
 
-pub only_set : (d : Data) (call : ClientCall) → HasNeither (codes "get") (codes "discover") d → IsCall d call → IsRequest (codes "set") classes.Set d call
+pub only_set : (d : Data) (call : ClientCall) → HasNeither (codes "get") (codes "discover") d → IsCall d call
+    → IsRequest (codes "set") classes.Set d call
 only_set d (Submit r) neither h = by_class r.class h
   where
     by_class : (k : ReqClass) → IsSubmit d k r → IsRequestTo (codes "set") classes.Set d r
@@ -68,6 +75,7 @@ only_ask d (Submit r) neither h = by_class r.class h
 only_ask d (Discover kind) neither h = h.0
 
 -- a reader of P is one of Q, where they say the same
-pub reads_same : {A : Type 0} (r : Result A SceneFault) (P Q : A → Type 0) → ((x : A) → P x → Q x) → ((x : A) → Q x → P x) → Reads r P → Reads r Q
+pub reads_same : {A : Type 0} (r : Result A SceneFault) (P Q : A → Type 0) → ((x : A) → P x → Q x)
+    → ((x : A) → Q x → P x) → Reads r P → Reads r Q
 reads_same (Ok x) P Q to back h = to x h
 reads_same (Err e) P Q to back h = λ other x q. h other x (back x q)

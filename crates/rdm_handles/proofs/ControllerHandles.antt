@@ -28,14 +28,20 @@ word p y = two (ptr_val p) (vbool y)
 
 module _ {M : Type 1} {𝓤 : Ura M} {𝓛 : Logic 𝓤} {K : Type 0} {Γ : List (Item 𝓤)} {G : Goal 𝓤 𝓛.H} where
   pub handle_in : K → (p : Ptr) (y : Bool) (s : row.Denot)
-      → Step K 𝓛 (‵ (handle.the_row.own_val (record { at = p; is_open = y; value = s }) (word p y ∷ [])) ∷ Γ) G (‵ (handle_owns row y p s) ∷ Γ) G
+      → Step K 𝓛 (‵ (handle.the_row.own_val (record { at = p; is_open = y; value = s }) (word p y ∷ [])) ∷ Γ) G
+      (‵ (handle_owns row y p s) ∷ Γ) G
   handle_in t p y s = step (λ k. let v : Val = word p y in
-      nothing t $ feq_i t (List Val) (vbool y ∷ []) (vbool y ∷ []) refl $ fjoin t $ feq_i t (List Val) (ptr_val p ∷ []) (ptr_val p ∷ []) refl $ fjoin t $ feq_i t (List Val) (v ∷ []) (v ∷ []) refl $ fjoin t $
-      fpack t (Valss (RawPtr ∷ bool ∷ [])) (within (shape handle.the_type) (p, (y, tt)) (v ∷ [])) (ptr_val p ∷ [], (vbool y ∷ [], tt)) $ fjoin t $ k)
+      nothing t $ feq_i t (List Val) (vbool y ∷ []) (vbool y ∷ []) refl $ fjoin t
+      $ feq_i t (List Val) (ptr_val p ∷ []) (ptr_val p ∷ []) refl $ fjoin t
+      $ feq_i t (List Val) (v ∷ []) (v ∷ []) refl $ fjoin t $
+      fpack t (Valss (RawPtr ∷ bool ∷ [])) (within (shape handle.the_type) (p, (y, tt)) (v ∷ []))
+      (ptr_val p ∷ [], (vbool y ∷ [], tt)) $ fjoin t $ k)
 
-  pub handle_out : K → (d : ControllerHandle) (vs : List Val) → (vs ≡ word d.at d.is_open ∷ [] → Seq K 𝓛 (‵ (handle_owns row d.is_open d.at d.value) ∷ Γ) G)
+  pub handle_out : K → (d : ControllerHandle) (vs : List Val)
+      → (vs ≡ word d.at d.is_open ∷ [] → Seq K 𝓛 (‵ (handle_owns row d.is_open d.at d.value) ∷ Γ) G)
       → Seq K 𝓛 (‵ (handle.the_row.own_val d vs) ∷ Γ) G
-  handle_out t d vs k = fsplit t $ fpick t (λ vss. fsplit t $ feq_l t (λ ev. fsplit t $ feq_l t (λ ep. fsplit t $ feq_l t (λ eb. drop t $
+  handle_out t d vs k =
+      fsplit t $ fpick t (λ vss. fsplit t $ feq_l t (λ ev. fsplit t $ feq_l t (λ ep. fsplit t $ feq_l t (λ eb. drop t $
       k (ev ∙ (λ i. vstruct (of_list (ep i ++ (eb i ++ []))) ∷ []))))))
 
   -- a handle that isn't open, or a session in a block
@@ -43,5 +49,6 @@ module _ {M : Type 1} {𝓤 : Ura M} {𝓛 : Logic 𝓤} {K : Type 0} {Γ : List
       → ((b o : ℕ) → y ≡ true → p ≡ block_ptr b o → Seq K 𝓛 (‵ (box_owns frees row (block_ptr b o) s) ∷ Γ) G)
       → Seq K 𝓛 (‵ (handle_owns row y p s) ∷ Γ) G
   either_open t p true s none some =
-      in_a_block t p (λ at. box_owns frees row at s) (fst∗ 𝓤 (never 𝓤) (sem 𝓛 (frees (bare (lone row.mir)) null_ptr))) (λ b o e. some b o refl e)
+      in_a_block t p (λ at. box_owns frees row at s) (fst∗ 𝓤 (never 𝓤) (sem 𝓛 (frees (bare (lone row.mir)) null_ptr)))
+      (λ b o e. some b o refl e)
   either_open t p false s none some = none refl

@@ -55,11 +55,15 @@ status_back ends.NoMemory = refl
 pub read_back : (e : Entry) → entry_in (form_of_entry e) (bytes_of_entry e) ≡ e
 read_back (Join c n) = refl
 read_back (Refuse None (calls.Join n) cause) = refl
-read_back (Refuse None (calls.Submit r) cause) = ap (λ (q : Request). Refuse None (calls.Submit q) cause) (request_back r)
-read_back (Refuse None (calls.Discover kind) cause) = ap (λ (k : Kind). Refuse None (calls.Discover k) cause) (kind_back kind)
+read_back (Refuse None (calls.Submit r) cause) =
+    ap (λ (q : Request). Refuse None (calls.Submit q) cause) (request_back r)
+read_back (Refuse None (calls.Discover kind) cause) =
+    ap (λ (k : Kind). Refuse None (calls.Discover k) cause) (kind_back kind)
 read_back (Refuse (Some c) (calls.Join n) cause) = refl
-read_back (Refuse (Some c) (calls.Submit r) cause) = ap (λ (q : Request). Refuse (Some c) (calls.Submit q) cause) (request_back r)
-read_back (Refuse (Some c) (calls.Discover kind) cause) = ap (λ (k : Kind). Refuse (Some c) (calls.Discover k) cause) (kind_back kind)
+read_back (Refuse (Some c) (calls.Submit r) cause) =
+    ap (λ (q : Request). Refuse (Some c) (calls.Submit q) cause) (request_back r)
+read_back (Refuse (Some c) (calls.Discover kind) cause) =
+    ap (λ (k : Kind). Refuse (Some c) (calls.Discover k) cause) (kind_back kind)
 read_back (Accept c n r) = ap (λ (q : Request). Accept c n q) (request_back r)
 read_back (Ask c n kind) = ap (λ (k : Kind). Ask c n k) (kind_back kind)
 read_back (Send (owners.Request n) frame) = refl

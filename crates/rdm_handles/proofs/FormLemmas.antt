@@ -14,9 +14,11 @@ abbrev pub Written : List DeviceForC → List Device → ℕ → Type 0
 Written forms devices i =
     (k : ℕ) → k < i → get_or forms k (form_of_device blank) ≡ form_of_device (get_or devices k blank)
 
-pub all_written : (forms : List DeviceForC) (devices : List Device) → length devices ≤ length forms → Written forms devices (length devices) → take (length devices) forms ≡ map form_of_device devices
+pub all_written : (forms : List DeviceForC) (devices : List Device) → length devices ≤ length forms
+    → Written forms devices (length devices) → take (length devices) forms ≡ map form_of_device devices
 all_written forms [] fit each = refl
 all_written [] (d ∷ devices) fit each = absurd (omega (arith, fit))
 all_written (f ∷ forms) (d ∷ devices) fit each =
     let first : f ≡ form_of_device d = each zero (omega arith) in
-    rw first (ap (λ fs. form_of_device d ∷ fs) (all_written forms devices (omega (arith, fit)) (λ k lt. each (suc k) (omega (arith, lt)))))
+    rw first (ap (λ fs. form_of_device d ∷ fs)
+    (all_written forms devices (omega (arith, fit)) (λ k lt. each (suc k) (omega (arith, lt)))))

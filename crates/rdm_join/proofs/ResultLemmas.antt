@@ -11,7 +11,8 @@ use Rattle.rdm_join.specs.declared.verdict.Judged.TheVariants as verdicts
 use Rattle.rdm_join.specs.declared.verdict.Judged.TheVariants.{Whole, Part}
 use Rattle.rdm_join.specs.declared.status.Status.{Status}
 use Rattle.rdm_join.specs.declared.status.Status.TheVariants.{InvalidResponse}
-use Rattle.rdm_join.specs.Result.{Joined, result_of, result_after, or_if_open, decides, ended, is_too_long, differs_from_first}
+use Rattle.rdm_join.specs.Result.{Joined, result_of, result_after, or_if_open, decides, ended, is_too_long}
+use Rattle.rdm_join.specs.Result.{differs_from_first}
 
 or_none : (o : Option Joined) → or_if_open o None ≡ o
 or_none None = refl
@@ -31,8 +32,10 @@ result_after-append before (v ∷ vs) more =
     (append_assoc before (v ∷ []) vs)
     ∙ or_assoc (decides before v) (result_after (before ++ v ∷ []) vs) (result_after (before ++ v ∷ vs) more)
 
-pub result_of-push : (vs : List Judged) (v : Judged) → result_of (vs ++ v ∷ []) ≡ or_if_open (result_of vs) (decides vs v)
-result_of-push vs v = result_after-append [] vs (v ∷ []) ∙ ap (λ o. or_if_open (result_of vs) o) (or_none (decides vs v))
+pub result_of-push : (vs : List Judged) (v : Judged)
+    → result_of (vs ++ v ∷ []) ≡ or_if_open (result_of vs) (decides vs v)
+result_of-push vs v =
+    result_after-append [] vs (v ∷ []) ∙ ap (λ o. or_if_open (result_of vs) o) (or_none (decides vs v))
 
 -- what stands after a result doesn't change it
 pub result_of-stays : (vs more : List Judged) (j : Joined) → result_of vs ≡ Some j → result_of (vs ++ more) ≡ Some j
@@ -68,7 +71,8 @@ whole_decides : (before : List Judged) (r : Response) → decides before (Whole 
 whole_decides before r e = either_ends test (ended InvalidResponse) _ e
   where
     test : Bool
-    test = differs_from_first before r || (nat_lt 0 (length before) && not (code_of_ack r.ack == 0)) || is_too_long before r
+    test = differs_from_first before r || (nat_lt 0 (length before) && not (code_of_ack r.ack == 0))
+        || is_too_long before r
 
 -- neither a whole reply nor an end leaves a list open
 pub whole_ends : (r : Response) (vs : List Judged) → result_of (Whole r ∷ vs) ≡ None → ⊥
@@ -78,15 +82,18 @@ pub end_ends : (s : Status) (vs : List Judged) → result_of (verdicts.Ended s �
 end_ends s vs e = some_none (ended s) e
 
 -- a part that decides nothing isn't in the last place
-part_few : (before : List Judged) (r : Response) → decides before (Part r) ≡ None → length before < 512 → length before + 1 < 512
+part_few : (before : List Judged) (r : Response) → decides before (Part r) ≡ None → length before < 512
+    → length before + 1 < 512
 part_few before r e few =
     let other = differs_from_first before r in
     let long = is_too_long before r in
     let last = (length before + 1) == 512 in
-    let not_last : (length before + 1 == 512) ≡ false = last_false other long last (goes_on (other || long || last) (ended InvalidResponse) e) in
+    let not_last : (length before + 1 == 512)
+    ≡ false = last_false other long last (goes_on (other || long || last) (ended InvalidResponse) e) in
     grind (arith, nat_tests, not_last)
 
-few_after : (before vs : List Judged) → result_after before vs ≡ None → length before < 512 → length before + length vs < 512
+few_after : (before vs : List Judged) → result_after before vs ≡ None → length before < 512
+    → length before + length vs < 512
 few_after before [] e few = omega arith
 few_after before (Whole r ∷ vs) e few =
     absurd (whole_decides before r (open_head (decides before (Whole r)) (result_after (before ++ Whole r ∷ []) vs) e))

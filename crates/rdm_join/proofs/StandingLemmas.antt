@@ -20,18 +20,23 @@ use Rattle.rdm_join.specs.declared.joiner.ReplyHead.{ReplyHead}
 use Rattle.rdm_join.specs.declared.joiner.Stage.{Stage}
 use Rattle.rdm_join.specs.declared.joiner.Stage.TheVariants.{Waiting, Joining, Ended}
 use Rattle.rdm_join.specs.declared.joiner.Step.TheVariants.{More, Done}
-use Rattle.rdm_join.specs.Result.{Joined, result_of, or_if_open, decides, ended, joined_data, data_of, head_of, differs, is_too_long}
+use Rattle.rdm_join.specs.Result.{Joined, result_of, or_if_open, decides, ended, joined_data, data_of, head_of, differs}
+use Rattle.rdm_join.specs.Result.{is_too_long}
 use Rattle.rdm_join.proofs.ResultLemmas.{result_of-push, whole_ends, end_ends, few_parts}
 use Rattle.rdm_join.specs.JoinerStanding.{JoinerStanding, head_of_standing, IsOpen, IsOpenStage, step_of}
-use Rattle.rdm_join.specs.body.Standing.{StandsAt, JoinerMoves, standing_at, stage_of_parts, ended_standing, stage_with_part, takes_whole}
+use Rattle.rdm_join.specs.body.Standing.{StandsAt, JoinerMoves, standing_at, stage_of_parts, ended_standing}
+use Rattle.rdm_join.specs.body.Standing.{stage_with_part, takes_whole}
 
-standing_with : (vs : List Judged) (s : JoinerStanding) (o : Option Joined) → StandsAt vs s → result_of vs ≡ o → s ≡ standing_at o vs
+standing_with : (vs : List Judged) (s : JoinerStanding) (o : Option Joined) → StandsAt vs s → result_of vs ≡ o
+    → s ≡ standing_at o vs
 standing_with vs s o at e = at ∙ ap (λ p. standing_at p vs) e
 
-pub open_at : (vs : List Judged) (s : JoinerStanding) → StandsAt vs s → IsOpen s → (result_of vs ≡ None) × (s ≡ standing_at None vs)
+pub open_at : (vs : List Judged) (s : JoinerStanding) → StandsAt vs s → IsOpen s → (result_of vs ≡ None)
+    × (s ≡ standing_at None vs)
 open_at vs s at is_open = by_result (result_of vs) refl at
   where
-    by_result : (o : Option Joined) → result_of vs ≡ o → s ≡ standing_at o vs → (result_of vs ≡ None) × (s ≡ standing_at None vs)
+    by_result : (o : Option Joined) → result_of vs ≡ o → s ≡ standing_at o vs → (result_of vs ≡ None)
+        × (s ≡ standing_at None vs)
     by_result None e h = (e, h)
     by_result (Some j) e h = absurd (subst IsOpen h is_open)
 
@@ -43,18 +48,23 @@ parts_are_open (Whole r ∷ vs) = tt
 parts_are_open (verdicts.Ended s ∷ vs) = tt
 
 pub open_exactly : (vs : List Judged) (s : JoinerStanding) → StandsAt vs s → IsOpen s ↔ (result_of vs ≡ None)
-open_exactly vs s at =
-    ((λ is_open. (open_at vs s at is_open).0), (λ none. subst IsOpen (sym (standing_with vs s None at none)) (parts_are_open vs)))
+open_exactly vs s at = (
+  (λ is_open. (open_at vs s at is_open).0),
+  (λ none. subst IsOpen (sym (standing_with vs s None at none)) (parts_are_open vs)),
+)
 
-pub head_at_result : (vs : List Judged) (s : JoinerStanding) (j : Joined) → StandsAt vs s → result_of vs ≡ Some j → head_of_standing s ≡ j.head
+pub head_at_result : (vs : List Judged) (s : JoinerStanding) (j : Joined) → StandsAt vs s → result_of vs ≡ Some j
+    → head_of_standing s ≡ j.head
 head_at_result vs s j at e = ap head_of_standing (standing_with vs s (Some j) at e)
 
-pub data_at_result : (vs : List Judged) (s : JoinerStanding) (j : Joined) → StandsAt vs s → result_of vs ≡ Some j → s.data_ ≡ j.data_
+pub data_at_result : (vs : List Judged) (s : JoinerStanding) (j : Joined) → StandsAt vs s → result_of vs ≡ Some j
+    → s.data_ ≡ j.data_
 data_at_result vs s j at e = ap (λ t. t.data_) (standing_with vs s (Some j) at e)
 
 -- a joiner goes on
 pub moves_on : (old : JoinerStanding) (v : Judged) (o : Option Joined) (new : JoinerStanding) → IsOpen old
-    → ((vs : List Judged) → result_of vs ≡ None → old ≡ standing_at None vs → (decides vs v ≡ o) × (new ≡ standing_at o (vs ++ v ∷ [])))
+    → ((vs : List Judged) → result_of vs ≡ None → old ≡ standing_at None vs → (decides vs v ≡ o)
+    × (new ≡ standing_at o (vs ++ v ∷ [])))
     → ((step_of o ≡ More) ↔ IsOpen new)
     → JoinerMoves old v (step_of o) new
 moves_on old v o new is_open moved still = record {
@@ -95,22 +105,28 @@ whole_decided s r =
     else Some (record { status = Completed; data_ = s.data_ ++ r.param.items; head = Some (head_of r) })
 
 abbrev part_decided : JoinerStanding → Response → Option Joined
-part_decided s r = if is_none (stage_with_part s.stage (head_of r)) || is_long s r then Some (ended InvalidResponse) else None
+part_decided s r =
+    if is_none (stage_with_part s.stage (head_of r)) || is_long s r then Some (ended InvalidResponse) else None
 
 whole_test : (d acked long : Bool) → (d || not acked || long) ≡ (not (not d && acked) || long)
 whole_test true acked long = refl
 whole_test false true long = refl
 whole_test false false long = refl
 
-whole_by_standing : (vs : List Judged) (r : Response) → result_of vs ≡ None → decides vs (Whole r) ≡ whole_decided (standing_at None vs) r
+whole_by_standing : (vs : List Judged) (r : Response) → result_of vs ≡ None
+    → decides vs (Whole r) ≡ whole_decided (standing_at None vs) r
 whole_by_standing [] r e = refl
 whole_by_standing (Part p ∷ vs) r e =
     let other = differs (head_of p) (head_of r) in
-    rw (lt-ltb 0 (suc (length vs)) (omega arith), whole_test other (code_of_ack r.ack == 0) (is_too_long (Part p ∷ vs) r)) refl
+    rw (
+      lt-ltb 0 (suc (length vs)) (omega arith),
+      whole_test other (code_of_ack r.ack == 0) (is_too_long (Part p ∷ vs) r),
+    ) refl
 whole_by_standing (Whole p ∷ vs) r e = absurd (whole_ends p vs e)
 whole_by_standing (verdicts.Ended s ∷ vs) r e = absurd (end_ends s vs e)
 
-part_test : (d long more : Bool) (stage : Stage) → (d || long || not more) ≡ (is_none (if not d && more then Some stage else None) || long)
+part_test : (d long more : Bool) (stage : Stage)
+    → (d || long || not more) ≡ (is_none (if not d && more then Some stage else None) || long)
 part_test true long more stage = refl
 part_test false true true stage = refl
 part_test false true false stage = refl
@@ -120,7 +136,8 @@ part_test false false false stage = refl
 last_test : (n : ℕ) → n < 512 → (n + 1 == 512) ≡ not (nat_lt (n + 1) 512)
 last_test n few = grind (arith, nat_tests)
 
-part_by_standing : (vs : List Judged) (r : Response) → result_of vs ≡ None → decides vs (Part r) ≡ part_decided (standing_at None vs) r
+part_by_standing : (vs : List Judged) (r : Response) → result_of vs ≡ None
+    → decides vs (Part r) ≡ part_decided (standing_at None vs) r
 part_by_standing [] r e = rw or-false refl
 part_by_standing (Part p ∷ vs) r e =
     let few : suc (length vs) < 512 = few_parts (Part p ∷ vs) e in
@@ -140,7 +157,8 @@ from_some false x y e = cc
 open_with_part : (old : Stage) (head : ReplyHead) (new : Stage) → stage_with_part old head ≡ Some new → IsOpenStage new
 open_with_part Waiting head new h = let same : Joining head 1 ≡ new = cc in subst IsOpenStage same tt
 open_with_part (Joining first parts) head new h =
-    subst IsOpenStage (from_some (not (differs first head) && nat_lt (parts + 1) 512) (Joining first (parts + 1)) new h) tt
+    subst IsOpenStage (from_some (not (differs first head) && nat_lt (parts + 1) 512) (Joining first (parts + 1)) new h)
+    tt
 open_with_part (Ended last) head new h = cc
 
 stage_of_more : (vs : List Judged) (r : Response) (stage : Stage) → result_of vs ≡ None
@@ -163,59 +181,81 @@ ends_at : (old : JoinerStanding) (v : Judged) (s : Status) → IsOpen old
     → ((vs : List Judged) → result_of vs ≡ None → old ≡ standing_at None vs → decides vs v ≡ Some (ended s))
     → JoinerMoves old v (Done s) ended_standing
 ends_at old v s is_open decided =
-    moves_on old v (Some (ended s)) ended_standing is_open (λ vs e at. (decided vs e at, refl)) ((λ h. absurd (done_more h)), (λ h. absurd h))
+    moves_on old v (Some (ended s)) ended_standing is_open (λ vs e at. (decided vs e at, refl))
+    ((λ h. absurd (done_more h)), (λ h. absurd h))
   where
     done_more : Done s ≡ More → ⊥
     done_more h = cc
 
-pub ended_moves : (old : JoinerStanding) (s : Status) → IsOpen old → JoinerMoves old (verdicts.Ended s) (Done s) ended_standing
+pub ended_moves : (old : JoinerStanding) (s : Status) → IsOpen old
+    → JoinerMoves old (verdicts.Ended s) (Done s) ended_standing
 ended_moves old s is_open = ends_at old (verdicts.Ended s) s is_open (λ vs e at. refl)
 
 pub whole_refused : (old : JoinerStanding) (r : Response) → IsOpen old
     → (takes_whole old.stage (head_of r) ≡ false) ⊎ HasNoRoom old r
     → JoinerMoves old (Whole r) (Done InvalidResponse) ended_standing
 whole_refused old r is_open why =
-    ends_at old (Whole r) InvalidResponse is_open (λ vs e at. whole_by_standing vs r e ∙ ap (λ s. whole_decided s r) (sym at) ∙ refused why)
+    ends_at old (Whole r) InvalidResponse is_open
+    (λ vs e at. whole_by_standing vs r e ∙ ap (λ s. whole_decided s r) (sym at) ∙ refused why)
   where
-    refused : (takes_whole old.stage (head_of r) ≡ false) ⊎ HasNoRoom old r → whole_decided old r ≡ Some (ended InvalidResponse)
+    refused : (takes_whole old.stage (head_of r) ≡ false) ⊎ HasNoRoom old r
+        → whole_decided old r ≡ Some (ended InvalidResponse)
     refused (inl no_whole) = rw no_whole refl
     refused (inr too_long) = rw (long old r too_long, or-true) refl
 
-pub whole_taken : (old : JoinerStanding) (r : Response) → IsOpen old → takes_whole old.stage (head_of r) ≡ true → HasRoom old r
-    → JoinerMoves old (Whole r) (Done Completed) (record { stage = Ended (Some (head_of r)); data_ = old.data_ ++ r.param.items })
+pub whole_taken : (old : JoinerStanding) (r : Response) → IsOpen old → takes_whole old.stage (head_of r) ≡ true
+    → HasRoom old r
+    → JoinerMoves old (Whole r) (Done Completed) (record {
+      stage = Ended (Some (head_of r));
+      data_ = old.data_ ++ r.param.items;
+    })
 whole_taken old r is_open takes fits =
-    moves_on old (Whole r) (Some (record { status = Completed; data_ = old.data_ ++ r.param.items; head = Some (head_of r) })) _ is_open
-    (λ vs e at. (whole_by_standing vs r e ∙ ap (λ s. whole_decided s r) (sym at) ∙ taken, refl)) ((λ h. absurd (done_more h)), (λ h. absurd h))
+    moves_on old (Whole r)
+    (Some (record { status = Completed; data_ = old.data_ ++ r.param.items; head = Some (head_of r) })) _ is_open
+    (λ vs e at. (whole_by_standing vs r e ∙ ap (λ s. whole_decided s r) (sym at) ∙ taken, refl))
+    ((λ h. absurd (done_more h)), (λ h. absurd h))
   where
     done_more : Done Completed ≡ More → ⊥
     done_more h = cc
 
-    taken : whole_decided old r ≡ Some (record { status = Completed; data_ = old.data_ ++ r.param.items; head = Some (head_of r) })
+    taken : whole_decided old r ≡ Some (record {
+      status = Completed;
+      data_ = old.data_ ++ r.param.items;
+      head = Some (head_of r);
+    })
     taken = rw (takes, not_long old r fits) refl
 
 pub part_refused : (old : JoinerStanding) (r : Response) → IsOpen old
     → (stage_with_part old.stage (head_of r) ≡ None) ⊎ HasNoRoom old r
     → JoinerMoves old (Part r) (Done InvalidResponse) ended_standing
 part_refused old r is_open why =
-    ends_at old (Part r) InvalidResponse is_open (λ vs e at. part_by_standing vs r e ∙ ap (λ s. part_decided s r) (sym at) ∙ refused why)
+    ends_at old (Part r) InvalidResponse is_open
+    (λ vs e at. part_by_standing vs r e ∙ ap (λ s. part_decided s r) (sym at) ∙ refused why)
   where
-    refused : (stage_with_part old.stage (head_of r) ≡ None) ⊎ HasNoRoom old r → part_decided old r ≡ Some (ended InvalidResponse)
+    refused : (stage_with_part old.stage (head_of r) ≡ None) ⊎ HasNoRoom old r
+        → part_decided old r ≡ Some (ended InvalidResponse)
     refused (inl no_stage) = rw no_stage refl
     refused (inr too_long) = rw (long old r too_long, or-true) refl
 
-pub part_taken : (old : JoinerStanding) (r : Response) (stage : Stage) → IsOpen old → stage_with_part old.stage (head_of r) ≡ Some stage → HasRoom old r
+pub part_taken : (old : JoinerStanding) (r : Response) (stage : Stage) → IsOpen old
+    → stage_with_part old.stage (head_of r) ≡ Some stage → HasRoom old r
     → JoinerMoves old (Part r) More (record { stage = stage; data_ = old.data_ ++ r.param.items })
 part_taken old r stage is_open takes fits =
     moves_on old (Part r) None (record { stage = stage; data_ = old.data_ ++ r.param.items }) is_open
-    (λ vs e at. (part_by_standing vs r e ∙ ap (λ s. part_decided s r) (sym at) ∙ taken, stands vs e at)) ((λ h. open_with_part old.stage (head_of r) stage takes), (λ h. refl))
+    (λ vs e at. (part_by_standing vs r e ∙ ap (λ s. part_decided s r) (sym at) ∙ taken, stands vs e at))
+    ((λ h. open_with_part old.stage (head_of r) stage takes), (λ h. refl))
   where
     taken : part_decided old r ≡ None
     taken = rw (takes, not_long old r fits) refl
 
-    stands : (vs : List Judged) → result_of vs ≡ None → old ≡ standing_at None vs → record { stage = stage; data_ = old.data_ ++ r.param.items } ≡ standing_at None (vs ++ Part r ∷ [])
+    stands : (vs : List Judged) → result_of vs ≡ None → old ≡ standing_at None vs
+        → record { stage = stage; data_ = old.data_ ++ r.param.items } ≡ standing_at None (vs ++ Part r ∷ [])
     stands vs e at =
-        let same_stage : stage ≡ stage_of_parts (vs ++ Part r ∷ []) = stage_of_more vs r stage e (ap (λ s. stage_with_part s.stage (head_of r)) (sym at) ∙ takes) in
-        let same_data : old.data_ ++ r.param.items ≡ joined_data (vs ++ Part r ∷ []) = ap (λ s. s.data_ ++ r.param.items) at ∙ sym (data_of_more vs r) in
+        let same_stage : stage
+        ≡ stage_of_parts (vs ++ Part r ∷ []) =
+        stage_of_more vs r stage e (ap (λ s. stage_with_part s.stage (head_of r)) (sym at) ∙ takes) in
+        let same_data : old.data_ ++ r.param.items
+        ≡ joined_data (vs ++ Part r ∷ []) = ap (λ s. s.data_ ++ r.param.items) at ∙ sym (data_of_more vs r) in
         cc
 
 -- what an attempt to join says of the room

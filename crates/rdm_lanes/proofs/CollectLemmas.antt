@@ -1,5 +1,6 @@
 -- What collects leave as it is.
-use Rattle.std.proofs.Common.{◌≡◌, ℕ, true, false, true≢false, List, [], ◌∷◌, ◌++◌, None, refl, sym, ap, ◌∙◌, subst, inl, inr, append-nil, append_assoc, arith}
+use Rattle.std.proofs.Common.{◌≡◌, ℕ, true, false, true≢false, List, [], ◌∷◌, ◌++◌, None, refl, sym, ap, ◌∙◌, subst}
+use Rattle.std.proofs.Common.{inl, inr, append-nil, append_assoc, arith}
 use Rattle.std.specs.Prelude.{nat_lt}
 use Rattle.std.specs.List.{AllByRecursion}
 use Rattle.arrayvec.specs.ArrayVec.{ArrayVec}
@@ -9,12 +10,14 @@ use Rattle.rdm_log.specs.declared.entry.ClientId.{ClientId}
 use Rattle.rdm_log.specs.declared.entry.Opening.{Opening}
 use Rattle.rdm_log.specs.declared.entry.Owner.TheVariants as owners
 use Rattle.rdm_log.specs.declared.entry.Entry.{Entry}
-use Rattle.rdm_log.specs.declared.entry.Entry.TheVariants.{Join, Send, Came, Finish, Answer, Collect, Pause, Resume, Close}
+use Rattle.rdm_log.specs.declared.entry.Entry.TheVariants.{Join, Send, Came, Finish, Answer, Collect, Pause, Resume}
+use Rattle.rdm_log.specs.declared.entry.Entry.TheVariants.{Close}
 use Rattle.rdm_log.specs.log.Entries.{join_of, answered_of}
 use Rattle.rdm_log.specs.log.MaySend.{NoSend, MaySendRequest, MayBegin, MaySendRun}
 use Rattle.rdm_log.specs.log.Legal.{Legal, MayFollow}
 use Rattle.rdm_log.specs.log.LogState.{LogState, is_full_log, free_entries}
-use Rattle.rdm_log.proofs.LogLemmas.PushLemmas.{accepts_same, asks_same, sends_same, finishes_same, answered_same, awaited-push, is_closed-push, is_paused-push}
+use Rattle.rdm_log.proofs.LogLemmas.PushLemmas.{accepts_same, asks_same, sends_same, finishes_same, answered_same}
+use Rattle.rdm_log.proofs.LogLemmas.PushLemmas.{awaited-push, is_closed-push, is_paused-push}
 use Rattle.rdm_log.proofs.LogLemmas.RunLemmas.{open_run_same, last_run_same, asked_before_same}
 use Rattle.rdm_log.proofs.LogLemmas.RoomLemmas.{added, added_by, taken_block}
 use Rattle.rdm_lanes.specs.body.Quiet.{NoExchange, OnlyCollects, is_collect}
@@ -34,7 +37,11 @@ pub collects_none : (k : LogState) → OnlyCollects k k
 collects_none k = record { block = []; each = tt; grows = grown_same k }
 
 pub collects_join : (a b d : LogState) → OnlyCollects a b → OnlyCollects b d → OnlyCollects a d
-collects_join a b d p q = record { block = p.block ++ q.block; each = all_join p.block q.block p.each q.each; grows = grown_join a b d p.block q.block p.grows q.grows }
+collects_join a b d p q = record {
+  block = p.block ++ q.block;
+  each = all_join p.block q.block p.each q.each;
+  grows = grown_join a b d p.block q.block p.grows q.grows;
+}
 
 -- they are no frames, joins or switches
 off_line : (e : Entry) → is_collect e ≡ true → is_off_line e ≡ true
@@ -60,7 +67,8 @@ pub collects_line : (old new : LogState) → OnlyCollects old new → NoExchange
 collects_line old new is = line_off old new is.block is.grows
     (all_follow (λ e. is_collect e ≡ true) (λ e. is_off_line e ≡ true) off_line is.block is.each)
     (all_follow (λ e. is_collect e ≡ true) (λ e. join_of e ≡ None) no_join is.block is.each)
-    (quiet_views old.entries is.block (all_follow (λ e. is_collect e ≡ true) (λ e. is_off_line e ≡ true) off_line is.block is.each)
+    (quiet_views old.entries is.block
+    (all_follow (λ e. is_collect e ≡ true) (λ e. is_off_line e ≡ true) off_line is.block is.each)
     (all_follow (λ e. is_collect e ≡ true) (λ e. answered_of e ≡ None) unanswered is.block is.each))
 
 pub collects_switches : (old new : LogState) → OnlyCollects old new → SameSwitches old new
@@ -80,39 +88,67 @@ take_nothing : (block : List Entry) → AllCollects block → added_by block ≡
 take_nothing [] all = refl
 take_nothing (e ∷ block) all = omega (arith, takes_nothing e all.0, take_nothing block all.1)
 
-free_stays : (o : Opening) (h block : List Entry) (room : ℕ) (search : Search) → EachAfter (MayFollow o) (h ++ block) → AllCollects block
-    → free_entries (record { opening = o; entries = h ++ block; room = room; search = search }) ≡ free_entries (record { opening = o; entries = h; room = room; search = search })
+free_stays : (o : Opening) (h block : List Entry) (room : ℕ) (search : Search) → EachAfter (MayFollow o) (h ++ block)
+    → AllCollects block
+    → free_entries (record { opening = o; entries = h ++ block; room = room; search = search }) ≡ free_entries (record {
+      opening = o;
+      entries = h;
+      room = room;
+      search = search;
+    })
 free_stays o h block room search each all = omega (arith, taken_block o h block each, take_nothing block all)
 
-pub full_stays : (old new : LogState) → OnlyCollects old new → Legal new.opening new.entries → is_full_log new ≡ is_full_log old
+pub full_stays : (old new : LogState) → OnlyCollects old new → Legal new.opening new.entries
+    → is_full_log new ≡ is_full_log old
 full_stays old new is legal =
-    let each : EachAfter (MayFollow old.opening) (old.entries ++ is.block) = subst (λ (k : LogState). EachAfter (MayFollow k.opening) k.entries) is.grows legal.each in
-    ap is_full_log is.grows ∙ ap (λ (n : ℕ). nat_lt n 3) (free_stays old.opening old.entries is.block old.room old.search each is.each)
+    let each : EachAfter (MayFollow old.opening) (old.entries ++ is.block) = subst
+    (λ (k : LogState). EachAfter (MayFollow k.opening) k.entries) is.grows legal.each in
+    ap is_full_log is.grows
+    ∙ ap (λ (n : ℕ). nat_lt n 3) (free_stays old.opening old.entries is.block old.room old.search each is.each)
 
 -- where no frame might be sent, none may be
 module _ (o : Opening) (h : List Entry) (c : ClientId) where
   next : List Entry
   next = h ++ Collect c ∷ []
 
-  request_before : (n : ℕ) (frame : ArrayVec ℕ) → MaySendRequest o (h ++ Collect c ∷ []) n frame → MaySendRequest o h n frame
+  request_before : (n : ℕ) (frame : ArrayVec ℕ) → MaySendRequest o (h ++ Collect c ∷ []) n frame
+      → MaySendRequest o h n frame
   request_before n frame may = record {
     not_awaited = sym (awaited-push h (Collect c)) ∙ may.not_awaited;
     not_closed = sym (is_closed-push o h (Collect c)) ∙ may.not_closed;
     not_paused = sym (is_paused-push o h (Collect c)) ∙ may.not_paused;
-    no_run = sym (open_run_same h (h ++ Collect c ∷ []) (sends_same h (Collect c) refl) (answered_same h (Collect c) refl)) ∙ may.no_run;
+    no_run = sym
+        (open_run_same h (h ++ Collect c ∷ []) (sends_same h (Collect c) refl) (answered_same h (Collect c) refl))
+        ∙ may.no_run;
     accepted = may.accepted;
     lowest = rw (finishes_same h (Collect c) refl, accepts_same h (Collect c) refl) at may.lowest;
     number = may.number;
-    turn = rw (sends_same h (Collect c) refl, asked_before_same h (Collect c) refl, answered_same h (Collect c) refl, asks_same h (Collect c) refl) at may.turn;
+    turn = rw (
+      sends_same h (Collect c) refl,
+      asked_before_same h (Collect c) refl,
+      answered_same h (Collect c) refl,
+      asks_same h (Collect c) refl,
+    ) at may.turn;
     packet = rw (sends_same h (Collect c) refl) at may.packet;
   }
 
   begin_before : (r : ℕ) → MayBegin o (h ++ Collect c ∷ []) r → MayBegin o h r
   begin_before r may = record {
     not_paused = sym (is_paused-push o h (Collect c)) ∙ may.not_paused;
-    no_run = sym (open_run_same h (h ++ Collect c ∷ []) (sends_same h (Collect c) refl) (answered_same h (Collect c) refl)) ∙ may.no_run;
-    no_request = rw (sends_same h (Collect c) refl, finishes_same h (Collect c) refl, accepts_same h (Collect c) refl) at may.no_request;
-    asked = rw (asked_before_same h (Collect c) refl, answered_same h (Collect c) refl, asks_same h (Collect c) refl) at may.asked;
+    no_run = sym
+        (open_run_same h (h ++ Collect c ∷ []) (sends_same h (Collect c) refl) (answered_same h (Collect c) refl))
+        ∙ may.no_run;
+    no_request =
+        rw (
+          sends_same h (Collect c) refl,
+          finishes_same h (Collect c) refl,
+          accepts_same h (Collect c) refl,
+        ) at may.no_request;
+    asked = rw (
+      asked_before_same h (Collect c) refl,
+      answered_same h (Collect c) refl,
+      asks_same h (Collect c) refl,
+    ) at may.asked;
     number = rw (last_run_same h (h ++ Collect c ∷ []) (sends_same h (Collect c) refl)) at may.number;
     from_one = may.from_one;
   }
@@ -123,7 +159,9 @@ module _ (o : Opening) (h : List Entry) (c : ClientId) where
     not_closed = sym (is_closed-push o h (Collect c)) ∙ may.not_closed;
     turn = elim may.turn [
       | inl begins ↦ inl (begin_before r begins)
-      | inr open_ ↦ inr (sym (open_run_same h (h ++ Collect c ∷ []) (sends_same h (Collect c) refl) (answered_same h (Collect c) refl)) ∙ open_)
+      | inr open_ ↦ inr
+          (sym (open_run_same h (h ++ Collect c ∷ []) (sends_same h (Collect c) refl)
+          (answered_same h (Collect c) refl)) ∙ open_)
     ];
     in_budget = rw (sends_same h (Collect c) refl) at may.in_budget;
     packet = rw (sends_same h (Collect c) refl) at may.packet;
@@ -139,7 +177,12 @@ no_send_entry o h _ is none = absurd (true≢false (sym is))
 
 no_send_block : (o : Opening) (h block : List Entry) → AllCollects block → NoSend o h → NoSend o (h ++ block)
 no_send_block o h [] all none = subst (NoSend o) (sym (append-nil h)) none
-no_send_block o h (e ∷ block) all none = subst (NoSend o) (append_assoc h (e ∷ []) block) (no_send_block o (h ++ e ∷ []) block all.1 (no_send_entry o h e all.0 none))
+no_send_block o h (e ∷ block) all none =
+    subst (NoSend o) (append_assoc h (e ∷ []) block)
+    (no_send_block o (h ++ e ∷ []) block all.1 (no_send_entry o h e all.0 none))
 
-pub no_send_stays : (old new : LogState) → OnlyCollects old new → NoSend old.opening old.entries → NoSend new.opening new.entries
-no_send_stays old new is none = subst (λ (k : LogState). NoSend k.opening k.entries) (sym is.grows) (no_send_block old.opening old.entries is.block is.each none)
+pub no_send_stays : (old new : LogState) → OnlyCollects old new → NoSend old.opening old.entries
+    → NoSend new.opening new.entries
+no_send_stays old new is none =
+    subst (λ (k : LogState). NoSend k.opening k.entries) (sym is.grows)
+    (no_send_block old.opening old.entries is.block is.each none)

@@ -1,5 +1,6 @@
 -- How a client counts what it sends and gets.
-use Rattle.std.proofs.Common.{◌≡◌, ℕ, ◌+◌, ◌<◌, Bool, true, false, List, [], ◌∷◌, ◌++◌, length, drop, refl, sym, ap, ◌∙◌, length-append, append-nil, arith}
+use Rattle.std.proofs.Common.{◌≡◌, ℕ, ◌+◌, ◌<◌, Bool, true, false, List, [], ◌∷◌, ◌++◌, length, drop, refl, sym, ap}
+use Rattle.std.proofs.Common.{◌∙◌, length-append, append-nil, arith}
 use Rattle.std.specs.Prelude.{filter}
 use Rattle.std.proofs.lemmas.List.Elements.{filter-append}
 use Rattle.std.proofs.lemmas.List.{length-map, map-append}
@@ -22,7 +23,8 @@ use Rattle.rdm_lanes.specs.Told.{value_in, values_in, outcome_in}
 use Rattle.rdm_lanes.specs.body.Counts.{IsCounted}
 
 -- an item more in a ring
-pub work_more : (xs : List ClientCall) (x : ClientCall) → is_work x ≡ true → work_in (xs ++ x ∷ []) ≡ work_in xs ++ x ∷ []
+pub work_more : (xs : List ClientCall) (x : ClientCall) → is_work x ≡ true
+    → work_in (xs ++ x ∷ []) ≡ work_in xs ++ x ∷ []
 unfolding work_in
 work_more xs x is = filter-append is_work xs (x ∷ []) ∙ rw is refl
 
@@ -39,84 +41,126 @@ without_one : {X : Type 0} (xs : List X) → 0 < length xs → length (drop 1 xs
 without_one [] some = absurd (omega (arith, some))
 without_one (x ∷ xs) some = omega arith
 
-pub value_more : (items : List RingOutcome) (item : RingOutcome) → values_in (items ++ item ∷ []) ≡ values_in items ++ value_in item ∷ []
+pub value_more : (items : List RingOutcome) (item : RingOutcome)
+    → values_in (items ++ item ∷ []) ≡ values_in items ++ value_in item ∷ []
 unfolding values_in
 value_more items item = map-append value_in items (item ∷ [])
 
 -- the callbacks that are held, after a call more
 module _ {C A : Type 0} where
-  pub own_submitted : (old new : List ClientCall) (got : List OutcomeValue) (requests : List C) (asks : List A) (callback : C) (request : Request) → new ≡ old ++ Submit request ∷ []
+  pub own_submitted : (old new : List ClientCall) (got : List OutcomeValue) (requests : List C) (asks : List A)
+      (callback : C) (request : Request) → new ≡ old ++ Submit request ∷ []
       → HoldsItsOwn (work_in old) got requests asks → HoldsItsOwn (work_in new) got (requests ++ callback ∷ []) asks
   own_submitted old new got requests asks callback request is own =
-      let grown : work_in new ≡ work_in old ++ Submit request ∷ [] = ap work_in is ∙ work_more old (Submit request) refl in
-      let mine = ap length (ap (filter is_submit) grown ∙ filter-append is_submit (work_in old) (Submit request ∷ [])) ∙ length-append (filter is_submit (work_in old)) (Submit request ∷ []) in
-      let other = ap length (ap (filter is_discover) grown ∙ filter-append is_discover (work_in old) (Submit request ∷ []) ∙ append-nil (filter is_discover (work_in old))) in
+      let grown : work_in new ≡ work_in old ++ Submit request ∷ [] = ap work_in is
+      ∙ work_more old (Submit request) refl in
+      let mine = ap length (ap (filter is_submit) grown ∙ filter-append is_submit (work_in old) (Submit request ∷ []))
+      ∙ length-append (filter is_submit (work_in old)) (Submit request ∷ []) in
+      let other = ap length
+      (ap (filter is_discover) grown ∙ filter-append is_discover (work_in old) (Submit request ∷ [])
+      ∙ append-nil (filter is_discover (work_in old))) in
       record {
         requests_are = omega (arith, mine, own.requests_are, length-append requests (callback ∷ []));
         asks_are = other ∙ own.asks_are;
       }
 
-  pub own_asked : (old new : List ClientCall) (got : List OutcomeValue) (requests : List C) (asks : List A) (callback : A) (kind : Kind) → new ≡ old ++ Discover kind ∷ []
+  pub own_asked : (old new : List ClientCall) (got : List OutcomeValue) (requests : List C) (asks : List A)
+      (callback : A) (kind : Kind) → new ≡ old ++ Discover kind ∷ []
       → HoldsItsOwn (work_in old) got requests asks → HoldsItsOwn (work_in new) got requests (asks ++ callback ∷ [])
   own_asked old new got requests asks callback kind is own =
-      let grown : work_in new ≡ work_in old ++ Discover kind ∷ [] = ap work_in is ∙ work_more old (Discover kind) refl in
-      let mine = ap length (ap (filter is_discover) grown ∙ filter-append is_discover (work_in old) (Discover kind ∷ [])) ∙ length-append (filter is_discover (work_in old)) (Discover kind ∷ []) in
-      let other = ap length (ap (filter is_submit) grown ∙ filter-append is_submit (work_in old) (Discover kind ∷ []) ∙ append-nil (filter is_submit (work_in old))) in
+      let grown : work_in new ≡ work_in old ++ Discover kind ∷ [] = ap work_in is
+      ∙ work_more old (Discover kind) refl in
+      let mine = ap length
+      (ap (filter is_discover) grown ∙ filter-append is_discover (work_in old) (Discover kind ∷ []))
+      ∙ length-append (filter is_discover (work_in old)) (Discover kind ∷ []) in
+      let other = ap length
+      (ap (filter is_submit) grown ∙ filter-append is_submit (work_in old) (Discover kind ∷ [])
+      ∙ append-nil (filter is_submit (work_in old))) in
       record {
         requests_are = other ∙ own.requests_are;
         asks_are = omega (arith, mine, own.asks_are, length-append asks (callback ∷ []));
       }
 
   -- and after an outcome more
-  pub own_request : (calls : List ClientCall) (items : List RingOutcome) (item : RingOutcome) (desk : Held C A) → HoldsForRequest desk item → HoldsItsOwn calls (values_in items) desk.requests desk.asks
-      → HoldsItsOwn calls (values_in (items ++ item ∷ [])) (without_oldest desk (outcome_in item)).requests (without_oldest desk (outcome_in item)).asks
+  pub own_request : (calls : List ClientCall) (items : List RingOutcome) (item : RingOutcome) (desk : Held C A)
+      → HoldsForRequest desk item → HoldsItsOwn calls (values_in items) desk.requests desk.asks
+      → HoldsItsOwn calls (values_in (items ++ item ∷ [])) (without_oldest desk (outcome_in item)).requests
+      (without_oldest desk (outcome_in item)).asks
   own_request calls items (Discovery number run fault set) desk held own = absurd held
   own_request calls items (RequestDone number done) desk held own =
       let item : RingOutcome = RequestDone number done in
-      let mine = ap length (ap (filter is_of_request) (value_more items item) ∙ filter-append is_of_request (values_in items) (value_in item ∷ [])) ∙ length-append (filter is_of_request (values_in items)) (value_in item ∷ []) in
-      let other = ap length (ap (filter is_of_discovery) (value_more items item) ∙ filter-append is_of_discovery (values_in items) (value_in item ∷ []) ∙ append-nil (filter is_of_discovery (values_in items))) in
+      let mine = ap length
+      (ap (filter is_of_request) (value_more items item)
+      ∙ filter-append is_of_request (values_in items) (value_in item ∷ []))
+      ∙ length-append (filter is_of_request (values_in items)) (value_in item ∷ []) in
+      let other = ap length
+      (ap (filter is_of_discovery) (value_more items item)
+      ∙ filter-append is_of_discovery (values_in items) (value_in item ∷ [])
+      ∙ append-nil (filter is_of_discovery (values_in items))) in
       record {
         requests_are = omega (arith, mine, own.requests_are, without_one desk.requests held);
         asks_are = omega (arith, other, own.asks_are);
       }
 
-  pub own_discovery : (calls : List ClientCall) (items : List RingOutcome) (item : RingOutcome) (desk : Held C A) → HoldsForDiscovery desk item → HoldsItsOwn calls (values_in items) desk.requests desk.asks
-      → HoldsItsOwn calls (values_in (items ++ item ∷ [])) (without_oldest desk (outcome_in item)).requests (without_oldest desk (outcome_in item)).asks
+  pub own_discovery : (calls : List ClientCall) (items : List RingOutcome) (item : RingOutcome) (desk : Held C A)
+      → HoldsForDiscovery desk item → HoldsItsOwn calls (values_in items) desk.requests desk.asks
+      → HoldsItsOwn calls (values_in (items ++ item ∷ [])) (without_oldest desk (outcome_in item)).requests
+      (without_oldest desk (outcome_in item)).asks
   own_discovery calls items (RequestDone number done) desk held own = absurd held
   own_discovery calls items (Discovery number run fault set) desk held own =
       let item : RingOutcome = Discovery number run fault set in
-      let mine = ap length (ap (filter is_of_discovery) (value_more items item) ∙ filter-append is_of_discovery (values_in items) (value_in item ∷ [])) ∙ length-append (filter is_of_discovery (values_in items)) (value_in item ∷ []) in
-      let other = ap length (ap (filter is_of_request) (value_more items item) ∙ filter-append is_of_request (values_in items) (value_in item ∷ []) ∙ append-nil (filter is_of_request (values_in items))) in
+      let mine = ap length
+      (ap (filter is_of_discovery) (value_more items item)
+      ∙ filter-append is_of_discovery (values_in items) (value_in item ∷ []))
+      ∙ length-append (filter is_of_discovery (values_in items)) (value_in item ∷ []) in
+      let other = ap length
+      (ap (filter is_of_request) (value_more items item)
+      ∙ filter-append is_of_request (values_in items) (value_in item ∷ [])
+      ∙ append-nil (filter is_of_request (values_in items))) in
       record {
         requests_are = omega (arith, other, own.requests_are);
         asks_are = omega (arith, mine, own.asks_are, without_one desk.asks held);
       }
 
   -- at first
-  pub own_nothing : (calls : List ClientCall) (items : List RingOutcome) (requests : List C) (asks : List A) → calls ≡ [] → items ≡ [] → requests ≡ [] → asks ≡ [] → HoldsItsOwn (work_in calls) (values_in items) requests asks
+  pub own_nothing : (calls : List ClientCall) (items : List RingOutcome) (requests : List C) (asks : List A)
+      → calls ≡ [] → items ≡ [] → requests ≡ [] → asks ≡ []
+      → HoldsItsOwn (work_in calls) (values_in items) requests asks
   unfolding work_in values_in
-  own_nothing calls items requests asks none nothing no_requests no_asks = rw (none, nothing, no_requests, no_asks) (record { requests_are = refl; asks_are = refl })
+  own_nothing calls items requests asks none nothing no_requests no_asks =
+      rw (none, nothing, no_requests, no_asks) (record { requests_are = refl; asks_are = refl })
 
 module _ {P Q : Type 0} where
-  pub counted_sent : (old new : Producer ClientCall Global P) (replies : Consumer RingOutcome Global Q) (sent collected : ℕ) (left : Bool) (x : ClientCall)
-      → IsCounted old replies sent collected left → left ≡ false → pushed new ≡ pushed old ++ x ∷ [] → is_work x ≡ true → IsCounted new replies (sent + 1) collected left
+  pub counted_sent : (old new : Producer ClientCall Global P) (replies : Consumer RingOutcome Global Q)
+      (sent collected : ℕ) (left : Bool) (x : ClientCall)
+      → IsCounted old replies sent collected left → left ≡ false → pushed new ≡ pushed old ++ x ∷ [] → is_work x ≡ true
+      → IsCounted new replies (sent + 1) collected left
   counted_sent old new replies sent collected left x is stays more work = record {
     sent_is =
-        let grown : work_in (pushed new) ≡ work_in (pushed old) ++ x ∷ [] = ap work_in more ∙ work_more (pushed old) x work in
-        let long : length (work_in (pushed new)) ≡ length (work_in (pushed old)) + 1 = ap length grown ∙ length-append (work_in (pushed old)) (x ∷ []) in
+        let grown : work_in (pushed new) ≡ work_in (pushed old) ++ x ∷ [] = ap work_in more
+        ∙ work_more (pushed old) x work in
+        let long : length (work_in (pushed new)) ≡ length (work_in (pushed old)) + 1 = ap length grown
+        ∙ length-append (work_in (pushed old)) (x ∷ []) in
         omega (arith, is.sent_is);
     collected_is = is.collected_is;
     leave_is_last =
-        let before : pushed old ≡ work_in (pushed old) = is.leave_is_last ∙ rw stays (append-nil (work_in (pushed old))) in
-        rw (stays, append-nil (work_in (pushed new))) (more ∙ ap (λ (xs : List ClientCall). xs ++ x ∷ []) before ∙ sym (ap work_in more ∙ work_more (pushed old) x work));
+        let before : pushed old ≡ work_in (pushed old) = is.leave_is_last
+        ∙ rw stays (append-nil (work_in (pushed old))) in
+        rw (stays, append-nil (work_in (pushed new)))
+        (more ∙ ap (λ (xs : List ClientCall). xs ++ x ∷ []) before
+        ∙ sym (ap work_in more ∙ work_more (pushed old) x work));
   }
 
-  pub counted_leave : (old new : Producer ClientCall Global P) (replies : Consumer RingOutcome Global Q) (sent collected : ℕ) (left : Bool)
-      → IsCounted old replies sent collected left → left ≡ false → pushed new ≡ pushed old ++ Leave ∷ [] → IsCounted new replies sent collected true
+  pub counted_leave : (old new : Producer ClientCall Global P) (replies : Consumer RingOutcome Global Q)
+      (sent collected : ℕ) (left : Bool)
+      → IsCounted old replies sent collected left → left ≡ false → pushed new ≡ pushed old ++ Leave ∷ []
+      → IsCounted new replies sent collected true
   counted_leave old new replies sent collected left is stays more = record {
     sent_is = is.sent_is ∙ ap length (sym (ap work_in more ∙ leave_more (pushed old)));
     collected_is = is.collected_is;
     leave_is_last =
-        let before : pushed old ≡ work_in (pushed old) = is.leave_is_last ∙ rw stays (append-nil (work_in (pushed old))) in
-        more ∙ ap (λ (xs : List ClientCall). xs ++ Leave ∷ []) (before ∙ sym (ap work_in more ∙ leave_more (pushed old)));
+        let before : pushed old ≡ work_in (pushed old) = is.leave_is_last
+        ∙ rw stays (append-nil (work_in (pushed old))) in
+        more ∙ ap (λ (xs : List ClientCall). xs ++ Leave ∷ [])
+        (before ∙ sym (ap work_in more ∙ leave_more (pushed old)));
   }

@@ -1,5 +1,7 @@
 -- How both ends of each client's rings are compared, one client after the other.
-use Rattle.std.proofs.Common.{◌≡◌, ◌≢◌, ℕ, zero, suc, ◌+◌, ◌-◌, ◌<◌, ◌≤◌, Bool, true, false, true≢false, List, [], ◌∷◌, ◌++◌, map, length, drop, Some, None, refl, sym, ap, ◌∙◌, slice_get, inl, inr, ⊎_elim, append-nil, length-append, arith}
+use Rattle.std.proofs.Common.{◌≡◌, ◌≢◌, ℕ, zero, suc, ◌+◌, ◌-◌, ◌<◌, ◌≤◌, Bool, true, false, true≢false, List, [], ◌∷◌}
+use Rattle.std.proofs.Common.{◌++◌, map, length, drop, Some, None, refl, sym, ap, ◌∙◌, slice_get, inl, inr, ⊎_elim}
+use Rattle.std.proofs.Common.{append-nil, length-append, arith}
 use Rattle.std.specs.Prelude.{◌||◌, slice_set}
 use Rattle.std.specs.List.{list_any, AllByRecursion}
 use Rattle.std.proofs.lemmas.Bool.{cases_lt}
@@ -54,13 +56,15 @@ work_no_leave (Submit request) is = refl
 work_no_leave (Discover kind) is = refl
 work_no_leave Leave is = cc
 
-nothing_after : (work xs ys : List ClientCall) (left : Bool) → AllByRecursion (λ x. is_work x ≡ true) work → xs ++ ys ≡ work ++ leave_if left → list_any is_leave xs ≡ true → ys ≡ []
+nothing_after : (work xs ys : List ClientCall) (left : Bool) → AllByRecursion (λ x. is_work x ≡ true) work
+    → xs ++ ys ≡ work ++ leave_if left → list_any is_leave xs ≡ true → ys ≡ []
 nothing_after work [] ys left all is has = absurd (true≢false (sym has))
 nothing_after [] (x ∷ xs) ys left all is has = no_more left x xs ys is
 nothing_after (w ∷ work) (x ∷ xs) ys left all is has =
     let same : x ≡ w = cc in
     let rest : xs ++ ys ≡ work ++ leave_if left = cc in
-    let later : list_any is_leave xs ≡ true = sym (ap (λ (b : Bool). b || list_any is_leave xs) (work_no_leave x (rw same all.0))) ∙ has in
+    let later : list_any is_leave xs
+    ≡ true = sym (ap (λ (b : Bool). b || list_any is_leave xs) (work_no_leave x (rw same all.0))) ∙ has in
     nothing_after work xs ys left all.1 rest later
 
 -- what is left in a ring, as its free slots show it
@@ -68,16 +72,19 @@ drop_front : {X : Type 0} (xs ys : List X) → drop (length xs) (xs ++ ys) ≡ y
 drop_front [] ys = refl
 drop_front (x ∷ xs) ys = drop_front xs ys
 
-pub left_is : {X : Type 0} (past popped left : List X) (free capacity : ℕ) → past ≡ popped ++ left → free + length past ≡ capacity + length popped → left ≡ drop (length past - (capacity - free)) past
+pub left_is : {X : Type 0} (past popped left : List X) (free capacity : ℕ) → past ≡ popped ++ left
+    → free + length past ≡ capacity + length popped → left ≡ drop (length past - (capacity - free)) past
 left_is past popped left free capacity whole slots =
     let long : length past ≡ length popped + length left = ap length whole ∙ length-append popped left in
     let at : length past - (capacity - free) ≡ length popped = omega (arith, long, slots) in
     rw (at, whole) (sym (drop_front popped left))
 
 below : (i at : ℕ) → i < at + 1 → i ≢ at → i < at
-below i at low apart = ⊎_elim (λ (l : i < at). l) (λ (g : at ≤ i). absurd (apart (omega (arith, low, g)))) (cases_lt i at)
+below i at low apart =
+    ⊎_elim (λ (l : i < at). l) (λ (g : at ≤ i). absurd (apart (omega (arith, low, g)))) (cases_lt i at)
 
-pub get_map : {X Y : Type 0} (f : X → Y) (xs : List X) (i : ℕ) (x : X) → slice_get xs i ≡ Some x → slice_get (map f xs) i ≡ Some (f x)
+pub get_map : {X Y : Type 0} (f : X → Y) (xs : List X) (i : ℕ) (x : X) → slice_get xs i ≡ Some x
+    → slice_get (map f xs) i ≡ Some (f x)
 get_map f [] i x e = absurd (no_item e)
   where
     no_item : None ≡ Some x → ⊥
@@ -85,7 +92,8 @@ get_map f [] i x e = absurd (no_item e)
 get_map f (y ∷ xs) zero x e = let same : y ≡ x = cc in rw same refl
 get_map f (y ∷ xs) (suc i) x e = get_map f xs i x e
 
-pub map_get : {X Y : Type 0} (f : X → Y) (xs : List X) (i : ℕ) (y : Y) → slice_get (map f xs) i ≡ Some y → (x : X) × (slice_get xs i ≡ Some x) × (f x ≡ y)
+pub map_get : {X Y : Type 0} (f : X → Y) (xs : List X) (i : ℕ) (y : Y) → slice_get (map f xs) i ≡ Some y → (x : X)
+    × (slice_get xs i ≡ Some x) × (f x ≡ y)
 map_get f [] i y e = absurd (no_item e)
   where
     no_item : None ≡ Some y → ⊥
@@ -100,45 +108,67 @@ within_get (x ∷ xs) (suc i) low = within_get xs i (omega (arith, low))
 
 module _ {J : Type 0} {h : Ghosts J} {C A : Type 0} where
   -- while the ends are compared: those before `at` are settled, the others are still pairs
-  pub record Comparing (k : LogState) (first : List Lane) (before : List (ClientEnd J C A h)) (lanes : List Lane) (ends : List (ClientEnd J C A h)) (at : ℕ) : Type 0 where
+  pub record Comparing (k : LogState) (first : List Lane) (before : List (ClientEnd J C A h)) (lanes : List Lane)
+      (ends : List (ClientEnd J C A h)) (at : ℕ) : Type 0 where
     pub long : length ends ≡ length lanes
     pub lanes_long : length lanes ≡ length first
     pub same_left : (i : ℕ) (a b : Lane) → slice_get first i ≡ Some a → slice_get lanes i ≡ Some b → b.left ≡ a.left
     pub settled : (i : ℕ) (e : ClientEnd J C A h) → i < at → slice_get ends i ≡ Some e → Agrees i k e
-    pub read : (i : ℕ) (lane : Lane) (e : ClientEnd J C A h) → i < at → slice_get lanes i ≡ Some lane → slice_get ends i ≡ Some e → lane.left ≡ true → left_in e.calls ≡ []
-    pub pairs : (i : ℕ) (lane : Lane) (e : ClientEnd J C A h) → at ≤ i → slice_get lanes i ≡ Some lane → slice_get ends i ≡ Some e → ArePair (end_rings e) lane × Fits i k lane
+    pub read : (i : ℕ) (lane : Lane) (e : ClientEnd J C A h) → i < at → slice_get lanes i ≡ Some lane
+        → slice_get ends i ≡ Some e → lane.left ≡ true → left_in e.calls ≡ []
+    pub pairs : (i : ℕ) (lane : Lane) (e : ClientEnd J C A h) → at ≤ i → slice_get lanes i ≡ Some lane
+        → slice_get ends i ≡ Some e → ArePair (end_rings e) lane × Fits i k lane
     pub told : AllTold before ends
 
   same_told : (a : ClientEnd J C A h) → SameTold a a
   same_told a = record { sent_are = refl; got_are = refl; unspent_is = refl; views_are = refl }
 
   same_told_join : (a b d : ClientEnd J C A h) → SameTold a b → SameTold b d → SameTold a d
-  same_told_join a b d p q = record { sent_are = q.sent_are ∙ p.sent_are; got_are = q.got_are ∙ p.got_are; unspent_is = q.unspent_is ∙ p.unspent_is; views_are = q.views_are ∙ p.views_are }
+  same_told_join a b d p q = record {
+    sent_are = q.sent_are ∙ p.sent_are;
+    got_are = q.got_are ∙ p.got_are;
+    unspent_is = q.unspent_is ∙ p.unspent_is;
+    views_are = q.views_are ∙ p.views_are;
+  }
 
-  pub comparing_none : (k : LogState) (lanes : List Lane) (ends : List (ClientEnd J C A h)) → AllFit k lanes → PairUp lanes ends → Comparing k lanes ends lanes ends 0
+  pub comparing_none : (k : LogState) (lanes : List Lane) (ends : List (ClientEnd J C A h)) → AllFit k lanes
+      → PairUp lanes ends → Comparing k lanes ends lanes ends 0
   comparing_none k lanes ends all pairs = record {
     long = sym (length-map ends end_rings) ∙ pairs.long;
     lanes_long = refl;
-    same_left = λ i a b p q. let e = get_or_from_slice_get lanes i a b p in let f = get_or_from_slice_get lanes i b b q in ap (λ (l : Lane). l.left) (sym f ∙ e);
+    same_left = λ i a b p q. let e = get_or_from_slice_get lanes i a b p in
+        let f = get_or_from_slice_get lanes i b b q in ap (λ (l : Lane). l.left) (sym f ∙ e);
     settled = λ i e low at. absurd (omega (arith, low));
     read = λ i lane e low at there left. absurd (omega (arith, low));
-    pairs = λ i lane e low here there. (pairs.each i lane (end_rings e) here (get_map end_rings ends i e there), all.each i lane here);
-    told = record { long = refl; each = λ i a b p q. let e = get_or_from_slice_get ends i a b p in let f = get_or_from_slice_get ends i b b q in rw (sym e ∙ f) (same_told b) };
+    pairs = λ i lane e low here there.
+        (pairs.each i lane (end_rings e) here (get_map end_rings ends i e there), all.each i lane here);
+    told = record {
+      long = refl;
+      each = λ i a b p q. let e = get_or_from_slice_get ends i a b p in let f = get_or_from_slice_get ends i b b q in
+          rw (sym e ∙ f) (same_told b);
+    };
   }
 
-  settles : (c : ℕ) (k : LogState) (lane : Lane) (e : ClientEnd J C A h) → Fits c k lane → pushed e.calls ≡ popped lane.calls ++ left_in e.calls → popped e.replies ++ known_items e.replies ≡ pushed lane.replies → Agrees c k e
+  settles : (c : ℕ) (k : LogState) (lane : Lane) (e : ClientEnd J C A h) → Fits c k lane
+      → pushed e.calls ≡ popped lane.calls ++ left_in e.calls
+      → popped e.replies ++ known_items e.replies ≡ pushed lane.replies → Agrees c k e
   settles c k lane e f put got = record {
-    sent_are = ap work_in put ∙ work_parts (popped lane.calls) (left_in e.calls) ∙ ap (λ (xs : List ClientCall). xs ++ work_in (left_in e.calls)) (f.calls_are ∙ append-nil _);
+    sent_are = ap work_in put ∙ work_parts (popped lane.calls) (left_in e.calls)
+        ∙ ap (λ (xs : List ClientCall). xs ++ work_in (left_in e.calls)) (f.calls_are ∙ append-nil _);
     got_are = rw (sym (value_parts (popped e.replies) (known_items e.replies)), got) f.told_are;
   }
 
-  reads : (c : ℕ) (k : LogState) (lane : Lane) (e : ClientEnd J C A h) → Fits c k lane → pushed e.calls ≡ popped lane.calls ++ left_in e.calls → lane.left ≡ true → left_in e.calls ≡ []
+  reads : (c : ℕ) (k : LogState) (lane : Lane) (e : ClientEnd J C A h) → Fits c k lane
+      → pushed e.calls ≡ popped lane.calls ++ left_in e.calls → lane.left ≡ true → left_in e.calls ≡ []
   reads c k lane e f put left =
-      nothing_after (work_in (pushed e.calls)) (popped lane.calls) (left_in e.calls) e.left (all_work (pushed e.calls)) (sym put ∙ e.counted.leave_is_last) (sym f.left_is ∙ left)
+      nothing_after (work_in (pushed e.calls)) (popped lane.calls) (left_in e.calls) e.left (all_work (pushed e.calls))
+      (sym put ∙ e.counted.leave_is_last) (sym f.left_is ∙ left)
 
-  pub comparing_more : (k : LogState) (first : List Lane) (before : List (ClientEnd J C A h)) (lanes : List Lane) (ends : List (ClientEnd J C A h)) (at : ℕ) (l m : Lane) (e d : ClientEnd J C A h)
+  pub comparing_more : (k : LogState) (first : List Lane) (before : List (ClientEnd J C A h)) (lanes : List Lane)
+      (ends : List (ClientEnd J C A h)) (at : ℕ) (l m : Lane) (e d : ClientEnd J C A h)
       → Comparing k first before lanes ends at → slice_get lanes at ≡ Some l → slice_get ends at ≡ Some e
-      → pushed d.calls ≡ popped l.calls ++ left_in d.calls → popped d.replies ++ known_items d.replies ≡ pushed l.replies → SameTold e d → m.left ≡ l.left
+      → pushed d.calls ≡ popped l.calls ++ left_in d.calls
+      → popped d.replies ++ known_items d.replies ≡ pushed l.replies → SameTold e d → m.left ≡ l.left
       → Comparing k first before (slice_set lanes at m) (slice_set ends at d) (at + 1)
   comparing_more k first before lanes ends at l m e d is lane_here end_here put got same left = record {
     long = length-set ends at d ∙ is.long ∙ sym (length-set lanes at m);
@@ -156,7 +186,9 @@ module _ {J : Type 0} {h : Ghosts J} {C A : Type 0} where
     read = λ i x y low in_lanes in_ends has.
         elim (get-set lanes at i m x in_lanes) [
           | inl q ↦ elim (get-set ends at i d y in_ends) [
-            | inl p ↦ rw (sym p.1) (reads at k l d ((is.pairs at l e (omega arith) lane_here end_here).1) put (sym left ∙ ap (λ (z : Lane). z.left) q.1 ∙ has))
+            | inl p ↦ rw (sym p.1)
+                (reads at k l d ((is.pairs at l e (omega arith) lane_here end_here).1) put
+                (sym left ∙ ap (λ (z : Lane). z.left) q.1 ∙ has))
             | inr p ↦ absurd (p.0 q.0)
           ]
           | inr q ↦ elim (get-set ends at i d y in_ends) [
@@ -182,16 +214,21 @@ module _ {J : Type 0} {h : Ghosts J} {C A : Type 0} where
     };
   }
 
-  pub all_compared : (k : LogState) (first : List Lane) (before : List (ClientEnd J C A h)) (lanes : List Lane) (ends : List (ClientEnd J C A h)) (at : ℕ) → length first ≤ at → Comparing k first before lanes ends at → AllAgree k ends
+  pub all_compared : (k : LogState) (first : List Lane) (before : List (ClientEnd J C A h)) (lanes : List Lane)
+      (ends : List (ClientEnd J C A h)) (at : ℕ)
+      → length first ≤ at → Comparing k first before lanes ends at → AllAgree k ends
   all_compared k first before lanes ends at all is = record {
     each = λ i e here. is.settled i e (omega (arith, slice_get_within ends i e here, is.long, is.lanes_long, all)) here;
   }
 
-  pub all_read : (k : LogState) (first : List Lane) (before : List (ClientEnd J C A h)) (lanes : List Lane) (ends : List (ClientEnd J C A h)) (at : ℕ) → length first ≤ at → Comparing k first before lanes ends at → AllHaveLeft first → AllRead ends
+  pub all_read : (k : LogState) (first : List Lane) (before : List (ClientEnd J C A h)) (lanes : List Lane)
+      (ends : List (ClientEnd J C A h)) (at : ℕ)
+      → length first ≤ at → Comparing k first before lanes ends at → AllHaveLeft first → AllRead ends
   all_read k first before lanes ends at all is left = record {
     each = λ i e here.
         let within = slice_get_within ends i e here in
         let lane = within_get lanes i (omega (arith, within, is.long)) in
         let old = within_get first i (omega (arith, within, is.long, is.lanes_long)) in
-        is.read i lane.0 e (omega (arith, within, is.long, is.lanes_long, all)) lane.1 here (is.same_left i old.0 lane.0 old.1 lane.1 ∙ left.each i old.0 old.1);
+        is.read i lane.0 e (omega (arith, within, is.long, is.lanes_long, all)) lane.1 here
+        (is.same_left i old.0 lane.0 old.1 lane.1 ∙ left.each i old.0 old.1);
   }

@@ -1,5 +1,6 @@
 -- An exchange with the line: a frame is taken, and what came is delivered.
-use Rattle.std.proofs.Common.{◌≡◌, ℕ, ◌+◌, true, false, true≢false, List, [], ◌∷◌, ◌++◌, length, Option, Some, None, Result, Ok, Err, refl, sym, ap, ◌∙◌, subst, length-append, append-nil, append_assoc}
+use Rattle.std.proofs.Common.{◌≡◌, ℕ, ◌+◌, true, false, true≢false, List, [], ◌∷◌, ◌++◌, length, Option, Some, None}
+use Rattle.std.proofs.Common.{Result, Ok, Err, refl, sym, ap, ◌∙◌, subst, length-append, append-nil, append_assoc}
 use Rattle.arrayvec.specs.ArrayVec.{ArrayVec}
 use Rattle.rdm_wire.specs.Lists.{EachAfter}
 use Rattle.rdm_join.specs.declared.event.LineEvent.{LineEvent}
@@ -26,32 +27,42 @@ use Rattle.rdm_lanes.specs.Views.{views_found}
 use Rattle.rdm_lanes.specs.body.Gains.{GainOneAtMost}
 use Rattle.rdm_lanes.proofs.FoundLemmas.{exchange_views}
 use Rattle.rdm_lanes.proofs.LaneLemmas.{waits, waits_join}
-use Rattle.rdm_lanes.proofs.LineLemmas.{traded_one, exchanges_off, results_off, results_no_join, results_no_switch, joins_stay, switches_stay, awaited_off, none_lost_grows, rightly_without, results_no_refusal, grown_join}
+use Rattle.rdm_lanes.proofs.LineLemmas.{traded_one, exchanges_off, results_off, results_no_join, results_no_switch}
+use Rattle.rdm_lanes.proofs.LineLemmas.{joins_stay, switches_stay, awaited_off, none_lost_grows, rightly_without}
+use Rattle.rdm_lanes.proofs.LineLemmas.{results_no_refusal, grown_join}
 use Rattle.rdm_lanes.proofs.StepLemmas.{results_untouched}
 
 -- nothing was taken
 same_state : (old new : LogState) (block : List Entry) → block ≡ [] → new ≡ grown old block → new ≡ old
-same_state old new block none is = is ∙ ap (λ (b : List Entry). grown old b) none ∙ ap (λ (h : List Entry). record old { entries = h }) (append-nil old.entries)
+same_state old new block none is =
+    is ∙ ap (λ (b : List Entry). grown old b) none
+    ∙ ap (λ (h : List Entry). record old { entries = h }) (append-nil old.entries)
 
-pub took_none : (old new : LogState) (r : Result (Option (ArrayVec ℕ)) LogFull) → r ≡ Ok None → GrowsBy old (TakeLogs old r) new → new ≡ old
+pub took_none : (old new : LogState) (r : Result (Option (ArrayVec ℕ)) LogFull) → r ≡ Ok None
+    → GrowsBy old (TakeLogs old r) new → new ≡ old
 took_none old new r is g = by_result (rw is at g)
   where
     by_result : GrowsBy old (TakeLogs old (Ok None)) new → new ≡ old
     by_result g = let adds = g.adds.1 in same_state old new g.block adds.1 g.grows
 
-pub none_to_send : (old new : LogState) (r : Result (Option (ArrayVec ℕ)) LogFull) → r ≡ Ok None → GrowsBy old (TakeLogs old r) new → NoSend new.opening new.entries
+pub none_to_send : (old new : LogState) (r : Result (Option (ArrayVec ℕ)) LogFull) → r ≡ Ok None
+    → GrowsBy old (TakeLogs old r) new → NoSend new.opening new.entries
 none_to_send old new r is g = by_result (rw is at g)
   where
     by_result : GrowsBy old (TakeLogs old (Ok None)) new → NoSend new.opening new.entries
-    by_result g = let adds = g.adds.1 in subst (λ (k : LogState). NoSend k.opening k.entries) (sym (same_state old new g.block adds.1 g.grows)) adds.0
+    by_result g =
+        let adds = g.adds.1 in
+        subst (λ (k : LogState). NoSend k.opening k.entries) (sym (same_state old new g.block adds.1 g.grows)) adds.0
 
-pub is_full_then : (old new : LogState) (r : Result (Option (ArrayVec ℕ)) LogFull) (fault : LogFull) → r ≡ Err fault → GrowsBy old (TakeLogs old r) new → is_full_log new ≡ true
+pub is_full_then : (old new : LogState) (r : Result (Option (ArrayVec ℕ)) LogFull) (fault : LogFull) → r ≡ Err fault
+    → GrowsBy old (TakeLogs old r) new → is_full_log new ≡ true
 is_full_then old new r fault is g = by_result (rw is at g)
   where
     by_result : GrowsBy old (TakeLogs old (Err fault)) new → is_full_log new ≡ true
     by_result g = ap is_full_log (same_state old new g.block g.adds.1 g.grows) ∙ g.adds.0
 
-pub took_full : (old new : LogState) (r : Result (Option (ArrayVec ℕ)) LogFull) (fault : LogFull) → r ≡ Err fault → GrowsBy old (TakeLogs old r) new → new ≡ old
+pub took_full : (old new : LogState) (r : Result (Option (ArrayVec ℕ)) LogFull) (fault : LogFull) → r ≡ Err fault
+    → GrowsBy old (TakeLogs old r) new → new ≡ old
 took_full old new r fault is g = by_result (rw is at g)
   where
     by_result : GrowsBy old (TakeLogs old (Err fault)) new → new ≡ old
@@ -68,80 +79,137 @@ pub record IsExchange (old new : LogState) (frame : ArrayVec ℕ) (event : LineE
   pub switches : SameSwitches old new
   pub wait : (c : ℕ) → IsOnlyTold c old new
 
-delivered : (old mid new : LogState) (owner : Owner) (frame : ArrayVec ℕ) (event : LineEvent) (results : List Entry) → mid ≡ grown old (Send owner frame ∷ []) → new ≡ grown mid (Came event ∷ results) → AllResults results
-    → Legal mid.opening mid.entries → Legal new.opening new.entries → IsBetweenTurns old → IsExchange old new frame event
+delivered : (old mid new : LogState) (owner : Owner) (frame : ArrayVec ℕ) (event : LineEvent) (results : List Entry)
+    → mid ≡ grown old (Send owner frame ∷ []) → new ≡ grown mid (Came event ∷ results) → AllResults results
+    → Legal mid.opening mid.entries → Legal new.opening new.entries → IsBetweenTurns old
+    → IsExchange old new frame event
 delivered old mid new owner frame event results sent came all legal_mid legal_new s = record {
-  served = record { answered = ap (λ (k : LogState). awaited k.entries) whole ∙ not_awaited; no_call_lost = subst NoCallLost (sym grew_all) (none_lost_grows old (Send owner frame ∷ Came event ∷ results) s.no_call_lost (rightly_without old.opening old.entries (Send owner frame ∷ Came event ∷ results) (refl, (refl, results_no_refusal results all)))) };
+  served = record {
+    answered = ap (λ (k : LogState). awaited k.entries) whole ∙ not_awaited;
+    no_call_lost =
+        subst NoCallLost (sym grew_all)
+        (none_lost_grows old (Send owner frame ∷ Came event ∷ results) s.no_call_lost
+        (rightly_without old.opening old.entries (Send owner frame ∷ Came event ∷ results)
+        (refl, (refl, results_no_refusal results all))));
+  };
   block = Send owner frame ∷ Came event ∷ results;
   grows = grew_all;
-  nobody_joined = ap (λ (k : LogState). joins k.entries) grew_all ∙ joins_stay h (Send owner frame ∷ Came event ∷ results) (refl, (refl, results_no_join results all));
-  added = ap (λ (k : LogState). exchanges k.entries) whole ∙ exchanges_off ((h ++ Send owner frame ∷ []) ++ Came event ∷ []) results (results_off results all) ∙ traded_one h owner frame event even;
-  found = subst (λ (k : LogState). GainOneAtMost (views_found h) (views_found k.entries)) (sym whole) (exchange_views old.opening h owner frame event results (subst (λ (k : LogState). EachAfter (MayFollow k.opening) k.entries) whole legal_new.each) all);
-  switches = switches_stay old new (Send owner frame ∷ Came event ∷ results) grew_all (refl, (refl, results_no_switch results all));
-  wait = λ c. waits_join c old mid new (waits c old mid (Send owner frame ∷ []) sent legal_mid (refl, tt)) (waits c mid new (Came event ∷ results) came legal_new (refl, results_untouched c results all));
+  nobody_joined =
+      ap (λ (k : LogState). joins k.entries) grew_all
+      ∙ joins_stay h (Send owner frame ∷ Came event ∷ results) (refl, (refl, results_no_join results all));
+  added = ap (λ (k : LogState). exchanges k.entries) whole
+      ∙ exchanges_off ((h ++ Send owner frame ∷ []) ++ Came event ∷ []) results (results_off results all)
+      ∙ traded_one h owner frame event even;
+  found = subst (λ (k : LogState). GainOneAtMost (views_found h) (views_found k.entries)) (sym whole)
+      (exchange_views old.opening h owner frame event results
+      (subst (λ (k : LogState). EachAfter (MayFollow k.opening) k.entries) whole legal_new.each) all);
+  switches = switches_stay old new (Send owner frame ∷ Came event ∷ results) grew_all
+      (refl, (refl, results_no_switch results all));
+  wait = λ c. waits_join c old mid new (waits c old mid (Send owner frame ∷ []) sent legal_mid (refl, tt))
+      (waits c mid new (Came event ∷ results) came legal_new (refl, results_untouched c results all));
 }
   where
     h : List Entry
     h = old.entries
 
     whole : new ≡ record old { entries = ((h ++ Send owner frame ∷ []) ++ Came event ∷ []) ++ results }
-    whole = came ∙ ap (λ (k : LogState). grown k (Came event ∷ results)) sent ∙ ap (λ (xs : List Entry). record old { entries = xs }) (sym (append_assoc (h ++ Send owner frame ∷ []) (Came event ∷ []) results))
+    whole = came ∙ ap (λ (k : LogState). grown k (Came event ∷ results)) sent
+        ∙ ap (λ (xs : List Entry). record old { entries = xs })
+        (sym (append_assoc (h ++ Send owner frame ∷ []) (Came event ∷ []) results))
 
     grew_all : new ≡ grown old (Send owner frame ∷ Came event ∷ results)
     grew_all = grown_join old mid new (Send owner frame ∷ []) (Came event ∷ results) sent came
 
     not_awaited : awaited (((h ++ Send owner frame ∷ []) ++ Came event ∷ []) ++ results) ≡ false
-    not_awaited = awaited_off ((h ++ Send owner frame ∷ []) ++ Came event ∷ []) results (results_off results all) ∙ awaited-push (h ++ Send owner frame ∷ []) (Came event)
+    not_awaited =
+        awaited_off ((h ++ Send owner frame ∷ []) ++ Came event ∷ []) results (results_off results all)
+        ∙ awaited-push (h ++ Send owner frame ∷ []) (Came event)
 
     each_mid : EachAfter (MayFollow old.opening) (h ++ Send owner frame ∷ [])
     each_mid = subst (λ (k : LogState). EachAfter (MayFollow k.opening) k.entries) sent legal_mid.each
 
     even : length (sends h) ≡ length (cames h)
-    even = sent_evenly old.opening h (legal_facts old.opening h (front old.opening h (Send owner frame ∷ []) each_mid)) s.answered
+    even = sent_evenly old.opening h (legal_facts old.opening h (front old.opening h (Send owner frame ∷ []) each_mid))
+        s.answered
 
-awaits_sent : (old mid : LogState) (owner : Owner) (frame : ArrayVec ℕ) → mid ≡ grown old (Send owner frame ∷ []) → awaited mid.entries ≡ true
-awaits_sent old mid owner frame sent = ap (λ (k : LogState). awaited k.entries) sent ∙ awaited-push old.entries (Send owner frame)
+awaits_sent : (old mid : LogState) (owner : Owner) (frame : ArrayVec ℕ) → mid ≡ grown old (Send owner frame ∷ [])
+    → awaited mid.entries ≡ true
+awaits_sent old mid owner frame sent =
+    ap (λ (k : LogState). awaited k.entries) sent ∙ awaited-push old.entries (Send owner frame)
 
-answered : (old mid new : LogState) (owner : Owner) (frame : ArrayVec ℕ) (event : LineEvent) (r : Result (Unit {0}) (NotAsked × LineEvent)) → mid ≡ grown old (Send owner frame ∷ []) → GrowsBy mid (DeliverAdds mid event r) new
-    → Legal mid.opening mid.entries → Legal new.opening new.entries → IsBetweenTurns old → IsExchange old new frame event
+answered : (old mid new : LogState) (owner : Owner) (frame : ArrayVec ℕ) (event : LineEvent)
+    (r : Result (Unit {0}) (NotAsked × LineEvent)) → mid ≡ grown old (Send owner frame ∷ [])
+    → GrowsBy mid (DeliverAdds mid event r) new
+    → Legal mid.opening mid.entries → Legal new.opening new.entries → IsBetweenTurns old
+    → IsExchange old new frame event
 answered old mid new owner frame event (Ok x) sent g legal_mid legal_new s =
-    delivered old mid new owner frame event g.adds.1.results sent (g.grows ∙ ap (λ (b : List Entry). grown mid b) g.adds.1.whole) g.adds.1.each legal_mid legal_new s
-answered old mid new owner frame event (Err e) sent g legal_mid legal_new s = absurd (true≢false (sym (awaits_sent old mid owner frame sent) ∙ g.adds.0))
+    delivered old mid new owner frame event g.adds.1.results sent
+    (g.grows ∙ ap (λ (b : List Entry). grown mid b) g.adds.1.whole) g.adds.1.each legal_mid legal_new s
+answered old mid new owner frame event (Err e) sent g legal_mid legal_new s =
+    absurd (true≢false (sym (awaits_sent old mid owner frame sent) ∙ g.adds.0))
 
-pub exchange_made : (old mid new : LogState) (frame : ArrayVec ℕ) (event : LineEvent) (t : Result (Option (ArrayVec ℕ)) LogFull) (r : Result (Unit {0}) (NotAsked × LineEvent)) → t ≡ Ok (Some frame) → GrowsBy old (TakeLogs old t) mid
-    → GrowsBy mid (DeliverAdds mid event r) new → Legal mid.opening mid.entries → Legal new.opening new.entries → IsBetweenTurns old → IsExchange old new frame event
+pub exchange_made : (old mid new : LogState) (frame : ArrayVec ℕ) (event : LineEvent)
+    (t : Result (Option (ArrayVec ℕ)) LogFull) (r : Result (Unit {0}) (NotAsked × LineEvent)) → t ≡ Ok (Some frame)
+    → GrowsBy old (TakeLogs old t) mid
+    → GrowsBy mid (DeliverAdds mid event r) new → Legal mid.opening mid.entries → Legal new.opening new.entries
+    → IsBetweenTurns old → IsExchange old new frame event
 exchange_made old mid new frame event t r is taken g legal_mid legal_new s = by_result (rw is at taken)
   where
     by_result : GrowsBy old (TakeLogs old (Ok (Some frame))) mid → IsExchange old new frame event
-    by_result t = let adds = t.adds.1 in answered old mid new adds.0 frame event r (t.grows ∙ ap (λ (b : List Entry). grown old b) adds.2) g legal_mid legal_new s
+    by_result t =
+        let adds = t.adds.1 in
+        answered old mid new adds.0 frame event r (t.grows ∙ ap (λ (b : List Entry). grown old b) adds.2) g legal_mid
+        legal_new s
 
 -- steps of the line, one after the other
 module _ {L : Type 0} (step : L → Exchange → L → Type 0) where
-  pub makes-join : (xs ys : List Exchange) (a b d : L) → Makes L step a xs b → Makes L step b ys d → Makes L step a (xs ++ ys) d
+  pub makes-join : (xs ys : List Exchange) (a b d : L) → Makes L step a xs b → Makes L step b ys d
+      → Makes L step a (xs ++ ys) d
   makes-join [] ys a b d e f = subst (λ (z : L). Makes L step z ys d) e f
   makes-join (x ∷ xs) ys a b d e f = (e.0, e.1, makes-join xs ys e.0 b d e.2 f)
 
   pub exchanged_none : (a : L) (old new : LogState) → NoExchange old new → Exchanged step a old a new
-  exchanged_none a old new s = record { block = s.block; grows = s.grows; nobody_joined = s.nobody_joined; made = []; added = s.same ∙ sym (append-nil _); steps = refl }
+  exchanged_none a old new s = record {
+    block = s.block;
+    grows = s.grows;
+    nobody_joined = s.nobody_joined;
+    made = [];
+    added = s.same ∙ sym (append-nil _);
+    steps = refl;
+  }
 
-  pub exchanged_one : (a b : L) (old new : LogState) (frame : ArrayVec ℕ) (event : LineEvent) → IsExchange old new frame event → step a (frame, event) b → Exchanged step a old b new
-  exchanged_one a b old new frame event x s = record { block = x.block; grows = x.grows; nobody_joined = x.nobody_joined; made = (frame, event) ∷ []; added = x.added; steps = (b, s, refl) }
+  pub exchanged_one : (a b : L) (old new : LogState) (frame : ArrayVec ℕ) (event : LineEvent)
+      → IsExchange old new frame event → step a (frame, event) b → Exchanged step a old b new
+  exchanged_one a b old new frame event x s = record {
+    block = x.block;
+    grows = x.grows;
+    nobody_joined = x.nobody_joined;
+    made = (frame, event) ∷ [];
+    added = x.added;
+    steps = (b, s, refl);
+  }
 
-  pub exchanged_join : (a b d : L) (k m n : LogState) → Exchanged step a k b m → Exchanged step b m d n → Exchanged step a k d n
+  pub exchanged_join : (a b d : L) (k m n : LogState) → Exchanged step a k b m → Exchanged step b m d n
+      → Exchanged step a k d n
   exchanged_join a b d k m n x y = record {
     block = x.block ++ y.block;
     grows = grown_join k m n x.block y.block x.grows y.grows;
     nobody_joined = y.nobody_joined ∙ x.nobody_joined;
     made = x.made ++ y.made;
-    added = y.added ∙ ap (λ (xs : List Exchange). xs ++ y.made) x.added ∙ append_assoc (exchanges k.entries) x.made y.made;
+    added = y.added ∙ ap (λ (xs : List Exchange). xs ++ y.made) x.added
+        ∙ append_assoc (exchanges k.entries) x.made y.made;
     steps = makes-join x.made y.made a b d x.steps y.steps;
   }
 
-  pub exchanged_within : (a b : L) (k m n o : LogState) → NoExchange k m → Exchanged step a m b n → NoExchange n o → Exchanged step a k b o
-  exchanged_within a b k m n o before x after = exchanged_join a b b k n o (exchanged_join a a b k m n (exchanged_none a k m before) x) (exchanged_none b n o after)
+  pub exchanged_within : (a b : L) (k m n o : LogState) → NoExchange k m → Exchanged step a m b n → NoExchange n o
+      → Exchanged step a k b o
+  exchanged_within a b k m n o before x after =
+      exchanged_join a b b k n o (exchanged_join a a b k m n (exchanged_none a k m before) x)
+      (exchanged_none b n o after)
 
 -- how many exchanges there are
-pub one_more : (old new : LogState) (frame : ArrayVec ℕ) (event : LineEvent) → IsExchange old new frame event → exchange_count new ≡ exchange_count old + 1
+pub one_more : (old new : LogState) (frame : ArrayVec ℕ) (event : LineEvent) → IsExchange old new frame event
+    → exchange_count new ≡ exchange_count old + 1
 one_more old new frame event x = ap length x.added ∙ length-append (exchanges old.entries) ((frame, event) ∷ [])
 
 pub no_more : (old new : LogState) → NoExchange old new → exchange_count new ≡ exchange_count old

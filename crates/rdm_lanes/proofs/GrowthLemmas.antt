@@ -1,5 +1,6 @@
 -- What a log says of one client, as it grows by a block of entries.
-use Rattle.std.proofs.Common.{◌≡◌, ℕ, ◌-◌, ◌<◌, Bool, true, false, List, [], ◌∷◌, ◌++◌, map, length, Option, Some, None, refl, ap, ◌∙◌, slice_get, append-nil, arith}
+use Rattle.std.proofs.Common.{◌≡◌, ℕ, ◌-◌, ◌<◌, Bool, true, false, List, [], ◌∷◌, ◌++◌, map, length, Option, Some, None}
+use Rattle.std.proofs.Common.{refl, ap, ◌∙◌, slice_get, append-nil, arith}
 use Rattle.std.specs.Prelude.{filter, filter_map, ◌||◌, ◌&&◌, ◌==◌}
 use Rattle.std.specs.List.{AllByRecursion}
 use Rattle.std.proofs.lemmas.Option.{slice_get_within}
@@ -9,8 +10,10 @@ use Rattle.rdm_wire.specs.Lists.{EachAfter}
 use Rattle.rdm_log.specs.declared.entry.Opening.{Opening}
 use Rattle.rdm_log.specs.declared.entry.Entry.{Entry}
 use Rattle.rdm_log.specs.declared.entry.Entry.TheVariants.{Refuse, Accept, Ask, Finish, Answer, Collect}
-use Rattle.rdm_log.specs.log.Entries.{Accepted, AskedDiscovery, finished_of, collector_of, accepts, asks, finishes, collectors}
-use Rattle.rdm_log.specs.log.Clients.{accepts_by, asks_by, is_client_of, is_answer_to, answers_to, collects_by, collected, uncollected, outstanding_requests, outstanding_discoveries}
+use Rattle.rdm_log.specs.log.Entries.{Accepted, AskedDiscovery, finished_of, collector_of, accepts, asks, finishes}
+use Rattle.rdm_log.specs.log.Entries.{collectors}
+use Rattle.rdm_log.specs.log.Clients.{accepts_by, asks_by, is_client_of, is_answer_to, answers_to, collects_by}
+use Rattle.rdm_log.specs.log.Clients.{collected, uncollected, outstanding_requests, outstanding_discoveries}
 use Rattle.rdm_log.specs.log.Legal.{MayFollow}
 use Rattle.rdm_log.specs.promises.Outcomes.{OutcomeValue, outcome_of, told, is_client, is_closed_refusal, closed_number}
 use Rattle.rdm_log.proofs.LogLemmas.Grows.{front}
@@ -42,40 +45,56 @@ touches c _ = false
 abbrev pub Untouched : ℕ → List Entry → Type 0
 Untouched c block = AllByRecursion (λ e. touches c e ≡ false) block
 
-finish_accepted : (o : Opening) (h : List Entry) → LogFacts o h → (i n : ℕ) (status : _) (len : ℕ) → slice_get h i ≡ Some (Finish n status len) → n - o.next_request < length (accepts h)
+finish_accepted : (o : Opening) (h : List Entry) → LogFacts o h → (i n : ℕ) (status : _) (len : ℕ)
+    → slice_get h i ≡ Some (Finish n status len) → n - o.next_request < length (accepts h)
 unfolding finishes
-finish_accepted o h facts i n status len at = by_place (filter_map_has finished_of h i (Finish n status len) (record { number = n; status = status; len = len }) at refl)
+finish_accepted o h facts i n status len at =
+    by_place (filter_map_has finished_of h i (Finish n status len)
+    (record { number = n; status = status; len = len }) at refl)
   where
-    by_place : (j : ℕ) × (slice_get (finishes h) j ≡ Some (record { number = n; status = status; len = len })) → n - o.next_request < length (accepts h)
-    by_place found = omega (arith, facts.finish_numbers found.0 _ found.1, slice_get_within (finishes h) found.0 _ found.1, facts.finished_within)
+    by_place : (j : ℕ) × (slice_get (finishes h) j ≡ Some (record { number = n; status = status; len = len }))
+        → n - o.next_request < length (accepts h)
+    by_place found =
+        omega (
+          arith,
+          facts.finish_numbers found.0 _ found.1,
+          slice_get_within (finishes h) found.0 _ found.1,
+          facts.finished_within,
+        )
 
 -- whom an entry answers stays as it is
-pub answer_stays : (o : Opening) (h more : List Entry) → EachAfter (MayFollow o) (h ++ more) → (c i : ℕ) (x : Entry) → slice_get h i ≡ Some x → is_answer_to o c (h ++ more) x ≡ is_answer_to o c h x
+pub answer_stays : (o : Opening) (h more : List Entry) → EachAfter (MayFollow o) (h ++ more) → (c i : ℕ) (x : Entry)
+    → slice_get h i ≡ Some x → is_answer_to o c (h ++ more) x ≡ is_answer_to o c h x
 answer_stays o h more each c i (Finish n status len) at =
-    ap (is_client_of c) (client_stays o h more n (finish_accepted o h (legal_facts o h (front o h more each)) i n status len at))
+    ap (is_client_of c)
+    (client_stays o h more n (finish_accepted o h (legal_facts o h (front o h more each)) i n status len at))
 answer_stays o h more each c i (Answer n r fault) at =
     ap (is_client_of c) (asker_stays o h more n (answer_asked o h (ask_facts o h (front o h more each)) i n r fault at))
 answer_stays o h more each c i _ at = refl
 
-pub answers_split : (o : Opening) (h more : List Entry) → EachAfter (MayFollow o) (h ++ more) → (c : ℕ) → answers_to o c (h ++ more) ≡ answers_to o c h ++ filter (is_answer_to o c (h ++ more)) more
+pub answers_split : (o : Opening) (h more : List Entry) → EachAfter (MayFollow o) (h ++ more) → (c : ℕ)
+    → answers_to o c (h ++ more) ≡ answers_to o c h ++ filter (is_answer_to o c (h ++ more)) more
 unfolding answers_to
 answers_split o h more each c =
     filter-append (is_answer_to o c (h ++ more)) h more
     ∙ ap (λ (xs : List Entry). xs ++ filter (is_answer_to o c (h ++ more)) more)
     (filter_agree_on (is_answer_to o c (h ++ more)) (is_answer_to o c h) h (answer_stays o h more each c))
 
-pub told_split : (o : Opening) (h more : List Entry) → EachAfter (MayFollow o) (h ++ more) → (c : ℕ) → told o c (h ++ more) ≡ told o c h ++ filter (tells o c (h ++ more)) more
+pub told_split : (o : Opening) (h more : List Entry) → EachAfter (MayFollow o) (h ++ more) → (c : ℕ)
+    → told o c (h ++ more) ≡ told o c h ++ filter (tells o c (h ++ more)) more
 told_split o h more each c =
     filter-append (tells o c (h ++ more)) h more
     ∙ ap (λ (xs : List Entry). xs ++ filter (tells o c (h ++ more)) more)
-    (filter_agree_on (tells o c (h ++ more)) (tells o c h) h (λ i x at. ap (λ (b : Bool). b || is_closed_refusal c x) (answer_stays o h more each c i x at)))
+    (filter_agree_on (tells o c (h ++ more)) (tells o c h) h
+    (λ i x at. ap (λ (b : Bool). b || is_closed_refusal c x) (answer_stays o h more each c i x at)))
 
 -- what was told stays as it is
 or_left : (b : Bool) → (b || false) ≡ true → b ≡ true
 or_left true is = refl
 or_left false is = is
 
-told_stays : (o : Opening) (h more : List Entry) → EachAfter (MayFollow o) (h ++ more) → (c j : ℕ) (x : Entry) → slice_get h j ≡ Some x → tells o c h x ≡ true → outcome_of (h ++ more) x ≡ outcome_of h x
+told_stays : (o : Opening) (h more : List Entry) → EachAfter (MayFollow o) (h ++ more) → (c j : ℕ) (x : Entry)
+    → slice_get h j ≡ Some x → tells o c h x ≡ true → outcome_of (h ++ more) x ≡ outcome_of h x
 unfolding answers_to
 told_stays o h more each c j (Finish n status len) at is =
     let found = filter_keeps (is_answer_to o c h) h j (Finish n status len) at (or_left _ is) in
@@ -85,18 +104,25 @@ told_stays o h more each c j (Answer n r fault) at is =
     outcome_stays o h more each c found.0 (Answer n r fault) found.1
 told_stays o h more each c j _ at is = refl
 
-pub told_grows : (o : Opening) (h more : List Entry) → EachAfter (MayFollow o) (h ++ more) → (c : ℕ) → told_values o c (h ++ more) ≡ told_values o c h ++ map (outcome_of (h ++ more)) (filter (tells o c (h ++ more)) more)
+pub told_grows : (o : Opening) (h more : List Entry) → EachAfter (MayFollow o) (h ++ more) → (c : ℕ)
+    → told_values o c (h ++ more) ≡ told_values o c h
+    ++ map (outcome_of (h ++ more)) (filter (tells o c (h ++ more)) more)
 unfolding told_values
 told_grows o h more each c =
     ap (map (outcome_of (h ++ more))) (told_split o h more each c)
     ∙ map-append (outcome_of (h ++ more)) (told o c h) (filter (tells o c (h ++ more)) more)
     ∙ ap (λ (vs : List (Option OutcomeValue)). vs ++ map (outcome_of (h ++ more)) (filter (tells o c (h ++ more)) more))
-    (map_agree (outcome_of (h ++ more)) (outcome_of h) (told o c h) (λ i x at. let found = filter_has (tells o c h) h i x at in told_stays o h more each c found.0 x found.1 found.2))
+    (map_agree (outcome_of (h ++ more)) (outcome_of h) (told o c h)
+    (λ i x at. let found = filter_has (tells o c h) h i x at in
+    told_stays o h more each c found.0 x found.1 found.2))
 
 -- the values of what isn't collected stay as they are
-pub values_stay : (o : Opening) (h more : List Entry) → EachAfter (MayFollow o) (h ++ more) → (c : ℕ) → map (outcome_of (h ++ more)) (uncollected o c h) ≡ uncollected_values o c h
+pub values_stay : (o : Opening) (h more : List Entry) → EachAfter (MayFollow o) (h ++ more) → (c : ℕ)
+    → map (outcome_of (h ++ more)) (uncollected o c h) ≡ uncollected_values o c h
 unfolding uncollected_values
-values_stay o h more each c = map_agree (outcome_of (h ++ more)) (outcome_of h) (uncollected o c h) (λ i x at. uncollected_stays o h more c i x each at)
+values_stay o h more each c =
+    map_agree (outcome_of (h ++ more)) (outcome_of h) (uncollected o c h)
+    (λ i x at. uncollected_stays o h more c i x each at)
 
 -- what an untouched client's words say of a block
 call_none : (c : ℕ) (e : Entry) → touches c e ≡ false → call_by c e ≡ None
@@ -117,7 +143,8 @@ pub calls_untouched : (c : ℕ) (h more : List Entry) → Untouched c more → c
 unfolding calls_by
 calls_untouched c h more all =
     filter_map-append (call_by c) h more
-    ∙ rw (filter_map_nothing (call_by c) more (all_follow _ _ (call_none c) more all)) (append-nil (filter_map (call_by c) h))
+    ∙ rw (filter_map_nothing (call_by c) more (all_follow _ _ (call_none c) more all))
+    (append-nil (filter_map (call_by c) h))
 
 accepts_none : (c : ℕ) (more : List Entry) → Untouched c more → accepts_by c more ≡ []
 unfolding accepts
@@ -138,59 +165,92 @@ no_collects c (Collect d ∷ more) all = rw all.0 (no_collects c more all.1)
 no_collects c (e ∷ more) all = no_collects c more all.1
 
 pub accepts_by_split : (c : ℕ) (h more : List Entry) → accepts_by c (h ++ more) ≡ accepts_by c h ++ accepts_by c more
-accepts_by_split c h more = ap (filter (λ (a : Accepted). c == a.client)) (accepts-append h more) ∙ filter-append (λ (a : Accepted). c == a.client) (accepts h) (accepts more)
+accepts_by_split c h more =
+    ap (filter (λ (a : Accepted). c == a.client)) (accepts-append h more)
+    ∙ filter-append (λ (a : Accepted). c == a.client) (accepts h) (accepts more)
 
 pub asks_by_split : (c : ℕ) (h more : List Entry) → asks_by c (h ++ more) ≡ asks_by c h ++ asks_by c more
-asks_by_split c h more = ap (filter (λ (a : AskedDiscovery). c == a.client)) (asks-append h more) ∙ filter-append (λ (a : AskedDiscovery). c == a.client) (asks h) (asks more)
+asks_by_split c h more =
+    ap (filter (λ (a : AskedDiscovery). c == a.client)) (asks-append h more)
+    ∙ filter-append (λ (a : AskedDiscovery). c == a.client) (asks h) (asks more)
 
 collectors-append : (h more : List Entry) → collectors (h ++ more) ≡ collectors h ++ collectors more
 unfolding collectors
 collectors-append h more = filter_map-append collector_of h more
 
-pub collects_by_split : (c : ℕ) (h more : List Entry) → collects_by c (h ++ more) ≡ collects_by c h ++ collects_by c more
-collects_by_split c h more = ap (filter (λ (d : ℕ). c == d)) (collectors-append h more) ∙ filter-append (λ (d : ℕ). c == d) (collectors h) (collectors more)
+pub collects_by_split : (c : ℕ) (h more : List Entry)
+    → collects_by c (h ++ more) ≡ collects_by c h ++ collects_by c more
+collects_by_split c h more =
+    ap (filter (λ (d : ℕ). c == d)) (collectors-append h more)
+    ∙ filter-append (λ (d : ℕ). c == d) (collectors h) (collectors more)
 
-pub collects_untouched : (c : ℕ) (h more : List Entry) → collects_by c more ≡ [] → collects_by c (h ++ more) ≡ collects_by c h
+pub collects_untouched : (c : ℕ) (h more : List Entry) → collects_by c more ≡ []
+    → collects_by c (h ++ more) ≡ collects_by c h
 collects_untouched c h more none = collects_by_split c h more ∙ rw none (append-nil (collects_by c h))
 
 -- without a collect
-pub uncollected_split : (o : Opening) (h more : List Entry) → EachAfter (MayFollow o) (h ++ more) → (c : ℕ) → collects_by c more ≡ []
+pub uncollected_split : (o : Opening) (h more : List Entry) → EachAfter (MayFollow o) (h ++ more) → (c : ℕ)
+    → collects_by c more ≡ []
     → uncollected o c (h ++ more) ≡ uncollected o c h ++ filter (is_answer_to o c (h ++ more)) more
 uncollected_split o h more each c none =
     rw (collects_untouched c h more none, answers_split o h more each c)
-    (drop-append-le (length (collects_by c h)) (answers_to o c h) (filter (is_answer_to o c (h ++ more)) more) ((client_facts o h (front o h more each)).collected_within c))
+    (drop-append-le (length (collects_by c h)) (answers_to o c h) (filter (is_answer_to o c (h ++ more)) more)
+    ((client_facts o h (front o h more each)).collected_within c))
 
-pub to_values : (o : Opening) (c : ℕ) (k : List Entry) → uncollected_values o c k ≡ map (outcome_of k) (uncollected o c k)
+pub to_values : (o : Opening) (c : ℕ) (k : List Entry)
+    → uncollected_values o c k ≡ map (outcome_of k) (uncollected o c k)
 unfolding uncollected_values
 to_values o c k = refl
 
-pub uncollected_grows : (o : Opening) (h more : List Entry) → EachAfter (MayFollow o) (h ++ more) → (c : ℕ) → collects_by c more ≡ []
-    → uncollected_values o c (h ++ more) ≡ uncollected_values o c h ++ map (outcome_of (h ++ more)) (filter (is_answer_to o c (h ++ more)) more)
+pub uncollected_grows : (o : Opening) (h more : List Entry) → EachAfter (MayFollow o) (h ++ more) → (c : ℕ)
+    → collects_by c more ≡ []
+    → uncollected_values o c (h ++ more) ≡ uncollected_values o c h
+    ++ map (outcome_of (h ++ more)) (filter (is_answer_to o c (h ++ more)) more)
 uncollected_grows o h more each c none =
     to_values o c (h ++ more)
     ∙ ap (map (outcome_of (h ++ more))) (uncollected_split o h more each c none)
     ∙ map-append (outcome_of (h ++ more)) (uncollected o c h) (filter (is_answer_to o c (h ++ more)) more)
-    ∙ ap (λ (vs : List (Option OutcomeValue)). vs ++ map (outcome_of (h ++ more)) (filter (is_answer_to o c (h ++ more)) more)) (values_stay o h more each c)
+    ∙ ap (λ (vs : List (Option OutcomeValue)). vs
+    ++ map (outcome_of (h ++ more)) (filter (is_answer_to o c (h ++ more)) more)) (values_stay o h more each c)
 
-pub collected_same : (o : Opening) (h more : List Entry) → EachAfter (MayFollow o) (h ++ more) → (c : ℕ) → collects_by c more ≡ [] → collected o c (h ++ more) ≡ collected o c h
+pub collected_same : (o : Opening) (h more : List Entry) → EachAfter (MayFollow o) (h ++ more) → (c : ℕ)
+    → collects_by c more ≡ [] → collected o c (h ++ more) ≡ collected o c h
 collected_same o h more each c none =
     rw (collects_untouched c h more none, answers_split o h more each c)
-    (take-append-le (length (collects_by c h)) (answers_to o c h) (filter (is_answer_to o c (h ++ more)) more) ((client_facts o h (front o h more each)).collected_within c))
+    (take-append-le (length (collects_by c h)) (answers_to o c h) (filter (is_answer_to o c (h ++ more)) more)
+    ((client_facts o h (front o h more each)).collected_within c))
 
 -- of a block that doesn't touch a client
-pub requests_untouched : (o : Opening) (h more : List Entry) → EachAfter (MayFollow o) (h ++ more) → (c : ℕ) → Untouched c more → outstanding_requests o c (h ++ more) ≡ outstanding_requests o c h
+pub requests_untouched : (o : Opening) (h more : List Entry) → EachAfter (MayFollow o) (h ++ more) → (c : ℕ)
+    → Untouched c more → outstanding_requests o c (h ++ more) ≡ outstanding_requests o c h
 requests_untouched o h more each c all =
-    rw (collected_same o h more each c (no_collects c more all), accepts_by_split c h more, accepts_none c more all, append-nil (accepts_by c h)) refl
+    rw (
+      collected_same o h more each c (no_collects c more all),
+      accepts_by_split c h more,
+      accepts_none c more all,
+      append-nil (accepts_by c h),
+    ) refl
 
-pub asks_untouched : (o : Opening) (h more : List Entry) → EachAfter (MayFollow o) (h ++ more) → (c : ℕ) → Untouched c more → outstanding_discoveries o c (h ++ more) ≡ outstanding_discoveries o c h
+pub asks_untouched : (o : Opening) (h more : List Entry) → EachAfter (MayFollow o) (h ++ more) → (c : ℕ)
+    → Untouched c more → outstanding_discoveries o c (h ++ more) ≡ outstanding_discoveries o c h
 asks_untouched o h more each c all =
-    rw (collected_same o h more each c (no_collects c more all), asks_by_split c h more, asks_none c more all, append-nil (asks_by c h)) refl
+    rw (
+      collected_same o h more each c (no_collects c more all),
+      asks_by_split c h more,
+      asks_none c more all,
+      append-nil (asks_by c h),
+    ) refl
 
 or_none : (a b : Bool) → b ≡ false → (a || b) ≡ a
 or_none true b is = refl
 or_none false b is = is
 
 -- it tells the client only what answers it
-pub tells_untouched : (o : Opening) (k : List Entry) (c : ℕ) (more : List Entry) → Untouched c more → filter (tells o c k) more ≡ filter (is_answer_to o c k) more
+pub tells_untouched : (o : Opening) (k : List Entry) (c : ℕ) (more : List Entry) → Untouched c more
+    → filter (tells o c k) more ≡ filter (is_answer_to o c k) more
 tells_untouched o k c [] all = refl
-tells_untouched o k c (e ∷ more) all = rw (or_none (is_answer_to o c k e) (is_closed_refusal c e) (refusal_none c e all.0), tells_untouched o k c more all.1) refl
+tells_untouched o k c (e ∷ more) all =
+    rw (
+      or_none (is_answer_to o c k e) (is_closed_refusal c e) (refusal_none c e all.0),
+      tells_untouched o k c more all.1,
+    ) refl

@@ -1,5 +1,6 @@
 -- How clients that were driven by hand are ended, one after the other.
-use Rattle.std.proofs.Common.{◌≡◌, ◌+◌, ◌≤◌, List, [], ◌∷◌, ◌++◌, length, map, Vec, vec_capacity, refl, sym, ap, ◌∙◌, append_assoc, length-append, arith}
+use Rattle.std.proofs.Common.{◌≡◌, ◌+◌, ◌≤◌, List, [], ◌∷◌, ◌++◌, length, map, Vec, vec_capacity, refl, sym, ap, ◌∙◌}
+use Rattle.std.proofs.Common.{append_assoc, length-append, arith}
 use Rattle.std.specs.declared.alloc.Global.{Global}
 use Rattle.std.proofs.lemmas.List.{map-append}
 use Rattle.rdm_lanes.specs.declared.views.history.ViewHistory.{Ghosts}
@@ -14,11 +15,14 @@ module _ {J : Type 0} {h : Ghosts J} {C A : Type 0} where
     pub long : length ends.items + length clients ≡ length first
     pub fits : length first ≤ vec_capacity ends
 
-  pub end_none : (clients : List (RingClient J C A h)) (ends : Vec (ClientEnd J C A h) Global) → ends.items ≡ [] → length clients ≤ vec_capacity ends → Ending clients clients ends
+  pub end_none : (clients : List (RingClient J C A h)) (ends : Vec (ClientEnd J C A h) Global) → ends.items ≡ []
+      → length clients ≤ vec_capacity ends → Ending clients clients ends
   end_none clients ends none fits = record { rings = rw none refl; long = rw none (omega arith); fits = fits }
 
-  pub end_more : (first clients rest : List (RingClient J C A h)) (ends new : Vec (ClientEnd J C A h) Global) (client : RingClient J C A h) (end : ClientEnd J C A h)
-      → Ending first clients ends → clients ≡ client ∷ rest → new.items ≡ ends.items ++ end ∷ [] → vec_capacity new ≡ vec_capacity ends
+  pub end_more : (first clients rest : List (RingClient J C A h)) (ends new : Vec (ClientEnd J C A h) Global)
+      (client : RingClient J C A h) (end : ClientEnd J C A h)
+      → Ending first clients ends → clients ≡ client ∷ rest → new.items ≡ ends.items ++ end ∷ []
+      → vec_capacity new ≡ vec_capacity ends
       → end.calls ≡ client.calls → end.replies ≡ client.replies → Ending first rest new
   end_more first clients rest ends new client end is here e capacity calls replies = record {
     rings =

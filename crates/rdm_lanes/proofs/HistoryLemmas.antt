@@ -1,5 +1,6 @@
 -- The step that adds a view keeps the rule of the history.
-use Rattle.std.proofs.Common.{◌≡◌, ℕ, ◌+◌, ◌<◌, ◌==◌, Bool, true, false, List, [], ◌∷◌, ◌++◌, length, refl, ap, sym, subst, arith, inl, length-append, None, append-nil}
+use Rattle.std.proofs.Common.{◌≡◌, ℕ, ◌+◌, ◌<◌, ◌==◌, Bool, true, false, List, [], ◌∷◌, ◌++◌, length, refl, ap, sym}
+use Rattle.std.proofs.Common.{subst, arith, inl, length-append, None, append-nil}
 use Rattle.std.proofs.lemmas.Bool.Decides.{nat_tests}
 use mathlib.Core.List.{IsPrefix}
 use prog.Atomic.{either}
@@ -16,14 +17,18 @@ shown log = []
 abbrev pub moved : List DeviceView → List DeviceView → ℕ → Type 0
 moved xs ys n = Unit {0}
 
-adds_goes : (log v : List DeviceView) (e : DeviceView) (old : ℕ) → length v ≡ old → last_view_run v < e.run → AreViews log → IsPrefix v log
+adds_goes : (log v : List DeviceView) (e : DeviceView) (old : ℕ) → length v ≡ old → last_view_run v < e.run
+    → AreViews log → IsPrefix v log
     → (b : Bool) → (length log == old) ≡ b
-    → Goes IsKept shown moved 0 (v, (no_nib, None)) (λ n. either (n == old) (old + 1) n) (Adds (step 0 old (old + 1) e) (v, (no_nib, None))) ((length log, true) ∷ (0, true) ∷ []) log
+    → Goes IsKept shown moved 0 (v, (no_nib, None)) (λ n. either (n == old) (old + 1) n)
+    (Adds (step 0 old (old + 1) e) (v, (no_nib, None))) ((length log, true) ∷ (0, true) ∷ []) log
 adds_goes log v e old len less are pre true is =
     let here : length log ≡ old = grind (arith, nat_tests) in
     let same : v ≡ log = prefix_whole v log pre (omega arith) in
-    let are_more : AreViews (log ++ e ∷ []) = views_more log e are (subst (λ (l : List DeviceView). last_view_run l < e.run) same less) in
-    let n : either (length log == old) (old + 1) (length log) ≡ length (log ++ e ∷ []) = rw is (omega (arith, length-append log (e ∷ []))) in (
+    let are_more : AreViews (log ++ e ∷ []) = views_more log e are
+    (subst (λ (l : List DeviceView). last_view_run l < e.run) same less) in
+    let n : either (length log == old) (old + 1) (length log)
+    ≡ length (log ++ e ∷ []) = rw is (omega (arith, length-append log (e ∷ []))) in (
       keeps,
       e ∷ [],
       None,
@@ -47,7 +52,10 @@ adds_goes log v e old len less are pre false is =
 
 -- whatever the history is, the step adds the view to all that was seen, or finds that the history is longer
 pub adds_moves : (v : List DeviceView) (e : DeviceView) (old : ℕ) → length v ≡ old → last_view_run v < e.run
-    → Moves IsKept shown moved 0 (v, (no_nib, None)) (λ n. either (n == old) (old + 1) n) (Adds (step 0 old (old + 1) e) (v, (no_nib, None)))
+    → Moves IsKept shown moved 0 (v, (no_nib, None)) (λ n. either (n == old) (old + 1) n)
+    (Adds (step 0 old (old + 1) e) (v, (no_nib, None)))
 adds_moves v e old len less cs log kept pre away =
-    let P : List Cell → Type 0 = λ c. (0 < length c) × ((cell c 0).1 ≡ true) × Goes IsKept shown moved 0 (v, (no_nib, None)) (λ n. either (n == old) (old + 1) n) (Adds (step 0 old (old + 1) e) (v, (no_nib, None))) c log in
+    let P : List Cell → Type 0 = λ c. (0 < length c) × ((cell c 0).1 ≡ true)
+    × Goes IsKept shown moved 0 (v, (no_nib, None)) (λ n. either (n == old) (old + 1) n)
+    (Adds (step 0 old (old + 1) e) (v, (no_nib, None))) c log in
     subst P (sym kept.words) (omega arith, refl, adds_goes log v e old len less kept.are pre (length log == old) refl)

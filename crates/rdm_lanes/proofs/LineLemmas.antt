@@ -1,5 +1,6 @@
 -- How the exchanges in a log, and what is awaited, go on as it grows.
-use Rattle.std.proofs.Common.{◌≡◌, ℕ, Bool, true, false, true≢false, List, [], ◌∷◌, ◌++◌, map, length, None, refl, sym, ap, ◌∙◌, subst, zip, filter_map, append-nil, append_assoc}
+use Rattle.std.proofs.Common.{◌≡◌, ℕ, Bool, true, false, true≢false, List, [], ◌∷◌, ◌++◌, map, length, None, refl, sym}
+use Rattle.std.proofs.Common.{ap, ◌∙◌, subst, zip, filter_map, append-nil, append_assoc}
 use Rattle.std.specs.List.{AllByRecursion}
 use Rattle.std.proofs.lemmas.List.{map-append}
 use Rattle.std.proofs.lemmas.List.Elements.{filter_map-append}
@@ -10,9 +11,11 @@ use Rattle.rdm_join.specs.declared.event.LineEvent.{LineEvent}
 use Rattle.rdm_log.specs.declared.entry.Opening.{Opening}
 use Rattle.rdm_log.specs.declared.entry.Owner.{Owner}
 use Rattle.rdm_log.specs.declared.entry.Entry.{Entry}
-use Rattle.rdm_log.specs.declared.entry.Entry.TheVariants.{Join, Refuse, Accept, Ask, Send, Came, Finish, Answer, Collect, Pause, Resume, Close}
+use Rattle.rdm_log.specs.declared.entry.Entry.TheVariants.{Join, Refuse, Accept, Ask, Send, Came, Finish, Answer}
+use Rattle.rdm_log.specs.declared.entry.Entry.TheVariants.{Collect, Pause, Resume, Close}
 use Rattle.rdm_log.specs.log.Entries.{sending_of, came_of, join_of, sends, cames, traded, traded_of, joins}
-use Rattle.rdm_log.specs.log.History.{awaited, is_closed, is_paused, closed_after as closed_by, paused_after as paused_by}
+use Rattle.rdm_log.specs.log.History.{awaited, is_closed, is_paused, closed_after as closed_by}
+use Rattle.rdm_log.specs.log.History.{paused_after as paused_by}
 use Rattle.rdm_log.specs.log.LogState.{LogState, grown}
 use Rattle.rdm_log.specs.promises.Blocks.{is_result, AllResults}
 use Rattle.rdm_log.proofs.LogLemmas.PushLemmas.{awaited-push, is_closed-push, is_paused-push}
@@ -80,7 +83,8 @@ awaited_one h Close is = awaited-push h Close
 
 pub awaited_off : (h block : List Entry) → AllOffLine block → awaited (h ++ block) ≡ awaited h
 awaited_off h [] all = ap awaited (append-nil h)
-awaited_off h (e ∷ block) all = ap awaited (sym (append_assoc h (e ∷ []) block)) ∙ awaited_off (h ++ e ∷ []) block all.1 ∙ awaited_one h e all.0
+awaited_off h (e ∷ block) all =
+    ap awaited (sym (append_assoc h (e ∷ []) block)) ∙ awaited_off (h ++ e ∷ []) block all.1 ∙ awaited_one h e all.0
 
 -- an entry that pauses, resumes or closes
 abbrev pub is_switch : Entry → Bool
@@ -112,11 +116,15 @@ not_pausing b _ is = refl
 
 pub closed_stays : (o : Opening) (h block : List Entry) → NoSwitch block → is_closed o (h ++ block) ≡ is_closed o h
 closed_stays o h [] all = ap (is_closed o) (append-nil h)
-closed_stays o h (e ∷ block) all = ap (is_closed o) (sym (append_assoc h (e ∷ []) block)) ∙ closed_stays o (h ++ e ∷ []) block all.1 ∙ is_closed-push o h e ∙ not_closing (is_closed o h) e all.0
+closed_stays o h (e ∷ block) all =
+    ap (is_closed o) (sym (append_assoc h (e ∷ []) block)) ∙ closed_stays o (h ++ e ∷ []) block all.1
+    ∙ is_closed-push o h e ∙ not_closing (is_closed o h) e all.0
 
 pub paused_stays : (o : Opening) (h block : List Entry) → NoSwitch block → is_paused o (h ++ block) ≡ is_paused o h
 paused_stays o h [] all = ap (is_paused o) (append-nil h)
-paused_stays o h (e ∷ block) all = ap (is_paused o) (sym (append_assoc h (e ∷ []) block)) ∙ paused_stays o (h ++ e ∷ []) block all.1 ∙ is_paused-push o h e ∙ not_pausing (is_paused o h) e all.0
+paused_stays o h (e ∷ block) all =
+    ap (is_paused o) (sym (append_assoc h (e ∷ []) block)) ∙ paused_stays o (h ++ e ∷ []) block all.1
+    ∙ is_paused-push o h e ∙ not_pausing (is_paused o h) e all.0
 
 no_switch_of : (e : Entry) → is_switch e ≡ false → switch_of e ≡ None
 no_switch_of Pause is = absurd (true≢false is)
@@ -126,13 +134,25 @@ no_switch_of _ is = refl
 
 pub switches_off : (h block : List Entry) → NoSwitch block → switches (h ++ block) ≡ switches h
 unfolding switches
-switches_off h block all = filter_map-append switch_of h block ∙ rw (filter_map_nothing switch_of block (all_follow _ _ no_switch_of block all)) (append-nil (filter_map switch_of h))
+switches_off h block all =
+    filter_map-append switch_of h block
+    ∙ rw (filter_map_nothing switch_of block (all_follow _ _ no_switch_of block all))
+    (append-nil (filter_map switch_of h))
 
-pub switches_stay : (old new : LogState) (block : List Entry) → new ≡ grown old block → NoSwitch block → SameSwitches old new
-switches_stay old new block is all = rw is (record { switches_are = switches_off old.entries block all; paused = paused_stays old.opening old.entries block all; closed = closed_stays old.opening old.entries block all })
+pub switches_stay : (old new : LogState) (block : List Entry) → new ≡ grown old block → NoSwitch block
+    → SameSwitches old new
+switches_stay old new block is all = rw is (record {
+  switches_are = switches_off old.entries block all;
+  paused = paused_stays old.opening old.entries block all;
+  closed = closed_stays old.opening old.entries block all;
+})
 
 pub switches_join : (a b d : LogState) → SameSwitches a b → SameSwitches b d → SameSwitches a d
-switches_join a b d p q = record { switches_are = q.switches_are ∙ p.switches_are; paused = q.paused ∙ p.paused; closed = q.closed ∙ p.closed }
+switches_join a b d p q = record {
+  switches_are = q.switches_are ∙ p.switches_are;
+  paused = q.paused ∙ p.paused;
+  closed = q.closed ∙ p.closed;
+}
 
 pub switches_same : (a : LogState) → SameSwitches a a
 switches_same a = record { switches_are = refl; paused = refl; closed = refl }
@@ -150,7 +170,8 @@ results_no_join block all = all_follow (λ e. is_result e ≡ true) (λ e. join_
 
 pub joins_stay : (h block : List Entry) → NobodyJoins block → joins (h ++ block) ≡ joins h
 unfolding joins
-joins_stay h block all = filter_map-append join_of h block ∙ rw (filter_map_nothing join_of block all) (append-nil (filter_map join_of h))
+joins_stay h block all =
+    filter_map-append join_of h block ∙ rw (filter_map_nothing join_of block all) (append-nil (filter_map join_of h))
 
 -- the exchanges stay
 not_sent : (e : Entry) → is_off_line e ≡ true → sending_of e ≡ None
@@ -163,18 +184,24 @@ not_came _ is = refl
 
 pub sends_off : (h block : List Entry) → AllOffLine block → sends (h ++ block) ≡ sends h
 unfolding sends
-sends_off h block all = filter_map-append sending_of h block ∙ rw (filter_map_nothing sending_of block (all_follow _ _ not_sent block all)) (append-nil (filter_map sending_of h))
+sends_off h block all =
+    filter_map-append sending_of h block
+    ∙ rw (filter_map_nothing sending_of block (all_follow _ _ not_sent block all))
+    (append-nil (filter_map sending_of h))
 
 pub cames_off : (h block : List Entry) → AllOffLine block → cames (h ++ block) ≡ cames h
 unfolding cames
-cames_off h block all = filter_map-append came_of h block ∙ rw (filter_map_nothing came_of block (all_follow _ _ not_came block all)) (append-nil (filter_map came_of h))
+cames_off h block all =
+    filter_map-append came_of h block
+    ∙ rw (filter_map_nothing came_of block (all_follow _ _ not_came block all)) (append-nil (filter_map came_of h))
 
 pub exchanges_off : (h block : List Entry) → AllOffLine block → exchanges (h ++ block) ≡ exchanges h
 unfolding exchanges traded
 exchanges_off h block all = rw (sends_off h block all, cames_off h block all) refl
 
 -- an exchange more
-sends_one : (h : List Entry) (owner : Owner) (frame : ArrayVec ℕ) → sends (h ++ Send owner frame ∷ []) ≡ sends h ++ record { owner = owner; frame = frame } ∷ []
+sends_one : (h : List Entry) (owner : Owner) (frame : ArrayVec ℕ)
+    → sends (h ++ Send owner frame ∷ []) ≡ sends h ++ record { owner = owner; frame = frame } ∷ []
 unfolding sends
 sends_one h owner frame = filter_map-append sending_of h (Send owner frame ∷ [])
 
@@ -190,11 +217,21 @@ cames_sent : (h : List Entry) (owner : Owner) (frame : ArrayVec ℕ) → cames (
 unfolding cames
 cames_sent h owner frame = filter_map-append came_of h (Send owner frame ∷ []) ∙ append-nil (filter_map came_of h)
 
-pub traded_one : (h : List Entry) (owner : Owner) (frame : ArrayVec ℕ) (event : LineEvent) → length (sends h) ≡ length (cames h)
+pub traded_one : (h : List Entry) (owner : Owner) (frame : ArrayVec ℕ) (event : LineEvent)
+    → length (sends h) ≡ length (cames h)
     → exchanges ((h ++ Send owner frame ∷ []) ++ Came event ∷ []) ≡ exchanges h ++ (frame, event) ∷ []
 unfolding exchanges traded
 traded_one h owner frame event even =
-    rw (sends_came (h ++ Send owner frame ∷ []) event, sends_one h owner frame, cames_one (h ++ Send owner frame ∷ []) event, cames_sent h owner frame, zip_both_more (sends h) (cames h) (record { owner = owner; frame = frame }) event even, map-append traded_of (zip (sends h) (cames h)) ((record { owner = owner; frame = frame }, event) ∷ []), map-append exchange_of (map traded_of (zip (sends h) (cames h))) (traded_of (record { owner = owner; frame = frame }, event) ∷ [])) refl
+    rw (
+      sends_came (h ++ Send owner frame ∷ []) event,
+      sends_one h owner frame,
+      cames_one (h ++ Send owner frame ∷ []) event,
+      cames_sent h owner frame,
+      zip_both_more (sends h) (cames h) (record { owner = owner; frame = frame }) event even,
+      map-append traded_of (zip (sends h) (cames h)) ((record { owner = owner; frame = frame }, event) ∷ []),
+      map-append exchange_of (map traded_of (zip (sends h) (cames h)))
+          (traded_of (record { owner = owner; frame = frame }, event) ∷ []),
+    ) refl
 
 -- each refusal has its cause
 abbrev pub RefusedRightly : Opening → List Entry → Entry → Type 0
@@ -213,12 +250,19 @@ abbrev pub AllRightly : Opening → List Entry → List Entry → Type 0
 AllRightly o h [] = Unit {0}
 AllRightly o h (e ∷ block) = RefusedRightly o h e × AllRightly o (h ++ e ∷ []) block
 
-rightly_block : (o : Opening) (h block : List Entry) → EachAfter (RefusedRightly o) h → AllRightly o h block → EachAfter (RefusedRightly o) (h ++ block)
+rightly_block : (o : Opening) (h block : List Entry) → EachAfter (RefusedRightly o) h → AllRightly o h block
+    → EachAfter (RefusedRightly o) (h ++ block)
 rightly_block o h [] each all = subst (EachAfter (RefusedRightly o)) (sym (append-nil h)) each
-rightly_block o h (e ∷ block) each all = subst (EachAfter (RefusedRightly o)) (append_assoc h (e ∷ []) block) (rightly_block o (h ++ e ∷ []) block (EachAfter-push (RefusedRightly o) h e each all.0) all.1)
+rightly_block o h (e ∷ block) each all =
+    subst (EachAfter (RefusedRightly o)) (append_assoc h (e ∷ []) block)
+    (rightly_block o (h ++ e ∷ []) block (EachAfter-push (RefusedRightly o) h e each all.0) all.1)
 
-pub none_lost_grows : (k : LogState) (block : List Entry) → NoCallLost k → AllRightly k.opening k.entries block → NoCallLost (grown k block)
-none_lost_grows k block is all = record { rightly = λ front back c call cause at. rightly_block k.opening k.entries block (refusals_of k is) all front back (Refuse c call cause) at }
+pub none_lost_grows : (k : LogState) (block : List Entry) → NoCallLost k → AllRightly k.opening k.entries block
+    → NoCallLost (grown k block)
+none_lost_grows k block is all = record {
+  rightly = λ front back c call cause at. rightly_block k.opening k.entries block (refusals_of k is) all front back
+      (Refuse c call cause) at;
+}
 
 abbrev pub is_refusal : Entry → Bool
 is_refusal (Refuse c call cause) = true
@@ -229,7 +273,8 @@ rightly_other o h (Refuse c call cause) is = absurd (true≢false is)
 rightly_other o h _ is = tt
 
 -- a block without refusals
-pub rightly_without : (o : Opening) (h block : List Entry) → AllByRecursion (λ e. is_refusal e ≡ false) block → AllRightly o h block
+pub rightly_without : (o : Opening) (h block : List Entry) → AllByRecursion (λ e. is_refusal e ≡ false) block
+    → AllRightly o h block
 rightly_without o h [] all = tt
 rightly_without o h (e ∷ block) all = (rightly_other o h e all.0, rightly_without o (h ++ e ∷ []) block all.1)
 
@@ -238,17 +283,20 @@ result_no_refusal (Refuse c call cause) is = absurd (true≢false (sym is))
 result_no_refusal _ is = refl
 
 pub results_no_refusal : (block : List Entry) → AllResults block → AllByRecursion (λ e. is_refusal e ≡ false) block
-results_no_refusal block all = all_follow (λ e. is_result e ≡ true) (λ e. is_refusal e ≡ false) result_no_refusal block all
+results_no_refusal block all =
+    all_follow (λ e. is_result e ≡ true) (λ e. is_refusal e ≡ false) result_no_refusal block all
 
 -- what a quiet block leaves
-pub served_quiet : (old new : LogState) (block : List Entry) → new ≡ grown old block → AllQuiet block → AllRightly old.opening old.entries block → IsBetweenTurns old → IsBetweenTurns new
+pub served_quiet : (old new : LogState) (block : List Entry) → new ≡ grown old block → AllQuiet block
+    → AllRightly old.opening old.entries block → IsBetweenTurns old → IsBetweenTurns new
 served_quiet old new block is all rightly s = rw is (record {
   answered = awaited_off old.entries block (quiet_all_off block all) ∙ s.answered;
   no_call_lost = none_lost_grows old block s.no_call_lost rightly;
 })
 
 -- a block without frames and joins
-pub line_off : (old new : LogState) (block : List Entry) → new ≡ grown old block → AllOffLine block → NobodyJoins block → views_found (old.entries ++ block) ≡ views_found old.entries → NoExchange old new
+pub line_off : (old new : LogState) (block : List Entry) → new ≡ grown old block → AllOffLine block → NobodyJoins block
+    → views_found (old.entries ++ block) ≡ views_found old.entries → NoExchange old new
 line_off old new block is all nobody views = record {
   block = block;
   grows = is;
@@ -257,14 +305,23 @@ line_off old new block is all nobody views = record {
   same_views = ap (λ (k : LogState). views_found k.entries) is ∙ views;
 }
 
-pub grown_join : (a b d : LogState) (block more : List Entry) → b ≡ grown a block → d ≡ grown b more → d ≡ grown a (block ++ more)
-grown_join a b d block more p q = q ∙ ap (λ (k : LogState). grown k more) p ∙ ap (λ (h : List Entry). record a { entries = h }) (append_assoc a.entries block more)
+pub grown_join : (a b d : LogState) (block more : List Entry) → b ≡ grown a block → d ≡ grown b more
+    → d ≡ grown a (block ++ more)
+grown_join a b d block more p q =
+    q ∙ ap (λ (k : LogState). grown k more) p
+    ∙ ap (λ (h : List Entry). record a { entries = h }) (append_assoc a.entries block more)
 
 pub grown_same : (a : LogState) → a ≡ grown a []
 grown_same a = ap (λ (h : List Entry). record a { entries = h }) (sym (append-nil a.entries))
 
 pub line_join : (a b d : LogState) → NoExchange a b → NoExchange b d → NoExchange a d
-line_join a b d p q = record { block = p.block ++ q.block; grows = grown_join a b d p.block q.block p.grows q.grows; nobody_joined = q.nobody_joined ∙ p.nobody_joined; same = q.same ∙ p.same; same_views = q.same_views ∙ p.same_views }
+line_join a b d p q = record {
+  block = p.block ++ q.block;
+  grows = grown_join a b d p.block q.block p.grows q.grows;
+  nobody_joined = q.nobody_joined ∙ p.nobody_joined;
+  same = q.same ∙ p.same;
+  same_views = q.same_views ∙ p.same_views;
+}
 
 pub line_same : (a : LogState) → NoExchange a a
 line_same a = record { block = []; grows = grown_same a; nobody_joined = refl; same = refl; same_views = refl }
@@ -273,8 +330,11 @@ line_same a = record { block = []; grows = grown_same a; nobody_joined = refl; s
 pub closed_after : (o : Opening) (h : List Entry) → is_closed o (h ++ Close ∷ []) ≡ true
 closed_after o h = is_closed-push o h Close
 
-pub served_closed : (old new : LogState) (results : List Entry) → new ≡ grown old (Close ∷ results) → AllResults results → IsBetweenTurns old → IsBetweenTurns new
+pub served_closed : (old new : LogState) (results : List Entry) → new ≡ grown old (Close ∷ results) → AllResults results
+    → IsBetweenTurns old → IsBetweenTurns new
 served_closed old new results is all s = rw is (record {
   answered = awaited_off old.entries (Close ∷ results) (refl, results_off results all) ∙ s.answered;
-  no_call_lost = none_lost_grows old (Close ∷ results) s.no_call_lost (rightly_without old.opening old.entries (Close ∷ results) (refl, results_no_refusal results all));
+  no_call_lost =
+      none_lost_grows old (Close ∷ results) s.no_call_lost
+      (rightly_without old.opening old.entries (Close ∷ results) (refl, results_no_refusal results all));
 })

@@ -17,10 +17,18 @@ pub record MovesFor (c : ℕ) (old : LogState) (lane : Lane) (new : LogState) (n
   pub collects : OnlyCollects old new
   pub rings : SameLane lane next
 
-pub moves_none : (c : ℕ) (k : LogState) (lane next : Lane) → Fits c k next → IsBetweenTurns k → SameLane lane next → MovesFor c k lane k next
-moves_none c k lane next f s same = record { fits = f; served = s; others = λ d apart. waits_same d k; collects = collects_none k; rings = same }
+pub moves_none : (c : ℕ) (k : LogState) (lane next : Lane) → Fits c k next → IsBetweenTurns k → SameLane lane next
+    → MovesFor c k lane k next
+moves_none c k lane next f s same = record {
+  fits = f;
+  served = s;
+  others = λ d apart. waits_same d k;
+  collects = collects_none k;
+  rings = same;
+}
 
-pub moves_more : (c : ℕ) (a b d : LogState) (x y z : Lane) → MovesFor c a x b y → MovesFor c b y d z → MovesFor c a x d z
+pub moves_more : (c : ℕ) (a b d : LogState) (x y z : Lane) → MovesFor c a x b y → MovesFor c b y d z
+    → MovesFor c a x d z
 moves_more c a b d x y z p q = record {
   fits = q.fits;
   served = q.served;

@@ -1,5 +1,6 @@
 -- How the pauses, resumes and closes in a log follow the operator's calls.
-use Rattle.std.proofs.Common.{◌≡◌, Bool, true, false, true≢false, List, [], ◌∷◌, ◌++◌, Some, Result, Ok, Err, fold, filter_map, refl, sym, ap, ◌∙◌, append-nil, append_assoc}
+use Rattle.std.proofs.Common.{◌≡◌, Bool, true, false, true≢false, List, [], ◌∷◌, ◌++◌, Some, Result, Ok, Err, fold}
+use Rattle.std.proofs.Common.{filter_map, refl, sym, ap, ◌∙◌, append-nil, append_assoc}
 use Rattle.std.specs.Prelude.{not, if◌then◌else◌}
 use Rattle.std.specs.List.{AllByRecursion}
 use Rattle.std.proofs.lemmas.Grind.{fold-append}
@@ -23,7 +24,8 @@ use Rattle.rdm_lanes.proofs.LaneLemmas.{waits_same}
 use Rattle.rdm_lanes.proofs.StepLemmas.{pauses, resumes, closes, all_wait_pause, all_wait_resume}
 
 -- a call more
-pub effective_more : (calls : List OperatorCall) (call : OperatorCall) → effective (calls ++ call ∷ []) ≡ with_call (effective calls) call
+pub effective_more : (calls : List OperatorCall) (call : OperatorCall)
+    → effective (calls ++ call ∷ []) ≡ with_call (effective calls) call
 unfolding effective
 effective_more calls call = fold-append with_call [] calls (call ∷ [])
 
@@ -67,63 +69,80 @@ unfolding is_closed switches
 closed_is o h none = ap (λ (b : Bool). fold closed_after b h) none ∙ closed_same false h
 
 -- an entry that switches, if it is added
-switch_added : (b : Bool) (h block : List Entry) (e : Entry) (call : OperatorCall) → switch_of e ≡ Some call → block ≡ (if b then e ∷ [] else []) → switches (h ++ block) ≡ (if b then switches h ++ call ∷ [] else switches h)
+switch_added : (b : Bool) (h block : List Entry) (e : Entry) (call : OperatorCall) → switch_of e ≡ Some call
+    → block ≡ (if b then e ∷ [] else []) → switches (h ++ block) ≡ (if b then switches h ++ call ∷ [] else switches h)
 unfolding switches
 switch_added true h block e call is added = rw added (filter_map-append switch_of h (e ∷ []) ∙ rw is refl)
 switch_added false h block e call is added = rw added (ap switches (append-nil h))
 
 -- the log grew by what the call adds
-operated_grown : (call : OperatorCall) (old new : LogState) (block : List Entry) (calls : List OperatorCall) → new ≡ grown old block → switches (old.entries ++ block) ≡ with_call (switches old.entries) call → IsOperated old calls → IsOperated new (calls ++ call ∷ [])
+operated_grown : (call : OperatorCall) (old new : LogState) (block : List Entry) (calls : List OperatorCall)
+    → new ≡ grown old block → switches (old.entries ++ block) ≡ with_call (switches old.entries) call
+    → IsOperated old calls → IsOperated new (calls ++ call ∷ [])
 operated_grown call old new block calls is added op = rw is (record {
   not_paused = op.not_paused;
   not_closed = op.not_closed;
-  switched = added ∙ ap (λ (done : List OperatorCall). with_call done call) op.switched ∙ sym (effective_more calls call);
+  switched = added ∙ ap (λ (done : List OperatorCall). with_call done call) op.switched
+      ∙ sym (effective_more calls call);
 })
 
-pause_adds : (k : LogState) (r : Result (Unit {0}) LogFull) (block : List Entry) → is_full_log k ≡ false → k.opening.paused ≡ false → k.opening.closed ≡ false → PauseLogs k r block → switches (k.entries ++ block) ≡ with_call (switches k.entries) Pause
+pause_adds : (k : LogState) (r : Result (Unit {0}) LogFull) (block : List Entry) → is_full_log k ≡ false
+    → k.opening.paused ≡ false → k.opening.closed ≡ false → PauseLogs k r block
+    → switches (k.entries ++ block) ≡ with_call (switches k.entries) Pause
 pause_adds k (Ok x) block free not_paused not_closed adds =
     switch_added (can_pause k.opening k.entries) k.entries block entries.Pause Pause refl adds.1
-    ∙ ap (λ (b : Bool). if b then switches k.entries ++ Pause ∷ [] else switches k.entries) (rw (paused_is k.opening k.entries not_paused, closed_is k.opening k.entries not_closed) refl)
+    ∙ ap (λ (b : Bool). if b then switches k.entries ++ Pause ∷ [] else switches k.entries)
+    (rw (paused_is k.opening k.entries not_paused, closed_is k.opening k.entries not_closed) refl)
 pause_adds k (Err x) block free not_paused not_closed adds = absurd (true≢false (sym adds.0 ∙ free))
 
-resume_adds : (k : LogState) (r : Result (Unit {0}) LogFull) (block : List Entry) → is_full_log k ≡ false → k.opening.paused ≡ false → k.opening.closed ≡ false → ResumeLogs k r block → switches (k.entries ++ block) ≡ with_call (switches k.entries) Resume
+resume_adds : (k : LogState) (r : Result (Unit {0}) LogFull) (block : List Entry) → is_full_log k ≡ false
+    → k.opening.paused ≡ false → k.opening.closed ≡ false → ResumeLogs k r block
+    → switches (k.entries ++ block) ≡ with_call (switches k.entries) Resume
 resume_adds k (Ok x) block free not_paused not_closed adds =
     switch_added (can_resume k.opening k.entries) k.entries block entries.Resume Resume refl adds.1
-    ∙ ap (λ (b : Bool). if b then switches k.entries ++ Resume ∷ [] else switches k.entries) (rw (paused_is k.opening k.entries not_paused, closed_is k.opening k.entries not_closed) refl)
+    ∙ ap (λ (b : Bool). if b then switches k.entries ++ Resume ∷ [] else switches k.entries)
+    (rw (paused_is k.opening k.entries not_paused, closed_is k.opening k.entries not_closed) refl)
 resume_adds k (Err x) block free not_paused not_closed adds = absurd (true≢false (sym adds.0 ∙ free))
 
-close_adds : (b : Bool) (h block : List Entry) → CloseAddsWhere b block → switches (h ++ block) ≡ (if not b then switches h ++ Close ∷ [] else switches h)
+close_adds : (b : Bool) (h block : List Entry) → CloseAddsWhere b block
+    → switches (h ++ block) ≡ (if not b then switches h ++ Close ∷ [] else switches h)
 close_adds true h block adds = rw adds (ap switches (append-nil h))
 close_adds false h block adds = rw adds.whole (closes_with h adds.results adds.each)
   where
-    closes_with : (h results : List Entry) → AllByRecursion (λ e. is_result e ≡ true) results → switches (h ++ entries.Close ∷ results) ≡ switches h ++ Close ∷ []
+    closes_with : (h results : List Entry) → AllByRecursion (λ e. is_result e ≡ true) results
+        → switches (h ++ entries.Close ∷ results) ≡ switches h ++ Close ∷ []
     closes_with h results all =
         ap switches (sym (append_assoc h (entries.Close ∷ []) results))
         ∙ switches_off (h ++ entries.Close ∷ []) results (results_no_switch results all)
         ∙ switch_added true h (entries.Close ∷ []) entries.Close Close refl refl
 
 -- the four calls
-pub pause_step : (old new : LogState) (r : Result (Unit {0}) LogFull) → is_full_log old ≡ false → GrowsBy old (PauseLogs old r) new → Legal new.opening new.entries → IsOperatorStep Pause old new
+pub pause_step : (old new : LogState) (r : Result (Unit {0}) LogFull) → is_full_log old ≡ false
+    → GrowsBy old (PauseLogs old r) new → Legal new.opening new.entries → IsOperatorStep Pause old new
 pause_step old new r free g legal =
     let step = pauses old new r g in
     record {
       served = step.served;
       line = step.line;
       wait = all_wait_pause old new r g legal;
-      operated = λ calls op. operated_grown Pause old new g.block calls g.grows (pause_adds old r g.block free op.not_paused op.not_closed g.adds) op;
+      operated = λ calls op. operated_grown Pause old new g.block calls g.grows
+          (pause_adds old r g.block free op.not_paused op.not_closed g.adds) op;
     }
 
-pub resume_step : (old new : LogState) (r : Result (Unit {0}) LogFull) → is_full_log old ≡ false → GrowsBy old (ResumeLogs old r) new → Legal new.opening new.entries → IsOperatorStep Resume old new
+pub resume_step : (old new : LogState) (r : Result (Unit {0}) LogFull) → is_full_log old ≡ false
+    → GrowsBy old (ResumeLogs old r) new → Legal new.opening new.entries → IsOperatorStep Resume old new
 resume_step old new r free g legal =
     let step = resumes old new r g in
     record {
       served = step.served;
       line = step.line;
       wait = all_wait_resume old new r g legal;
-      operated = λ calls op. operated_grown Resume old new g.block calls g.grows (resume_adds old r g.block free op.not_paused op.not_closed g.adds) op;
+      operated = λ calls op. operated_grown Resume old new g.block calls g.grows
+          (resume_adds old r g.block free op.not_paused op.not_closed g.adds) op;
     }
 
-pub close_step : (old new : LogState) → GrowsBy old (CloseAdds old.opening old.entries) new → Legal new.opening new.entries → IsOperatorStep Close old new
+pub close_step : (old new : LogState) → GrowsBy old (CloseAdds old.opening old.entries) new
+    → Legal new.opening new.entries → IsOperatorStep Close old new
 close_step old new g legal =
     let step = closes old new g legal in
     record {
@@ -132,7 +151,8 @@ close_step old new g legal =
       wait = step.wait;
       operated = λ calls op. operated_grown Close old new g.block calls g.grows
           (close_adds (is_closed old.opening old.entries) old.entries g.block g.adds
-          ∙ ap (λ (b : Bool). if not b then switches old.entries ++ Close ∷ [] else switches old.entries) (closed_is old.opening old.entries op.not_closed)) op;
+          ∙ ap (λ (b : Bool). if not b then switches old.entries ++ Close ∷ [] else switches old.entries)
+          (closed_is old.opening old.entries op.not_closed)) op;
     }
 
 pub leave_step : (k : LogState) → IsOperatorStep Leave k k
@@ -140,16 +160,22 @@ leave_step k = record {
   served = λ s. s;
   line = line_same k;
   wait = λ c. waits_same c k;
-  operated = λ calls op. record { not_paused = op.not_paused; not_closed = op.not_closed; switched = op.switched ∙ sym (effective_more calls Leave) };
+  operated = λ calls op. record {
+    not_paused = op.not_paused;
+    not_closed = op.not_closed;
+    switched = op.switched ∙ sym (effective_more calls Leave);
+  };
 }
 
 -- where nobody pauses, resumes or closes
-pub operated_stays : (old new : LogState) (block : List Entry) (calls : List OperatorCall) → new ≡ grown old block → SameSwitches old new → IsOperated old calls → IsOperated new calls
+pub operated_stays : (old new : LogState) (block : List Entry) (calls : List OperatorCall) → new ≡ grown old block
+    → SameSwitches old new → IsOperated old calls → IsOperated new calls
 operated_stays old new block calls is same op = record {
   not_paused = ap (λ (k : LogState). k.opening.paused) is ∙ op.not_paused;
   not_closed = ap (λ (k : LogState). k.opening.closed) is ∙ op.not_closed;
   switched = same.switches_are ∙ op.switched;
 }
 
-pub operated_quiet : (old new : LogState) (calls : List OperatorCall) → NoExchange old new → SameSwitches old new → IsOperated old calls → IsOperated new calls
+pub operated_quiet : (old new : LogState) (calls : List OperatorCall) → NoExchange old new → SameSwitches old new
+    → IsOperated old calls → IsOperated new calls
 operated_quiet old new calls line same op = operated_stays old new line.block calls line.grows same op

@@ -1,7 +1,8 @@
 -- For whoever drives clients by hand: their rings stay the worker's, so that `ViewWorker::end` may compare them. A client's
 -- calls say that it is the same client, the worker's work that its lanes are the same, and `RingClient::end` that its
 -- rings are. `pairs_kept_on` joins these, for clients and for what is left of them.
-use Rattle.std.proofs.Common.{◌≡◌, ℕ, zero, suc, List, [], ◌∷◌, map, get_or, Some, None, refl, sym, ap, ◌∙◌, slice_get, inl, inr, arith}
+use Rattle.std.proofs.Common.{◌≡◌, ℕ, zero, suc, List, [], ◌∷◌, map, get_or, Some, None, refl, sym, ap, ◌∙◌, slice_get}
+use Rattle.std.proofs.Common.{inl, inr, arith}
 use Rattle.std.specs.Prelude.{slice_set}
 use Rattle.std.proofs.lemmas.List.{length-map, length-set}
 use Rattle.std.proofs.lemmas.Option.{slice_get_within, slice_get-get_or, get_or_from_slice_get}
@@ -21,14 +22,28 @@ use Rattle.rdm_lanes.proofs.LaneLemmas.{get-set, same_lanes}
 rings_on : (a b : Rings) (l m : Lane) → ArePair a l → SameRings (a ∷ []) (b ∷ []) → SameLane l m → ArePair b m
 rings_on a b l m p all t =
     let s = all.each 0 a b refl refl in (
-      (t.0.0.0 ∙ p.0.0 ∙ sym s.0.0.0, t.0.0.1 ∙ p.0.1 ∙ sym s.0.0.1, t.0.0.2 ∙ p.0.2 ∙ sym s.0.0.2, t.0.0.3 ∙ p.0.3 ∙ sym s.0.0.3),
-      (s.1.0.0 ∙ p.1.0 ∙ sym t.1.0.0, s.1.0.1 ∙ p.1.1 ∙ sym t.1.0.1, s.1.0.2 ∙ p.1.2 ∙ sym t.1.0.2, s.1.0.3 ∙ p.1.3 ∙ sym t.1.0.3),
+      (
+        t.0.0.0 ∙ p.0.0 ∙ sym s.0.0.0,
+        t.0.0.1 ∙ p.0.1 ∙ sym s.0.0.1,
+        t.0.0.2 ∙ p.0.2 ∙ sym s.0.0.2,
+        t.0.0.3 ∙ p.0.3
+            ∙ sym s.0.0.3,
+      ),
+      (
+        s.1.0.0 ∙ p.1.0 ∙ sym t.1.0.0,
+        s.1.0.1 ∙ p.1.1 ∙ sym t.1.0.1,
+        s.1.0.2 ∙ p.1.2 ∙ sym t.1.0.2,
+        s.1.0.3 ∙ p.1.3
+            ∙ sym t.1.0.3,
+      ),
     )
 
-same_one : (old new : List Rings) (i : ℕ) (a b : Rings) → SameRings old new → slice_get old i ≡ Some a → slice_get new i ≡ Some b → SameRings (a ∷ []) (b ∷ [])
+same_one : (old new : List Rings) (i : ℕ) (a b : Rings) → SameRings old new → slice_get old i ≡ Some a
+    → slice_get new i ≡ Some b → SameRings (a ∷ []) (b ∷ [])
 same_one old new i a b same in_old in_new = record { long = refl; each = one }
   where
-    one : (j : ℕ) (x y : Rings) → slice_get (a ∷ []) j ≡ Some x → slice_get (b ∷ []) j ≡ Some y → SameProducer x.0 y.0 × SameConsumer x.1 y.1
+    one : (j : ℕ) (x y : Rings) → slice_get (a ∷ []) j ≡ Some x → slice_get (b ∷ []) j ≡ Some y → SameProducer x.0 y.0
+        × SameConsumer x.1 y.1
     one zero x y e f = same.each i x y (in_old ∙ e) (in_new ∙ f)
     one (suc j) x y e f = absurd (no_item e)
       where
@@ -36,7 +51,8 @@ same_one old new i a b same in_old in_new = record { long = refl; each = one }
         no_item e = cc
 
 -- the clients were lent, and the worker has worked
-pub pairs_kept_on : (lanes news : List Lane) (old new : List Rings) → RingsPair lanes old → SameLanes lanes news → SameRings old new → RingsPair news new
+pub pairs_kept_on : (lanes news : List Lane) (old new : List Rings) → RingsPair lanes old → SameLanes lanes news
+    → SameRings old new → RingsPair news new
 pairs_kept_on lanes news old new p s same = record {
   long = same.long ∙ p.long ∙ sym s.long;
   each = λ i m b in_news in_new.
@@ -44,7 +60,8 @@ pairs_kept_on lanes news old new p s same = record {
       let in_lanes = slice_get-get_or lanes i m (omega (arith, slice_get_within news i m in_news, s.long)) in
       let a = get_or old i b in
       let in_old = slice_get-get_or old i b (omega (arith, slice_get_within new i b in_new, same.long)) in
-      rings_on a b l m (p.each i l a in_lanes in_old) (same_one old new i a b same in_old in_new) (s.each i l m in_lanes in_news);
+      rings_on a b l m (p.each i l a in_lanes in_old) (same_one old new i a b same in_old in_new)
+      (s.each i l m in_lanes in_news);
 }
 
 same_at : (all : List Rings) (i : ℕ) (a b : Rings) → slice_get all i ≡ Some a → slice_get all i ≡ Some b → a ≡ b
@@ -57,16 +74,20 @@ same_rings all = record {
   each = λ i a b e f. rw (same_at all i a b e f) (((refl, refl, refl, refl), refl), ((refl, refl, refl, refl), refl));
 }
 
-map-set : {X Y : Type 0} (f : X → Y) (xs : List X) (at : ℕ) (x : X) → map f (slice_set xs at x) ≡ slice_set (map f xs) at (f x)
+map-set : {X Y : Type 0} (f : X → Y) (xs : List X) (at : ℕ) (x : X)
+    → map f (slice_set xs at x) ≡ slice_set (map f xs) at (f x)
 map-set f [] at x = refl
 map-set f (y ∷ xs) zero x = refl
 map-set f (y ∷ xs) (suc at) x = ap (λ ys. f y ∷ ys) (map-set f xs at x)
 
 module _ {J : Type 0} {h : Ghosts J} {C A : Type 0} where
   -- one client made a call
-  pub same_rings_set : (clients : List (RingClient J C A h)) (at : ℕ) (c d : RingClient J C A h) → slice_get clients at ≡ Some c → SameClient c d → SameRings (map client_rings clients) (map client_rings (slice_set clients at d))
+  pub same_rings_set : (clients : List (RingClient J C A h)) (at : ℕ) (c d : RingClient J C A h)
+      → slice_get clients at ≡ Some c → SameClient c d
+      → SameRings (map client_rings clients) (map client_rings (slice_set clients at d))
   same_rings_set clients at c d here same = record {
-    long = length-map (slice_set clients at d) client_rings ∙ length-set clients at d ∙ sym (length-map clients client_rings);
+    long = length-map (slice_set clients at d) client_rings ∙ length-set clients at d
+        ∙ sym (length-map clients client_rings);
     each = λ i a b in_old in_new.
         let x = map_get client_rings clients i a in_old in
         let y = map_get client_rings (slice_set clients at d) i b in_new in
@@ -78,16 +99,25 @@ module _ {J : Type 0} {h : Ghosts J} {C A : Type 0} where
         ];
   }
     where
-      one : (xs : List (RingClient J C A h)) (i : ℕ) (v w : RingClient J C A h) → slice_get xs i ≡ Some v → slice_get xs i ≡ Some w → v ≡ w
+      one : (xs : List (RingClient J C A h)) (i : ℕ) (v w : RingClient J C A h) → slice_get xs i ≡ Some v
+          → slice_get xs i ≡ Some w → v ≡ w
       one xs i v w e f = sym (get_or_from_slice_get xs i v w e) ∙ get_or_from_slice_get xs i w w f
 
-  pub client_called : (lanes : List Lane) (clients : List (RingClient J C A h)) (at : ℕ) (c d : RingClient J C A h) → ClientsPair lanes clients → slice_get clients at ≡ Some c → SameClient c d → ClientsPair lanes (slice_set clients at d)
-  client_called lanes clients at c d pairs here same = pairs_kept_on lanes lanes (map client_rings clients) (map client_rings (slice_set clients at d)) pairs (same_lanes lanes) (same_rings_set clients at c d here same)
+  pub client_called : (lanes : List Lane) (clients : List (RingClient J C A h)) (at : ℕ) (c d : RingClient J C A h)
+      → ClientsPair lanes clients → slice_get clients at ≡ Some c → SameClient c d
+      → ClientsPair lanes (slice_set clients at d)
+  client_called lanes clients at c d pairs here same =
+      pairs_kept_on lanes lanes (map client_rings clients) (map client_rings (slice_set clients at d)) pairs
+      (same_lanes lanes) (same_rings_set clients at c d here same)
 
   -- the worker has worked
-  pub worker_worked : (lanes news : List Lane) (clients : List (RingClient J C A h)) → ClientsPair lanes clients → SameLanes lanes news → ClientsPair news clients
-  worker_worked lanes news clients pairs same = pairs_kept_on lanes news (map client_rings clients) (map client_rings clients) pairs same (same_rings (map client_rings clients))
+  pub worker_worked : (lanes news : List Lane) (clients : List (RingClient J C A h)) → ClientsPair lanes clients
+      → SameLanes lanes news → ClientsPair news clients
+  worker_worked lanes news clients pairs same =
+      pairs_kept_on lanes news (map client_rings clients) (map client_rings clients) pairs same
+      (same_rings (map client_rings clients))
 
   -- the clients have ended
-  pub clients_ended : (lanes : List Lane) (clients : List (RingClient J C A h)) (ends : List (ClientEnd J C A h)) → ClientsPair lanes clients → map end_rings ends ≡ map client_rings clients → PairUp lanes ends
+  pub clients_ended : (lanes : List Lane) (clients : List (RingClient J C A h)) (ends : List (ClientEnd J C A h))
+      → ClientsPair lanes clients → map end_rings ends ≡ map client_rings clients → PairUp lanes ends
   clients_ended lanes clients ends pairs same = rw same pairs

@@ -1,5 +1,6 @@
 -- What clients have read of the published views, and what they found themselves.
-use Rattle.std.proofs.Common.{◌≡◌, ℕ, ◌<◌, ◌≤◌, List, [], ◌∷◌, ◌++◌, length, take, map, fold, Some, refl, sym, ap, ◌∙◌, subst, inl, inr, slice_get, length-append, arith}
+use Rattle.std.proofs.Common.{◌≡◌, ℕ, ◌<◌, ◌≤◌, List, [], ◌∷◌, ◌++◌, length, take, map, fold, Some, refl, sym, ap, ◌∙◌}
+use Rattle.std.proofs.Common.{subst, inl, inr, slice_get, length-append, arith}
 use Rattle.std.specs.Prelude.{◌⊎◌}
 use Rattle.std.proofs.lemmas.Bool.{cases_lt}
 use Rattle.std.proofs.lemmas.Grind.{fold-append}
@@ -15,7 +16,8 @@ use Rattle.rdm_lanes.specs.declared.ring_outcome.RingOutcome.TheVariants.{Reques
 use Rattle.rdm_lanes.specs.body.Holding.{HoldsForRequest}
 use Rattle.rdm_lanes.specs.declared.client.ends.ClientEnd.{ClientEnd}
 use Rattle.rdm_lanes.specs.Told.{value_in, values_in}
-use Rattle.rdm_lanes.specs.Views.{opening_view, last_view, last_view_run, RisesAbove, AreViews, all_views, found_after, last_found}
+use Rattle.rdm_lanes.specs.Views.{opening_view, last_view, last_view_run, RisesAbove, AreViews, all_views, found_after}
+use Rattle.rdm_lanes.specs.Views.{last_found}
 use Rattle.rdm_lanes.specs.body.Showing.{Publishing, Publishes}
 use Rattle.rdm_lanes.specs.Publishing.{IsPublished, BeginOne}
 use Rattle.rdm_lanes.proofs.Fronts.{prefix_shorter}
@@ -25,12 +27,16 @@ pub nothing_found : last_found (values_in []) ≡ opening_view
 unfolding last_found values_in
 nothing_found = refl
 
-pub found_more : (items : List RingOutcome) (item : RingOutcome) → last_found (values_in (items ++ item ∷ [])) ≡ found_after (last_found (values_in items)) (value_in item)
+pub found_more : (items : List RingOutcome) (item : RingOutcome)
+    → last_found (values_in (items ++ item ∷ [])) ≡ found_after (last_found (values_in items)) (value_in item)
 unfolding last_found values_in
-found_more items item = ap (λ (vs : List OutcomeValue). fold found_after opening_view vs) (map-append value_in items (item ∷ [])) ∙ fold-append found_after opening_view (map value_in items) (value_in item ∷ [])
+found_more items item =
+    ap (λ (vs : List OutcomeValue). fold found_after opening_view vs) (map-append value_in items (item ∷ []))
+    ∙ fold-append found_after opening_view (map value_in items) (value_in item ∷ [])
 
 -- a request's outcome says nothing of devices
-pub request_finds_nothing : {C A : Type 0} (v : DeviceView) (desk : Held C A) (item : RingOutcome) → HoldsForRequest desk item → found_after v (value_in item) ≡ v
+pub request_finds_nothing : {C A : Type 0} (v : DeviceView) (desk : Held C A) (item : RingOutcome)
+    → HoldsForRequest desk item → found_after v (value_in item) ≡ v
 request_finds_nothing v desk (Request number done) held = refl
 request_finds_nothing v desk (Discovery number run fault set) held = absurd held
 
@@ -38,32 +44,47 @@ request_finds_nothing v desk (Discovery number run fault set) held = absurd held
 abbrev last_of : DeviceView → List DeviceView → DeviceView
 last_of first views = fold (λ (before v : DeviceView). v) first views
 
-not_earlier : (first : DeviceView) (views : List DeviceView) → RisesAbove first.run views → first.run ≤ (last_of first views).run
+not_earlier : (first : DeviceView) (views : List DeviceView) → RisesAbove first.run views
+    → first.run ≤ (last_of first views).run
 not_earlier first [] rise = omega arith
 not_earlier first (v ∷ views) rise = let rest = not_earlier v views rise.1 in omega (arith, rest, rise.0)
 
-rises_on : (first : DeviceView) (views : List DeviceView) (v : DeviceView) (rest : List DeviceView) → RisesAbove first.run (views ++ v ∷ rest) → (last_of first views).run < (last_of first (views ++ v ∷ rest)).run
+rises_on : (first : DeviceView) (views : List DeviceView) (v : DeviceView) (rest : List DeviceView)
+    → RisesAbove first.run (views ++ v ∷ rest) → (last_of first views).run < (last_of first (views ++ v ∷ rest)).run
 rises_on first [] v rest rise = let after = not_earlier v rest rise.1 in omega (arith, after, rise.0)
 rises_on first (w ∷ views) v rest rise = rises_on w views v rest rise.1
 
-later_with : (views : List DeviceView) (v : DeviceView) (rest : List DeviceView) → AreViews views → AreViews (views ++ v ∷ rest) → last_view_run views < last_view_run (views ++ v ∷ rest)
+later_with : (views : List DeviceView) (v : DeviceView) (rest : List DeviceView) → AreViews views
+    → AreViews (views ++ v ∷ rest) → last_view_run views < last_view_run (views ++ v ∷ rest)
 unfolding last_view
 later_with views v rest are all =
-    let same : all.later ≡ are.later ++ v ∷ rest = tail (sym all.begin ∙ ap (λ (l : List DeviceView). l ++ v ∷ rest) are.begin) in
-    subst (λ (l : List DeviceView). (last_of opening_view l).run < (last_of opening_view (l ++ v ∷ rest)).run) (sym are.begin) (rises_on opening_view are.later v rest (subst (RisesAbove 0) same all.rise))
+    let same : all.later ≡ are.later
+    ++ v ∷ rest = tail (sym all.begin ∙ ap (λ (l : List DeviceView). l ++ v ∷ rest) are.begin) in
+    subst (λ (l : List DeviceView). (last_of opening_view l).run < (last_of opening_view (l ++ v ∷ rest)).run)
+    (sym are.begin) (rises_on opening_view are.later v rest (subst (RisesAbove 0) same all.rise))
   where
     tail : {xs ys : List DeviceView} → opening_view ∷ xs ≡ opening_view ∷ ys → xs ≡ ys
     tail e = cc
 
-later_longer : (shown read rest : List DeviceView) → shown ++ rest ≡ read → AreViews shown → AreViews read → length shown < length read → last_view_run shown < last_view_run read
+later_longer : (shown read rest : List DeviceView) → shown ++ rest ≡ read → AreViews shown → AreViews read
+    → length shown < length read → last_view_run shown < last_view_run read
 later_longer shown read [] is a b less = absurd (omega (arith, less, ap length is, length-append shown []))
-later_longer shown read (v ∷ rest) is a b less = subst (λ (l : List DeviceView). last_view_run shown < last_view_run l) is (later_with shown v rest a (subst AreViews (sym is) b))
+later_longer shown read (v ∷ rest) is a b less =
+    subst (λ (l : List DeviceView). last_view_run shown < last_view_run l) is
+    (later_with shown v rest a (subst AreViews (sym is) b))
 
 -- of two beginnings of one list, the one whose last run isn't later begins the other
-pub begin_one_list : (shown read all : List DeviceView) → AreViews shown → AreViews read → IsPrefix shown all → IsPrefix read all → BeginOne shown read
-begin_one_list shown read all a b p q = record { all = all; shown_begins = p; read_begins = q; early = λ few. by_length few (cases_lt (length shown) (length read)) }
+pub begin_one_list : (shown read all : List DeviceView) → AreViews shown → AreViews read → IsPrefix shown all
+    → IsPrefix read all → BeginOne shown read
+begin_one_list shown read all a b p q = record {
+  all = all;
+  shown_begins = p;
+  read_begins = q;
+  early = λ few. by_length few (cases_lt (length shown) (length read));
+}
   where
-    by_length : last_view_run read ≤ last_view_run shown → (length shown < length read) ⊎ (length read ≤ length shown) → IsPrefix read shown
+    by_length : last_view_run read ≤ last_view_run shown → (length shown < length read) ⊎ (length read ≤ length shown)
+        → IsPrefix read shown
     by_length few (inl less) =
         let between = prefix_shorter shown read all p q (omega (arith, less)) in
         absurd (omega (arith, few, later_longer shown read between.0 between.1 a b less))
@@ -79,7 +100,10 @@ take_prefix (x ∷ xs) (y ∷ ys) is =
     (rest.0, cc (same, rest.1))
 
 pub published_of : (k : LogState) (p : Publishing) → Publishes k p → IsPublished (all_views k.entries) p.shown
-published_of k p is = record { begin = take_prefix p.shown (all_views k.entries) is.showing.begin; lacks_one = is.showing.lacks_one }
+published_of k p is = record {
+  begin = take_prefix p.shown (all_views k.entries) is.showing.begin;
+  lacks_one = is.showing.lacks_one;
+}
 
 module _ {J : Type 0} {h : Ghosts J} {C A : Type 0} where
   -- while they are compared: those before `at` are

@@ -1,5 +1,6 @@
 -- What a client of a session over a simulated line is told of discoveries, by the laws of the session's log.
-use Rattle.std.proofs.Common.{◌≡◌, ℕ, Bool, true, false, true≢false, List, [], ◌∷◌, ◌++◌, length, ◌≤◌, Option, Some, None, refl, sym, ap, ◌∙◌, subst, inl, inr, append-nil, append_assoc, arith}
+use Rattle.std.proofs.Common.{◌≡◌, ℕ, Bool, true, false, true≢false, List, [], ◌∷◌, ◌++◌, length, ◌≤◌, Option, Some}
+use Rattle.std.proofs.Common.{None, refl, sym, ap, ◌∙◌, subst, inl, inr, append-nil, append_assoc, arith}
 use Rattle.std.specs.Prelude.{◌⊎◌, ◌||◌, ◌==◌, option_map, nat_le, if◌then◌else◌}
 use Rattle.std.proofs.lemmas.Bool.{and_parts, eqb-true}
 use Rattle.rdm_wire.specs.Uid.{has}
@@ -22,7 +23,8 @@ use Rattle.rdm_log.specs.log.History.{is_closed, places, next_ask}
 use Rattle.rdm_log.specs.log.Refusals.{ask_fault_at, number_of_ask_fault, IsRefused}
 use Rattle.rdm_log.specs.log.LogState.{LogState}
 use Rattle.rdm_log.specs.log.Runs.{answer_devices}
-use Rattle.rdm_log.specs.promises.Outcomes.{Discovered, is_closed_refusal, is_client, never_begun, refused_outcome, outcome_of}
+use Rattle.rdm_log.specs.promises.Outcomes.{Discovered, is_closed_refusal, is_client, never_begun, refused_outcome}
+use Rattle.rdm_log.specs.promises.Outcomes.{outcome_of}
 use Rattle.rdm_log.specs.promises.Outcomes.OutcomeValue.{DiscoveryValue}
 use Rattle.rdm_log.proofs.PromiseLemmas.NothingAfterClose.{closed_more}
 use Rattle.rdm_scenes.specs.Scenes.{IsLossyScene, IsStayingScene, IsCalmScene}
@@ -31,30 +33,40 @@ use Rattle.rdm_scenes.proofs.SceneLemmas.{are_the_devices, follow_the_devices}
 use Rattle.rdm_scenes.proofs.CalmLemmas.{faults_follow, follow_by_default}
 use Rattle.rdm_lanes.specs.declared.views.history.ViewHistory.{Ghosts}
 use Rattle.rdm_lanes.specs.declared.client.ends.ClientEnd.{ClientEnd}
-use Rattle.rdm_lanes.specs.OverThreads.{IsEnough, IsByDefault, HasGot, IsEndOver, TellsTheDevices, TellsNoFault, TellsTheChanging}
+use Rattle.rdm_lanes.specs.OverThreads.{IsEnough, IsByDefault, HasGot, IsEndOver, TellsTheDevices, TellsNoFault}
+use Rattle.rdm_lanes.specs.OverThreads.{TellsTheChanging}
 use Rattle.rdm_lanes.proofs.GrowthLemmas.{tells}
 use Rattle.rdm_lanes.proofs.ToldLemmas.{IsToldBy, told_by, IsAnswered, IsRefusedByClose, discovery_of}
 
 -- a queue that was closed stays so
 closed_stays : (o : Opening) (h more : List Entry) → is_closed o h ≡ true → is_closed o (h ++ more) ≡ true
 closed_stays o h [] closed = subst (λ (l : List Entry). is_closed o l ≡ true) (sym (append-nil h)) closed
-closed_stays o h (e ∷ more) closed = subst (λ (l : List Entry). is_closed o l ≡ true) (append_assoc h (e ∷ []) more) (closed_stays o (h ++ e ∷ []) more (closed_more o h e closed))
+closed_stays o h (e ∷ more) closed =
+    subst (λ (l : List Entry). is_closed o l ≡ true) (append_assoc h (e ∷ []) more)
+    (closed_stays o (h ++ e ∷ []) more (closed_more o h e closed))
 
 -- a discover that was refused by a close came after one
-ask_closed : (b : Bool) (ps : List ℕ) (outstanding next c : ℕ) → option_map number_of_ask_fault (ask_fault_at b ps outstanding next c) ≡ Some 1 → b ≡ true
+ask_closed : (b : Bool) (ps : List ℕ) (outstanding next c : ℕ)
+    → option_map number_of_ask_fault (ask_fault_at b ps outstanding next c) ≡ Some 1 → b ≡ true
 ask_closed true ps outstanding next c is = refl
-ask_closed false ps outstanding next c is = absurd (other (nat_le (length ps) c) (nat_le 4 outstanding || nat_le 18446744073709551614 next) is)
+ask_closed false ps outstanding next c is =
+    absurd (other (nat_le (length ps) c) (nat_le 4 outstanding || nat_le 18446744073709551614 next) is)
   where
-    other : (x y : Bool) → option_map number_of_ask_fault (if x then Some ask_faults.UnknownClient else (if y then Some ask_faults.Full else None)) ≡ Some 1 → ⊥
+    other : (x y : Bool)
+        → option_map number_of_ask_fault
+        (if x then Some ask_faults.UnknownClient else (if y then Some ask_faults.Full else None)) ≡ Some 1 → ⊥
     other true y e = cc
     other false true e = cc
     other false false e = cc
 
-refused_closed : (o : Opening) (front : List Entry) (c : ℕ) (client : Option ClientId) (call : Call) (cause : Cause) (number : Option ℕ) (done : Discovered) → is_closed_refusal c (Refuse client call cause) ≡ true
-    → refused_outcome call ≡ Some (DiscoveryValue number done) → IsRefused o front client call cause.0 → is_closed o front ≡ true
+refused_closed : (o : Opening) (front : List Entry) (c : ℕ) (client : Option ClientId) (call : Call) (cause : Cause)
+    (number : Option ℕ) (done : Discovered) → is_closed_refusal c (Refuse client call cause) ≡ true
+    → refused_outcome call ≡ Some (DiscoveryValue number done) → IsRefused o front client call cause.0
+    → is_closed o front ≡ true
 refused_closed o front c (Some d) (calls.Discover kind) cause number done own is refused =
     let one : cause.0 ≡ 1 = eqb-true cause.0 1 (and_parts (cause.0 == 1) (is_client c (Some d)) own).0 in
-    ask_closed (is_closed o front) (places o front) (outstanding_discoveries o d.0 front) (next_ask o front) d.0 (refused ∙ ap (λ (n : ℕ). Some n) one)
+    ask_closed (is_closed o front) (places o front) (outstanding_discoveries o d.0 front) (next_ask o front) d.0
+    (refused ∙ ap (λ (n : ℕ). Some n) one)
 refused_closed o front c None (calls.Discover kind) cause number done own is refused = absurd refused
 refused_closed o front c client (calls.Submit request) cause number done own is refused = absurd (no_ask is)
   where
@@ -66,23 +78,29 @@ refused_closed o front c client (calls.Join n) cause number done own is refused 
     no_ask e = cc
 
 -- the session's log is one over the line, and a client's end
-module _ {J : Type 0} {h : Ghosts J} {C A : Type 0} (setup : Setup) (room : ℕ) (ps : List ℕ) (s t : SimState) (k : LogState) (c : ℕ) (e : ClientEnd J C A h) (over : IsEndOver setup room ps s t k c e) where
+module _ {J : Type 0} {h : Ghosts J} {C A : Type 0} (setup : Setup) (room : ℕ) (ps : List ℕ) (s t : SimState)
+    (k : LogState) (c : ℕ) (e : ClientEnd J C A h) (over : IsEndOver setup room ps s t k c e) where
   log_over : IsLogOver s t k
   log_over = record { legal = over.session.legal; steps = over.session.steps }
 
-  told_of : (number : Option ℕ) (done : Discovered) → HasGot e number done → IsToldBy k.opening k.entries c (DiscoveryValue number done)
+  told_of : (number : Option ℕ) (done : Discovered) → HasGot e number done
+      → IsToldBy k.opening k.entries c (DiscoveryValue number done)
   told_of number done got = told_by k c e (DiscoveryValue number done) got.0 over.agrees got.1
 
   -- an outcome of a discovery is that of an Answer, or of a discovery that was never begun
   by_outcome : {X : Type 0} (number : Option ℕ) (done : Discovered) → HasGot e number done
-      → ((front back : List Entry) (n r : ℕ) → k.entries ≡ front ++ Answer n r done.fault ∷ back → done.devices ≡ answer_devices r k.entries → X) → (done ≡ never_begun → X) → X
-  by_outcome {X} number done got answered never = by_kind (discovery_of k.entries told.front told.back told.entry number done told.is)
+      → ((front back : List Entry) (n r : ℕ) → k.entries ≡ front ++ Answer n r done.fault ∷ back
+      → done.devices ≡ answer_devices r k.entries → X) → (done ≡ never_begun → X) → X
+  by_outcome {X} number done got answered never =
+      by_kind (discovery_of k.entries told.front told.back told.entry number done told.is)
     where
       told : IsToldBy k.opening k.entries c (DiscoveryValue number done)
       told = told_of number done got
 
       by_kind : IsAnswered k.entries told.front told.back told.entry number done ⊎ IsRefusedByClose told.entry done → X
-      by_kind (inl a) = answered told.front told.back a.n a.run (told.whole ∙ ap (λ (x : Entry). told.front ++ x ∷ told.back) a.is) a.devices
+      by_kind (inl a) =
+          answered told.front told.back a.n a.run (told.whole ∙ ap (λ (x : Entry). told.front ++ x ∷ told.back) a.is)
+          a.devices
       by_kind (inr a) = never a.never
 
   begun : (done : Discovered) → done.fault ≡ None → done ≡ never_begun → ⊥
@@ -91,13 +109,16 @@ module _ {J : Type 0} {h : Ghosts J} {C A : Type 0} (setup : Setup) (room : ℕ)
       aborted : None ≡ never_begun.fault → ⊥
       aborted e = cc
 
-  without_fault : (front back : List Entry) (n r : ℕ) (fault : Option AgentFault) → fault ≡ None → k.entries ≡ front ++ Answer n r fault ∷ back → k.entries ≡ front ++ Answer n r None ∷ back
-  without_fault front back n r fault none whole = whole ∙ ap (λ (f : Option AgentFault). front ++ Answer n r f ∷ back) none
+  without_fault : (front back : List Entry) (n r : ℕ) (fault : Option AgentFault) → fault ≡ None
+      → k.entries ≡ front ++ Answer n r fault ∷ back → k.entries ≡ front ++ Answer n r None ∷ back
+  without_fault front back n r fault none whole =
+      whole ∙ ap (λ (f : Option AgentFault). front ++ Answer n r f ∷ back) none
 
   -- exactly the devices
   pub tells_devices : IsStayingScene s → TellsTheDevices s e
   tells_devices is number done got fault = by_outcome number done got
-      (λ front back n r whole devices. ap uids_of devices ∙ exact.exactly front back n r (without_fault front back n r done.fault fault whole))
+      (λ front back n r whole devices. ap uids_of devices
+      ∙ exact.exactly front back n r (without_fault front back n r done.fault fault whole))
       (λ never. absurd (begun done fault never))
     where
       exact : AnswersAreTheDevices s k
@@ -107,10 +128,12 @@ module _ {J : Type 0} {h : Ghosts J} {C A : Type 0} (setup : Setup) (room : ℕ)
   pub tells_changing : IsLossyScene s → TellsTheChanging s e
   tells_changing is = record {
     staying = λ number done u got fault always. by_outcome number done got
-        (λ front back n r whole devices. ap (λ (ds : List Device). has (uids_of ds) u) devices ∙ follow.staying front back n r u (without_fault front back n r done.fault fault whole) always)
+        (λ front back n r whole devices. ap (λ (ds : List Device). has (uids_of ds) u) devices
+        ∙ follow.staying front back n r u (without_fault front back n r done.fault fault whole) always)
         (λ never. absurd (begun done fault never));
     no_stranger = λ number done u got there. by_outcome number done got
-        (λ front back n r whole devices. follow.no_stranger front back n r done.fault u whole (sym (ap (λ (ds : List Device). has (uids_of ds) u) devices) ∙ there))
+        (λ front back n r whole devices. follow.no_stranger front back n r done.fault u whole
+        (sym (ap (λ (ds : List Device). has (uids_of ds) u) devices) ∙ there))
         (λ never. absurd (nobody u (sym (ap (λ (d : Discovered). has (uids_of d.devices) u) never) ∙ there)));
   }
     where
@@ -122,38 +145,63 @@ module _ {J : Type 0} {h : Ghosts J} {C A : Type 0} (setup : Setup) (room : ℕ)
 
   -- Nobody closes a session in threads. So no outcome has a fault, if only a close causes one.
   tells_no_other : FaultsFollowAClose k → TellsNoFault e
-  tells_no_other follow number done got = by_kind (discovery_of k.entries told.front told.back told.entry number done told.is)
+  tells_no_other follow number done got =
+      by_kind (discovery_of k.entries told.front told.back told.entry number done told.is)
     where
       told : IsToldBy k.opening k.entries c (DiscoveryValue number done)
       told = told_of number done got
 
-      open_ : (front back : List Entry) (x : Entry) → k.entries ≡ front ++ x ∷ back → is_closed k.opening front ≡ true → ⊥
-      open_ front back x whole closed = true≢false (sym (subst (λ (l : List Entry). is_closed k.opening l ≡ true) (sym whole) (closed_stays k.opening front (x ∷ back) closed)) ∙ over.session.not_closed)
+      open_ : (front back : List Entry) (x : Entry) → k.entries ≡ front ++ x ∷ back → is_closed k.opening front ≡ true
+          → ⊥
+      open_ front back x whole closed =
+          true≢false (sym
+          (subst (λ (l : List Entry). is_closed k.opening l ≡ true) (sym whole)
+          (closed_stays k.opening front (x ∷ back) closed)) ∙ over.session.not_closed)
 
-      by_fault : (n r : ℕ) (fault : Option AgentFault) → k.entries ≡ told.front ++ Answer n r fault ∷ told.back → fault ≡ None
+      by_fault : (n r : ℕ) (fault : Option AgentFault) → k.entries ≡ told.front ++ Answer n r fault ∷ told.back
+          → fault ≡ None
       by_fault n r None whole = refl
-      by_fault n r (Some fault) whole = absurd (open_ told.front told.back (Answer n r (Some fault)) whole (follow told.front told.back n r fault whole))
+      by_fault n r (Some fault) whole =
+          absurd (open_ told.front told.back (Answer n r (Some fault)) whole
+          (follow told.front told.back n r fault whole))
 
-      by_kind : IsAnswered k.entries told.front told.back told.entry number done ⊎ IsRefusedByClose told.entry done → done.fault ≡ None
-      by_kind (inl a) = by_fault a.n a.run done.fault (told.whole ∙ ap (λ (x : Entry). told.front ++ x ∷ told.back) a.is)
+      by_kind : IsAnswered k.entries told.front told.back told.entry number done ⊎ IsRefusedByClose told.entry done
+          → done.fault ≡ None
+      by_kind (inl a) =
+          by_fault a.n a.run done.fault (told.whole ∙ ap (λ (x : Entry). told.front ++ x ∷ told.back) a.is)
       by_kind (inr a) =
           let entry : Entry = Refuse a.client a.call a.cause in
-          let whole : k.entries ≡ told.front ++ entry ∷ told.back = told.whole ∙ ap (λ (x : Entry). told.front ++ x ∷ told.back) a.is in
-          let own : is_closed_refusal c entry ≡ true = subst (λ (x : Entry). tells k.opening c k.entries x ≡ true) a.is told.own in
-          let outcome : refused_outcome a.call ≡ Some (DiscoveryValue number done) = subst (λ (x : Entry). outcome_of k.entries x ≡ Some (DiscoveryValue number done)) a.is told.is in
-          absurd (open_ told.front told.back entry whole (refused_closed k.opening told.front c a.client a.call a.cause number done own outcome (over.session.legal.each told.front told.back entry whole).1))
+          let whole : k.entries ≡ told.front ++ entry ∷ told.back = told.whole
+          ∙ ap (λ (x : Entry). told.front ++ x ∷ told.back) a.is in
+          let own : is_closed_refusal c entry
+          ≡ true = subst (λ (x : Entry). tells k.opening c k.entries x ≡ true) a.is told.own in
+          let outcome : refused_outcome a.call
+          ≡ Some (DiscoveryValue number done) =
+          subst (λ (x : Entry). outcome_of k.entries x ≡ Some (DiscoveryValue number done)) a.is told.is in
+          absurd (open_ told.front told.back entry whole
+          (refused_closed k.opening told.front c a.client a.call a.cause number done own outcome
+          (over.session.legal.each told.front told.back entry whole).1))
 
   -- no device is known when a session begins
   few : length (uids_of k.opening.devices) ≤ length (uids_of_scene s.devices)
   few =
-      let nobody : length (uids_of k.opening.devices) ≡ 0 = ap (λ (o : Opening). length (uids_of o.devices)) over.session.opening_is in
+      let nobody : length (uids_of k.opening.devices)
+      ≡ 0 = ap (λ (o : Opening). length (uids_of o.devices)) over.session.opening_is in
       omega (arith, nobody)
 
   budget_is : k.opening.budget ≡ setup.config.budget
   budget_is = ap (λ (o : Opening). o.budget) over.session.opening_is
 
   pub tells_no_fault : IsCalmScene s → IsEnough setup s → TellsNoFault e
-  tells_no_fault is enough = tells_no_other (faults_follow s t k log_over is over.session.promised.in_bound (record { few = few; budgeted = rw (over.session.search_is, budget_is) enough }))
+  tells_no_fault is enough = tells_no_other (faults_follow s t k log_over is over.session.promised.in_bound (record {
+    few = few;
+    budgeted = rw (over.session.search_is, budget_is) enough;
+  }))
 
   pub tells_none_by_default : IsCalmScene s → IsByDefault setup → TellsNoFault e
-  tells_none_by_default is default = tells_no_other (follow_by_default s t k log_over is over.session.promised.in_bound (record { few = few; budget = budget_is ∙ default.0; search = over.session.search_is ∙ default.1 }))
+  tells_none_by_default is default =
+      tells_no_other (follow_by_default s t k log_over is over.session.promised.in_bound (record {
+        few = few;
+        budget = budget_is ∙ default.0;
+        search = over.session.search_is ∙ default.1;
+      }))

@@ -1,5 +1,6 @@
 -- Bodies and clients in their seats, and what is left of them.
-use Rattle.std.proofs.Common.{◌≡◌, ℕ, ◌+◌, ◌<◌, ◌≤◌, List, [], ◌∷◌, ◌++◌, length, map, take, drop, get_or, remove, Vec, vec_capacity, refl, sym, ap, ◌∙◌, subst, append_assoc, length-append, arith}
+use Rattle.std.proofs.Common.{◌≡◌, ℕ, ◌+◌, ◌<◌, ◌≤◌, List, [], ◌∷◌, ◌++◌, length, map, take, drop, get_or, remove, Vec}
+use Rattle.std.proofs.Common.{vec_capacity, refl, sym, ap, ◌∙◌, subst, append_assoc, length-append, arith}
 use Rattle.std.specs.Prelude.{slice_index_or}
 use Rattle.std.specs.declared.alloc.Global.{Global}
 use Rattle.std.proofs.lemmas.List.{map-append, length-map}
@@ -17,66 +18,113 @@ use Rattle.rdm_lanes.specs.body.Seats.{seat_rings, SeatsPair, SameSeats}
 use Rattle.rdm_lanes.proofs.EndLemmas.{get_map, map_get}
 
 -- a first element that was removed
-pub remove_first : {X : Type 0} (xs : List X) (x : X) (rest : List X) → 0 < length xs → x ≡ slice_index_or xs 0 x → rest ≡ remove xs 0 → xs ≡ x ∷ rest
+pub remove_first : {X : Type 0} (xs : List X) (x : X) (rest : List X) → 0 < length xs → x ≡ slice_index_or xs 0 x
+    → rest ≡ remove xs 0 → xs ≡ x ∷ rest
 remove_first [] x rest some is left = absurd (omega (arith, some))
 remove_first (y ∷ xs) x rest some is left = rw (is, left) refl
 
 -- the rings are still pairs once the bodies and the worker have run
 module _ {J : Type 0} {h : Ghosts J} {C A : Type 0} where
-  rings_kept : (a b : RingClient J C A h) (l m : Lane) → ArePair (client_rings a) l → SameClient a b → SameLane l m → ArePair (client_rings b) m
+  rings_kept : (a b : RingClient J C A h) (l m : Lane) → ArePair (client_rings a) l → SameClient a b → SameLane l m
+      → ArePair (client_rings b) m
   rings_kept a b l m p s t = (
-    (t.0.0.0 ∙ p.0.0 ∙ sym s.0.0.0, t.0.0.1 ∙ p.0.1 ∙ sym s.0.0.1, t.0.0.2 ∙ p.0.2 ∙ sym s.0.0.2, t.0.0.3 ∙ p.0.3 ∙ sym s.0.0.3),
-    (s.1.0.0 ∙ p.1.0 ∙ sym t.1.0.0, s.1.0.1 ∙ p.1.1 ∙ sym t.1.0.1, s.1.0.2 ∙ p.1.2 ∙ sym t.1.0.2, s.1.0.3 ∙ p.1.3 ∙ sym t.1.0.3),
+    (
+      t.0.0.0 ∙ p.0.0 ∙ sym s.0.0.0,
+      t.0.0.1 ∙ p.0.1 ∙ sym s.0.0.1,
+      t.0.0.2 ∙ p.0.2 ∙ sym s.0.0.2,
+      t.0.0.3 ∙ p.0.3
+          ∙ sym s.0.0.3,
+    ),
+    (
+      s.1.0.0 ∙ p.1.0 ∙ sym t.1.0.0,
+      s.1.0.1 ∙ p.1.1 ∙ sym t.1.0.1,
+      s.1.0.2 ∙ p.1.2 ∙ sym t.1.0.2,
+      s.1.0.3 ∙ p.1.3
+          ∙ sym t.1.0.3,
+    ),
   )
 
 module _ {J : Type 0} {h : Ghosts J} {B C A : Type 0} where
-  pub whole : (seats left : List (Seat J B C A h)) → length left ≡ length seats → take (length seats) (left ++ drop (length left) seats) ≡ left
+  pub whole : (seats left : List (Seat J B C A h)) → length left ≡ length seats
+      → take (length seats) (left ++ drop (length left) seats) ≡ left
   whole [] [] e = refl
   whole [] (y ∷ left) e = absurd (omega (arith, e))
   whole (x ∷ seats) [] e = absurd (omega (arith, e))
   whole (x ∷ seats) (y ∷ left) e = ap (λ (xs : List (Seat J B C A h)). y ∷ xs) (whole seats left (omega (arith, e)))
 
   -- a slice of all seats that was written
-  pub same_seats_in : (seats left : List (Seat J B C A h)) (n : ℕ) → n ≡ length seats → SameSeats seats left → SameSeats seats (take n (left ++ drop (length left) seats))
+  pub same_seats_in : (seats left : List (Seat J B C A h)) (n : ℕ) → n ≡ length seats → SameSeats seats left
+      → SameSeats seats (take n (left ++ drop (length left) seats))
   same_seats_in seats left n is same = rw (is, whole seats left same.long) same
 
   -- while the bodies are seated
-  pub record Seating (first : List (RingClient J C A h)) (bodies : List B) (clients : List (RingClient J C A h)) (seats : Vec (Seat J B C A h) Global) : Type 0 where
+  pub record Seating (first : List (RingClient J C A h)) (bodies : List B) (clients : List (RingClient J C A h))
+      (seats : Vec (Seat J B C A h) Global) : Type 0 where
     pub rings : map seat_rings seats.items ++ map client_rings clients ≡ map client_rings first
     pub one_each : length bodies ≡ length clients
     pub long : length seats.items + length clients ≡ length first
     pub fits : length first ≤ vec_capacity seats
 
-  pub seat_none : (clients : List (RingClient J C A h)) (bodies : List B) (room : Vec (Seat J B C A h) Global) → room.items ≡ [] → length bodies ≡ length clients → length bodies ≤ vec_capacity room → Seating clients bodies clients room
-  seat_none clients bodies room none same fits = record { rings = rw none refl; one_each = same; long = rw none (omega arith); fits = omega (arith, same, fits) }
+  pub seat_none : (clients : List (RingClient J C A h)) (bodies : List B) (room : Vec (Seat J B C A h) Global)
+      → room.items ≡ [] → length bodies ≡ length clients → length bodies ≤ vec_capacity room
+      → Seating clients bodies clients room
+  seat_none clients bodies room none same fits = record {
+    rings = rw none refl;
+    one_each = same;
+    long = rw none (omega arith);
+    fits = omega (arith, same, fits);
+  }
 
-  pub seat_more : (first : List (RingClient J C A h)) (bodies others : List B) (clients rest : List (RingClient J C A h)) (seats new : Vec (Seat J B C A h) Global) (body : B) (client : RingClient J C A h)
-      → Seating first bodies clients seats → bodies ≡ body ∷ others → clients ≡ client ∷ rest → new.items ≡ seats.items ++ record { body = body; client = client } ∷ [] → vec_capacity new ≡ vec_capacity seats → Seating first others rest new
+  pub seat_more : (first : List (RingClient J C A h)) (bodies others : List B)
+      (clients rest : List (RingClient J C A h)) (seats new : Vec (Seat J B C A h) Global) (body : B)
+      (client : RingClient J C A h)
+      → Seating first bodies clients seats → bodies ≡ body ∷ others → clients ≡ client ∷ rest
+      → new.items ≡ seats.items ++ record { body = body; client = client } ∷ []
+      → vec_capacity new ≡ vec_capacity seats → Seating first others rest new
   seat_more first bodies others clients rest seats new body client is b c items capacity = record {
     rings =
         ap (λ (xs : List (Seat J B C A h)). map seat_rings xs ++ map client_rings rest) items
-        ∙ ap (λ (rs : List Rings). rs ++ map client_rings rest) (map-append seat_rings seats.items (record { body = body; client = client } ∷ []))
+        ∙ ap (λ (rs : List Rings). rs ++ map client_rings rest)
+        (map-append seat_rings seats.items (record { body = body; client = client } ∷ []))
         ∙ append_assoc (map seat_rings seats.items) (client_rings client ∷ []) (map client_rings rest)
         ∙ ap (λ (xs : List (RingClient J C A h)). map seat_rings seats.items ++ map client_rings xs) (sym c)
         ∙ is.rings;
     one_each = omega (arith, is.one_each, ap length b, ap length c);
-    long = omega (arith, is.long, ap length c, ap length items ∙ length-append seats.items (record { body = body; client = client } ∷ []));
+    long = omega (
+      arith,
+      is.long,
+      ap length c,
+      ap length items
+          ∙ length-append seats.items (record { body = body; client = client } ∷ []),
+    );
     fits = omega (arith, is.fits, capacity);
   }
 
   -- while they are taken apart
-  pub record Unseating (first seats : List (Seat J B C A h)) (bodies : Vec B Global) (ends : Vec (ClientEnd J C A h) Global) : Type 0 where
+  pub record Unseating (first seats : List (Seat J B C A h)) (bodies : Vec B Global)
+      (ends : Vec (ClientEnd J C A h) Global) : Type 0 where
     pub rings : map end_rings ends.items ++ map seat_rings seats ≡ map seat_rings first
     pub bodies_long : length bodies.items + length seats ≡ length first
     pub ends_long : length ends.items + length seats ≡ length first
     pub bodies_fit : length first ≤ vec_capacity bodies
     pub ends_fit : length first ≤ vec_capacity ends
 
-  pub unseat_none : (seats : List (Seat J B C A h)) (bodies : Vec B Global) (ends : Vec (ClientEnd J C A h) Global) → bodies.items ≡ [] → ends.items ≡ [] → length seats ≤ vec_capacity bodies → length seats ≤ vec_capacity ends → Unseating seats seats bodies ends
-  unseat_none seats bodies ends b e fit_bodies fit_ends = record { rings = rw e refl; bodies_long = rw b (omega arith); ends_long = rw e (omega arith); bodies_fit = fit_bodies; ends_fit = fit_ends }
+  pub unseat_none : (seats : List (Seat J B C A h)) (bodies : Vec B Global) (ends : Vec (ClientEnd J C A h) Global)
+      → bodies.items ≡ [] → ends.items ≡ [] → length seats ≤ vec_capacity bodies → length seats ≤ vec_capacity ends
+      → Unseating seats seats bodies ends
+  unseat_none seats bodies ends b e fit_bodies fit_ends = record {
+    rings = rw e refl;
+    bodies_long = rw b (omega arith);
+    ends_long = rw e (omega arith);
+    bodies_fit = fit_bodies;
+    ends_fit = fit_ends;
+  }
 
-  pub unseat_more : (first seats rest : List (Seat J B C A h)) (bodies more : Vec B Global) (ends new : Vec (ClientEnd J C A h) Global) (seat : Seat J B C A h) (end : ClientEnd J C A h)
-      → Unseating first seats bodies ends → seats ≡ seat ∷ rest → more.items ≡ bodies.items ++ seat.body ∷ [] → vec_capacity more ≡ vec_capacity bodies → new.items ≡ ends.items ++ end ∷ [] → vec_capacity new ≡ vec_capacity ends
+  pub unseat_more : (first seats rest : List (Seat J B C A h)) (bodies more : Vec B Global)
+      (ends new : Vec (ClientEnd J C A h) Global) (seat : Seat J B C A h) (end : ClientEnd J C A h)
+      → Unseating first seats bodies ends → seats ≡ seat ∷ rest → more.items ≡ bodies.items ++ seat.body ∷ []
+      → vec_capacity more ≡ vec_capacity bodies → new.items ≡ ends.items ++ end ∷ []
+      → vec_capacity new ≡ vec_capacity ends
       → end.calls ≡ seat.client.calls → end.replies ≡ seat.client.replies → Unseating first rest more new
   unseat_more first seats rest bodies more ends new seat end is here b b_capacity e e_capacity calls replies = record {
     rings =
@@ -86,7 +134,8 @@ module _ {J : Type 0} {h : Ghosts J} {B C A : Type 0} where
         ∙ ap (λ (r : Rings). map end_rings ends.items ++ r ∷ map seat_rings rest) (both calls replies)
         ∙ ap (λ (xs : List (Seat J B C A h)). map end_rings ends.items ++ map seat_rings xs) (sym here)
         ∙ is.rings;
-    bodies_long = omega (arith, is.bodies_long, ap length here, ap length b ∙ length-append bodies.items (seat.body ∷ []));
+    bodies_long =
+        omega (arith, is.bodies_long, ap length here, ap length b ∙ length-append bodies.items (seat.body ∷ []));
     ends_long = omega (arith, is.ends_long, ap length here, ap length e ∙ length-append ends.items (end ∷ []));
     bodies_fit = omega (arith, is.bodies_fit, b_capacity);
     ends_fit = omega (arith, is.ends_fit, e_capacity);
@@ -95,7 +144,8 @@ module _ {J : Type 0} {h : Ghosts J} {B C A : Type 0} where
       both : end.calls ≡ seat.client.calls → end.replies ≡ seat.client.replies → end_rings end ≡ seat_rings seat
       both p q = rw (p, q) refl
 
-  pub pairs_kept : (lanes news : List Lane) (seats left : List (Seat J B C A h)) → SeatsPair lanes seats → SameLanes lanes news → SameSeats seats left → SeatsPair news left
+  pub pairs_kept : (lanes news : List Lane) (seats left : List (Seat J B C A h)) → SeatsPair lanes seats
+      → SameLanes lanes news → SameSeats seats left → SeatsPair news left
   pairs_kept lanes news seats left p s same = record {
     long = length-map left seat_rings ∙ same.long ∙ sym (length-map seats seat_rings) ∙ p.long ∙ sym s.long;
     each = λ i m r in_news in_rings.
@@ -108,5 +158,8 @@ module _ {J : Type 0} {h : Ghosts J} {B C A : Type 0} where
         let in_seats = slice_get-get_or seats i x low in
         let kept = same.each i x low in
         let now : get_or left i x ≡ x = get_or_from_slice_get left i x x found.1 in
-        subst (λ (q : Rings). ArePair q m) found.2 (rings_kept w.client x.client l m (p.each i l (seat_rings w) in_lanes (get_map seat_rings seats i w in_seats)) (rw now at kept) (s.each i l m in_lanes in_news));
+        subst (λ (q : Rings). ArePair q m) found.2
+        (rings_kept w.client x.client l m
+        (p.each i l (seat_rings w) in_lanes (get_map seat_rings seats i w in_seats)) (rw now at kept)
+        (s.each i l m in_lanes in_news));
   }

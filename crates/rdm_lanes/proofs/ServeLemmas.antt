@@ -1,5 +1,6 @@
 -- How a call comes out of a client's ring.
-use Rattle.std.proofs.Common.{◌≡◌, ℕ, Bool, true, false, List, [], ◌∷◌, ◌++◌, refl, sym, ap, ◌∙◌, slice_get, MatchOption, append-nil, length, ◌+◌, length-append, arith}
+use Rattle.std.proofs.Common.{◌≡◌, ℕ, Bool, true, false, List, [], ◌∷◌, ◌++◌, refl, sym, ap, ◌∙◌, slice_get}
+use Rattle.std.proofs.Common.{MatchOption, append-nil, length, ◌+◌, length-append, arith}
 use Rattle.std.specs.Prelude.{⊤, ◌||◌}
 use Rattle.std.specs.List.{list_any}
 use Rattle.std.specs.declared.alloc.Global.{Global}
@@ -24,11 +25,13 @@ pub popped_more : (xs ys : List ClientCall) (x : ClientCall) → ys ≡ xs ++ x 
 popped_more xs ys x more same = omega (arith, ap length more ∙ length-append xs (x ∷ []), ap length same)
 
 -- the front item, once it is popped
-pub front_of : {X : Type 0} (P : X → Type 0) (known rest : List X) (x : X) → known ≡ x ∷ rest → MatchOption (slice_get known 0) ⊤ P → P x
+pub front_of : {X : Type 0} (P : X → Type 0) (known rest : List X) (x : X) → known ≡ x ∷ rest
+    → MatchOption (slice_get known 0) ⊤ P → P x
 front_of P known rest x is may = rw is at may
 
 -- the client's leave among what was received
-leave_same : (xs : List ClientCall) (x : ClientCall) → is_work x ≡ true → list_any is_leave (xs ++ x ∷ []) ≡ list_any is_leave xs
+leave_same : (xs : List ClientCall) (x : ClientCall) → is_work x ≡ true
+    → list_any is_leave (xs ++ x ∷ []) ≡ list_any is_leave xs
 leave_same [] (Submit request) is = refl
 leave_same [] (Discover kind) is = refl
 leave_same [] Leave is = cc
@@ -48,16 +51,20 @@ pub record SameCounts (old new : Lane) : Type 0 where
   pub requests_are : new.requests ≡ old.requests
   pub asks_are : new.asks ≡ old.asks
 
-pub fits_popped : (c : ℕ) (k : LogState) (lane next : Lane) (x : ClientCall) → Fits c k lane → popped next.calls ≡ popped lane.calls ++ x ∷ [] → is_work x ≡ true → SameCounts lane next → next.left ≡ lane.left → FitsBut (x ∷ []) c k next
+pub fits_popped : (c : ℕ) (k : LogState) (lane next : Lane) (x : ClientCall) → Fits c k lane
+    → popped next.calls ≡ popped lane.calls ++ x ∷ [] → is_work x ≡ true → SameCounts lane next → next.left ≡ lane.left
+    → FitsBut (x ∷ []) c k next
 fits_popped c k lane next x f got work same left = record {
-  calls_are = ap work_in got ∙ work_more (popped lane.calls) x work ∙ ap (λ (xs : List ClientCall). xs ++ x ∷ []) (f.calls_are ∙ append-nil _);
+  calls_are = ap work_in got ∙ work_more (popped lane.calls) x work
+      ∙ ap (λ (xs : List ClientCall). xs ++ x ∷ []) (f.calls_are ∙ append-nil _);
   told_are = rw same.told_are f.told_are;
   requests_are = same.requests_are ∙ f.requests_are;
   asks_are = same.asks_are ∙ f.asks_are;
   left_is = left ∙ f.left_is ∙ sym (ap (list_any is_leave) got ∙ leave_same (popped lane.calls) x work);
 }
 
-pub fits_left : (c : ℕ) (k : LogState) (lane next : Lane) → Fits c k lane → popped next.calls ≡ popped lane.calls ++ Leave ∷ [] → SameCounts lane next → next.left ≡ true → Fits c k next
+pub fits_left : (c : ℕ) (k : LogState) (lane next : Lane) → Fits c k lane
+    → popped next.calls ≡ popped lane.calls ++ Leave ∷ [] → SameCounts lane next → next.left ≡ true → Fits c k next
 fits_left c k lane next f got same left = record {
   calls_are = ap work_in got ∙ leave_more (popped lane.calls) ∙ f.calls_are;
   told_are = rw same.told_are f.told_are;
@@ -67,7 +74,8 @@ fits_left c k lane next f got same left = record {
 }
 
 -- the lane of a client of which nothing was taken
-pub fits_looked : (c : ℕ) (k : LogState) (lane next : Lane) → Fits c k lane → popped next.calls ≡ popped lane.calls → SameCounts lane next → next.left ≡ lane.left → Fits c k next
+pub fits_looked : (c : ℕ) (k : LogState) (lane next : Lane) → Fits c k lane → popped next.calls ≡ popped lane.calls
+    → SameCounts lane next → next.left ≡ lane.left → Fits c k next
 fits_looked c k lane next f got same left = record {
   calls_are = ap work_in got ∙ f.calls_are;
   told_are = rw same.told_are f.told_are;
@@ -77,4 +85,10 @@ fits_looked c k lane next f got same left = record {
 }
 
 pub fits_slot : (c : ℕ) (k : LogState) (lane next : Lane) → Fits c k lane → LooksForSlot lane next → Fits c k next
-fits_slot c k lane next f look = fits_looked c k lane next f (ap (λ (l : Lane). popped l.calls) look.rest) (record { told_are = look.looked.1; requests_are = ap (λ (l : Lane). l.requests) look.rest; asks_are = ap (λ (l : Lane). l.asks) look.rest }) (ap (λ (l : Lane). l.left) look.rest)
+fits_slot c k lane next f look =
+    fits_looked c k lane next f (ap (λ (l : Lane). popped l.calls) look.rest)
+    (record {
+      told_are = look.looked.1;
+      requests_are = ap (λ (l : Lane). l.requests) look.rest;
+      asks_are = ap (λ (l : Lane). l.asks) look.rest;
+    }) (ap (λ (l : Lane). l.left) look.rest)

@@ -1,5 +1,6 @@
 -- Views, whose runs rise.
-use Rattle.std.proofs.Common.{◌≡◌, ◌<◌, ◌≤◌, zero, suc, List, [], ◌∷◌, ◌++◌, Some, None, slice_get, refl, ap, subst, fold, inl, inr, arith}
+use Rattle.std.proofs.Common.{◌≡◌, ◌<◌, ◌≤◌, zero, suc, List, [], ◌∷◌, ◌++◌, Some, None, slice_get, refl, ap, subst}
+use Rattle.std.proofs.Common.{fold, inl, inr, arith}
 use Rattle.std.specs.Prelude.{◌⊎◌}
 use Rattle.std.proofs.lemmas.Grind.{fold-append}
 use Rattle.rdm_client.specs.declared.view.DeviceView.{DeviceView}
@@ -15,17 +16,20 @@ last_added views v = fold-append (λ (before x : DeviceView). x) opening_view vi
 abbrev last_of : DeviceView → List DeviceView → DeviceView
 last_of first views = fold (λ (before v : DeviceView). v) first views
 
-rises_more : (first : DeviceView) (views : List DeviceView) (v : DeviceView) → RisesAbove first.run views → (last_of first views).run < v.run → RisesAbove first.run (views ++ v ∷ [])
+rises_more : (first : DeviceView) (views : List DeviceView) (v : DeviceView) → RisesAbove first.run views
+    → (last_of first views).run < v.run → RisesAbove first.run (views ++ v ∷ [])
 rises_more first [] v rise less = (less, tt)
 rises_more first (w ∷ views) v rise less = (rise.0, rises_more w views v rise.1 less)
 
 -- a view of a later run may be added
-pub views_more : (views : List DeviceView) (v : DeviceView) → AreViews views → last_view_run views < v.run → AreViews (views ++ v ∷ [])
+pub views_more : (views : List DeviceView) (v : DeviceView) → AreViews views → last_view_run views < v.run
+    → AreViews (views ++ v ∷ [])
 unfolding last_view
 views_more views v are less = record {
   later = are.later ++ v ∷ [];
   begin = ap (λ l. l ++ v ∷ []) are.begin;
-  rise = rises_more opening_view are.later v are.rise (subst (λ l. (last_of opening_view l).run < v.run) are.begin less);
+  rise = rises_more opening_view are.later v are.rise
+      (subst (λ l. (last_of opening_view l).run < v.run) are.begin less);
 }
 
 pub opening_views : AreViews (opening_view ∷ [])
@@ -40,7 +44,8 @@ none_later_opening (suc i) v at = absurd (no_view at)
     no_view : None ≡ Some v → ⊥
     no_view e = cc
 
-pub none_later_more : (views : List DeviceView) (v : DeviceView) → NoneLater views → last_view_run views < v.run → NoneLater (views ++ v ∷ [])
+pub none_later_more : (views : List DeviceView) (v : DeviceView) → NoneLater views → last_view_run views < v.run
+    → NoneLater (views ++ v ∷ [])
 none_later_more views v none less i w at = by_place (slice_get-push views v i w at)
   where
     last : last_view_run (views ++ v ∷ []) ≡ v.run

@@ -25,7 +25,13 @@ pub record Serves (old new : Worker) : Type 0 where
   pub ring : new.operator ≡ old.operator
 
 pub serves_none : (w : Worker) → Serves w w
-serves_none w = record { line = line_same w.session; switches = switches_same w.session; lanes = same_lanes w.lanes.items; operator = refl; ring = refl }
+serves_none w = record {
+  line = line_same w.session;
+  switches = switches_same w.session;
+  lanes = same_lanes w.lanes.items;
+  operator = refl;
+  ring = refl;
+}
 
 pub serves_more : (a b d : Worker) → Serves a b → Serves b d → Serves a d
 serves_more a b d p q = record {
@@ -44,7 +50,12 @@ pub record Moves (old new : Worker) : Type 0 where
   pub ring : new.operator ≡ old.operator
 
 pub moves_nothing : (w : Worker) → Moves w w
-moves_nothing w = record { collects = collects_none w.session; lanes = same_lanes w.lanes.items; operator = refl; ring = refl }
+moves_nothing w = record {
+  collects = collects_none w.session;
+  lanes = same_lanes w.lanes.items;
+  operator = refl;
+  ring = refl;
+}
 
 pub moves_on : (a b d : Worker) → Moves a b → Moves b d → Moves a d
 moves_on a b d p q = record {
@@ -55,7 +66,8 @@ moves_on a b d p q = record {
 }
 
 -- the worker made this many turns, and these views were published before and after them
-pub record Worked {L : Type 0} (step : L → Exchange → L → Type 0) (turns : ℕ) (before : L) (old : Worker) (after : L) (new : Worker) (shown_before shown_after : List DeviceView) : Type 0 where
+pub record Worked {L : Type 0} (step : L → Exchange → L → Type 0) (turns : ℕ) (before : L) (old : Worker) (after : L)
+    (new : Worker) (shown_before shown_after : List DeviceView) : Type 0 where
   pub exchanged : Exchanged step before old.session after new.session
   pub few : exchange_count new.session ≤ exchange_count old.session + turns
   pub lanes : SameLanes old.lanes.items new.lanes.items

@@ -11,9 +11,11 @@ use Rattle.rdm_wire.proofs.SetLemmas.{has-at_place}
 use Rattle.rdm_line.specs.Sim.{is_among, last_exchange}
 
 -- what a search by halves says
-has-searched : (numbers : List ℕ) (u : ℕ) (r : Result ℕ ℕ) → IsNonDecreasing numbers → IsBinarySearchResult (λ v. nat_cmp v u) numbers r → has numbers u ≡ is_ok r
+has-searched : (numbers : List ℕ) (u : ℕ) (r : Result ℕ ℕ) → IsNonDecreasing numbers
+    → IsBinarySearchResult (λ v. nat_cmp v u) numbers r → has numbers u ≡ is_ok r
 has-searched numbers u (Ok i) ascending found =
-    let at : (i < length numbers) × (get_or numbers i 0 ≡ u) = searched numbers u (Ok i) found (λ j k. ascending j k 0) in
+    let at : (i < length numbers)
+    × (get_or numbers i 0 ≡ u) = searched numbers u (Ok i) found (λ j k. ascending j k 0) in
     list_any_at (λ v. u == v) numbers i 0 at.0 (eq-eqb u (get_or numbers i 0) (sym at.1))
 has-searched numbers u (Err i) ascending found =
     let at : (i ≤ length numbers) × ((k : ℕ) → k < i → get_or numbers k 0 < u)
@@ -21,5 +23,7 @@ has-searched numbers u (Err i) ascending found =
     searched numbers u (Err i) found (λ j k. ascending j k 0) in
     has-at_place u numbers i (record { within = at.0; below = at.1; above = at.2 })
 
-pub among-searched : (numbers : List ℕ) (u : ℕ) (r : Result ℕ ℕ) → IsNonDecreasing numbers → IsBinarySearchResult (λ v. nat_cmp v u) numbers r → u < last_exchange → is_ok r ≡ is_among u numbers
-among-searched numbers u r ascending found before = sym (rw (lt-ltb u last_exchange before) (has-searched numbers u r ascending found))
+pub among-searched : (numbers : List ℕ) (u : ℕ) (r : Result ℕ ℕ) → IsNonDecreasing numbers
+    → IsBinarySearchResult (λ v. nat_cmp v u) numbers r → u < last_exchange → is_ok r ≡ is_among u numbers
+among-searched numbers u r ascending found before =
+    sym (rw (lt-ltb u last_exchange before) (has-searched numbers u r ascending found))

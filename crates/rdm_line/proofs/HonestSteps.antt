@@ -1,5 +1,6 @@
 -- Steps of the simulated line are honest.
-use Rattle.std.proofs.Common.{◌≡◌, ℕ, ◌+◌, ◌<◌, ◌≤◌, ◌^◌, Bool, true, false, cond, List, [], ◌∷◌, ◌++◌, length, Option, Some, None, refl, sym, ap, ◌∙◌, subst, inl, inr, true≢false, append-nil, arith}
+use Rattle.std.proofs.Common.{◌≡◌, ℕ, ◌+◌, ◌<◌, ◌≤◌, ◌^◌, Bool, true, false, cond, List, [], ◌∷◌, ◌++◌, length, Option}
+use Rattle.std.proofs.Common.{Some, None, refl, sym, ap, ◌∙◌, subst, inl, inr, true≢false, append-nil, arith}
 use Rattle.std.specs.Prelude.{◌⊎◌, ◌==◌, ◌&&◌, ◌||◌, not, nat_le, filter, is_some, MatchOption}
 use Rattle.std.specs.List.{AllByRecursion}
 use Rattle.std.proofs.lemmas.Bool.{eqb-true, eq-eqb, and_parts, cases_Bool, leb-true}
@@ -16,7 +17,8 @@ use Rattle.rdm_wire.specs.MuteAcks.{MuteAcked}
 use Rattle.rdm_wire.specs.MuteResponses.{mute_response, binding_bytes}
 use Rattle.rdm_wire.specs.Commands.{Writes, command_fields, command_read, asked_by_command, AsksNobody, AsksSo}
 use Rattle.rdm_wire.specs.Frames.{asked_in, heard_in, heard_bytes, one_or_noise, acked_or_noise}
-use Rattle.rdm_wire.specs.Honest.{Asked, Heard, LineState, HonestStep, MuteMoves, MayReply, Counts, due_in, lost_after, is_silent, is_acked}
+use Rattle.rdm_wire.specs.Honest.{Asked, Heard, LineState, HonestStep, MuteMoves, MayReply, Counts, due_in, lost_after}
+use Rattle.rdm_wire.specs.Honest.{is_silent, is_acked}
 use Rattle.rdm_wire.specs.Honest.Asked.{Unmute as Unmuted, Branch as Branched, Mute as Muted, Other}
 use Rattle.rdm_wire.specs.Honest.Heard.{Silent, One}
 use Rattle.rdm_wire.specs.declared.command.Command.{Command}
@@ -46,7 +48,12 @@ use Rattle.rdm_line.proofs.PresenceLemmas.{present_set, present_is, due_is, pres
 
 -- the state of the honest line, with the devices muted that are present and muted
 abbrev pub line_state : List ℕ → List ℕ → ℕ → ℕ → ℕ → LineState
-line_state present muted b m n = record { muted = muted_among present muted; lost_branches = b; lost_mutes = m; unmutes = n }
+line_state present muted b m n = record {
+  muted = muted_among present muted;
+  lost_branches = b;
+  lost_mutes = m;
+  unmutes = n;
+}
 
 -- what a step leaves of the devices and of the count
 pub record Leaves (s new : SimState) : Type 0 where
@@ -57,8 +64,13 @@ pub record Leaves (s new : SimState) : Type 0 where
 left_so : (s new t : SimState) → new ≡ t → Leaves s t → Leaves s new
 left_so s new t is leaves = subst (Leaves s) (sym is) leaves
 
-leaves_devices : (s : SimState) (t : SimState) → t.exchanges ≡ next_exchange s.exchanges → t.devices ≡ s.devices → Leaves s t
-leaves_devices s t e d = record { exchanges = e; present = λ i. ap (λ ds. present_at ds i) d; from = λ u. ap (λ ds. from_of ds u) d }
+leaves_devices : (s : SimState) (t : SimState) → t.exchanges ≡ next_exchange s.exchanges → t.devices ≡ s.devices
+    → Leaves s t
+leaves_devices s t e d = record {
+  exchanges = e;
+  present = λ i. ap (λ ds. present_at ds i) d;
+  from = λ u. ap (λ ds. from_of ds u) d;
+}
 
 -- after a request only the devices' parameters may differ
 record KeepsRequest (s new : SimState) : Type 0 where
@@ -69,14 +81,22 @@ kept_request : (s new t : SimState) → new ≡ t → KeepsRequest s t → Keeps
 kept_request s new t is keeps = subst (KeepsRequest s) (sym is) keeps
 
 after_request : (s new : SimState) (r : Request) (source tn : ℕ) (reply : List ℕ) (o : Option SceneDevice)
-    → MatchOption o (KeepsSilent (counted s) reply new) (λ d. AnswersRequest (counted s) r source tn d reply new) → KeepsRequest s new
-after_request s new r source tn reply None h = kept_request s new (counted s) h.same (record { leaves = leaves_devices s (counted s) refl refl; muted = refl })
+    → MatchOption o (KeepsSilent (counted s) reply new) (λ d. AnswersRequest (counted s) r source tn d reply new)
+    → KeepsRequest s new
+after_request s new r source tn reply None h = kept_request s new (counted s) h.same (record {
+  leaves = leaves_devices s (counted s) refl refl;
+  muted = refl;
+})
 after_request s new r source tn reply (Some d) h = of_parameter (parameter_of r.pid d.params) h
   where
     same : new ≡ counted s → KeepsRequest s new
-    same is = kept_request s new (counted s) is (record { leaves = leaves_devices s (counted s) refl refl; muted = refl })
+    same is = kept_request s new (counted s) is (record {
+      leaves = leaves_devices s (counted s) refl refl;
+      muted = refl;
+    })
 
-    of_class : (p : ParameterState) (k : ReqClass) → AnswersOf (counted s) r source tn p k reply new → KeepsRequest s new
+    of_class : (p : ParameterState) (k : ReqClass) → AnswersOf (counted s) r source tn p k reply new
+        → KeepsRequest s new
     of_class p Get g = kept_request s new _ g.sent
         (record {
           leaves = record {
@@ -94,7 +114,8 @@ after_request s new r source tn reply (Some d) h = of_parameter (parameter_of r.
     of_parameter None g = same g.same
     of_parameter (Some p) g = of_class p r.class g
 
-pub acts_leave : (s new : SimState) (sent : Option (Command × ℕ × ℕ)) (reply : List ℕ) → Acts s.exchanges (counted s) sent reply new → Leaves s new
+pub acts_leave : (s new : SimState) (sent : Option (Command × ℕ × ℕ)) (reply : List ℕ)
+    → Acts s.exchanges (counted s) sent reply new → Leaves s new
 acts_leave s new None reply acts = left_so s new (counted s) acts.same (leaves_devices s (counted s) refl refl)
 acts_leave s new (Some sent) reply acts = by_command sent.0 acts
   where
@@ -106,7 +127,9 @@ acts_leave s new (Some sent) reply acts = by_command sent.0 acts
     of_branch (d ∷ []) h = kept _ h.1 refl refl
     of_branch (d ∷ e ∷ ds) h = kept _ h.next refl refl
 
-    of_mute : (o : Option SceneDevice) → MatchOption o (KeepsSilent (counted s) reply new) (λ d. Mutes (counted s) d sent.1 sent.2 reply new) → Leaves s new
+    of_mute : (o : Option SceneDevice)
+        → MatchOption o (KeepsSilent (counted s) reply new) (λ d. Mutes (counted s) d sent.1 sent.2 reply new)
+        → Leaves s new
     of_mute None h = kept _ h.same refl refl
     of_mute (Some d) h = kept _ h.mutes refl refl
 
@@ -114,14 +137,16 @@ acts_leave s new (Some sent) reply acts = by_command sent.0 acts
     by_command Unmute h = kept _ h.unmuted refl refl
     by_command (Branch range) h = of_branch (answering s.exchanges (counted s) range) h
     by_command (Mute u) h = of_mute (device_at s.exchanges s.devices u) h
-    by_command (Requested r) h = (after_request s new r sent.1 sent.2 reply (device_at s.exchanges s.devices r.target) h).leaves
+    by_command (Requested r) h =
+        (after_request s new r sent.1 sent.2 reply (device_at s.exchanges s.devices r.target) h).leaves
 
 -- an honest step, with the counts of lost replies after it
 pub record HonestAfter (x : Step) (next : SimState) (b m n : ℕ) : Type 0 where
   pub lost_branches : ℕ
   pub lost_mutes : ℕ
   pub unmutes : ℕ
-  pub step : HonestStep (present_in x) (line_state (present_in x) x.before.muted b m n) (seen_in x).asked (seen_in x).heard (line_state (present_in x) next.muted lost_branches lost_mutes unmutes)
+  pub step : HonestStep (present_in x) (line_state (present_in x) x.before.muted b m n) (seen_in x).asked
+      (seen_in x).heard (line_state (present_in x) next.muted lost_branches lost_mutes unmutes)
   pub branches : (lost_branches ≡ 0) ⊎ ((lost_branches ≡ b + 1) × LosesBranch x)
   pub mutes : (lost_mutes ≡ 0) ⊎ ((lost_mutes ≡ m + 1) × LosesMute x)
   pub few_branches : lost_branches ≤ 4
@@ -131,10 +156,21 @@ pub record HonestAfter (x : Step) (next : SimState) (b m n : ℕ) : Type 0 where
 quiet : (x : Step) (next : SimState) (b m n k : ℕ)
     → HonestStep (present_in x) (line_state (present_in x) x.before.muted b m n) (seen_in x).asked (seen_in x).heard
     (line_state (present_in x) next.muted 0 0 k) → HonestAfter x next b m n
-quiet x next b m n k step = record { lost_branches = 0; lost_mutes = 0; unmutes = k; step = step; branches = inl refl; mutes = inl refl; few_branches = omega arith; few_mutes = omega arith }
+quiet x next b m n k step = record {
+  lost_branches = 0;
+  lost_mutes = 0;
+  unmutes = k;
+  step = step;
+  branches = inl refl;
+  mutes = inl refl;
+  few_branches = omega arith;
+  few_mutes = omega arith;
+}
 
-seen_as : (p : List ℕ) (old new : LineState) (asked a : Asked) (heard h : Heard) → asked ≡ a → heard ≡ h → HonestStep p old a h new → HonestStep p old asked heard new
-seen_as p old new asked a heard h q r step = subst (λ y. HonestStep p old y heard new) (sym q) (subst (λ y. HonestStep p old a y new) (sym r) step)
+seen_as : (p : List ℕ) (old new : LineState) (asked a : Asked) (heard h : Heard) → asked ≡ a → heard ≡ h
+    → HonestStep p old a h new → HonestStep p old asked heard new
+seen_as p old new asked a heard h q r step =
+    subst (λ y. HonestStep p old y heard new) (sym q) (subst (λ y. HonestStep p old a y new) (sym r) step)
 
 -- how an exchange is heard
 heard_as : (x : Step) (bytes : List ℕ) → x.exchange.1 ≡ Reply (record { items = bytes }) → (a : Asked) (s tn : ℕ)
@@ -142,7 +178,8 @@ heard_as : (x : Step) (bytes : List ℕ) → x.exchange.1 ≡ Reply (record { it
     → (fields_at x.exchange.0.items).tn ≡ tn
     → (seen_in x).heard ≡ heard_bytes s tn a bytes
 heard_as x bytes event a s tn p q r =
-    ap (λ e. heard_in x.exchange.0.items (bytes_heard e)) event ∙ ap (λ y. heard_bytes y (fields_at x.exchange.0.items).tn (asked_in x.exchange.0.items) bytes) q
+    ap (λ e. heard_in x.exchange.0.items (bytes_heard e)) event
+    ∙ ap (λ y. heard_bytes y (fields_at x.exchange.0.items).tn (asked_in x.exchange.0.items) bytes) q
     ∙ ap (λ y. heard_bytes s y (asked_in x.exchange.0.items) bytes) r ∙ ap (λ y. heard_bytes s tn y bytes) p
 
 counts : (p muted : List ℕ) (b m n : ℕ) → b ≤ 4 → m ≤ 4 → Counts (line_state p muted b m n) b m n
@@ -152,7 +189,8 @@ keeps : (p : List ℕ) (new old : List ℕ) → new ≡ old → (v : ℕ) → mu
 keeps p new old is v = ap (λ us. muted_among p us v) is
 
 -- a branch, by the devices that are due to answer it
-branch_step : (p : List ℕ) (old new : LineState) (lo hi : ℕ) (heard : Heard) (due : List ℕ) → due_in p old.muted lo hi ≡ due → MayReply due heard → ((u : ℕ) → new.muted u ≡ old.muted u)
+branch_step : (p : List ℕ) (old new : LineState) (lo hi : ℕ) (heard : Heard) (due : List ℕ)
+    → due_in p old.muted lo hi ≡ due → MayReply due heard → ((u : ℕ) → new.muted u ≡ old.muted u)
     → Counts new (lost_after due heard old.lost_branches) 0 0 → HonestStep p old (Branched lo hi) heard new
 branch_step p old new lo hi heard due is may same count = rw is (may, same, count)
 
@@ -161,7 +199,8 @@ crossed : (lo hi : ℕ) (muted : ℕ → Bool) (us : List ℕ) → hi < lo → d
 crossed lo hi muted [] lt = refl
 crossed lo hi muted (u ∷ us) lt = by_test (is_within lo hi u && not (muted u)) refl (crossed lo hi muted us lt)
   where
-    by_test : (t : Bool) → (is_within lo hi u && not (muted u)) ≡ t → due_in us muted lo hi ≡ [] → cond t (u ∷ due_in us muted lo hi) (due_in us muted lo hi) ≡ []
+    by_test : (t : Bool) → (is_within lo hi u && not (muted u)) ≡ t → due_in us muted lo hi ≡ []
+        → cond t (u ∷ due_in us muted lo hi) (due_in us muted lo hi) ≡ []
     by_test true is rest =
         let within = and_parts (nat_le lo u) (nat_le u hi) (and_parts (is_within lo hi u) (not (muted u)) is).0 in
         let low : lo ≤ u = leb-true lo u within.0 in let high : u ≤ hi = leb-true u hi within.1 in absurd (omega arith)
@@ -185,9 +224,12 @@ mute_present : (p : List ℕ) (old new : LineState) (u : ℕ) (heard : Heard) �
 mute_present p old new u heard there others moves = (others, rw there moves)
 
 -- bytes that are no command
-pub nobody_steps : (x : Step) (next : SimState) (b m n : ℕ) → IsSoundState x.before → IsBytes x.exchange.0.items → command_read x.exchange.0.items ≡ None → next.muted ≡ x.before.muted
+pub nobody_steps : (x : Step) (next : SimState) (b m n : ℕ) → IsSoundState x.before → IsBytes x.exchange.0.items
+    → command_read x.exchange.0.items ≡ None → next.muted ≡ x.before.muted
     → x.exchange.1 ≡ Reply (record { items = [] }) → HonestAfter x next b m n
-nobody_steps x next b m n sound bytes is same event = by_asked (asked_in x.exchange.0.items) refl (subst (λ o. AsksSo o (asked_in x.exchange.0.items)) is (asks_so x.exchange.0.items bytes))
+nobody_steps x next b m n sound bytes is same event =
+    by_asked (asked_in x.exchange.0.items) refl
+    (subst (λ o. AsksSo o (asked_in x.exchange.0.items)) is (asks_so x.exchange.0.items bytes))
   where
     p : List ℕ
     p = present_in x
@@ -204,12 +246,16 @@ nobody_steps x next b m n sound bytes is same event = by_asked (asked_in x.excha
     by_asked : (a : Asked) → asked_in x.exchange.0.items ≡ a → AsksNobody a → HonestAfter x next b m n
     by_asked Unmuted q h = absurd h
     by_asked (Branched lo hi) q h = quiet x next b m n 0 (seen_as p old new _ (Branched lo hi) _ Silent q silent
-        (branch_step p old new lo hi Silent [] (crossed lo hi old.muted p h) refl (keeps p next.muted x.before.muted same) (counts p next.muted 0 0 0 (omega arith) (omega arith))))
+        (branch_step p old new lo hi Silent [] (crossed lo hi old.muted p h) refl
+        (keeps p next.muted x.before.muted same) (counts p next.muted 0 0 0 (omega arith) (omega arith))))
     by_asked (Muted u) q h = quiet x next b m n 0 (seen_as p old new _ (Muted u) _ Silent q silent
         (mute_absent p old new u Silent (no_device p u
         (present_set x.before.devices x.before.exchanges sound.scene).devices h) refl
         (keeps p next.muted x.before.muted same) (counts p next.muted 0 0 0 (omega arith) (omega arith))))
-    by_asked Other q h = quiet x next b m n 0 (seen_as p old new _ Other _ Silent q silent (keeps p next.muted x.before.muted same, counts p next.muted 0 0 0 (omega arith) (omega arith)))
+    by_asked Other q h =
+        quiet x next b m n 0
+        (seen_as p old new _ Other _ Silent q silent
+        (keeps p next.muted x.before.muted same, counts p next.muted 0 0 0 (omega arith) (omega arith)))
 
 -- a command that was read
 record Asks (x : Step) (c : Command) (so tn : ℕ) : Type 0 where
@@ -218,7 +264,8 @@ record Asks (x : Step) (c : Command) (so tn : ℕ) : Type 0 where
   source : (fields_at x.exchange.0.items).source ≡ so
   number : (fields_at x.exchange.0.items).tn ≡ tn
 
-asks_command : (x : Step) (c : Command) (so tn : ℕ) → IsBytes x.exchange.0.items → command_read x.exchange.0.items ≡ Some (c, so, tn) → Asks x c so tn
+asks_command : (x : Step) (c : Command) (so tn : ℕ) → IsBytes x.exchange.0.items
+    → command_read x.exchange.0.items ≡ Some (c, so, tn) → Asks x c so tn
 asks_command x c so tn bytes is = record {
   writes = w;
   asked = subst (λ o. AsksSo o (asked_in x.exchange.0.items)) is (asks_so x.exchange.0.items bytes);
@@ -233,10 +280,15 @@ asks_command x c so tn bytes is = record {
     fields = ap fields_at w.bytes ∙ fields_at-packet (command_fields c so tn) w.frame.fits
 
 -- an unmute
-unmute_after : (x : Step) (next : SimState) (b m n so tn : ℕ) → Asks x Unmute so tn → next.muted ≡ [] → HonestAfter x next b m n
+unmute_after : (x : Step) (next : SimState) (b m n so tn : ℕ) → Asks x Unmute so tn → next.muted ≡ []
+    → HonestAfter x next b m n
 unmute_after x next b m n so tn asks gone =
-    quiet x next b m n (n + 1) (seen_as p (line_state p x.before.muted b m n) (line_state p next.muted 0 0 (n + 1)) _ Unmuted _ _ asks.asked refl
-    (λ u. record { fewer = λ h. absurd (true≢false (sym h ∙ unmuted u)); third = λ h. unmuted u }, counts p next.muted 0 0 (n + 1) (omega arith) (omega arith)))
+    quiet x next b m n (n + 1)
+    (seen_as p (line_state p x.before.muted b m n) (line_state p next.muted 0 0 (n + 1)) _ Unmuted _ _ asks.asked
+    refl (
+      λ u. record { fewer = λ h. absurd (true≢false (sym h ∙ unmuted u)); third = λ h. unmuted u },
+      counts p next.muted 0 0 (n + 1) (omega arith) (omega arith),
+    ))
   where
     p : List ℕ
     p = present_in x
@@ -249,7 +301,9 @@ mute_nobody_after : (x : Step) (next : SimState) (b m n u so tn : ℕ) → IsSou
     → device_at x.before.exchanges x.before.devices u ≡ None → next.muted ≡ x.before.muted
     → x.exchange.1 ≡ Reply (record { items = [] }) → HonestAfter x next b m n
 mute_nobody_after x next b m n u so tn sound asks absent same event =
-    quiet x next b m n 0 (seen_as p (line_state p x.before.muted b m n) (line_state p next.muted 0 0 0) _ (Muted u) _ Silent asks.asked (ap (λ e. heard_in x.exchange.0.items (bytes_heard e)) event)
+    quiet x next b m n 0
+    (seen_as p (line_state p x.before.muted b m n) (line_state p next.muted 0 0 0) _ (Muted u) _ Silent asks.asked
+    (ap (λ e. heard_in x.exchange.0.items (bytes_heard e)) event)
     (mute_absent p (line_state p x.before.muted b m n) (line_state p next.muted 0 0 0) u Silent
     (present_is x.before.devices x.before.exchanges u sound.scene.uids.ascending ∙ ap is_some absent) refl
     (keeps p next.muted x.before.muted same) (counts p next.muted 0 0 0 (omega arith) (omega arith))))
@@ -258,7 +312,8 @@ mute_nobody_after x next b m n u so tn sound asks absent same event =
     p = present_in x
 
 -- a mute's acknowledgement
-acknowledged : (d : SceneDevice) (u so tn : ℕ) → d.device.uid ≡ u → u < 2 ^ 48 → so < 2 ^ 48 → tn < 2 ^ 8 → MuteAcked u so tn (packet (fields_of (mute_response d.device so tn)))
+acknowledged : (d : SceneDevice) (u so tn : ℕ) → d.device.uid ≡ u → u < 2 ^ 48 → so < 2 ^ 48 → tn < 2 ^ 8
+    → MuteAcked u so tn (packet (fields_of (mute_response d.device so tn)))
 acknowledged d u so tn same in_range from_range tn_range = record {
   response = mute_response d.device so tn;
   reads = (
@@ -289,7 +344,8 @@ acknowledged d u so tn same in_range from_range tn_range = record {
     few None = omega arith
     few (Some v) = omega arith
 
-    sizes : (o : Option ℕ) → (length (two_bytes d.device.control ++ binding_bytes o) ≡ 2) ⊎ (length (two_bytes d.device.control ++ binding_bytes o) ≡ 8)
+    sizes : (o : Option ℕ) → (length (two_bytes d.device.control ++ binding_bytes o) ≡ 2)
+        ⊎ (length (two_bytes d.device.control ++ binding_bytes o) ≡ 8)
     sizes None = inl refl
     sizes (Some v) = inr refl
 
@@ -298,13 +354,18 @@ hears_ack : (d : SceneDevice) (u so tn : ℕ) → MuteAcked u so tn (packet (fie
 hears_ack d u so tn acked = ap (λ o. is_acked (acked_or_noise o)) (ack_read-of u so tn _ acked)
 
 other_way : (u v : ℕ) → (u == v) ≡ false → (v == u) ≡ false
-other_way u v isnt = elim (cases_Bool (v == u)) [ inl is ↦ absurd (true≢false (sym (eq-eqb u v (sym (eqb-true v u is))) ∙ isnt)) | inr differs ↦ differs ]
+other_way u v isnt =
+    elim (cases_Bool (v == u))
+    [ inl is ↦ absurd (true≢false (sym (eq-eqb u v (sym (eqb-true v u is))) ∙ isnt)) | inr differs ↦ differs ]
 
 -- a mute of a present device
 mute_device_after : (x : Step) (next : SimState) (b m n u so tn : ℕ) (d : SceneDevice) (reply : List ℕ)
     → IsSoundState x.before → Asks x (Mute u) so tn → command_read x.exchange.0.items ≡ Some (Mute u, so, tn)
-    → device_at x.before.exchanges x.before.devices u ≡ Some d → reply ≡ packet (fields_of (mute_response d.device so tn)) → next.muted ≡ with_uid d.device.uid x.before.muted
-    → (lost : Bool) → is_among x.before.exchanges x.before.losses ≡ lost → x.exchange.1 ≡ Reply (record { items = cond lost [] reply }) → (LosesMute x → m + 1 ≤ 4) → HonestAfter x next b m n
+    → device_at x.before.exchanges x.before.devices u ≡ Some d
+    → reply ≡ packet (fields_of (mute_response d.device so tn)) → next.muted ≡ with_uid d.device.uid x.before.muted
+    → (lost : Bool) → is_among x.before.exchanges x.before.losses ≡ lost
+    → x.exchange.1 ≡ Reply (record { items = cond lost [] reply }) → (LosesMute x → m + 1 ≤ 4)
+    → HonestAfter x next b m n
 mute_device_after x next b m n u so tn d reply sound asks is found says muted = by_loss
   where
     p : List ℕ
@@ -324,16 +385,27 @@ mute_device_after x next b m n u so tn d reply sound asks is found says muted = 
     others : (v : ℕ) → (u == v) ≡ false → muted_among p next.muted v ≡ muted_among p x.before.muted v
     others v differs =
         ap (λ us. muted_among p us v) (muted ∙ ap (λ w. with_uid w x.before.muted) at.uid)
-        ∙ ap (λ t. has p v && t) (has-with_uid u x.before.muted v ∙ ap (λ t. t || has x.before.muted v) (other_way u v differs))
+        ∙ ap (λ t. has p v && t)
+        (has-with_uid u x.before.muted v ∙ ap (λ t. t || has x.before.muted v) (other_way u v differs))
 
-    by_loss : (lost : Bool) → is_among x.before.exchanges x.before.losses ≡ lost → x.exchange.1 ≡ Reply (record { items = cond lost [] reply }) → (LosesMute x → m + 1 ≤ 4) → HonestAfter x next b m n
+    by_loss : (lost : Bool) → is_among x.before.exchanges x.before.losses ≡ lost
+        → x.exchange.1 ≡ Reply (record { items = cond lost [] reply }) → (LosesMute x → m + 1 ≤ 4)
+        → HonestAfter x next b m n
     by_loss true is_lost event few =
-        let loses : LosesMute x = record { u = u; source = so; tn = tn; asks = is; due = λ e. absurd (some_is_none (sym found ∙ e)); lost = is_lost } in
+        let loses : LosesMute x = record {
+          u = u;
+          source = so;
+          tn = tn;
+          asks = is;
+          due = λ e. absurd (some_is_none (sym found ∙ e));
+          lost = is_lost;
+        } in
         record {
           lost_branches = 0;
           lost_mutes = m + 1;
           unmutes = 0;
-          step = seen_as p (line_state p x.before.muted b m n) (line_state p next.muted 0 (m + 1) 0) _ (Muted u) _ Silent asks.asked (ap (λ e. heard_in x.exchange.0.items (bytes_heard e)) event)
+          step = seen_as p (line_state p x.before.muted b m n) (line_state p next.muted 0 (m + 1) 0) _ (Muted u) _
+              Silent asks.asked (ap (λ e. heard_in x.exchange.0.items (bytes_heard e)) event)
               (mute_present p (line_state p x.before.muted b m n) (line_state p next.muted 0 (m + 1) 0) u Silent there
               others (inr (refl, inl is_muted, counts p next.muted 0 (m + 1) 0 (omega arith) (few loses))));
           branches = inl refl;
@@ -347,7 +419,8 @@ mute_device_after x next b m n u so tn d reply sound asks is found says muted = 
     by_loss false kept event few =
         quiet x next b m n 0 (seen_as p (line_state p x.before.muted b m n) (line_state p next.muted 0 0 0) _ (Muted u)
         _ (heard_bytes so tn (Muted u) (packet (fields_of (mute_response d.device so tn)))) asks.asked
-        (heard_as x (packet (fields_of (mute_response d.device so tn))) (event ∙ ap (λ l. Reply (record { items = l })) says) (Muted u) so tn asks.asked asks.source asks.number)
+        (heard_as x (packet (fields_of (mute_response d.device so tn)))
+        (event ∙ ap (λ l. Reply (record { items = l })) says) (Muted u) so tn asks.asked asks.source asks.number)
         (mute_present p (line_state p x.before.muted b m n) (line_state p next.muted 0 0 0) u _ there others
         (inl (
           hears_ack d u so tn (acknowledged d u so tn at.uid at.own.in_range asks.writes.frame.fits.source
@@ -357,7 +430,8 @@ mute_device_after x next b m n u so tn d reply sound asks is found says muted = 
         ))))
 
 -- what comes after a branch
-heard_text : (so tn lo hi : ℕ) (b : List ℕ) (u : ℕ) → text_read b ≡ Some u → 0 < length b → heard_bytes so tn (Branched lo hi) b ≡ One u
+heard_text : (so tn lo hi : ℕ) (b : List ℕ) (u : ℕ) → text_read b ≡ Some u → 0 < length b
+    → heard_bytes so tn (Branched lo hi) b ≡ One u
 heard_text so tn lo hi [] u reads some = absurd (omega arith)
 heard_text so tn lo hi (y ∷ ys) u reads some = ap one_or_noise reads
 
@@ -370,7 +444,8 @@ not_silent so tn lo hi (y ∷ ys) some = by_option (text_read (y ∷ ys))
     by_option (Some u) = refl
 
 -- what holds of the devices holds of some of them
-all-some : (P : SceneDevice → Type 0) (q : SceneDevice → Bool) (ds : List SceneDevice) → AllByRecursion P ds → AllByRecursion P (filter q ds)
+all-some : (P : SceneDevice → Type 0) (q : SceneDevice → Bool) (ds : List SceneDevice) → AllByRecursion P ds
+    → AllByRecursion P (filter q ds)
 all-some P q [] all = tt
 all-some P q (d ∷ ds) all = by_test (q d) (all-some P q ds all.1)
   where
@@ -378,15 +453,18 @@ all-some P q (d ∷ ds) all = by_test (q d) (all-some P q ds all.1)
     by_test true rest = (all.0, rest)
     by_test false rest = rest
 
-own_uids : (ds : List SceneDevice) → AllByRecursion IsDevice (uids_of_scene ds) → AllByRecursion (λ d. IsDevice d.device.uid) ds
+own_uids : (ds : List SceneDevice) → AllByRecursion IsDevice (uids_of_scene ds)
+    → AllByRecursion (λ d. IsDevice d.device.uid) ds
 own_uids [] all = tt
 own_uids (d ∷ ds) all = (all.0, own_uids ds all.1)
 
 -- a branch
 branch_after : (x : Step) (next : SimState) (b m n so tn : ℕ) (range : Span) (reply : List ℕ) → IsSoundState x.before
     → Asks x (Branch range) so tn → command_read x.exchange.0.items ≡ Some (Branch range, so, tn)
-    → (lost : Bool) → is_among x.before.exchanges x.before.losses ≡ lost → x.exchange.1 ≡ Reply (record { items = cond lost [] reply }) → (LosesBranch x → b + 1 ≤ 4)
-    → (ds : List SceneDevice) → answering x.before.exchanges x.before range ≡ ds → AnswersBranch (counted x.before) ds reply next → HonestAfter x next b m n
+    → (lost : Bool) → is_among x.before.exchanges x.before.losses ≡ lost
+    → x.exchange.1 ≡ Reply (record { items = cond lost [] reply }) → (LosesBranch x → b + 1 ≤ 4)
+    → (ds : List SceneDevice) → answering x.before.exchanges x.before range ≡ ds
+    → AnswersBranch (counted x.before) ds reply next → HonestAfter x next b m n
 branch_after x next b m n so tn range reply sound asks is = by_devices
   where
     p : List ℕ
@@ -395,7 +473,8 @@ branch_after x next b m n so tn range reply sound asks is = by_devices
     old : LineState
     old = line_state p x.before.muted b m n
 
-    due : (ds : List SceneDevice) → answering x.before.exchanges x.before range ≡ ds → due_in p old.muted range.lo range.hi ≡ uids_of_scene ds
+    due : (ds : List SceneDevice) → answering x.before.exchanges x.before range ≡ ds
+        → due_in p old.muted range.lo range.hi ≡ uids_of_scene ds
     due ds e = due_is x.before.exchanges x.before range ∙ ap uids_of_scene e
 
     -- the reply isn't lost, or nobody is due
@@ -403,12 +482,23 @@ branch_after x next b m n so tn range reply sound asks is = by_devices
         → (seen_in x).heard ≡ h → MayReply (uids_of_scene ds) h → lost_after (uids_of_scene ds) h b ≡ 0
         → next.muted ≡ x.before.muted → HonestAfter x next b m n
     heard_so h ds e q may zero_lost same =
-        quiet x next b m n 0 (seen_as p old (line_state p next.muted 0 0 0) _ (Branched range.lo range.hi) _ h asks.asked q
-        (branch_step p old (line_state p next.muted 0 0 0) range.lo range.hi h (uids_of_scene ds) (due ds e) may (keeps p next.muted x.before.muted same)
-        (subst (λ k. Counts (line_state p next.muted 0 0 0) k 0 0) (sym zero_lost) (counts p next.muted 0 0 0 (omega arith) (omega arith)))))
+        quiet x next b m n 0
+        (seen_as p old (line_state p next.muted 0 0 0) _ (Branched range.lo range.hi) _ h asks.asked q
+        (branch_step p old (line_state p next.muted 0 0 0) range.lo range.hi h (uids_of_scene ds) (due ds e) may
+        (keeps p next.muted x.before.muted same)
+        (subst (λ k. Counts (line_state p next.muted 0 0 0) k 0 0) (sym zero_lost)
+        (counts p next.muted 0 0 0 (omega arith) (omega arith)))))
 
-    loses : (d : SceneDevice) (ds : List SceneDevice) → answering x.before.exchanges x.before range ≡ d ∷ ds → is_among x.before.exchanges x.before.losses ≡ true → LosesBranch x
-    loses d ds e is_lost = record { range = range; source = so; tn = tn; asks = is; due = λ g. some_is_nil (sym e ∙ g); lost = is_lost }
+    loses : (d : SceneDevice) (ds : List SceneDevice) → answering x.before.exchanges x.before range ≡ d ∷ ds
+        → is_among x.before.exchanges x.before.losses ≡ true → LosesBranch x
+    loses d ds e is_lost = record {
+      range = range;
+      source = so;
+      tn = tn;
+      asks = is;
+      due = λ g. some_is_nil (sym e ∙ g);
+      lost = is_lost;
+    }
       where
         some_is_nil : d ∷ ds ≡ [] → ⊥
         some_is_nil g = cc
@@ -434,25 +524,38 @@ branch_after x next b m n so tn range reply sound asks is = by_devices
     silence : x.exchange.1 ≡ Reply (record { items = [] }) → (seen_in x).heard ≡ Silent
     silence event = ap (λ e. heard_in x.exchange.0.items (bytes_heard e)) event
 
-    by_devices : (lost : Bool) → is_among x.before.exchanges x.before.losses ≡ lost → x.exchange.1 ≡ Reply (record { items = cond lost [] reply }) → (LosesBranch x → b + 1 ≤ 4)
-        → (ds : List SceneDevice) → answering x.before.exchanges x.before range ≡ ds → AnswersBranch (counted x.before) ds reply next → HonestAfter x next b m n
-    by_devices true is_lost event few [] e h = heard_so Silent [] e (silence event) refl refl (ap (λ (t : SimState). t.muted) h.same)
-    by_devices false kept event few [] e h = heard_so Silent [] e (silence (event ∙ ap (λ l. Reply (record { items = l })) h.silent)) refl refl (ap (λ (t : SimState). t.muted) h.same)
-    by_devices true is_lost event few (d ∷ []) e h = lost_so d [] e (silence event) (inr refl) is_lost few (ap (λ (t : SimState). t.muted) h.1)
+    by_devices : (lost : Bool) → is_among x.before.exchanges x.before.losses ≡ lost
+        → x.exchange.1 ≡ Reply (record { items = cond lost [] reply }) → (LosesBranch x → b + 1 ≤ 4)
+        → (ds : List SceneDevice) → answering x.before.exchanges x.before range ≡ ds
+        → AnswersBranch (counted x.before) ds reply next → HonestAfter x next b m n
+    by_devices true is_lost event few [] e h =
+        heard_so Silent [] e (silence event) refl refl (ap (λ (t : SimState). t.muted) h.same)
+    by_devices false kept event few [] e h =
+        heard_so Silent [] e (silence (event ∙ ap (λ l. Reply (record { items = l })) h.silent)) refl refl
+        (ap (λ (t : SimState). t.muted) h.same)
+    by_devices true is_lost event few (d ∷ []) e h =
+        lost_so d [] e (silence event) (inr refl) is_lost few (ap (λ (t : SimState). t.muted) h.1)
     by_devices false kept event few (d ∷ []) e h =
         let own : IsDevice d.device.uid = (subst (AllByRecursion (λ f. IsDevice f.device.uid)) e
         (all-some (λ f. IsDevice f.device.uid) _ x.before.devices
         (own_uids x.before.devices sound.scene.uids.devices))).0 in
-        let of_scene = (subst (AllByRecursion IsSceneDevice) e (all-some IsSceneDevice _ x.before.devices sound.scene.each)).0 in
-        let reads = text_read-of (branch_text d.device.uid d.preamble) d.device.uid (branch_text_reads d.device.uid d.preamble own.in_range of_scene.preamble) in
+        let of_scene =
+        (subst (AllByRecursion IsSceneDevice) e (all-some IsSceneDevice _ x.before.devices sound.scene.each)).0 in
+        let reads = text_read-of (branch_text d.device.uid d.preamble) d.device.uid
+        (branch_text_reads d.device.uid d.preamble own.in_range of_scene.preamble) in
         heard_so (One d.device.uid) (d ∷ []) e
-        (heard_as x (branch_text d.device.uid d.preamble) (event ∙ ap (λ l. Reply (record { items = l })) h.0) (Branched range.lo range.hi) so tn asks.asked asks.source asks.number
-        ∙ heard_text so tn range.lo range.hi (branch_text d.device.uid d.preamble) d.device.uid reads (reply_some d.device.uid d.preamble))
+        (heard_as x (branch_text d.device.uid d.preamble) (event ∙ ap (λ l. Reply (record { items = l })) h.0)
+        (Branched range.lo range.hi) so tn asks.asked asks.source asks.number
+        ∙ heard_text so tn range.lo range.hi (branch_text d.device.uid d.preamble) d.device.uid reads
+        (reply_some d.device.uid d.preamble))
         (inl refl) refl (ap (λ (t : SimState). t.muted) h.1)
-    by_devices true is_lost event few (d ∷ f ∷ ds) e h = lost_so d (f ∷ ds) e (silence event) tt is_lost few (ap (λ (t : SimState). t.muted) h.next)
+    by_devices true is_lost event few (d ∷ f ∷ ds) e h =
+        lost_so d (f ∷ ds) e (silence event) tt is_lost few (ap (λ (t : SimState). t.muted) h.next)
     by_devices false kept event few (d ∷ f ∷ ds) e h =
-        heard_so (heard_bytes so tn (Branched range.lo range.hi) reply) (d ∷ f ∷ ds) e (heard_as x reply event (Branched range.lo range.hi) so tn asks.asked asks.source asks.number) tt
-        (ap (λ t. cond t (b + 1) 0) (not_silent so tn range.lo range.hi reply h.some)) (ap (λ (t : SimState). t.muted) h.next)
+        heard_so (heard_bytes so tn (Branched range.lo range.hi) reply) (d ∷ f ∷ ds) e
+        (heard_as x reply event (Branched range.lo range.hi) so tn asks.asked asks.source asks.number) tt
+        (ap (λ t. cond t (b + 1) 0) (not_silent so tn range.lo range.hi reply h.some))
+        (ap (λ (t : SimState). t.muted) h.next)
 
 -- every step at which the line doesn't fail
 pub honest_after : (x : Step) (next : SimState) (b m n : ℕ) → IsSoundState x.before → Exchanges x.before x.exchange next
@@ -460,22 +563,32 @@ pub honest_after : (x : Step) (next : SimState) (b m n : ℕ) → IsSoundState x
 honest_after x next b m n sound h few_b few_m = by_command (command_read x.exchange.0.items) refl h.acts
   where
     silent : h.reply ≡ [] → x.exchange.1 ≡ Reply (record { items = [] })
-    silent nothing = h.heard ∙ ap (λ l. Reply (record { items = l })) (ap (cond (is_among x.before.exchanges x.before.losses) []) nothing ∙ either (is_among x.before.exchanges x.before.losses))
+    silent nothing =
+        h.heard ∙ ap (λ l. Reply (record { items = l }))
+        (ap (cond (is_among x.before.exchanges x.before.losses) []) nothing
+        ∙ either (is_among x.before.exchanges x.before.losses))
       where
         either : (t : Bool) → cond {A = List ℕ} t [] [] ≡ []
         either true = refl
         either false = refl
 
-    of_mute : (u so tn : ℕ) → command_read x.exchange.0.items ≡ Some (Mute u, so, tn) → (o : Option SceneDevice) → device_at x.before.exchanges x.before.devices u ≡ o
-        → MatchOption o (KeepsSilent (counted x.before) h.reply next) (λ d. Mutes (counted x.before) d so tn h.reply next) → HonestAfter x next b m n
-    of_mute u so tn is None found g = mute_nobody_after x next b m n u so tn sound (asks_command x (Mute u) so tn h.frame is) found (ap (λ (t : SimState). t.muted) g.same) (silent g.silent)
+    of_mute : (u so tn : ℕ) → command_read x.exchange.0.items ≡ Some (Mute u, so, tn) → (o : Option SceneDevice)
+        → device_at x.before.exchanges x.before.devices u ≡ o
+        → MatchOption o (KeepsSilent (counted x.before) h.reply next)
+        (λ d. Mutes (counted x.before) d so tn h.reply next) → HonestAfter x next b m n
+    of_mute u so tn is None found g =
+        mute_nobody_after x next b m n u so tn sound (asks_command x (Mute u) so tn h.frame is) found
+        (ap (λ (t : SimState). t.muted) g.same) (silent g.silent)
     of_mute u so tn is (Some d) found g =
         mute_device_after x next b m n u so tn d h.reply sound (asks_command x (Mute u) so tn h.frame is) is found
         g.bytes (ap (λ (t : SimState). t.muted) g.mutes) (is_among x.before.exchanges x.before.losses) refl h.heard
         few_m
 
-    of_command : (c : Command) (so tn : ℕ) → command_read x.exchange.0.items ≡ Some (c, so, tn) → ActsOn x.before.exchanges (counted x.before) c so tn h.reply next → HonestAfter x next b m n
-    of_command Unmute so tn is g = unmute_after x next b m n so tn (asks_command x Unmute so tn h.frame is) (ap (λ (t : SimState). t.muted) g.unmuted)
+    of_command : (c : Command) (so tn : ℕ) → command_read x.exchange.0.items ≡ Some (c, so, tn)
+        → ActsOn x.before.exchanges (counted x.before) c so tn h.reply next → HonestAfter x next b m n
+    of_command Unmute so tn is g =
+        unmute_after x next b m n so tn (asks_command x Unmute so tn h.frame is)
+        (ap (λ (t : SimState). t.muted) g.unmuted)
     of_command (Branch range) so tn is g =
         branch_after x next b m n so tn range h.reply sound (asks_command x (Branch range) so tn h.frame is) is
         (is_among x.before.exchanges x.before.losses) refl h.heard few_b
@@ -483,10 +596,17 @@ honest_after x next b m n sound h few_b few_m = by_command (command_read x.excha
     of_command (Mute u) so tn is g = of_mute u so tn is (device_at x.before.exchanges x.before.devices u) refl g
     of_command (Requested r) so tn is g =
         let asks = asks_command x (Requested r) so tn h.frame is in
-        let same = (after_request x.before next r so tn h.reply (device_at x.before.exchanges x.before.devices r.target) g).muted in
-        quiet x next b m n 0 (seen_as (present_in x) (line_state (present_in x) x.before.muted b m n) (line_state (present_in x) next.muted 0 0 0) _ Other _ _ asks.asked refl
-        (keeps (present_in x) next.muted x.before.muted same, counts (present_in x) next.muted 0 0 0 (omega arith) (omega arith)))
+        let same = (after_request x.before next r so tn h.reply (device_at x.before.exchanges x.before.devices r.target)
+        g).muted in
+        quiet x next b m n 0
+        (seen_as (present_in x) (line_state (present_in x) x.before.muted b m n)
+        (line_state (present_in x) next.muted 0 0 0) _ Other _ _ asks.asked refl (
+          keeps (present_in x) next.muted x.before.muted same,
+          counts (present_in x) next.muted 0 0 0 (omega arith) (omega arith),
+        ))
 
-    by_command : (o : Option (Command × ℕ × ℕ)) → command_read x.exchange.0.items ≡ o → Acts x.before.exchanges (counted x.before) o h.reply next → HonestAfter x next b m n
-    by_command None is g = nobody_steps x next b m n sound h.frame is (ap (λ (t : SimState). t.muted) g.same) (silent g.silent)
+    by_command : (o : Option (Command × ℕ × ℕ)) → command_read x.exchange.0.items ≡ o
+        → Acts x.before.exchanges (counted x.before) o h.reply next → HonestAfter x next b m n
+    by_command None is g =
+        nobody_steps x next b m n sound h.frame is (ap (λ (t : SimState). t.muted) g.same) (silent g.silent)
     by_command (Some sent) is g = of_command sent.0 sent.1 sent.2 is g

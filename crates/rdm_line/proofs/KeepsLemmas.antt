@@ -1,5 +1,6 @@
 -- What a run of the simulated line keeps of its scene, and where it fails.
-use Rattle.std.proofs.Common.{◌≡◌, ℕ, Bool, true, false, List, [], ◌∷◌, length, map, replicate, Option, Some, None, refl, sym, ap, ◌∙◌, subst, true≢false}
+use Rattle.std.proofs.Common.{◌≡◌, ℕ, Bool, true, false, List, [], ◌∷◌, length, map, replicate, Option, Some, None}
+use Rattle.std.proofs.Common.{refl, sym, ap, ◌∙◌, subst, true≢false}
 use Rattle.std.specs.Prelude.{◌≢◌, ◌↔◌, MatchBool, nat_lt, ◌&&◌}
 use Rattle.std.specs.List.{AllByRecursion}
 use Rattle.std.proofs.lemmas.Bool.{and_parts}
@@ -32,7 +33,11 @@ keeps_itself : (s : SimState) → KeepsScene s s
 keeps_itself s = record { present = λ i. refl; losses = refl; fails = refl }
 
 keeps_on : (a b c : SimState) → KeepsScene a b → KeepsScene b c → KeepsScene a c
-keeps_on a b c first then = record { present = λ i. then.present i ∙ first.present i; losses = then.losses ∙ first.losses; fails = then.fails ∙ first.fails }
+keeps_on a b c first then = record {
+  present = λ i. then.present i ∙ first.present i;
+  losses = then.losses ∙ first.losses;
+  fails = then.fails ∙ first.fails;
+}
 
 -- a step keeps the scene
 step_keeps : (s : SimState) (x : Exchange) (next : SimState) → SimStep s x next → KeepsScene s next
@@ -42,24 +47,35 @@ step_keeps s x next step = by_rule (is_among s.exchanges s.fails) step.rule
     by_rule true h = subst (KeepsScene s) (sym h.only) (record { present = λ i. refl; losses = refl; fails = refl })
     by_rule false h =
         let numbers = keeps_numbers s.exchanges (counted s) next (command_read x.0.items) h.reply h.acts in
-        record { present = (acts_leave s next (command_read x.0.items) h.reply h.acts).present; losses = numbers.losses; fails = numbers.fails }
+        record {
+          present = (acts_leave s next (command_read x.0.items) h.reply h.acts).present;
+          losses = numbers.losses;
+          fails = numbers.fails;
+        }
 
 -- so does a run, at its end and before each step
 pub run_keeps : (s new : SimState) (xs : List Step) → IsRun s xs new → KeepsScene s new
 run_keeps s new [] run = subst (KeepsScene s) (sym run) (keeps_itself s)
-run_keeps s new (x ∷ xs) run = keeps_on s run.1 new (subst (λ t. KeepsScene t run.1) run.0 (step_keeps x.before x.exchange run.1 run.2)) (run_keeps run.1 new xs run.3)
+run_keeps s new (x ∷ xs) run =
+    keeps_on s run.1 new (subst (λ t. KeepsScene t run.1) run.0 (step_keeps x.before x.exchange run.1 run.2))
+    (run_keeps run.1 new xs run.3)
 
-keeps_from : (first s new : SimState) (xs : List Step) → KeepsScene first s → IsRun s xs new → AllByRecursion (λ x. KeepsScene first x.before) xs
+keeps_from : (first s new : SimState) (xs : List Step) → KeepsScene first s → IsRun s xs new
+    → AllByRecursion (λ x. KeepsScene first x.before) xs
 keeps_from first s new [] k run = tt
 keeps_from first s new (x ∷ xs) k run =
-    let here : KeepsScene first x.before = subst (KeepsScene first) (sym run.0) k in
-    (here, keeps_from first run.1 new xs (keeps_on first x.before run.1 here (step_keeps x.before x.exchange run.1 run.2)) run.3)
+    let here : KeepsScene first x.before = subst (KeepsScene first) (sym run.0) k in (
+      here,
+      keeps_from first run.1 new xs
+          (keeps_on first x.before run.1 here (step_keeps x.before x.exchange run.1 run.2)) run.3,
+    )
 
 pub each_keeps : (s new : SimState) (xs : List Step) → IsRun s xs new → AllByRecursion (λ x. KeepsScene s x.before) xs
 each_keeps s new xs run = keeps_from s s new xs (keeps_itself s) run
 
 -- an exchange fails exactly when its number is named
-step_fails : (s : SimState) (x : Exchange) (next : SimState) → SimStep s x next → (x.1 ≡ Failed) ↔ (is_among s.exchanges s.fails ≡ true)
+step_fails : (s : SimState) (x : Exchange) (next : SimState) → SimStep s x next → (x.1 ≡ Failed)
+    ↔ (is_among s.exchanges s.fails ≡ true)
 step_fails s x next step = by_rule (is_among s.exchanges s.fails) step.rule
   where
     reply_is : (event : LineEvent) (lost : Bool) (h : Exchanges s x next) → x.1 ≡ Failed → ⊥
@@ -72,7 +88,8 @@ step_fails s x next step = by_rule (is_among s.exchanges s.fails) step.rule
     by_rule true h = (λ failed. refl, λ named. h.failed)
     by_rule false h = (λ failed. absurd (reply_is x.1 false h failed), λ named. absurd (true≢false (sym named)))
 
-fails_from : (first : List ℕ) (s new : SimState) (xs : List Step) → s.fails ≡ first → IsRun s xs new → AllByRecursion (FailsAsNamed first) xs
+fails_from : (first : List ℕ) (s new : SimState) (xs : List Step) → s.fails ≡ first → IsRun s xs new
+    → AllByRecursion (FailsAsNamed first) xs
 fails_from first s new [] same run = tt
 fails_from first s new (x ∷ xs) same run =
     let here : x.before.fails ≡ first = ap (λ (t : SimState). t.fails) run.0 ∙ same in (
@@ -101,10 +118,12 @@ bytes_sound s tn Other (b ∷ bs) h = cc
 
 event_failed : (frame : List ℕ) (event : LineEvent) → heard_in frame (bytes_heard event) ≡ HeardFailed → event ≡ Failed
 event_failed frame Failed h = refl
-event_failed frame (Reply bytes) h = absurd (bytes_sound (fields_at frame).source (fields_at frame).tn (asked_in frame) bytes.items h)
+event_failed frame (Reply bytes) h =
+    absurd (bytes_sound (fields_at frame).source (fields_at frame).tn (asked_in frame) bytes.items h)
 
 -- where none is named, none fails
-sound_from : (xs : List Step) → AllByRecursion (FailsAsNamed []) xs → AllByRecursion (λ x. (seen_in x).heard ≢ HeardFailed) xs
+sound_from : (xs : List Step) → AllByRecursion (FailsAsNamed []) xs
+    → AllByRecursion (λ x. (seen_in x).heard ≢ HeardFailed) xs
 sound_from [] all = tt
 sound_from (x ∷ xs) all = (
   λ failed. true≢false
@@ -113,14 +132,18 @@ sound_from (x ∷ xs) all = (
   sound_from xs all.1,
 )
 
-pub run_sound : (s new : SimState) (xs : List Step) → IsRun s xs new → s.fails ≡ [] → AllByRecursion (λ x. (seen_in x).heard ≢ HeardFailed) xs
-run_sound s new xs run none = sound_from xs (subst (λ named. AllByRecursion (FailsAsNamed named) xs) none (run_fails s new xs run))
+pub run_sound : (s new : SimState) (xs : List Step) → IsRun s xs new → s.fails ≡ []
+    → AllByRecursion (λ x. (seen_in x).heard ≢ HeardFailed) xs
+run_sound s new xs run none =
+    sound_from xs (subst (λ named. AllByRecursion (FailsAsNamed named) xs) none (run_fails s new xs run))
 
 -- where the devices stay, the same are present at each exchange
-same_sets : (devices : List SceneDevice) (xs : List Step) → AllByRecursion Stays devices → AllByRecursion (λ x. (i : ℕ) → present_at x.before.devices i ≡ present_at devices i) xs
+same_sets : (devices : List SceneDevice) (xs : List Step) → AllByRecursion Stays devices
+    → AllByRecursion (λ x. (i : ℕ) → present_at x.before.devices i ≡ present_at devices i) xs
     → map present_in xs ≡ replicate (length xs) (uids_of_scene devices)
 same_sets devices [] stay all = refl
-same_sets devices (x ∷ xs) stay all = cons (all.0 x.before.exchanges ∙ all_present devices x.before.exchanges stay) (same_sets devices xs stay all.1)
+same_sets devices (x ∷ xs) stay all =
+    cons (all.0 x.before.exchanges ∙ all_present devices x.before.exchanges stay) (same_sets devices xs stay all.1)
   where
     cons : {p q : List ℕ} {ps qs : List (List ℕ)} → p ≡ q → ps ≡ qs → p ∷ ps ≡ q ∷ qs
     cons a b = rw (a, b) refl
@@ -132,14 +155,18 @@ each_present devices first [] all = tt
 each_present devices first (x ∷ xs) all = (all.0.present, each_present devices first xs all.1)
 
 -- so such a line is the honest one of its devices
-pub staying_honest : (s new : SimState) (xs : List Step) → IsScene s.devices → AllByRecursion Stays s.devices → IsRun s xs new → LosesFew xs → HonestTrace (uids_of_scene s.devices) (map seen_in xs)
+pub staying_honest : (s new : SimState) (xs : List Step) → IsScene s.devices → AllByRecursion Stays s.devices
+    → IsRun s xs new → LosesFew xs → HonestTrace (uids_of_scene s.devices) (map seen_in xs)
 staying_honest s new xs scene stay run few =
     (trace-over (uids_of_scene s.devices) (map seen_in xs) scene.uids).1
     (subst (λ n. HonestOver (replicate n (uids_of_scene s.devices)) (map seen_in xs)) (sym (length-map xs seen_in))
-    (subst (λ sets. HonestOver sets (map seen_in xs)) (same_sets s.devices xs stay (each_present s.devices s xs (each_keeps s new xs run))) (honest_run s new xs run few)))
+    (subst (λ sets. HonestOver sets (map seen_in xs))
+    (same_sets s.devices xs stay (each_present s.devices s xs (each_keeps s new xs run)))
+    (honest_run s new xs run few)))
 
 -- the steps that a line made one after another are a run
-pub made_run : (s new : SimState) (xs : List Exchange) → Makes SimState SimStep s xs new → (steps : List Step) × IsRun s steps new × (map (λ x. x.exchange) steps ≡ xs)
+pub made_run : (s new : SimState) (xs : List Exchange) → Makes SimState SimStep s xs new → (steps : List Step)
+    × IsRun s steps new × (map (λ x. x.exchange) steps ≡ xs)
 made_run s new [] made = ([], made, refl)
 made_run s new (x ∷ xs) made =
     let later = made_run made.0 new xs made.2 in

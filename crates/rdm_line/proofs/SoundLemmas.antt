@@ -1,5 +1,6 @@
 -- What always holds of a simulated line, after what happens to it.
-use Rattle.std.proofs.Common.{◌≡◌, ℕ, suc, ◌+◌, ◌<◌, ◌≤◌, Bool, true, false, ◌||◌, cond, List, [], ◌∷◌, length, Option, Some, None, refl, sym, ap, ◌∙◌, subst, inl, inr, true≢false, arith}
+use Rattle.std.proofs.Common.{◌≡◌, ℕ, suc, ◌+◌, ◌<◌, ◌≤◌, Bool, true, false, ◌||◌, cond, List, [], ◌∷◌, length, Option}
+use Rattle.std.proofs.Common.{Some, None, refl, sym, ap, ◌∙◌, subst, inl, inr, true≢false, arith}
 use Rattle.std.specs.Prelude.{◌⊎◌, ◌==◌, nat_lt, nat_le, option_map, option_and_then, Result, Ok, Err, IsErr, OnOk}
 use Rattle.std.specs.List.{AllByRecursion}
 use Rattle.std.proofs.lemmas.Bool.{eqb-true, eq-eqb, ne_eqb, or_cases, and_parts, cases_order, ltb-false, leb-true}
@@ -33,7 +34,8 @@ record IsFound (u : ℕ) (ds : List SceneDevice) (d : SceneDevice) : Type 0 wher
 some_is : {X : Type 0} (x y : X) → Some x ≡ Some y → x ≡ y
 some_is x y h = cc
 
-found_is : (ds : List SceneDevice) (u : ℕ) (d : SceneDevice) → AllByRecursion IsDevice (uids_of_scene ds) → AllByRecursion IsSceneDevice ds → find_device ds u ≡ Some d → IsFound u ds d
+found_is : (ds : List SceneDevice) (u : ℕ) (d : SceneDevice) → AllByRecursion IsDevice (uids_of_scene ds)
+    → AllByRecursion IsSceneDevice ds → find_device ds u ≡ Some d → IsFound u ds d
 found_is [] u d own each h = absurd (let wrong : ⊥ = cc in wrong)
 found_is (e ∷ es) u d own each h = by_test (e.device.uid == u) refl (found_is es u d own.1 each.1)
   where
@@ -41,22 +43,42 @@ found_is (e ∷ es) u d own each h = by_test (e.device.uid == u) refl (found_is 
     by_test true is rest =
         let uid : e.device.uid ≡ u = eqb-true e.device.uid u is in
         let same : e ≡ d = some_is e d (subst (λ t. cond t (Some e) (find_device es u) ≡ Some d) is h) in
-        subst (IsFound u (e ∷ es)) same (record { uid = uid; own = subst IsDevice uid own.0; there = rw (eq-eqb u e.device.uid (sym uid)) refl; of_scene = each.0 })
+        subst (IsFound u (e ∷ es)) same (record {
+          uid = uid;
+          own = subst IsDevice uid own.0;
+          there = rw (eq-eqb u e.device.uid (sym uid)) refl;
+          of_scene = each.0;
+        })
     by_test false is rest =
         let f = rest (subst (λ t. cond t (Some e) (find_device es u) ≡ Some d) is h) in
-        record { uid = f.uid; own = f.own; there = ap (λ b. (u == e.device.uid) || b) f.there ∙ or-true (u == e.device.uid); of_scene = f.of_scene }
+        record {
+          uid = f.uid;
+          own = f.own;
+          there = ap (λ b. (u == e.device.uid) || b) f.there ∙ or-true (u == e.device.uid);
+          of_scene = f.of_scene;
+        }
 
-pub device_at_is : (i u : ℕ) (ds : List SceneDevice) (d : SceneDevice) → IsScene ds → device_at i ds u ≡ Some d → IsDeviceAt i u ds d
+pub device_at_is : (i u : ℕ) (ds : List SceneDevice) (d : SceneDevice) → IsScene ds → device_at i ds u ≡ Some d
+    → IsDeviceAt i u ds d
 device_at_is i u ds d scene h = by_option (find_device ds u) refl h
   where
-    by_test : (e : SceneDevice) → find_device ds u ≡ Some e → (t : Bool) → is_present i e ≡ t → cond t (Some e) None ≡ Some d → IsDeviceAt i u ds d
+    by_test : (e : SceneDevice) → find_device ds u ≡ Some e → (t : Bool) → is_present i e ≡ t
+        → cond t (Some e) None ≡ Some d → IsDeviceAt i u ds d
     by_test e is true here g =
         let same : e ≡ d = some_is e d g in
         let f = found_is ds u e scene.uids.devices scene.each is in
-        subst (IsDeviceAt i u ds) same (record { uid = f.uid; own = f.own; there = f.there; of_scene = f.of_scene; present = here; found = is })
+        subst (IsDeviceAt i u ds) same (record {
+          uid = f.uid;
+          own = f.own;
+          there = f.there;
+          of_scene = f.of_scene;
+          present = here;
+          found = is;
+        })
     by_test e is false here g = absurd (let wrong : ⊥ = cc in wrong)
 
-    by_option : (o : Option SceneDevice) → find_device ds u ≡ o → option_and_then (λ e. cond (is_present i e) (Some e) None) o ≡ Some d → IsDeviceAt i u ds d
+    by_option : (o : Option SceneDevice) → find_device ds u ≡ o
+        → option_and_then (λ e. cond (is_present i e) (Some e) None) o ≡ Some d → IsDeviceAt i u ds d
     by_option None is g = absurd (let wrong : ⊥ = cc in wrong)
     by_option (Some e) is g = by_test e is (is_present i e) refl g
 
@@ -77,7 +99,10 @@ has-with_uid u (v ∷ vs) w = by_test (nat_lt u v) (u == v) refl (has-with_uid u
     by_test : (t k : Bool) → (u == v) ≡ k → has (with_uid u vs) w ≡ ((w == u) || has vs w)
         → has (cond t (u ∷ v ∷ vs) (cond k (v ∷ vs) (v ∷ with_uid u vs))) w ≡ ((w == u) || ((w == v) || has vs w))
     by_test true k is rest = refl
-    by_test false true is rest = let same : u ≡ v = eqb-true u v is in subst (λ x. ((w == v) || has vs w) ≡ ((w == x) || ((w == v) || has vs w))) (sym same) (twice (w == v) (has vs w))
+    by_test false true is rest =
+        let same : u ≡ v = eqb-true u v is in
+        subst (λ x. ((w == v) || has vs w) ≡ ((w == x) || ((w == v) || has vs w))) (sym same)
+        (twice (w == v) (has vs w))
     by_test false false is rest = ap (λ b. (w == v) || b) rest ∙ swapped (w == v) (w == u) (has vs w)
 
 -- an ascending list is no longer than one with all its members
@@ -88,7 +113,8 @@ above-member v (w ∷ us) u all h = elim (or_cases (u == w) (has us u) h) [
   | inr rest ↦ above-member v us u all.1 rest
 ]
 
-no_longer : (xs ys : List ℕ) → IsAscending xs → IsAscending ys → ((u : ℕ) → has xs u ≡ true → has ys u ≡ true) → length xs ≤ length ys
+no_longer : (xs ys : List ℕ) → IsAscending xs → IsAscending ys → ((u : ℕ) → has xs u ≡ true → has ys u ≡ true)
+    → length xs ≤ length ys
 no_longer [] ys a b within = omega arith
 no_longer (x ∷ xs) [] a b within = absurd (true≢false (sym (within x (rw (eq-eqb x x refl) refl))))
 no_longer (x ∷ xs) (y ∷ ys) a b within = elim (cases_order x y) [
@@ -131,8 +157,10 @@ length-new u (v ∷ vs) h = by_test (nat_lt u v) (u == v) refl (length-new u vs)
     by_test false false is rest = ap suc (rest (subst (λ b. (b || has vs u) ≡ false) is h))
 
 -- a device is muted
-pub sound-muted : (u i : ℕ) (d : SceneDevice) (ds : List SceneDevice) (muted losses fails : List ℕ) (exchanges failures : ℕ)
-    → IsSound ds muted losses fails exchanges failures → IsDeviceAt i u ds d → exchanges ≡ next_exchange i → IsSound ds (with_uid u muted) losses fails exchanges failures
+pub sound-muted : (u i : ℕ) (d : SceneDevice) (ds : List SceneDevice) (muted losses fails : List ℕ)
+    (exchanges failures : ℕ)
+    → IsSound ds muted losses fails exchanges failures → IsDeviceAt i u ds d → exchanges ≡ next_exchange i
+    → IsSound ds (with_uid u muted) losses fails exchanges failures
 sound-muted u i d ds muted losses fails exchanges failures s at counted = record {
   scene = s.scene;
   muted_set = devices-with_uid u muted at.own s.muted_set;
@@ -152,21 +180,29 @@ sound-muted u i d ds muted losses fails exchanges failures s at counted = record
     is_next : (n m : ℕ) → m ≡ next_exchange n → (m ≡ n + 1) ⊎ ((m ≡ n) × (last_exchange ≤ n))
     is_next n m e = by_test (nat_lt n last_exchange) refl e
       where
-        by_test : (t : Bool) → nat_lt n last_exchange ≡ t → m ≡ cond t (n + 1) n → (m ≡ n + 1) ⊎ ((m ≡ n) × (last_exchange ≤ n))
+        by_test : (t : Bool) → nat_lt n last_exchange ≡ t → m ≡ cond t (n + 1) n → (m ≡ n + 1)
+            ⊎ ((m ≡ n) × (last_exchange ≤ n))
         by_test true is g = inl g
         by_test false is g = inr (g, ltb-false n last_exchange is)
 
     before : (v from : ℕ) → v ≡ u → from_of ds v ≡ Some from → from < exchanges
     before v from same f =
-        let found : Some d.from ≡ Some from = sym (ap (option_map (λ (e : SceneDevice). e.from)) at.found) ∙ ap (from_of ds) (sym same) ∙ f in
+        let found : Some d.from ≡ Some from = sym (ap (option_map (λ (e : SceneDevice). e.from)) at.found)
+        ∙ ap (from_of ds) (sym same) ∙ f in
         let is : d.from ≡ from = some_is d.from from found in
         let few : d.from ≤ 1000000000 = at.of_scene.from in
         let here : d.from ≤ i = leb-true d.from i (and_parts (nat_le d.from i) _ at.present).0 in
-        elim (is_next i exchanges counted) [ inl more ↦ omega arith | inr stays ↦ let past : last_exchange ≤ i = stays.1 in let e : exchanges ≡ i = stays.0 in omega arith ]
+        elim (is_next i exchanges counted) [
+          | inl more ↦ omega arith
+          | inr stays ↦ let past : last_exchange ≤ i = stays.1 in
+              let e : exchanges ≡ i = stays.0 in omega arith
+        ]
 
 -- there is room for each device among the muted ones
-pub not_full : (u i : ℕ) (d : SceneDevice) (ds : List SceneDevice) (muted losses fails : List ℕ) (exchanges failures : ℕ)
-    → IsSound ds muted losses fails exchanges failures → IsDeviceAt i u ds d → has muted u ≡ false → length muted ≡ 1024 → ⊥
+pub not_full : (u i : ℕ) (d : SceneDevice) (ds : List SceneDevice) (muted losses fails : List ℕ)
+    (exchanges failures : ℕ)
+    → IsSound ds muted losses fails exchanges failures → IsDeviceAt i u ds d → has muted u ≡ false → length muted ≡ 1024
+    → ⊥
 not_full u i d ds muted losses fails exchanges failures s at absent full =
     let few : length (with_uid u muted) ≤ length (uids_of_scene ds) =
     no_longer (with_uid u muted) (uids_of_scene ds) (devices-with_uid u muted at.own s.muted_set).ascending
@@ -183,7 +219,8 @@ not_full u i d ds muted losses fails exchanges failures s at absent full =
     ]
 
 -- so a device is put among them
-pub put_in : (u : ℕ) (old new : List ℕ) (r : Result Bool SetFull) → OnOk r (new ≡ with_uid u old) → (IsErr r → (has old u ≡ false) × (length old ≡ 1024))
+pub put_in : (u : ℕ) (old new : List ℕ) (r : Result Bool SetFull) → OnOk r (new ≡ with_uid u old)
+    → (IsErr r → (has old u ≡ false) × (length old ≡ 1024))
     → (has old u ≡ false → length old ≡ 1024 → ⊥) → new ≡ with_uid u old
 put_in u old new (Ok b) ok err room = ok
 put_in u old new (Err e) ok err room = let full = err refl in absurd (room full.0 full.1)
@@ -207,7 +244,8 @@ from-sent u pid [] v = refl
 from-sent u pid (d ∷ ds) v = by_test (d.device.uid == u) (d.device.uid == v) (from-sent u pid ds v)
   where
     by_test : (t k : Bool) → from_of (sent_by u pid ds) v ≡ from_of ds v
-        → option_map (λ (e : SceneDevice). e.from) (find_device (cond t (with_params d (sent_of pid d.params) ∷ ds) (d ∷ sent_by u pid ds)) v)
+        → option_map (λ (e : SceneDevice). e.from)
+        (find_device (cond t (with_params d (sent_of pid d.params) ∷ ds) (d ∷ sent_by u pid ds)) v)
         ≡ option_map (λ (e : SceneDevice). e.from) (cond (d.device.uid == v) (Some d) (find_device ds v))
     by_test true k rest = either (d.device.uid == v)
       where
@@ -226,7 +264,8 @@ from-sent u pid (d ∷ ds) v = by_test (d.device.uid == u) (d.device.uid == v) (
 
 -- after a part was sent
 pub sound-sent : (u pid : ℕ) (ds : List SceneDevice) (muted losses fails : List ℕ) (exchanges failures : ℕ)
-    → IsSound ds muted losses fails exchanges failures → IsSound (sent_by u pid ds) muted losses fails exchanges failures
+    → IsSound ds muted losses fails exchanges failures
+    → IsSound (sent_by u pid ds) muted losses fails exchanges failures
 sound-sent u pid ds muted losses fails exchanges failures s = record {
   scene = scene-sent u pid ds s.scene;
   muted_set = s.muted_set;

@@ -1,5 +1,6 @@
 -- Steps of the simulated line.
-use Rattle.std.proofs.Common.{◌≡◌, ℕ, ◌+◌, Bool, true, false, cond, List, [], ◌∷◌, Option, Some, None, refl, sym, ap, ◌∙◌, subst}
+use Rattle.std.proofs.Common.{◌≡◌, ℕ, ◌+◌, Bool, true, false, cond, List, [], ◌∷◌, Option, Some, None, refl, sym, ap}
+use Rattle.std.proofs.Common.{◌∙◌, subst}
 use Rattle.std.specs.Prelude.{◌==◌, nat_lt, MatchOption}
 use Rattle.std.proofs.lemmas.Bool.{and_parts}
 use Rattle.rdm_wire.specs.Uid.{has}
@@ -25,11 +26,17 @@ use Rattle.rdm_line.specs.declared.scene.SceneDevice.{SceneDevice}
 use Rattle.rdm_line.proofs.SceneLemmas.{with_params}
 
 -- a GET, by the part that was sent
-pub answered : (o : Option ParameterState) (answer : Option (ArrayVec ℕ × AckType)) (s new : SimState) (r : Request) (source tn : ℕ) (reply : List ℕ)
-    → AnswersPart o answer → SendsPart r source tn answer reply → new ≡ record s { devices = sent_by r.target r.pid s.devices }
+pub answered : (o : Option ParameterState) (answer : Option (ArrayVec ℕ × AckType)) (s new : SimState) (r : Request)
+    (source tn : ℕ) (reply : List ℕ)
+    → AnswersPart o answer → SendsPart r source tn answer reply → new ≡ record s {
+      devices = sent_by r.target r.pid s.devices;
+    }
     → (o ≡ None → sent_by r.target r.pid s.devices ≡ s.devices)
     → MatchOption o (Refuses s r source tn responses.Get reply new) (λ p. AnswersGet s r source tn p reply new)
-answered None None s new r source tn reply part tells sent none = record { bytes = tells; same = sent ∙ ap (λ ds. record s { devices = ds }) (none refl) }
+answered None None s new r source tn reply part tells sent none = record {
+  bytes = tells;
+  same = sent ∙ ap (λ ds. record s { devices = ds }) (none refl);
+}
 answered None (Some a) s new r source tn reply part tells sent none = absurd (let wrong : ⊥ = cc in wrong)
 answered (Some p) None s new r source tn reply part tells sent none = absurd (let wrong : ⊥ = cc in wrong)
 answered (Some p) (Some a) s new r source tn reply part tells sent none = record {
@@ -44,7 +51,8 @@ sent_none : (pid : ℕ) (ps : List ParameterState) → parameter_of pid ps ≡ N
 sent_none pid [] h = refl
 sent_none pid (p ∷ ps) h = by_test (p.pid == pid) refl (sent_none pid ps)
   where
-    by_test : (t : Bool) → (p.pid == pid) ≡ t → (parameter_of pid ps ≡ None → sent_of pid ps ≡ ps) → sent_of pid (p ∷ ps) ≡ p ∷ ps
+    by_test : (t : Bool) → (p.pid == pid) ≡ t → (parameter_of pid ps ≡ None → sent_of pid ps ≡ ps)
+        → sent_of pid (p ∷ ps) ≡ p ∷ ps
     by_test true is rest = absurd (let wrong : Some p ≡ None = sym (rw is refl) ∙ h in let never : ⊥ = cc in never)
     by_test false is rest = rw is (ap (λ l. p ∷ l) (rest (rw is at h)))
 
@@ -52,7 +60,8 @@ pub nothing_sent : (u pid : ℕ) (ds : List SceneDevice) → parameter_at u pid 
 nothing_sent u pid [] h = refl
 nothing_sent u pid (d ∷ ds) h = by_test (d.device.uid == u) refl (nothing_sent u pid ds)
   where
-    by_test : (t : Bool) → (d.device.uid == u) ≡ t → (parameter_at u pid ds ≡ None → sent_by u pid ds ≡ ds) → sent_by u pid (d ∷ ds) ≡ d ∷ ds
+    by_test : (t : Bool) → (d.device.uid == u) ≡ t → (parameter_at u pid ds ≡ None → sent_by u pid ds ≡ ds)
+        → sent_by u pid (d ∷ ds) ≡ d ∷ ds
     by_test true is rest = rw is (ap (λ ps. with_params d ps ∷ ds) (sent_none pid d.params (rw is at h)))
     by_test false is rest = rw is (ap (λ l. d ∷ l) (rest (rw is at h)))
 
@@ -62,11 +71,17 @@ pub record KeepsNumbers (s new : SimState) : Type 0 where
   pub losses : new.losses ≡ s.losses
   pub fails : new.fails ≡ s.fails
 
-pub keeps_numbers : (i : ℕ) (s new : SimState) (sent : Option (Command × ℕ × ℕ)) (reply : List ℕ) → Acts i s sent reply new → KeepsNumbers s new
-keeps_numbers i s new None reply acts = subst (KeepsNumbers s) (sym acts.same) (record { failures = refl; losses = refl; fails = refl })
+pub keeps_numbers : (i : ℕ) (s new : SimState) (sent : Option (Command × ℕ × ℕ)) (reply : List ℕ)
+    → Acts i s sent reply new → KeepsNumbers s new
+keeps_numbers i s new None reply acts = subst (KeepsNumbers s) (sym acts.same) (record {
+  failures = refl;
+  losses = refl;
+  fails = refl;
+})
 keeps_numbers i s new (Some sent) reply acts = by_command sent.0 acts
   where
-    kept : (t : SimState) → new ≡ t → t.failures ≡ s.failures → t.losses ≡ s.losses → t.fails ≡ s.fails → KeepsNumbers s new
+    kept : (t : SimState) → new ≡ t → t.failures ≡ s.failures → t.losses ≡ s.losses → t.fails ≡ s.fails
+        → KeepsNumbers s new
     kept t h a b c = subst (KeepsNumbers s) (sym h) (record { failures = a; losses = b; fails = c })
 
     of_branch : (ds : List SceneDevice) → AnswersBranch s ds reply new → KeepsNumbers s new
@@ -74,11 +89,13 @@ keeps_numbers i s new (Some sent) reply acts = by_command sent.0 acts
     of_branch (d ∷ []) h = kept _ h.1 refl refl refl
     of_branch (d ∷ e ∷ ds) h = kept _ h.next refl refl refl
 
-    of_mute : (o : Option SceneDevice) → MatchOption o (KeepsSilent s reply new) (λ d. Mutes s d sent.1 sent.2 reply new) → KeepsNumbers s new
+    of_mute : (o : Option SceneDevice)
+        → MatchOption o (KeepsSilent s reply new) (λ d. Mutes s d sent.1 sent.2 reply new) → KeepsNumbers s new
     of_mute None h = kept _ h.same refl refl refl
     of_mute (Some d) h = kept _ h.mutes refl refl refl
 
-    of_class : (r : Request) (p : ParameterState) (k : ReqClass) → AnswersOf s r sent.1 sent.2 p k reply new → KeepsNumbers s new
+    of_class : (r : Request) (p : ParameterState) (k : ReqClass) → AnswersOf s r sent.1 sent.2 p k reply new
+        → KeepsNumbers s new
     of_class r p Get h = kept _ h.sent refl refl refl
     of_class r p Set h = kept _ h.same refl refl refl
 
@@ -88,7 +105,9 @@ keeps_numbers i s new (Some sent) reply acts = by_command sent.0 acts
     of_parameter r None h = kept _ h.same refl refl refl
     of_parameter r (Some p) h = of_class r p r.class h
 
-    of_request : (r : Request) (o : Option SceneDevice) → MatchOption o (KeepsSilent s reply new) (λ d. AnswersRequest s r sent.1 sent.2 d reply new) → KeepsNumbers s new
+    of_request : (r : Request) (o : Option SceneDevice)
+        → MatchOption o (KeepsSilent s reply new) (λ d. AnswersRequest s r sent.1 sent.2 d reply new)
+        → KeepsNumbers s new
     of_request r None h = kept _ h.same refl refl refl
     of_request r (Some d) h = of_parameter r (parameter_of r.pid d.params) h
 
@@ -99,14 +118,17 @@ keeps_numbers i s new (Some sent) reply acts = by_command sent.0 acts
     by_command (Requested r) h = of_request r (device_at i s.devices r.target) h
 
 -- a step that fails, and one at which the devices act
-pub step_fails : (s : SimState) (x : Exchange) (new : SimState) → IsSoundState s → is_among s.exchanges s.fails ≡ true → FailsOnly s x.1 new → SimStep s x new
+pub step_fails : (s : SimState) (x : Exchange) (new : SimState) → IsSoundState s → is_among s.exchanges s.fails ≡ true
+    → FailsOnly s x.1 new → SimStep s x new
 step_fails s x new sound fails only = record { sound = sound; rule = rw fails only }
 
-pub step_acts : (s : SimState) (x : Exchange) (new : SimState) → IsSoundState s → is_among s.exchanges s.fails ≡ false → Exchanges s x new → SimStep s x new
+pub step_acts : (s : SimState) (x : Exchange) (new : SimState) → IsSoundState s → is_among s.exchanges s.fails ≡ false
+    → Exchanges s x new → SimStep s x new
 step_acts s x new sound acts exchange = record { sound = sound; rule = rw acts exchange }
 
 -- a reply that is lost, and one that comes
-pub heard_lost : (lost : Bool) (reply : List ℕ) (came : ArrayVec ℕ) → lost ≡ true → came.items ≡ [] → IsHeard lost reply (Reply came)
+pub heard_lost : (lost : Bool) (reply : List ℕ) (came : ArrayVec ℕ) → lost ≡ true → came.items ≡ []
+    → IsHeard lost reply (Reply came)
 heard_lost lost reply came is none = ap (λ l. Reply (record { items = l })) (none ∙ ap (λ t. cond t [] reply) (sym is))
 
 pub heard_whole : (lost : Bool) (came : ArrayVec ℕ) → lost ≡ false → IsHeard lost came.items (Reply came)

@@ -35,7 +35,8 @@ says_length line bytes (text, ends, decodes, few) =
     ]
 
 -- a line that is too long says no reply, whatever follows
-pub takes_long : (a b c d : Option (List ℕ)) (text : List ℕ) (x : ℕ) → 515 ≤ length text → All (λ y. y ≢ 10) text → x ≢ 10
+pub takes_long : (a b c d : Option (List ℕ)) (text : List ℕ) (x : ℕ) → 515 ≤ length text → All (λ y. y ≢ 10) text
+    → x ≢ 10
     → Consumes a b text → Consumes b c (x ∷ []) → TakesWithin c d → TakesNoReply a d
 takes_long a b c d text x long all other first then (rest, others, ends) =
     let more = takes_more a b c text x all other first then in
@@ -45,7 +46,8 @@ takes_long a b c d text x long all other first then (rest, others, ends) =
       elim ends [
         | inl part ↦ inl (Consumes-trans a c d line rest more.1 part)
         | inr whole ↦ inr (
-          subst (Consumes a d) (sym (append_assoc line rest (10 ∷ []))) (Consumes-trans a c d line (rest ++ 10 ∷ []) more.1 whole),
+          subst (Consumes a d) (sym (append_assoc line rest (10 ∷ [])))
+              (Consumes-trans a c d line (rest ++ 10 ∷ []) more.1 whole),
           λ bytes says.
               let most = says_length (line ++ rest) bytes says in
               let sum = length-append line rest in
@@ -69,13 +71,15 @@ says_none : (line text : List ℕ) → IsTextOf line text → ((bytes : List ℕ
 says_none line text (inl returned) none bytes (t, inl same, decodes, few) =
     no_return text bytes (subst (λ l. decode_of l ≡ Ok bytes) (sym same ∙ returned) decodes)
 says_none line text (inl returned) none bytes (t, inr again, decodes, few) =
-    none bytes (subst (λ l. decode_of l ≡ Ok bytes) (append_cancel_right t text (13 ∷ []) (sym again ∙ returned)) decodes)
+    none bytes (subst (λ l. decode_of l ≡ Ok bytes) (append_cancel_right t text (13 ∷ []) (sym again ∙ returned))
+    decodes)
 says_none line text (inr (whole, other)) none bytes (t, inl same, decodes, few) =
     none bytes (subst (λ l. decode_of l ≡ Ok bytes) (sym same ∙ whole) decodes)
 says_none line text (inr (whole, other)) none bytes (t, inr again, decodes, few) = other t again
 
 -- nor does one whose text isn't decoded, where the slice has a byte for each two digits
-pub reads_none : (line text : List ℕ) (n : ℕ) (r : Result Unit FromHexError) (out : List ℕ) → IsTextOf line text → n ≡ length text / 2
+pub reads_none : (line text : List ℕ) (n : ℕ) (r : Result Unit FromHexError) (out : List ℕ) → IsTextOf line text
+    → n ≡ length text / 2
     → MatchResult (decode_sized text n) (λ bytes. (r ≡ Ok tt) × (out ≡ bytes)) (λ e. r ≡ Err e) → (IsOk r → ⊥)
     → (bytes : List ℕ) → SaysReply line bytes → ⊥
 reads_none line text n r out is half told bad =
@@ -87,13 +91,15 @@ reads_none line text n r out is half told bad =
 -- what `strip_suffix` leaves of a line is its text
 pub text_is : (line : Bor (List ℕ)) (r : Option (Bor (List ℕ)))
     → MatchOption r (pointwise nat_eq (drop (length line.now - 1) line.now) (13 ∷ []) ≡ false)
-    (λ x. (pointwise nat_eq (drop (length line.now - 1) line.now) (13 ∷ []) ≡ true) × (x.now ≡ take (length line.now - 1) line.now) × (length x.now + 1 ≡ length line.now))
+    (λ x. (pointwise nat_eq (drop (length line.now - 1) line.now) (13 ∷ []) ≡ true)
+    × (x.now ≡ take (length line.now - 1) line.now) × (length x.now + 1 ≡ length line.now))
     → IsTextOf line.now (unwrap_or r line).now
 text_is line None m = inr (refl, strip_suffix_is Decides-eqb line.now (13 ∷ []) None m)
 text_is line (Some x) m = inl (strip_suffix_is Decides-eqb line.now (13 ∷ []) (Some x) m)
 
 -- a frame goes unanswered where the line after it says no reply
-pub unanswered : {X : Type 0} (r : Option X) (left after held holds : Option (List ℕ)) (frame line text : List ℕ) → text ≡ line
+pub unanswered : {X : Type 0} (r : Option X) (left after held holds : Option (List ℕ)) (frame line text : List ℕ)
+    → text ≡ line
     → Appends held holds (frame_line frame) → All (λ y. y ≢ 10) line → Consumes left after (line ++ 10 ∷ [])
     → IfNone r ((bytes : List ℕ) → SaysReply text bytes → ⊥)
     → IfNone r ((after ≡ left) ⊎ (Appends held holds (frame_line frame) × TakesNoReply left after))

@@ -1,5 +1,6 @@
 -- The known UIDs of a discovery on a line, read one after another.
-use Rattle.std.proofs.Common.{◌≡◌, ℕ, zero, suc, ◌+◌, ◌<◌, ◌≤◌, Bool, true, false, cond, List, [], ◌∷◌, ◌++◌, length, take, get_or, Result, refl, sym, ap, ◌∙◌, subst, arith, length-append}
+use Rattle.std.proofs.Common.{◌≡◌, ℕ, zero, suc, ◌+◌, ◌<◌, ◌≤◌, Bool, true, false, cond, List, [], ◌∷◌, ◌++◌, length}
+use Rattle.std.proofs.Common.{take, get_or, Result, refl, sym, ap, ◌∙◌, subst, arith, length-append}
 use Rattle.std.specs.Prelude.{◌==◌, nat_lt, OnOk, IsErr}
 use Rattle.std.specs.Borrow.{Bor}
 use Rattle.std.proofs.Math.Seq.{take-suc}
@@ -15,7 +16,8 @@ length-with_uid : (u : ℕ) (us : List ℕ) → length (with_uid u us) ≤ lengt
 length-with_uid u [] = omega arith
 length-with_uid u (v ∷ us) = by_test (nat_lt u v) (u == v) (length-with_uid u us)
   where
-    by_test : (s t : Bool) → length (with_uid u us) ≤ length us + 1 → length (cond s (u ∷ v ∷ us) (cond t (v ∷ us) (v ∷ with_uid u us))) ≤ suc (length us) + 1
+    by_test : (s t : Bool) → length (with_uid u us) ≤ length us + 1
+        → length (cond s (u ∷ v ∷ us) (cond t (v ∷ us) (v ∷ with_uid u us))) ≤ suc (length us) + 1
     by_test true t rest = omega arith
     by_test false true rest = omega arith
     by_test false false rest = omega (arith, rest)
@@ -35,23 +37,29 @@ pub none_spelled : (texts : List (Bor (List ℕ))) (known : List ℕ) → known 
 none_spelled texts known none = record { listed = []; spelled = tt; set = none; many = refl }
 
 -- one more text
-spelled_more : (texts : List (Bor (List ℕ))) (us : List ℕ) (text : Bor (List ℕ)) (u : ℕ) → SpellDevices texts us → SpellsDevice text.now u → SpellDevices (texts ++ text ∷ []) (us ++ u ∷ [])
+spelled_more : (texts : List (Bor (List ℕ))) (us : List ℕ) (text : Bor (List ℕ)) (u : ℕ) → SpellDevices texts us
+    → SpellsDevice text.now u → SpellDevices (texts ++ text ∷ []) (us ++ u ∷ [])
 spelled_more [] [] text u all here = (here, tt)
 spelled_more [] (v ∷ us) text u all here = absurd all
 spelled_more (t ∷ texts) [] text u all here = absurd all
 spelled_more (t ∷ texts) (v ∷ us) text u all here = (all.0, spelled_more texts us text u all.1 here)
 
-spelled_next : (texts : List (Bor (List ℕ))) (us : List ℕ) (i : ℕ) (d : Bor (List ℕ)) (u : ℕ) → i < length texts → SpellDevices (take i texts) us → SpellsDevice (get_or texts i d).now u
+spelled_next : (texts : List (Bor (List ℕ))) (us : List ℕ) (i : ℕ) (d : Bor (List ℕ)) (u : ℕ) → i < length texts
+    → SpellDevices (take i texts) us → SpellsDevice (get_or texts i d).now u
     → SpellDevices (take (i + 1) texts) (us ++ u ∷ [])
 spelled_next texts us i d u lt all here =
-    let more : take (i + 1) texts ≡ take i texts ++ get_or texts i d ∷ [] = ap (λ k. take k texts) (next i) ∙ take-suc texts i d lt in
-    subst (λ ts. SpellDevices ts (us ++ u ∷ [])) (sym more) (spelled_more (take i texts) us (get_or texts i d) u all here)
+    let more : take (i + 1) texts ≡ take i texts ++ get_or texts i d ∷ [] = ap (λ k. take k texts) (next i)
+    ∙ take-suc texts i d lt in
+    subst (λ ts. SpellDevices ts (us ++ u ∷ [])) (sym more)
+    (spelled_more (take i texts) us (get_or texts i d) u all here)
   where
     next : (n : ℕ) → n + 1 ≡ suc n
     next n = omega arith
 
-pub one_spelled : (texts : List (Bor (List ℕ))) (i u : ℕ) (d : Bor (List ℕ)) (old new : List ℕ) (r : Result Bool SetFull) → i < length texts → length texts ≤ 1024
-    → SpelledSoFar texts i old → SpellsDevice (get_or texts i d).now u → OnOk r (new ≡ with_uid u old) → (IsErr r → (has old u ≡ false) × (length old ≡ 1024)) → SpelledSoFar texts (i + 1) new
+pub one_spelled : (texts : List (Bor (List ℕ))) (i u : ℕ) (d : Bor (List ℕ)) (old new : List ℕ)
+    (r : Result Bool SetFull) → i < length texts → length texts ≤ 1024
+    → SpelledSoFar texts i old → SpellsDevice (get_or texts i d).now u → OnOk r (new ≡ with_uid u old)
+    → (IsErr r → (has old u ≡ false) × (length old ≡ 1024)) → SpelledSoFar texts (i + 1) new
 one_spelled texts i u d old new r lt few k own ok err = record {
   listed = k.listed ++ u ∷ [];
   spelled = spelled_next texts k.listed i d u lt k.spelled own;
@@ -60,13 +68,17 @@ one_spelled texts i u d old new r lt few k own ok err = record {
 }
   where
     room : length old ≡ 1024 → ⊥
-    room full = let most = few_in_set k.listed in let same = ap length k.set in omega (arith, full, most, same, k.many, lt, few)
+    room full = let most = few_in_set k.listed in let same = ap length k.set in
+        omega (arith, full, most, same, k.many, lt, few)
 
-pub all_spelled : (texts : List (Bor (List ℕ))) (i : ℕ) (known : List ℕ) → length texts ≡ i → SpelledSoFar texts i known → (listed : List ℕ) × SpellDevices texts listed × (known ≡ set_of listed)
-all_spelled texts i known all k = (k.listed, subst (λ ts. SpellDevices ts k.listed) (take_all i texts (omega (arith, all))) k.spelled, k.set)
+pub all_spelled : (texts : List (Bor (List ℕ))) (i : ℕ) (known : List ℕ) → length texts ≡ i → SpelledSoFar texts i known
+    → (listed : List ℕ) × SpellDevices texts listed × (known ≡ set_of listed)
+all_spelled texts i known all k =
+    (k.listed, subst (λ ts. SpellDevices ts k.listed) (take_all i texts (omega (arith, all))) k.spelled, k.set)
 
 -- a text that spells none
-pub other_spelled : (texts : List (Bor (List ℕ))) (us : List ℕ) (i : ℕ) (d : Bor (List ℕ)) → i < length texts → ((u : ℕ) → SpellsDevice (get_or texts i d).now u → ⊥) → SpellDevices texts us → ⊥
+pub other_spelled : (texts : List (Bor (List ℕ))) (us : List ℕ) (i : ℕ) (d : Bor (List ℕ)) → i < length texts
+    → ((u : ℕ) → SpellsDevice (get_or texts i d).now u → ⊥) → SpellDevices texts us → ⊥
 other_spelled [] us i d lt none all = omega (arith, lt)
 other_spelled (t ∷ texts) [] i d lt none all = all
 other_spelled (t ∷ texts) (u ∷ us) zero d lt none all = none u all.0

@@ -1,5 +1,6 @@
 -- What a log has got while a command was answered, and what is told of it.
-use Rattle.std.proofs.Common.{◌≡◌, ◌⊎◌, inl, inr, ℕ, Bool, true, false, List, [], Option, None, Result, Ok, Err, refl, sym, ap, subst, ◌∙◌}
+use Rattle.std.proofs.Common.{◌≡◌, ◌⊎◌, inl, inr, ℕ, Bool, true, false, List, [], Option, None, Result, Ok, Err, refl}
+use Rattle.std.proofs.Common.{sym, ap, subst, ◌∙◌}
 use Rattle.std.specs.Prelude.{IfOk, IfErr, OnErr}
 use Rattle.std.specs.Io.KnownBytes.{Appends, Keeps}
 use Rattle.std.proofs.KnownBytes.{Appends-nil, Keeps-refl, Keeps-trans}
@@ -19,37 +20,46 @@ use Rattle.rdm_port.specs.declared.job.Job.TheVariants.{Decode, Encode, Discover
 use Rattle.rdm_port.specs.declared.job.WordsFault.{WordsFault}
 
 -- what is written to a writer whose bytes were kept before
-written_after : (failed : Bool) (a b c : Option (List ℕ)) (text : List ℕ) → Keeps a b → IsWritten failed b c text → IsWritten failed a c text
+written_after : (failed : Bool) (a b c : Option (List ℕ)) (text : List ℕ) → Keeps a b → IsWritten failed b c text
+    → IsWritten failed a c text
 written_after false a b c text kept wrote = kept_appends a b c text kept wrote
-written_after true a b c text kept (front, rest, is, some, wrote) = (front, rest, is, some, kept_appends a b c front kept wrote)
+written_after true a b c text kept (front, rest, is, some, wrote) =
+    (front, rest, is, some, kept_appends a b c front kept wrote)
 
 -- a log that was opened, and then written
-pub opened_then : (wanted : Bool) (old mid new : LogState) (text : List ℕ) → IsOpened wanted old mid → Logs mid new text → HasLogged wanted old new text
+pub opened_then : (wanted : Bool) (old mid new : LogState) (text : List ℕ) → IsOpened wanted old mid → Logs mid new text
+    → HasLogged wanted old new text
 opened_then wanted old mid new text opened (still, wrote) =
     by_wanted wanted (subst (λ o. LogsFrom o false new.is_failed mid.contents new.contents text) opened.is_open
     (subst (λ f. LogsFrom mid.is_open f new.is_failed mid.contents new.contents text) opened.is_failed wrote))
   where
     by_wanted : (w : Bool) → LogsFrom w false new.is_failed mid.contents new.contents text → HasLogged w old new text
     by_wanted false (same, kept) = (same, Keeps-trans old.contents mid.contents new.contents opened.bytes kept)
-    by_wanted true written = written_after new.is_failed old.contents mid.contents new.contents text opened.bytes written
+    by_wanted true written =
+        written_after new.is_failed old.contents mid.contents new.contents text opened.bytes written
 
 -- a log that hasn't failed, and whose bytes were kept
-pub nothing_logged : (wanted : Bool) (old new : LogState) → new.is_failed ≡ false → Keeps old.contents new.contents → HasLogged wanted old new []
+pub nothing_logged : (wanted : Bool) (old new : LogState) → new.is_failed ≡ false → Keeps old.contents new.contents
+    → HasLogged wanted old new []
 nothing_logged false old new sound kept = (sound, kept)
 nothing_logged true old new sound kept =
-    subst (λ f. IsWritten f old.contents new.contents []) (sym sound) (kept_appends old.contents new.contents new.contents [] kept (Appends-nil new.contents))
+    subst (λ f. IsWritten f old.contents new.contents []) (sym sound)
+    (kept_appends old.contents new.contents new.contents [] kept (Appends-nil new.contents))
 
 -- an unchanged one
 pub same_logged : (wanted : Bool) (old new : LogState) → old.is_failed ≡ false → new ≡ old → HasLogged wanted old new []
-same_logged wanted old new sound same = subst (λ l. HasLogged wanted old l []) (sym same) (nothing_logged wanted old old sound (Keeps-refl old.contents))
+same_logged wanted old new sound same =
+    subst (λ l. HasLogged wanted old l []) (sym same) (nothing_logged wanted old old sound (Keeps-refl old.contents))
 
 -- one that was opened only
 pub only_opened : (wanted : Bool) (old new : LogState) → IsOpened wanted old new → HasLogged wanted old new []
 only_opened wanted old new opened = nothing_logged wanted old new opened.is_failed opened.bytes
 
 -- one that was opened, and then stayed as it was
-pub opened_same : (wanted : Bool) (old mid new : LogState) → IsOpened wanted old mid → new ≡ mid → HasLogged wanted old new []
-opened_same wanted old mid new opened same = subst (λ l. HasLogged wanted old l []) (sym same) (only_opened wanted old mid opened)
+pub opened_same : (wanted : Bool) (old mid new : LogState) → IsOpened wanted old mid → new ≡ mid
+    → HasLogged wanted old new []
+opened_same wanted old mid new opened same =
+    subst (λ l. HasLogged wanted old l []) (sym same) (only_opened wanted old mid opened)
 
 -- what the status says of it
 settled_log : (wanted : Bool) (old new : LogState) (text : List ℕ) (status : ℕ) → HasLogged wanted old new text
@@ -61,12 +71,14 @@ settled_log false old new text status (sound, kept) = (by_failed new.is_failed s
     by_failed true is = cc
 settled_log true old new text status written = by_failed new.is_failed written
   where
-    by_failed : (f : Bool) → IsWritten f old.contents new.contents text → IsPrinted old.contents new.contents text status (failed_or f status)
+    by_failed : (f : Bool) → IsWritten f old.contents new.contents text
+        → IsPrinted old.contents new.contents text status (failed_or f status)
     by_failed false wrote = inl (refl, wrote)
     by_failed true cut = inr (refl, cut)
 
 -- an answer or a fault that is printed, after its log
-pub printed_after : {E : Type 0} (r : Result Answered (Fault × E)) (Done : List ℕ → List ℕ → ℕ → Type 0) (Failed : Fault → Type 0)
+pub printed_after : {E : Type 0} (r : Result Answered (Fault × E)) (Done : List ℕ → List ℕ → ℕ → Type 0)
+    (Failed : Fault → Type 0)
     (With : Fault → List ℕ → Type 0) (wanted : Bool) (old new : LogState) (was is : Option (List ℕ)) (result : ℕ)
     → IfOk r (λ a. (logged : List ℕ) × Done (answer_bytes a.text) logged a.status × HasLogged wanted old new logged)
     → IfErr r (λ e. Failed e.0)
@@ -77,8 +89,15 @@ pub printed_after : {E : Type 0} (r : Result Answered (Fault × E)) (Done : List
     × (Done text logged status ⊎ ((fault : Fault) × Failed fault × (text ≡ line_of (fault_line fault))
     × With fault logged × (status ≡ fault_status fault)))
     × IsLogged wanted old.contents new.contents logged status told × IsPrinted was is text told result
-printed_after (Ok a) Done Failed With wanted old new was is result (logged, done, has) _ _ printed _ =
-    (answer_bytes a.text, logged, a.status, status_after new a.status, inl done, settled_log wanted old new logged a.status has, printed)
+printed_after (Ok a) Done Failed With wanted old new was is result (logged, done, has) _ _ printed _ = (
+  answer_bytes a.text,
+  logged,
+  a.status,
+  status_after new a.status,
+  inl done,
+  settled_log wanted old new logged a.status has,
+  printed,
+)
 printed_after (Err e) Done Failed With wanted old new was is result _ failed (logged, kept, has) _ printed = (
   line_of (fault_line e.0),
   logged,
@@ -90,14 +109,19 @@ printed_after (Err e) Done Failed With wanted old new was is result _ failed (lo
 )
 
 -- an answer without a log
-pub done_unlogged : {E : Type 0} (r : Result Answered (Fault × E)) (command : Result Job WordsFault) (job : Job) (known : Option (List ℕ)) (log : LogState)
+pub done_unlogged : {E : Type 0} (r : Result Answered (Fault × E)) (command : Result Job WordsFault) (job : Job)
+    (known : Option (List ℕ)) (log : LogState)
     → command ≡ Ok job → log.is_failed ≡ false → IfOk r (λ a. Answers job known (answer_bytes a.text) [] a.status)
-    → IfOk r (λ a. (logged : List ℕ) × ((j : Job) × (command ≡ Ok j) × Answers j known (answer_bytes a.text) logged a.status) × HasLogged (has_log command) log log logged)
+    → IfOk r (λ a. (logged : List ℕ)
+    × ((j : Job) × (command ≡ Ok j) × Answers j known (answer_bytes a.text) logged a.status)
+    × HasLogged (has_log command) log log logged)
 done_unlogged (Err e) command job known log is sound done = tt
-done_unlogged (Ok a) command job known log is sound done = ([], (job, is, done), same_logged (has_log command) log log sound refl)
+done_unlogged (Ok a) command job known log is sound done =
+    ([], (job, is, done), same_logged (has_log command) log log sound refl)
 
 -- each fault may come before anything is logged
-pub none_logged : (command : Result Job WordsFault) (known : Option (List ℕ)) (fault : Fault) → IsLoggedWith command known fault []
+pub none_logged : (command : Result Job WordsFault) (known : Option (List ℕ)) (fault : Fault)
+    → IsLoggedWith command known fault []
 none_logged (Ok (Decode digits)) known fault = refl
 none_logged (Ok (Encode uid)) known fault = refl
 none_logged (Ok (Discover file incremental quick log)) known fault = inl refl
@@ -105,31 +129,44 @@ none_logged (Ok (Run file port log)) known fault = refl
 none_logged (Err refusal) known fault = refl
 
 -- a fault without a log
-pub fault_unlogged : {E : Type 0} (r : Result Answered (Fault × E)) (command : Result Job WordsFault) (known : Option (List ℕ)) (log : LogState) → log.is_failed ≡ false
-    → IfErr r (λ e. (logged : List ℕ) × IsLoggedWith command known e.0 logged × HasLogged (has_log command) log log logged)
-fault_unlogged (Err e) command known log sound = ([], none_logged command known e.0, same_logged (has_log command) log log sound refl)
+pub fault_unlogged : {E : Type 0} (r : Result Answered (Fault × E)) (command : Result Job WordsFault)
+    (known : Option (List ℕ)) (log : LogState) → log.is_failed ≡ false
+    → IfErr r (λ e. (logged : List ℕ) × IsLoggedWith command known e.0 logged
+    × HasLogged (has_log command) log log logged)
+fault_unlogged (Err e) command known log sound =
+    ([], none_logged command known e.0, same_logged (has_log command) log log sound refl)
 fault_unlogged (Ok a) command known log sound = tt
 
 -- a fault after which nothing was logged
-pub fault_logged_none : {E : Type 0} (r : Result Answered (Fault × E)) (wanted : Bool) (old new : LogState) → OnErr r (HasLogged wanted old new [])
+pub fault_logged_none : {E : Type 0} (r : Result Answered (Fault × E)) (wanted : Bool) (old new : LogState)
+    → OnErr r (HasLogged wanted old new [])
     → IfErr r (λ e. (logged : List ℕ) × (logged ≡ []) × HasLogged wanted old new logged)
 fault_logged_none (Err e) wanted old new has = ([], refl, has)
 fault_logged_none (Ok a) wanted old new has = tt
 
 -- an answer to a job, with its log
-pub done_logged : {E : Type 0} (r : Result Answered (Fault × E)) (command : Result Job WordsFault) (job : Job) (known : Option (List ℕ)) (wanted : Bool) (old new : LogState)
+pub done_logged : {E : Type 0} (r : Result Answered (Fault × E)) (command : Result Job WordsFault) (job : Job)
+    (known : Option (List ℕ)) (wanted : Bool) (old new : LogState)
     → command ≡ Ok job → wanted ≡ keeps_log job
-    → IfOk r (λ a. (logged : List ℕ) × Answers job known (answer_bytes a.text) logged a.status × HasLogged wanted old new logged)
-    → IfOk r (λ a. (logged : List ℕ) × ((j : Job) × (command ≡ Ok j) × Answers j known (answer_bytes a.text) logged a.status) × HasLogged (has_log command) old new logged)
+    → IfOk r (λ a. (logged : List ℕ) × Answers job known (answer_bytes a.text) logged a.status
+    × HasLogged wanted old new logged)
+    → IfOk r (λ a. (logged : List ℕ)
+    × ((j : Job) × (command ≡ Ok j) × Answers j known (answer_bytes a.text) logged a.status)
+    × HasLogged (has_log command) old new logged)
 done_logged (Err e) command job known wanted old new is keeps done = tt
-done_logged (Ok a) command job known wanted old new is keeps (logged, done, has) =
-    (logged, (job, is, done), subst (λ c. HasLogged (has_log c) old new logged) (sym is) (subst (λ w. HasLogged w old new logged) keeps has))
+done_logged (Ok a) command job known wanted old new is keeps (logged, done, has) = (
+  logged,
+  (job, is, done),
+  subst (λ c. HasLogged (has_log c) old new logged) (sym is) (subst (λ w. HasLogged w old new logged) keeps has),
+)
 
 -- a fault of a job, with its log
-pub fault_logged : {E : Type 0} (r : Result Answered (Fault × E)) (command : Result Job WordsFault) (job : Job) (known : Option (List ℕ)) (wanted : Bool) (old new : LogState)
+pub fault_logged : {E : Type 0} (r : Result Answered (Fault × E)) (command : Result Job WordsFault) (job : Job)
+    (known : Option (List ℕ)) (wanted : Bool) (old new : LogState)
     → command ≡ Ok job → wanted ≡ keeps_log job
     → IfErr r (λ e. (logged : List ℕ) × IsLoggedWith (Ok job) known e.0 logged × HasLogged wanted old new logged)
-    → IfErr r (λ e. (logged : List ℕ) × IsLoggedWith command known e.0 logged × HasLogged (has_log command) old new logged)
+    → IfErr r (λ e. (logged : List ℕ) × IsLoggedWith command known e.0 logged
+    × HasLogged (has_log command) old new logged)
 fault_logged (Ok a) command job known wanted old new is keeps failed = tt
 fault_logged (Err e) command job known wanted old new is keeps (logged, kept, has) = (
   logged,
@@ -138,38 +175,51 @@ fault_logged (Err e) command job known wanted old new is keeps (logged, kept, ha
 )
 
 -- what is told of an answer, and then printed
-pub told_printed : (told after : Answered) (log : LogState) (was is : Option (List ℕ)) (text : List ℕ) (status result : ℕ) → IsTold told text status
+pub told_printed : (told after : Answered) (log : LogState) (was is : Option (List ℕ)) (text : List ℕ)
+    (status result : ℕ) → IsTold told text status
     → answer_bytes after.text ≡ answer_bytes told.text → after.status ≡ status_after log told.status
-    → IsPrinted was is (answer_bytes after.text) after.status result → IsPrinted was is text (status_after log status) result
+    → IsPrinted was is (answer_bytes after.text) after.status result
+    → IsPrinted was is text (status_after log status) result
 told_printed told after log was is text status result of text_kept status_kept printed =
     subst (λ t. IsPrinted was is t (status_after log status) result) (text_kept ∙ of.text_is)
-    (subst (λ s. IsPrinted was is (answer_bytes after.text) s result) (status_kept ∙ ap (status_after log) of.status_is) printed)
+    (subst (λ s. IsPrinted was is (answer_bytes after.text) s result) (status_kept ∙ ap (status_after log) of.status_is)
+    printed)
 
-pub answer_printed : {E : Type 0} (r : Result Answered (Fault × E)) (told after : Answered) (log : LogState) (was is : Option (List ℕ)) (result : ℕ)
-    → IfOk r (λ a. IsTold told (answer_bytes a.text) a.status) → answer_bytes after.text ≡ answer_bytes told.text → after.status ≡ status_after log told.status
-    → IsPrinted was is (answer_bytes after.text) after.status result → IfOk r (λ a. IsPrinted was is (answer_bytes a.text) (status_after log a.status) result)
+pub answer_printed : {E : Type 0} (r : Result Answered (Fault × E)) (told after : Answered) (log : LogState)
+    (was is : Option (List ℕ)) (result : ℕ)
+    → IfOk r (λ a. IsTold told (answer_bytes a.text) a.status) → answer_bytes after.text ≡ answer_bytes told.text
+    → after.status ≡ status_after log told.status
+    → IsPrinted was is (answer_bytes after.text) after.status result
+    → IfOk r (λ a. IsPrinted was is (answer_bytes a.text) (status_after log a.status) result)
 answer_printed (Err e) told after log was is result of text_kept status_kept printed = tt
 answer_printed (Ok a) told after log was is result of text_kept status_kept printed =
     told_printed told after log was is (answer_bytes a.text) a.status result of text_kept status_kept printed
 
-pub fault_printed : {E : Type 0} (r : Result Answered (Fault × E)) (told after : Answered) (log : LogState) (was is : Option (List ℕ)) (result : ℕ)
-    → IfErr r (λ e. IsTold told (line_of (fault_line e.0)) (fault_status e.0)) → answer_bytes after.text ≡ answer_bytes told.text → after.status ≡ status_after log told.status
+pub fault_printed : {E : Type 0} (r : Result Answered (Fault × E)) (told after : Answered) (log : LogState)
+    (was is : Option (List ℕ)) (result : ℕ)
+    → IfErr r (λ e. IsTold told (line_of (fault_line e.0)) (fault_status e.0))
+    → answer_bytes after.text ≡ answer_bytes told.text → after.status ≡ status_after log told.status
     → IsPrinted was is (answer_bytes after.text) after.status result
     → IfErr r (λ e. IsPrinted was is (line_of (fault_line e.0)) (status_after log (fault_status e.0)) result)
 fault_printed (Ok a) told after log was is result of text_kept status_kept printed = tt
 fault_printed (Err e) told after log was is result of text_kept status_kept printed =
-    told_printed told after log was is (line_of (fault_line e.0)) (fault_status e.0) result of text_kept status_kept printed
+    told_printed told after log was is (line_of (fault_line e.0)) (fault_status e.0) result of text_kept status_kept
+    printed
 
 -- a discovery that fails before its log is opened
-pub unreported_unlogged : (Reports : List ℕ → List ℕ → ℕ → Type 0) (fault : Fault) (wanted : Bool) (log : LogState) → log.is_failed ≡ false
+pub unreported_unlogged : (Reports : List ℕ → List ℕ → ℕ → Type 0) (fault : Fault) (wanted : Bool) (log : LogState)
+    → log.is_failed ≡ false
     → (logged : List ℕ) × IsLogUnreported Reports fault logged × HasLogged wanted log log logged
 unreported_unlogged Reports fault wanted log sound = ([], inl refl, same_logged wanted log log sound refl)
 
 -- a run that is logged, whose report is printed
-pub report_logged : {E : Type 0} (r : Result Answered (Fault × E)) (Reports : List ℕ → List ℕ → ℕ → Type 0) (text logged : List ℕ) (status : ℕ)
-    (wanted : Bool) (old mid new : LogState) → IsOpened wanted old mid → Logs mid new logged → Reports text logged status
+pub report_logged : {E : Type 0} (r : Result Answered (Fault × E)) (Reports : List ℕ → List ℕ → ℕ → Type 0)
+    (text logged : List ℕ) (status : ℕ)
+    (wanted : Bool) (old mid new : LogState) → IsOpened wanted old mid → Logs mid new logged
+    → Reports text logged status
     → IfOk r (λ a. answer_bytes a.text ≡ text) → IfOk r (λ a. a.status ≡ status)
-    → IfOk r (λ a. (written : List ℕ) × Reports (answer_bytes a.text) written a.status × HasLogged wanted old new written)
+    → IfOk r (λ a. (written : List ℕ) × Reports (answer_bytes a.text) written a.status
+    × HasLogged wanted old new written)
 report_logged (Err e) Reports text logged status wanted old mid new opened logs reports printed ended = tt
 report_logged (Ok a) Reports text logged status wanted old mid new opened logs reports printed ended = (
   logged,
@@ -178,15 +228,20 @@ report_logged (Ok a) Reports text logged status wanted old mid new opened logs r
 )
 
 -- a run that is logged, whose report finds no memory
-pub memory_logged : {E : Type 0} (r : Result Answered (Fault × E)) (Reports : List ℕ → List ℕ → ℕ → Type 0) (text logged : List ℕ) (status : ℕ)
-    (wanted : Bool) (old mid new : LogState) → IsOpened wanted old mid → Logs mid new logged → Reports text logged status
-    → IfErr r (λ e. e.0 ≡ Memory) → IfErr r (λ e. (written : List ℕ) × IsLogUnreported Reports e.0 written × HasLogged wanted old new written)
+pub memory_logged : {E : Type 0} (r : Result Answered (Fault × E)) (Reports : List ℕ → List ℕ → ℕ → Type 0)
+    (text logged : List ℕ) (status : ℕ)
+    (wanted : Bool) (old mid new : LogState) → IsOpened wanted old mid → Logs mid new logged
+    → Reports text logged status
+    → IfErr r (λ e. e.0 ≡ Memory)
+    → IfErr r (λ e. (written : List ℕ) × IsLogUnreported Reports e.0 written × HasLogged wanted old new written)
 memory_logged (Ok a) Reports text logged status wanted old mid new opened logs reports memory = tt
 memory_logged (Err e) Reports text logged status wanted old mid new opened logs reports memory =
     (logged, inr (memory, text, status, reports), opened_then wanted old mid new logged opened logs)
 
 -- a log whose contents aren't known
-pub unknown_log : (wanted : Bool) (new : Option (List ℕ)) (text : List ℕ) (status result : ℕ) → IsLogged wanted None new text status result → IsLogged wanted None None text status result
+pub unknown_log : (wanted : Bool) (new : Option (List ℕ)) (text : List ℕ) (status result : ℕ)
+    → IsLogged wanted None new text status result → IsLogged wanted None None text status result
 unknown_log false new text status result (is, kept) = (is, tt)
 unknown_log true new text status result (inl (is, wrote)) = inl (is, tt)
-unknown_log true new text status result (inr (is, (front, rest, whole, some, wrote))) = inr (is, (front, rest, whole, some, tt))
+unknown_log true new text status result (inr (is, (front, rest, whole, some, wrote))) =
+    inr (is, (front, rest, whole, some, tt))

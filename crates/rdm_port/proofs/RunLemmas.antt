@@ -21,29 +21,35 @@ use Rattle.rdm_port.specs.body.Sessions.{IsNoValue}
 use Rattle.rdm_port.specs.body.Texts.{answer_bytes}
 use Rattle.rdm_port.specs.declared.answer.Answered.{Answered}
 use Rattle.rdm_port.specs.declared.fault.Fault.{Fault}
-use Rattle.rdm_port.specs.declared.fault.Fault.TheVariants.{CommandLine, Hex, Uid, File, Json, DiscoveryCommand, Scene, Log, Turns, Memory}
+use Rattle.rdm_port.specs.declared.fault.Fault.TheVariants.{CommandLine, Hex, Uid, File, Json, DiscoveryCommand, Scene}
+use Rattle.rdm_port.specs.declared.fault.Fault.TheVariants.{Log, Turns, Memory}
 use Rattle.rdm_port.proofs.LoggedLemmas.{opened_then}
 
 -- why a session that was read isn't answered
-pub served_fault : (F : Type 0) (P : Data → F → Type 0) (known : Option (List ℕ)) (file : F) → ReadsSession F P known file → (f : Fault)
+pub served_fault : (F : Type 0) (P : Data → F → Type 0) (known : Option (List ℕ)) (file : F)
+    → ReadsSession F P known file → (f : Fault)
     → (f ≡ Memory) ⊎ (f ≡ Log) ⊎ (f ≡ Turns) → IsRunFault F P known f
 served_fault F P known file reads f (inl is) = rw is (inl tt)
 served_fault F P known file reads f (inr (inl is)) = rw is (inl (file, reads))
 served_fault F P known file reads f (inr (inr is)) = rw is (inl (file, reads))
 
 -- memory that ran out, and what can't be opened
-pub memory_fault : (F : Type 0) (P : Data → F → Type 0) (known : Option (List ℕ)) (f : Fault) → f ≡ Memory → IsRunFault F P known f
+pub memory_fault : (F : Type 0) (P : Data → F → Type 0) (known : Option (List ℕ)) (f : Fault) → f ≡ Memory
+    → IsRunFault F P known f
 memory_fault F P known f is = rw is (inl tt)
 
-pub file_fault : (F : Type 0) (P : Data → F → Type 0) (known : Option (List ℕ)) (f : Fault) → f ≡ File → IsRunFault F P known f
+pub file_fault : (F : Type 0) (P : Data → F → Type 0) (known : Option (List ℕ)) (f : Fault) → f ≡ File
+    → IsRunFault F P known f
 file_fault F P known f is = rw is (inr tt)
 
-pub unopened_fault : (F : Type 0) (P : Data → F → Type 0) (known : Option (List ℕ)) (f : Fault) → (f ≡ File) ⊎ (f ≡ Memory) → IsRunFault F P known f
+pub unopened_fault : (F : Type 0) (P : Data → F → Type 0) (known : Option (List ℕ)) (f : Fault) → (f ≡ File)
+    ⊎ (f ≡ Memory) → IsRunFault F P known f
 unopened_fault F P known f (inl is) = file_fault F P known f is
 unopened_fault F P known f (inr is) = memory_fault F P known f is
 
 -- bytes that are no JSON without a discovery command say no session
-pub no_value : (F : Type 0) (P : Data → F → Type 0) (bytes : List ℕ) (f : Fault) → IsNoValue bytes f → IsSessionTextFault F P bytes f
+pub no_value : (F : Type 0) (P : Data → F → Type 0) (bytes : List ℕ) (f : Fault) → IsNoValue bytes f
+    → IsSessionTextFault F P bytes f
 no_value F P bytes CommandLine none = none
 no_value F P bytes Hex none = none
 no_value F P bytes Uid none = none
@@ -56,27 +62,44 @@ no_value F P bytes Turns none = none
 no_value F P bytes Memory none = none
 
 -- a session that was served, whose text is printed and whose log is written
-pub served_then : {E : Type 0} (r : Result Answered (Fault × E)) (clients : List ClientFile) (outcomes : List Outcomes) (opening : Opening) (entries : List Entry)
-    (wanted : Bool) (old mid new : LogState) → IsOpened wanted old mid → AllSettled clients outcomes → IsLogOf opening entries outcomes → HasCalls entries clients
-    → IfOk r (λ a. answer_bytes a.text ≡ session_text outcomes) → IfOk r (λ a. a.status ≡ 0) → OnOk r (Logs mid new (log_text entries))
-    → IfOk r (λ a. (logged : List ℕ) × HasServed clients (answer_bytes a.text) logged a.status × HasLogged wanted old new logged)
+pub served_then : {E : Type 0} (r : Result Answered (Fault × E)) (clients : List ClientFile) (outcomes : List Outcomes)
+    (opening : Opening) (entries : List Entry)
+    (wanted : Bool) (old mid new : LogState) → IsOpened wanted old mid → AllSettled clients outcomes
+    → IsLogOf opening entries outcomes → HasCalls entries clients
+    → IfOk r (λ a. answer_bytes a.text ≡ session_text outcomes) → IfOk r (λ a. a.status ≡ 0)
+    → OnOk r (Logs mid new (log_text entries))
+    → IfOk r (λ a. (logged : List ℕ) × HasServed clients (answer_bytes a.text) logged a.status
+    × HasLogged wanted old new logged)
 served_then (Err e) clients outcomes opening entries wanted old mid new opened settled log called text status logs = tt
 served_then (Ok a) clients outcomes opening entries wanted old mid new opened settled log called text status logs = (
   log_text entries,
-  record { outcomes = outcomes; settled = settled; opening = opening; entries = entries; log = log; called = called; prints = text; logs = refl; ends = status },
+  record {
+    outcomes = outcomes;
+    settled = settled;
+    opening = opening;
+    entries = entries;
+    log = log;
+    called = called;
+    prints = text;
+    logs = refl;
+    ends = status;
+  },
   opened_then wanted old mid new (log_text entries) opened logs,
 )
 
 -- what holds of its three texts holds with more
-pub served_as : {E : Type 0} (r : Result Answered (Fault × E)) (P Q : List ℕ → List ℕ → ℕ → Type 0) (wanted : Bool) (old new : LogState)
+pub served_as : {E : Type 0} (r : Result Answered (Fault × E)) (P Q : List ℕ → List ℕ → ℕ → Type 0) (wanted : Bool)
+    (old new : LogState)
     → ((text logged : List ℕ) (status : ℕ) → P text logged status → Q text logged status)
     → IfOk r (λ a. (logged : List ℕ) × P (answer_bytes a.text) logged a.status × HasLogged wanted old new logged)
     → IfOk r (λ a. (logged : List ℕ) × Q (answer_bytes a.text) logged a.status × HasLogged wanted old new logged)
 served_as (Err e) P Q wanted old new to here = tt
-served_as (Ok a) P Q wanted old new to (logged, served, has) = (logged, to (answer_bytes a.text) logged a.status served, has)
+served_as (Ok a) P Q wanted old new to (logged, served, has) =
+    (logged, to (answer_bytes a.text) logged a.status served, has)
 
 -- a line that was opened by the path for replies, or else by that for frames
-pub opened_by : {L : Type 0} (opens : Text → L → Type 0) (out : Bor Text) (replies : Option (Bor Text)) (path : Bor Text) (line : L)
+pub opened_by : {L : Type 0} (opens : Text → L → Type 0) (out : Bor Text) (replies : Option (Bor Text))
+    (path : Bor Text) (line : L)
     → path ≡ unwrap_or replies out → opens path.now line → opens (replies_path out replies) line
 opened_by opens out None path line is opened = rw is at opened
 opened_by opens out (Some given) path line is opened = rw is at opened

@@ -13,7 +13,8 @@ no_hyphen false h = refl
 no_hyphen true h = cc
 
 -- a command's name and a plain word are taken
-no_fault : (command text : Text) → (command ≡ codes "decode") ⊎ (command ≡ codes "encode") → is_plain text ≡ true → fault_of commands (command ∷ text ∷ []) ≡ []
+no_fault : (command text : Text) → (command ≡ codes "decode") ⊎ (command ≡ codes "encode") → is_plain text ≡ true
+    → fault_of commands (command ∷ text ∷ []) ≡ []
 unfolding clap_on_literals
 no_fault command [] (inl is) h = rw is refl
 no_fault command [] (inr is) h = rw is refl
@@ -21,17 +22,22 @@ no_fault command (x ∷ xs) (inl is) h = rw is (simp (no_hyphen (x == 45) h) ref
 no_fault command (x ∷ xs) (inr is) h = rw is (simp (no_hyphen (x == 45) h) refl)
 
 -- the word is the command's argument
-digits_given : (text : Text) → is_plain text ≡ true → option_and_then (value_of (codes "decode") (codes "hex")) (subcommand_of commands (codes "decode" ∷ text ∷ [])) ≡ Some text
+digits_given : (text : Text) → is_plain text ≡ true
+    → option_and_then (value_of (codes "decode") (codes "hex")) (subcommand_of commands (codes "decode" ∷ text ∷ []))
+    ≡ Some text
 unfolding clap_on_literals
 digits_given [] h = refl
 digits_given (x ∷ xs) h = simp (no_hyphen (x == 45) h) refl
 
-uid_given : (text : Text) → is_plain text ≡ true → option_and_then (value_of (codes "encode") (codes "uid")) (subcommand_of commands (codes "encode" ∷ text ∷ [])) ≡ Some text
+uid_given : (text : Text) → is_plain text ≡ true
+    → option_and_then (value_of (codes "encode") (codes "uid")) (subcommand_of commands (codes "encode" ∷ text ∷ []))
+    ≡ Some text
 unfolding clap_on_literals
 uid_given [] h = refl
 uid_given (x ∷ xs) h = simp (no_hyphen (x == 45) h) refl
 
-pub asks_decode : (digits : Bor Text) → is_plain digits.now ≡ true → Asks (codes "decode" ∷ digits.now ∷ []) (Decode digits)
+pub asks_decode : (digits : Bor Text) → is_plain digits.now ≡ true
+    → Asks (codes "decode" ∷ digits.now ∷ []) (Decode digits)
 asks_decode digits h = (no_fault (codes "decode") digits.now (inl refl) h, digits_given digits.now h)
 
 pub asks_encode : (uid : Bor Text) → is_plain uid.now ≡ true → Asks (codes "encode" ∷ uid.now ∷ []) (Encode uid)

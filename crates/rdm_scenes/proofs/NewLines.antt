@@ -18,10 +18,21 @@ none_permuted xs [] same none = refl
 none_permuted xs (y ∷ ys) same none = let long = length_permutation xs (y ∷ ys) same ∙ ap length none in cc
 
 pub new_lossy : (from : Scene) (s : SimState) → IsNewLine from s → NoFiveSuccessive from.losses.items → IsLossyScene s
-new_lossy from s new few = record { scene = new.scene; few_losses = few_permuted from.losses.items s.losses new.losses few }
+new_lossy from s new few = record {
+  scene = new.scene;
+  few_losses = few_permuted from.losses.items s.losses new.losses few;
+}
 
-pub new_staying : (from : Scene) (s : SimState) → IsNewLine from s → NoFiveSuccessive from.losses.items → AllByRecursion Stays from.devices → IsStayingScene s
-new_staying from s new few stay = record { lossy = new_lossy from s new few; stay = subst (AllByRecursion Stays) (sym new.devices) stay }
+pub new_staying : (from : Scene) (s : SimState) → IsNewLine from s → NoFiveSuccessive from.losses.items
+    → AllByRecursion Stays from.devices → IsStayingScene s
+new_staying from s new few stay = record {
+  lossy = new_lossy from s new few;
+  stay = subst (AllByRecursion Stays) (sym new.devices) stay;
+}
 
-pub new_calm : (from : Scene) (s : SimState) → IsNewLine from s → NoFiveSuccessive from.losses.items → AllByRecursion Stays from.devices → from.fails.items ≡ [] → IsCalmScene s
-new_calm from s new few stay none = record { staying = new_staying from s new few stay; no_fails = none_permuted from.fails.items s.fails new.fails none }
+pub new_calm : (from : Scene) (s : SimState) → IsNewLine from s → NoFiveSuccessive from.losses.items
+    → AllByRecursion Stays from.devices → from.fails.items ≡ [] → IsCalmScene s
+new_calm from s new few stay none = record {
+  staying = new_staying from s new few stay;
+  no_fails = none_permuted from.fails.items s.fails new.fails none;
+}

@@ -1,5 +1,6 @@
 -- The exchanges of a run stand one after the other in a legal log.
-use Rattle.std.proofs.Common.{◌≡◌, ℕ, Bool, true, false, true≢false, List, [], ◌∷◌, ◌++◌, map, length, take, drop, zip, Some, None, refl, sym, ap, ◌∙◌, subst, inl, inr, append-nil, append_assoc, arith}
+use Rattle.std.proofs.Common.{◌≡◌, ℕ, Bool, true, false, true≢false, List, [], ◌∷◌, ◌++◌, map, length, take, drop, zip}
+use Rattle.std.proofs.Common.{Some, None, refl, sym, ap, ◌∙◌, subst, inl, inr, append-nil, append_assoc, arith}
 use Rattle.std.specs.Prelude.{filter, ◌⊎◌, ◌==◌, ◌||◌}
 use Rattle.std.specs.List.{AllByRecursion, list_any}
 use Rattle.std.proofs.lemmas.Bool.{cases_Bool, eq-eqb, eqb-true}
@@ -15,8 +16,10 @@ use Rattle.rdm_log.specs.declared.entry.Owner.{Owner}
 use Rattle.rdm_log.specs.declared.entry.Owner.TheVariants as owners
 use Rattle.rdm_log.specs.declared.entry.Opening.{Opening}
 use Rattle.rdm_log.specs.declared.entry.Entry.{Entry}
-use Rattle.rdm_log.specs.declared.entry.Entry.TheVariants.{Join, Refuse, Accept, Ask, Send, Came, Finish, Answer, Collect, Pause, Resume, Close}
-use Rattle.rdm_log.specs.log.Entries.{Sending, Traded, traded_of, Answered, sending_of, answered_of, sends, cames, traded, answers, is_run}
+use Rattle.rdm_log.specs.declared.entry.Entry.TheVariants.{Join, Refuse, Accept, Ask, Send, Came, Finish, Answer}
+use Rattle.rdm_log.specs.declared.entry.Entry.TheVariants.{Collect, Pause, Resume, Close}
+use Rattle.rdm_log.specs.log.Entries.{Sending, Traded, traded_of, Answered, sending_of, answered_of, sends, cames}
+use Rattle.rdm_log.specs.log.Entries.{traded, answers, is_run}
 use Rattle.rdm_log.specs.log.Runs.{has_begun, open_run, next_run, run_exchanges, seen_of}
 use Rattle.rdm_log.specs.log.MaySend.{MaySendRun}
 use Rattle.rdm_log.specs.log.Legal.{MayFollow}
@@ -43,7 +46,8 @@ pub record SendsPart (r : ℕ) (h : List Entry) : Type 0 where
   pub others_after : NoneOf r after
   pub over : (after ≡ []) ⊎ (open_run h ≡ Some r → ⊥)
 
-all_push : {X : Type 0} (P : X → Type 0) (xs : List X) (x : X) → AllByRecursion P xs → P x → AllByRecursion P (xs ++ x ∷ [])
+all_push : {X : Type 0} (P : X → Type 0) (xs : List X) (x : X) → AllByRecursion P xs → P x
+    → AllByRecursion P (xs ++ x ∷ [])
 all_push P [] x all p = (p, tt)
 all_push P (y ∷ xs) x all p = (all.0, all_push P xs x all.1 p)
 
@@ -51,12 +55,16 @@ none_any : (r : ℕ) (ss : List Sending) → list_any (λ (s : Sending). is_run 
 none_any r [] none = tt
 none_any r (s ∷ ss) none = by_test (none_any r ss) (is_run r s.owner) refl
   where
-    by_test : (list_any (λ (s : Sending). is_run r s.owner) ss ≡ false → NoneOf r ss) → (b : Bool) → is_run r s.owner ≡ b → NoneOf r (s ∷ ss)
-    by_test rest true is = absurd (true≢false (sym (ap (λ (b : Bool). b || list_any (λ (s : Sending). is_run r s.owner) ss) is) ∙ none))
-    by_test rest false is = (is, rest (sym (ap (λ (b : Bool). b || list_any (λ (s : Sending). is_run r s.owner) ss) is) ∙ none))
+    by_test : (list_any (λ (s : Sending). is_run r s.owner) ss ≡ false → NoneOf r ss) → (b : Bool)
+        → is_run r s.owner ≡ b → NoneOf r (s ∷ ss)
+    by_test rest true is =
+        absurd (true≢false (sym (ap (λ (b : Bool). b || list_any (λ (s : Sending). is_run r s.owner) ss) is) ∙ none))
+    by_test rest false is =
+        (is, rest (sym (ap (λ (b : Bool). b || list_any (λ (s : Sending). is_run r s.owner) ss) is) ∙ none))
 
 -- an entry that sends nothing
-unsent : (r : ℕ) (h : List Entry) (e : Entry) → sending_of e ≡ None → (open_run (h ++ e ∷ []) ≡ Some r → open_run h ≡ Some r) → SendsPart r h → SendsPart r (h ++ e ∷ [])
+unsent : (r : ℕ) (h : List Entry) (e : Entry) → sending_of e ≡ None
+    → (open_run (h ++ e ∷ []) ≡ Some r → open_run h ≡ Some r) → SendsPart r h → SendsPart r (h ++ e ∷ [])
 unsent r h e none stays p = record {
   before = p.before;
   during = p.during;
@@ -68,34 +76,45 @@ unsent r h e none stays p = record {
   over = elim p.over [ inl q ↦ inl q | inr q ↦ inr (λ is. q (stays is)) ];
 }
 
-stays_open : (r : ℕ) (h : List Entry) (e : Entry) → sending_of e ≡ None → answered_of e ≡ None → open_run (h ++ e ∷ []) ≡ Some r → open_run h ≡ Some r
-stays_open r h e sent answer is = sym (open_run_same h (h ++ e ∷ []) (sends_same h e sent) (answered_same h e answer)) ∙ is
+stays_open : (r : ℕ) (h : List Entry) (e : Entry) → sending_of e ≡ None → answered_of e ≡ None
+    → open_run (h ++ e ∷ []) ≡ Some r → open_run h ≡ Some r
+stays_open r h e sent answer is =
+    sym (open_run_same h (h ++ e ∷ []) (sends_same h e sent) (answered_same h e answer)) ∙ is
 
-any_front : {X : Type 0} (p : X → Bool) (xs : List X) (x : X) → list_any p (xs ++ x ∷ []) ≡ false → list_any p xs ≡ false
+any_front : {X : Type 0} (p : X → Bool) (xs : List X) (x : X) → list_any p (xs ++ x ∷ []) ≡ false
+    → list_any p xs ≡ false
 any_front p [] x none = refl
 any_front p (y ∷ xs) x none = by_test (any_front p xs x) (p y) refl
   where
-    by_test : (list_any p (xs ++ x ∷ []) ≡ false → list_any p xs ≡ false) → (b : Bool) → p y ≡ b → list_any p (y ∷ xs) ≡ false
+    by_test : (list_any p (xs ++ x ∷ []) ≡ false → list_any p xs ≡ false) → (b : Bool) → p y ≡ b
+        → list_any p (y ∷ xs) ≡ false
     by_test rest true is = absurd (true≢false (sym (ap (λ (b : Bool). b || list_any p (xs ++ x ∷ [])) is) ∙ none))
-    by_test rest false is = ap (λ (b : Bool). b || list_any p xs) is ∙ rest (sym (ap (λ (b : Bool). b || list_any p (xs ++ x ∷ [])) is) ∙ none)
+    by_test rest false is =
+        ap (λ (b : Bool). b || list_any p xs) is
+        ∙ rest (sym (ap (λ (b : Bool). b || list_any p (xs ++ x ∷ [])) is) ∙ none)
 
-answered_open : (r : ℕ) (h : List Entry) (e : Entry) (b : Answered) → sending_of e ≡ None → answered_of e ≡ Some b → open_run (h ++ e ∷ []) ≡ Some r → open_run h ≡ Some r
+answered_open : (r : ℕ) (h : List Entry) (e : Entry) (b : Answered) → sending_of e ≡ None → answered_of e ≡ Some b
+    → open_run (h ++ e ∷ []) ≡ Some r → open_run h ≡ Some r
 answered_open r h e b sent answer is =
     let o = open_is (h ++ e ∷ []) r is in
     is_open h r (record {
       last = sym (last_run_same h (h ++ e ∷ []) (sends_same h e sent)) ∙ o.last;
-      left = any_front (λ (a : Answered). a.run == r) (answers h) b (ap (list_any (λ (a : Answered). a.run == r)) (sym (answered_more h e b answer)) ∙ o.left);
+      left = any_front (λ (a : Answered). a.run == r) (answers h) b
+          (ap (list_any (λ (a : Answered). a.run == r)) (sym (answered_more h e b answer)) ∙ o.left);
     })
 
 -- a frame that isn't the run's
-other_sent : (r : ℕ) (h : List Entry) (owner : Owner) (frame : ArrayVec ℕ) → is_run r owner ≡ false → (open_run (h ++ Send owner frame ∷ []) ≡ Some r → ⊥) → SendsPart r h → SendsPart r (h ++ Send owner frame ∷ [])
+other_sent : (r : ℕ) (h : List Entry) (owner : Owner) (frame : ArrayVec ℕ) → is_run r owner ≡ false
+    → (open_run (h ++ Send owner frame ∷ []) ≡ Some r → ⊥) → SendsPart r h → SendsPart r (h ++ Send owner frame ∷ [])
 other_sent r h owner frame other over p =
     let s : Sending = record { owner = owner; frame = frame } in
     record {
       before = p.before;
       during = p.during;
       after = p.after ++ s ∷ [];
-      whole = sends_more h (Send owner frame) s refl ∙ ap (λ (ss : List Sending). ss ++ s ∷ []) p.whole ∙ append_assoc p.before (p.during ++ p.after) (s ∷ []) ∙ ap (λ (ss : List Sending). p.before ++ ss) (append_assoc p.during p.after (s ∷ []));
+      whole = sends_more h (Send owner frame) s refl ∙ ap (λ (ss : List Sending). ss ++ s ∷ []) p.whole
+          ∙ append_assoc p.before (p.during ++ p.after) (s ∷ [])
+          ∙ ap (λ (ss : List Sending). p.before ++ ss) (append_assoc p.during p.after (s ∷ []));
       others_before = p.others_before;
       own = p.own;
       others_after = all_push (λ (s : Sending). is_run r s.owner ≡ false) p.after s p.others_after other;
@@ -103,7 +122,8 @@ other_sent r h owner frame other over p =
     }
 
 -- its first, and a later one
-first_sent : (r : ℕ) (h : List Entry) (frame : ArrayVec ℕ) → NoneOf r (sends h) → SendsPart r (h ++ Send (owners.Run r) frame ∷ [])
+first_sent : (r : ℕ) (h : List Entry) (frame : ArrayVec ℕ) → NoneOf r (sends h)
+    → SendsPart r (h ++ Send (owners.Run r) frame ∷ [])
 first_sent r h frame none =
     let s : Sending = record { owner = owners.Run r; frame = frame } in
     record {
@@ -117,7 +137,8 @@ first_sent r h frame none =
       over = inl refl;
     }
 
-later_sent : (r : ℕ) (h : List Entry) (frame : ArrayVec ℕ) → open_run h ≡ Some r → SendsPart r h → SendsPart r (h ++ Send (owners.Run r) frame ∷ [])
+later_sent : (r : ℕ) (h : List Entry) (frame : ArrayVec ℕ) → open_run h ≡ Some r → SendsPart r h
+    → SendsPart r (h ++ Send (owners.Run r) frame ∷ [])
 later_sent r h frame goes p = by_over p.over
   where
     s : Sending
@@ -130,7 +151,8 @@ later_sent r h frame goes p = by_over p.over
       after = [];
       whole =
           sends_more h (Send (owners.Run r) frame) s refl
-          ∙ ap (λ (ss : List Sending). ss ++ s ∷ []) (p.whole ∙ ap (λ (ss : List Sending). p.before ++ (p.during ++ ss)) none)
+          ∙ ap (λ (ss : List Sending). ss ++ s ∷ [])
+          (p.whole ∙ ap (λ (ss : List Sending). p.before ++ (p.during ++ ss)) none)
           ∙ append_assoc p.before (p.during ++ []) (s ∷ [])
           ∙ ap (λ (ss : List Sending). p.before ++ (ss ++ s ∷ [])) (append-nil p.during)
           ∙ ap (λ (ss : List Sending). p.before ++ ss) (sym (append-nil (p.during ++ s ∷ [])));
@@ -153,9 +175,14 @@ not_begun o h r each number = by_begun (has_begun r h) refl
     by_begun false is = none_any r (sends h) (sent_begun r h ∙ is)
 
 -- each entry keeps the parts
-parts_step : (o : Opening) (h : List Entry) (e : Entry) → EachAfter (MayFollow o) h → ((r : ℕ) → SendsPart r h) → MayFollow o h e → (r : ℕ) → SendsPart r (h ++ e ∷ [])
+parts_step : (o : Opening) (h : List Entry) (e : Entry) → EachAfter (MayFollow o) h → ((r : ℕ) → SendsPart r h)
+    → MayFollow o h e → (r : ℕ) → SendsPart r (h ++ e ∷ [])
 parts_step o h (Send (owners.Request n) frame) each p may r =
-    other_sent r h (owners.Request n) frame refl (λ is. none_open (sym (may.1.no_run) ∙ sym ((same_runs_sent h n frame (sent_evenly o h (legal_facts o h each) may.1.not_awaited)).same_open) ∙ is)) (p r)
+    other_sent r h (owners.Request n) frame refl
+    (λ is. none_open
+    (sym (may.1.no_run)
+    ∙ sym ((same_runs_sent h n frame (sent_evenly o h (legal_facts o h each) may.1.not_awaited)).same_open) ∙ is))
+    (p r)
   where
     none_open : None ≡ Some r → ⊥
     none_open e = cc
@@ -165,21 +192,36 @@ parts_step o h (Send (owners.Run q) frame) each p may r = by_owner (cases_Bool (
     opened = opened_by o h q frame (run_facts o h each) may.1
 
     by_owner : ((r == q) ≡ true) ⊎ ((r == q) ≡ false) → SendsPart r (h ++ Send (owners.Run q) frame ∷ [])
-    by_owner (inl same) = subst (λ (q : ℕ). MaySendRun o h q frame → SendsPart r (h ++ Send (owners.Run q) frame ∷ [])) (eqb-true r q same) own_sent may.1
+    by_owner (inl same) =
+        subst (λ (q : ℕ). MaySendRun o h q frame → SendsPart r (h ++ Send (owners.Run q) frame ∷ []))
+        (eqb-true r q same) own_sent may.1
       where
         own_sent : MaySendRun o h r frame → SendsPart r (h ++ Send (owners.Run r) frame ∷ [])
-        own_sent m = elim m.turn [ inl begins ↦ first_sent r h frame (not_begun o h r each begins.number) | inr goes_on ↦ later_sent r h frame goes_on (p r) ]
-    by_owner (inr other) = other_sent r h (owners.Run q) frame other (λ is. true≢false (sym (eq-eqb r q (some_same (sym is ∙ opened))) ∙ other)) (p r)
+        own_sent m =
+            elim m.turn [
+              | inl begins ↦ first_sent r h frame (not_begun o h r each begins.number)
+              | inr goes_on ↦
+                  later_sent r h frame goes_on (p r)
+            ]
+    by_owner (inr other) =
+        other_sent r h (owners.Run q) frame other
+        (λ is. true≢false (sym (eq-eqb r q (some_same (sym is ∙ opened))) ∙ other)) (p r)
       where
         some_same : {a b : ℕ} → Some a ≡ Some b → a ≡ b
         some_same e = cc
-parts_step o h (Answer n q fault) each p may r = unsent r h (Answer n q fault) refl (answered_open r h (Answer n q fault) (record { number = n; run = q; fault = fault }) refl refl) (p r)
+parts_step o h (Answer n q fault) each p may r =
+    unsent r h (Answer n q fault) refl
+    (answered_open r h (Answer n q fault) (record { number = n; run = q; fault = fault }) refl refl) (p r)
 parts_step o h (Join c n) each p may r = unsent r h (Join c n) refl (stays_open r h (Join c n) refl refl) (p r)
-parts_step o h (Refuse c call cause) each p may r = unsent r h (Refuse c call cause) refl (stays_open r h (Refuse c call cause) refl refl) (p r)
-parts_step o h (Accept c n request) each p may r = unsent r h (Accept c n request) refl (stays_open r h (Accept c n request) refl refl) (p r)
-parts_step o h (Ask c n kind) each p may r = unsent r h (Ask c n kind) refl (stays_open r h (Ask c n kind) refl refl) (p r)
+parts_step o h (Refuse c call cause) each p may r =
+    unsent r h (Refuse c call cause) refl (stays_open r h (Refuse c call cause) refl refl) (p r)
+parts_step o h (Accept c n request) each p may r =
+    unsent r h (Accept c n request) refl (stays_open r h (Accept c n request) refl refl) (p r)
+parts_step o h (Ask c n kind) each p may r =
+    unsent r h (Ask c n kind) refl (stays_open r h (Ask c n kind) refl refl) (p r)
 parts_step o h (Came event) each p may r = unsent r h (Came event) refl (stays_open r h (Came event) refl refl) (p r)
-parts_step o h (Finish n status len) each p may r = unsent r h (Finish n status len) refl (stays_open r h (Finish n status len) refl refl) (p r)
+parts_step o h (Finish n status len) each p may r =
+    unsent r h (Finish n status len) refl (stays_open r h (Finish n status len) refl refl) (p r)
 parts_step o h (Collect c) each p may r = unsent r h (Collect c) refl (stays_open r h (Collect c) refl refl) (p r)
 parts_step o h Pause each p may r = unsent r h Pause refl (stays_open r h Pause refl refl) (p r)
 parts_step o h Resume each p may r = unsent r h Resume refl (stays_open r h Resume refl refl) (p r)
@@ -190,7 +232,18 @@ unfolding sends
 no_sends = refl
 
 pub sends_parts : (o : Opening) (h : List Entry) → EachAfter (MayFollow o) h → (r : ℕ) → SendsPart r h
-sends_parts o h each = along o (λ (k : List Entry). (r : ℕ) → SendsPart r k) (λ r. record { before = []; during = []; after = []; whole = no_sends; others_before = tt; own = tt; others_after = tt; over = inl refl }) (λ k e before p may. parts_step o k e before p may) h each
+sends_parts o h each =
+    along o (λ (k : List Entry). (r : ℕ) → SendsPart r k)
+    (λ r. record {
+      before = [];
+      during = [];
+      after = [];
+      whole = no_sends;
+      others_before = tt;
+      own = tt;
+      others_after = tt;
+      over = inl refl;
+    }) (λ k e before p may. parts_step o k e before p may) h each
 
 -- the exchanges with them
 abbrev of_run : ℕ → List Traded → List Traded
@@ -200,7 +253,8 @@ trades : List Sending → List LineEvent → List Traded
 trades ss es = map traded_of (zip ss es)
 
 -- of frames that are all the run's, and of frames that none is
-all_own : (r : ℕ) (ss : List Sending) (es : List LineEvent) → AllOf r ss → of_run r (map traded_of (zip ss es)) ≡ map traded_of (zip ss es)
+all_own : (r : ℕ) (ss : List Sending) (es : List LineEvent) → AllOf r ss
+    → of_run r (map traded_of (zip ss es)) ≡ map traded_of (zip ss es)
 all_own r [] es all = refl
 all_own r (s ∷ ss) [] all = refl
 all_own r (s ∷ ss) (e ∷ es) all = rw all.0 (ap (λ (ts : List Traded). traded_of (s, e) ∷ ts) (all_own r ss es all.1))
@@ -217,7 +271,8 @@ zip_nil : (ss : List Sending) → zip ss none_came ≡ []
 zip_nil [] = refl
 zip_nil (s ∷ ss) = refl
 
-zip_parts : (us vs : List Sending) (es : List LineEvent) → zip (us ++ vs) es ≡ zip us (take (length us) es) ++ zip vs (drop (length us) es)
+zip_parts : (us vs : List Sending) (es : List LineEvent)
+    → zip (us ++ vs) es ≡ zip us (take (length us) es) ++ zip vs (drop (length us) es)
 zip_parts [] vs es = refl
 zip_parts (a ∷ us) vs [] = sym (zip_nil vs)
 zip_parts (a ∷ us) vs (e ∷ es) = ap (λ (ps : List (Sending × LineEvent)). (a, e) ∷ ps) (zip_parts us vs es)
@@ -232,7 +287,8 @@ run_part o h each r = record {
   before = map exchange_of first;
   during = map exchange_of middle;
   after = map exchange_of last;
-  whole = ap (map exchange_of) all ∙ map-append exchange_of first (middle ++ last) ∙ ap (λ (xs : List Exchange). map exchange_of first ++ xs) (map-append exchange_of middle last);
+  whole = ap (map exchange_of) all ∙ map-append exchange_of first (middle ++ last)
+      ∙ ap (λ (xs : List Exchange). map exchange_of first ++ xs) (map-append exchange_of middle last);
   own = ap (map seen_of) mine ∙ seen_twice middle;
 }
   where
@@ -256,14 +312,19 @@ run_part o h each r = record {
         ap (λ (ss : List Sending). map traded_of (zip ss (cames h))) p.whole
         ∙ ap (map traded_of) (zip_parts p.before (p.during ++ p.after) (cames h))
         ∙ map-append traded_of (zip p.before (take (length p.before) (cames h))) (zip (p.during ++ p.after) rest)
-        ∙ ap (λ (ts : List Traded). first ++ ts) (ap (map traded_of) (zip_parts p.during p.after rest) ∙ map-append traded_of (zip p.during (take (length p.during) rest)) (zip p.after (drop (length p.during) rest)))
+        ∙ ap (λ (ts : List Traded). first ++ ts)
+        (ap (map traded_of) (zip_parts p.during p.after rest)
+        ∙ map-append traded_of (zip p.during (take (length p.during) rest))
+        (zip p.after (drop (length p.during) rest)))
 
     mine : of_run r (map traded_of (zip (sends h) (cames h))) ≡ middle
     mine =
         ap (of_run r) all
         ∙ filter-append (λ (t : Traded). is_run r t.owner) first (middle ++ last)
-        ∙ ap (λ (ts : List Traded). ts ++ of_run r (middle ++ last)) (none_own r p.before (take (length p.before) (cames h)) p.others_before)
+        ∙ ap (λ (ts : List Traded). ts ++ of_run r (middle ++ last))
+        (none_own r p.before (take (length p.before) (cames h)) p.others_before)
         ∙ filter-append (λ (t : Traded). is_run r t.owner) middle last
-        ∙ ap (λ (ts : List Traded). of_run r middle ++ ts) (none_own r p.after (drop (length p.during) rest) p.others_after)
+        ∙ ap (λ (ts : List Traded). of_run r middle ++ ts)
+        (none_own r p.after (drop (length p.during) rest) p.others_after)
         ∙ append-nil (of_run r middle)
         ∙ all_own r p.during (take (length p.during) rest) p.own

@@ -22,16 +22,19 @@ if_some P Q None f one = tt
 if_some P Q (Some a) f one = f a one
 
 -- devices that stay, with one more that does
-pub stay_with : (d : SceneDevice) (ds : List SceneDevice) → Stays d → AllByRecursion Stays ds → AllByRecursion Stays (with_scene_device d ds)
+pub stay_with : (d : SceneDevice) (ds : List SceneDevice) → Stays d → AllByRecursion Stays ds
+    → AllByRecursion Stays (with_scene_device d ds)
 stay_with d [] here all = (here, tt)
 stay_with d (e ∷ es) here all = by_test (nat_lt e.device.uid d.device.uid) (stay_with d es here all.1)
   where
-    by_test : (t : Bool) → AllByRecursion Stays (with_scene_device d es) → AllByRecursion Stays (cond t (e ∷ with_scene_device d es) (d ∷ e ∷ es))
+    by_test : (t : Bool) → AllByRecursion Stays (with_scene_device d es)
+        → AllByRecursion Stays (cond t (e ∷ with_scene_device d es) (d ∷ e ∷ es))
     by_test true rest = (all.0, rest)
     by_test false rest = (here, all)
 
 -- a log over a line, as run_session says it
-pub log_over_rings : (setup : Setup) (room : ℕ) (places : List ℕ) (s t : SimState) (k : LogState) → SessionOver SimStep setup room places s t k → IsLogOver s t k
+pub log_over_rings : (setup : Setup) (room : ℕ) (places : List ℕ) (s t : SimState) (k : LogState)
+    → SessionOver SimStep setup room places s t k → IsLogOver s t k
 log_over_rings setup room places s t k over = record {
   legal = over.legal;
   steps = over.steps;
@@ -42,7 +45,8 @@ same_in_record : (h : List Entry) → exchanges_in h ≡ exchanges h
 unfolding exchanges
 same_in_record h = refl
 
-pub log_over_record : (s t : SimState) (k : LogState) (record_of : List Recorded) → Legal k.opening k.entries → exchanges_in k.entries ≡ recorded record_of → Makes SimState SimStep s (recorded record_of) t → IsLogOver s t k
+pub log_over_record : (s t : SimState) (k : LogState) (record_of : List Recorded) → Legal k.opening k.entries
+    → exchanges_in k.entries ≡ recorded record_of → Makes SimState SimStep s (recorded record_of) t → IsLogOver s t k
 log_over_record s t k record_of legal same steps = record {
   legal = legal;
   steps = subst (λ xs. Makes SimState SimStep s xs t) (sym same ∙ same_in_record k.entries) steps;

@@ -1,5 +1,6 @@
 -- Comparing the calls of a session file with those that a log has.
-use Rattle.std.proofs.Common.{◌≡◌, ℕ, suc, subst, ◌+◌, ◌<◌, List, [], ◌∷◌, ◌++◌, length, take, get_or, refl, ap, sym, ◌∙◌, Option, Some, None, Bool, true, false, arith}
+use Rattle.std.proofs.Common.{◌≡◌, ℕ, suc, subst, ◌+◌, ◌<◌, List, [], ◌∷◌, ◌++◌, length, take, get_or, refl, ap, sym}
+use Rattle.std.proofs.Common.{◌∙◌, Option, Some, None, Bool, true, false, arith}
 use Rattle.std.specs.Prelude.{◌==◌}
 use Rattle.std.specs.Bool.{OnTrue}
 use Rattle.std.proofs.lemmas.Bool.{eqb-true}
@@ -10,21 +11,25 @@ use Rattle.rdm_files.specs.declared.session.client.ClientFile.{ClientFile}
 use Rattle.rdm_serving.specs.LoggedCalls.{AllCalled, HasCalls, calls_logged}
 
 -- where the first of both lists are the same, the rest decides
-pub same_next : {X : Type 0} {P : Type 0} (x : X) (xs : List X) (e : X) (left later : List X) → left ≡ e ∷ later → x ≡ e → (x ∷ xs ≡ left → P) → xs ≡ later → P
+pub same_next : {X : Type 0} {P : Type 0} (x : X) (xs : List X) (e : X) (left later : List X) → left ≡ e ∷ later → x ≡ e
+    → (x ∷ xs ≡ left → P) → xs ≡ later → P
 same_next x xs e left later is first both rest = both (rw (is, first, rest) refl)
 
 -- at the end of both
-pub same_end : {X : Type 0} {P : Type 0} (left : List X) (b : Bool) → ([] ≡ left → P) → b ≡ (length left == 0) → OnTrue b P
+pub same_end : {X : Type 0} {P : Type 0} (left : List X) (b : Bool) → ([] ≡ left → P) → b ≡ (length left == 0)
+    → OnTrue b P
 same_end [] b both is = rw is (both refl)
 same_end (y ∷ left) true both is = absurd (let none = eqb-true (length (y ∷ left)) 0 (sym is) in omega arith)
 same_end (y ∷ left) false both is = tt
 
-called_more : (h : List Entry) (c : ℕ) (cs : List ClientFile) (x : ClientFile) → AllCalled h c cs → calls_logged (c + length cs) h ≡ x.calls.items → AllCalled h c (cs ++ x ∷ [])
+called_more : (h : List Entry) (c : ℕ) (cs : List ClientFile) (x : ClientFile) → AllCalled h c cs
+    → calls_logged (c + length cs) h ≡ x.calls.items → AllCalled h c (cs ++ x ∷ [])
 called_more h c [] x all here = (subst (λ n. calls_logged n h ≡ x.calls.items) (plain c) here, tt)
   where
     plain : (n : ℕ) → n + 0 ≡ n
     plain n = omega arith
-called_more h c (y ∷ ys) x all here = (all.0, called_more h (c + 1) ys x all.1 (subst (λ n. calls_logged n h ≡ x.calls.items) (later c (length ys)) here))
+called_more h c (y ∷ ys) x all here =
+    (all.0, called_more h (c + 1) ys x all.1 (subst (λ n. calls_logged n h ≡ x.calls.items) (later c (length ys)) here))
   where
     later : (n m : ℕ) → n + suc m ≡ (n + 1) + m
     later n m = omega arith
@@ -33,9 +38,12 @@ called_more h c (y ∷ ys) x all here = (all.0, called_more h (c + 1) ys x all.1
 pub called_next : (h : List Entry) (cs : List ClientFile) (i : ℕ) (x : ClientFile) → i < length cs → x ≡ get_or cs i x
     → AllCalled h 0 (take i cs) → calls_logged i h ≡ x.calls.items → AllCalled h 0 (take (i + 1) cs)
 called_next h cs i x lt at all here =
-    let more : take (i + 1) cs ≡ take i cs ++ x ∷ [] = ap (λ k. take k cs) (next i) ∙ take-suc cs i x lt ∙ ap (λ w. take i cs ++ w ∷ []) (sym at) in
-    let many : i ≡ 0 + length (take i cs) = sym (none_more (length (take i cs)) ∙ length-take-le i cs (omega (arith, lt))) in
-    subst (λ xs. AllCalled h 0 xs) (sym more) (called_more h 0 (take i cs) x all (subst (λ n. calls_logged n h ≡ x.calls.items) many here))
+    let more : take (i + 1) cs ≡ take i cs ++ x ∷ [] = ap (λ k. take k cs) (next i) ∙ take-suc cs i x lt
+    ∙ ap (λ w. take i cs ++ w ∷ []) (sym at) in
+    let many : i
+    ≡ 0 + length (take i cs) = sym (none_more (length (take i cs)) ∙ length-take-le i cs (omega (arith, lt))) in
+    subst (λ xs. AllCalled h 0 xs) (sym more)
+    (called_more h 0 (take i cs) x all (subst (λ n. calls_logged n h ≡ x.calls.items) many here))
   where
     next : (n : ℕ) → n + 1 ≡ suc n
     next n = omega arith

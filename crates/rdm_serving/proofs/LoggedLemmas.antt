@@ -1,5 +1,6 @@
 -- Comparing what clients were told with a log.
-use Rattle.std.proofs.Common.{◌≡◌, ℕ, suc, subst, ◌+◌, ◌<◌, ◌≤◌, List, [], ◌∷◌, ◌++◌, length, map, drop, take, get_or, refl, ap, sym, ◌∙◌, Option, Some, None, Bool, true, false, arith}
+use Rattle.std.proofs.Common.{◌≡◌, ℕ, suc, subst, ◌+◌, ◌<◌, ◌≤◌, List, [], ◌∷◌, ◌++◌, length, map, drop, take, get_or}
+use Rattle.std.proofs.Common.{refl, ap, sym, ◌∙◌, Option, Some, None, Bool, true, false, arith}
 use Rattle.std.specs.Prelude.{◌==◌, filter_map}
 use Rattle.std.specs.Bool.{OnTrue}
 use Rattle.std.proofs.lemmas.Bool.{eqb-true}
@@ -11,7 +12,8 @@ use Rattle.rdm_agent.specs.declared.kind.Kind.{Kind}
 use Rattle.rdm_log.specs.declared.entry.ClientId.{ClientId}
 use Rattle.rdm_log.specs.declared.entry.Opening.{Opening}
 use Rattle.rdm_log.specs.declared.entry.Entry.{Entry}
-use Rattle.rdm_log.specs.declared.entry.Entry.TheVariants.{Join, Refuse, Accept, Ask, Send, Came, Finish, Answer, Collect, Pause, Resume, Close}
+use Rattle.rdm_log.specs.declared.entry.Entry.TheVariants.{Join, Refuse, Accept, Ask, Send, Came, Finish, Answer}
+use Rattle.rdm_log.specs.declared.entry.Entry.TheVariants.{Collect, Pause, Resume, Close}
 use Rattle.rdm_log.specs.log.Entries.{accepted_of, asked_of, accepts, asks}
 use Rattle.rdm_agent.specs.declared.fault.AgentFault.{AgentFault}
 use Rattle.rdm_client.specs.declared.told.Told.{Told}
@@ -25,22 +27,28 @@ use Rattle.rdm_serving.specs.declared.outcomes.Outcomes.{Outcomes}
 
 module _ {X : Type 0} where
   -- what f finds from the i-th entry on, where it finds nothing there, and where it finds x
-  pub found_skip : (f : Entry → Option X) (h : List Entry) (i : ℕ) (e : Entry) → i < length h → e ≡ get_or h i e → f e ≡ None → filter_map f (drop i h) ≡ filter_map f (drop (i + 1) h)
-  found_skip f h i e within is other = at_drop_more (filter_map f) h i e within ∙ ap (λ x. filter_map f (x ∷ drop (i + 1) h)) (sym is) ∙ rw other refl
+  pub found_skip : (f : Entry → Option X) (h : List Entry) (i : ℕ) (e : Entry) → i < length h → e ≡ get_or h i e
+      → f e ≡ None → filter_map f (drop i h) ≡ filter_map f (drop (i + 1) h)
+  found_skip f h i e within is other =
+      at_drop_more (filter_map f) h i e within ∙ ap (λ x. filter_map f (x ∷ drop (i + 1) h)) (sym is) ∙ rw other refl
 
-  pub found_next : (f : Entry → Option X) (h : List Entry) (i : ℕ) (e : Entry) (x : X) → i < length h → e ≡ get_or h i e → f e ≡ Some x → filter_map f (drop i h) ≡ x ∷ filter_map f (drop (i + 1) h)
-  found_next f h i e x within is there = at_drop_more (filter_map f) h i e within ∙ ap (λ x. filter_map f (x ∷ drop (i + 1) h)) (sym is) ∙ rw there refl
+  pub found_next : (f : Entry → Option X) (h : List Entry) (i : ℕ) (e : Entry) (x : X) → i < length h → e ≡ get_or h i e
+      → f e ≡ Some x → filter_map f (drop i h) ≡ x ∷ filter_map f (drop (i + 1) h)
+  found_next f h i e x within is there =
+      at_drop_more (filter_map f) h i e within ∙ ap (λ x. filter_map f (x ∷ drop (i + 1) h)) (sym is) ∙ rw there refl
 
   pub found_end : (f : Entry → Option X) (h : List Entry) (i : ℕ) → length h ≤ i → filter_map f (drop i h) ≡ []
   found_end f h i past = rw (drop_of_length-le h past) refl
 
   module _ {E : Type 0} where
     -- where the first of both lists are the same, the rest decides
-    pub told_next : {P : Type 0} (g : E → X) (x : X) (xs : List X) (e : E) (left later : List E) → left ≡ e ∷ later → x ≡ g e → (x ∷ xs ≡ map g left → P) → xs ≡ map g later → P
+    pub told_next : {P : Type 0} (g : E → X) (x : X) (xs : List X) (e : E) (left later : List E) → left ≡ e ∷ later
+        → x ≡ g e → (x ∷ xs ≡ map g left → P) → xs ≡ map g later → P
     told_next g x xs e left later is first both rest = both (rw (is, first, rest) refl)
 
     -- at the end of both
-    pub told_end : {P : Type 0} (g : E → X) (left : List E) (b : Bool) → ([] ≡ map g left → P) → b ≡ (length left == 0) → OnTrue b P
+    pub told_end : {P : Type 0} (g : E → X) (left : List E) (b : Bool) → ([] ≡ map g left → P) → b ≡ (length left == 0)
+        → OnTrue b P
     told_end g left b both is = by_test left b both is
       where
         by_test : {P : Type 0} (left : List E) (b : Bool) → ([] ≡ map g left → P) → b ≡ (length left == 0) → OnTrue b P
@@ -49,18 +57,24 @@ module _ {X : Type 0} where
         by_test (y ∷ left) false both is = tt
 
   -- with a number for each that was found: those before the i-th entry, and those from it on, are all
-  pub numbers_skip : (f : Entry → Option X) (number : X → ℕ) (h : List Entry) (i : ℕ) (e : Entry) (before all : List ℕ) → i < length h → e ≡ get_or h i e → f e ≡ None
-      → before ++ map number (filter_map f (drop i h)) ≡ all → before ++ map number (filter_map f (drop (i + 1) h)) ≡ all
-  numbers_skip f number h i e before all within is other whole = ap (λ xs. before ++ map number xs) (sym (found_skip f h i e within is other)) ∙ whole
+  pub numbers_skip : (f : Entry → Option X) (number : X → ℕ) (h : List Entry) (i : ℕ) (e : Entry) (before all : List ℕ)
+      → i < length h → e ≡ get_or h i e → f e ≡ None
+      → before ++ map number (filter_map f (drop i h)) ≡ all
+      → before ++ map number (filter_map f (drop (i + 1) h)) ≡ all
+  numbers_skip f number h i e before all within is other whole =
+      ap (λ xs. before ++ map number xs) (sym (found_skip f h i e within is other)) ∙ whole
 
-  pub numbers_next : (f : Entry → Option X) (number : X → ℕ) (h : List Entry) (i : ℕ) (e : Entry) (x : X) (before all : List ℕ) → i < length h → e ≡ get_or h i e → f e ≡ Some x
-      → before ++ map number (filter_map f (drop i h)) ≡ all → (before ++ number x ∷ []) ++ map number (filter_map f (drop (i + 1) h)) ≡ all
+  pub numbers_next : (f : Entry → Option X) (number : X → ℕ) (h : List Entry) (i : ℕ) (e : Entry) (x : X)
+      (before all : List ℕ) → i < length h → e ≡ get_or h i e → f e ≡ Some x
+      → before ++ map number (filter_map f (drop i h)) ≡ all
+      → (before ++ number x ∷ []) ++ map number (filter_map f (drop (i + 1) h)) ≡ all
   numbers_next f number h i e x before all within is there whole =
       append_assoc before (number x ∷ []) (map number (filter_map f (drop (i + 1) h)))
       ∙ ap (λ xs. before ++ map number xs) (sym (found_next f h i e x within is there)) ∙ whole
 
 -- an entry that is no Accept, and no Ask
-pub no_accept : (e : Entry) → ((c : ClientId) (n : ℕ) (request : Request) → e ≡ Accept c n request → ⊥) → accepted_of e ≡ None
+pub no_accept : (e : Entry) → ((c : ClientId) (n : ℕ) (request : Request) → e ≡ Accept c n request → ⊥)
+    → accepted_of e ≡ None
 no_accept (Accept c n request) other = absurd (other c n request refl)
 no_accept (Join c n) other = refl
 no_accept (Refuse c call cause) other = refl
@@ -89,54 +103,77 @@ no_ask Resume other = refl
 no_ask Close other = refl
 
 -- the clients of Accepts, entry by entry
-pub accepts_skip : (h : List Entry) (i : ℕ) (e : Entry) (before all : List ℕ) → i < length h → e ≡ get_or h i e → accepted_of e ≡ None
-    → before ++ map (λ s. s.client) (accepts (drop i h)) ≡ all → before ++ map (λ s. s.client) (accepts (drop (i + 1) h)) ≡ all
+pub accepts_skip : (h : List Entry) (i : ℕ) (e : Entry) (before all : List ℕ) → i < length h → e ≡ get_or h i e
+    → accepted_of e ≡ None
+    → before ++ map (λ s. s.client) (accepts (drop i h)) ≡ all
+    → before ++ map (λ s. s.client) (accepts (drop (i + 1) h)) ≡ all
 unfolding accepts
-accepts_skip h i e before all within is other whole = numbers_skip accepted_of (λ s. s.client) h i e before all within is other whole
+accepts_skip h i e before all within is other whole =
+    numbers_skip accepted_of (λ s. s.client) h i e before all within is other whole
 
-pub accepts_next : (h : List Entry) (i : ℕ) (e : Entry) (c : ClientId) (n : ℕ) (request : Request) (before all : List ℕ) → i < length h → e ≡ get_or h i e → e ≡ Accept c n request
-    → before ++ map (λ s. s.client) (accepts (drop i h)) ≡ all → (before ++ c.0 ∷ []) ++ map (λ s. s.client) (accepts (drop (i + 1) h)) ≡ all
+pub accepts_next : (h : List Entry) (i : ℕ) (e : Entry) (c : ClientId) (n : ℕ) (request : Request) (before all : List ℕ)
+    → i < length h → e ≡ get_or h i e → e ≡ Accept c n request
+    → before ++ map (λ s. s.client) (accepts (drop i h)) ≡ all
+    → (before ++ c.0 ∷ []) ++ map (λ s. s.client) (accepts (drop (i + 1) h)) ≡ all
 unfolding accepts
 accepts_next h i e c n request before all within is there whole =
-    numbers_next accepted_of (λ s. s.client) h i e (record { client = c.0; number = n; request = request }) before all within is (ap accepted_of there) whole
+    numbers_next accepted_of (λ s. s.client) h i e (record { client = c.0; number = n; request = request }) before all
+    within is (ap accepted_of there) whole
 
-pub accepts_end : (h : List Entry) (i : ℕ) (before all : List ℕ) → length h ≤ i → before ++ map (λ s. s.client) (accepts (drop i h)) ≡ all → before ≡ all
+pub accepts_end : (h : List Entry) (i : ℕ) (before all : List ℕ) → length h ≤ i
+    → before ++ map (λ s. s.client) (accepts (drop i h)) ≡ all → before ≡ all
 unfolding accepts
-accepts_end h i before all past whole = sym (append-nil before) ∙ ap (λ xs. before ++ map (λ s. s.client) xs) (sym (found_end accepted_of h i past)) ∙ whole
+accepts_end h i before all past whole =
+    sym (append-nil before) ∙ ap (λ xs. before ++ map (λ s. s.client) xs) (sym (found_end accepted_of h i past)) ∙ whole
 
 -- of Asks
-pub asks_skip : (h : List Entry) (i : ℕ) (e : Entry) (before all : List ℕ) → i < length h → e ≡ get_or h i e → asked_of e ≡ None
-    → before ++ map (λ s. s.client) (asks (drop i h)) ≡ all → before ++ map (λ s. s.client) (asks (drop (i + 1) h)) ≡ all
+pub asks_skip : (h : List Entry) (i : ℕ) (e : Entry) (before all : List ℕ) → i < length h → e ≡ get_or h i e
+    → asked_of e ≡ None
+    → before ++ map (λ s. s.client) (asks (drop i h)) ≡ all
+    → before ++ map (λ s. s.client) (asks (drop (i + 1) h)) ≡ all
 unfolding asks
-asks_skip h i e before all within is other whole = numbers_skip asked_of (λ s. s.client) h i e before all within is other whole
+asks_skip h i e before all within is other whole =
+    numbers_skip asked_of (λ s. s.client) h i e before all within is other whole
 
-pub asks_next : (h : List Entry) (i : ℕ) (e : Entry) (c : ClientId) (n : ℕ) (kind : Kind) (before all : List ℕ) → i < length h → e ≡ get_or h i e → e ≡ Ask c n kind
-    → before ++ map (λ s. s.client) (asks (drop i h)) ≡ all → (before ++ c.0 ∷ []) ++ map (λ s. s.client) (asks (drop (i + 1) h)) ≡ all
+pub asks_next : (h : List Entry) (i : ℕ) (e : Entry) (c : ClientId) (n : ℕ) (kind : Kind) (before all : List ℕ)
+    → i < length h → e ≡ get_or h i e → e ≡ Ask c n kind
+    → before ++ map (λ s. s.client) (asks (drop i h)) ≡ all
+    → (before ++ c.0 ∷ []) ++ map (λ s. s.client) (asks (drop (i + 1) h)) ≡ all
 unfolding asks
 asks_next h i e c n kind before all within is there whole =
-    numbers_next asked_of (λ s. s.client) h i e (record { client = c.0; number = n; kind = kind }) before all within is (ap asked_of there) whole
+    numbers_next asked_of (λ s. s.client) h i e (record { client = c.0; number = n; kind = kind }) before all within is
+    (ap asked_of there) whole
 
-pub asks_end : (h : List Entry) (i : ℕ) (before all : List ℕ) → length h ≤ i → before ++ map (λ s. s.client) (asks (drop i h)) ≡ all → before ≡ all
+pub asks_end : (h : List Entry) (i : ℕ) (before all : List ℕ) → length h ≤ i
+    → before ++ map (λ s. s.client) (asks (drop i h)) ≡ all → before ≡ all
 unfolding asks
-asks_end h i before all past whole = sym (append-nil before) ∙ ap (λ xs. before ++ map (λ s. s.client) xs) (sym (found_end asked_of h i past)) ∙ whole
+asks_end h i before all past whole =
+    sym (append-nil before) ∙ ap (λ xs. before ++ map (λ s. s.client) xs) (sym (found_end asked_of h i past)) ∙ whole
 
-logged_more : (o : Opening) (h : List Entry) (c : ℕ) (xs : List Outcomes) (x : Outcomes) → AllLogged o h c xs → AreLogged o h (c + length xs) x → AllLogged o h c (xs ++ x ∷ [])
+logged_more : (o : Opening) (h : List Entry) (c : ℕ) (xs : List Outcomes) (x : Outcomes) → AllLogged o h c xs
+    → AreLogged o h (c + length xs) x → AllLogged o h c (xs ++ x ∷ [])
 logged_more o h c [] x all here = (subst (λ n. AreLogged o h n x) (plain c) here, tt)
   where
     plain : (n : ℕ) → n + 0 ≡ n
     plain n = omega arith
-logged_more o h c (y ∷ ys) x all here = (all.0, logged_more o h (c + 1) ys x all.1 (subst (λ n. AreLogged o h n x) (later c (length ys)) here))
+logged_more o h c (y ∷ ys) x all here =
+    (all.0, logged_more o h (c + 1) ys x all.1 (subst (λ n. AreLogged o h n x) (later c (length ys)) here))
   where
     later : (n m : ℕ) → n + suc m ≡ (n + 1) + m
     later n m = omega arith
 
 -- one more client
-pub logged_next : (o : Opening) (h : List Entry) (told : List Outcomes) (i : ℕ) (x : Outcomes) → i < length told → x ≡ get_or told i x
+pub logged_next : (o : Opening) (h : List Entry) (told : List Outcomes) (i : ℕ) (x : Outcomes) → i < length told
+    → x ≡ get_or told i x
     → AllLogged o h 0 (take i told) → AreLogged o h i x → AllLogged o h 0 (take (i + 1) told)
 logged_next o h told i x lt at all here =
-    let more : take (i + 1) told ≡ take i told ++ x ∷ [] = ap (λ k. take k told) (next i) ∙ take-suc told i x lt ∙ ap (λ w. take i told ++ w ∷ []) (sym at) in
-    let many : i ≡ 0 + length (take i told) = sym (none_more (length (take i told)) ∙ length-take-le i told (omega (arith, lt))) in
-    subst (λ xs. AllLogged o h 0 xs) (sym more) (logged_more o h 0 (take i told) x all (subst (λ n. AreLogged o h n x) many here))
+    let more : take (i + 1) told ≡ take i told ++ x ∷ [] = ap (λ k. take k told) (next i) ∙ take-suc told i x lt
+    ∙ ap (λ w. take i told ++ w ∷ []) (sym at) in
+    let many : i
+    ≡ 0 + length (take i told) =
+    sym (none_more (length (take i told)) ∙ length-take-le i told (omega (arith, lt))) in
+    subst (λ xs. AllLogged o h 0 xs) (sym more)
+    (logged_more o h 0 (take i told) x all (subst (λ n. AreLogged o h n x) many here))
   where
     next : (n : ℕ) → n + 1 ≡ suc n
     next n = omega arith
@@ -147,12 +184,17 @@ logged_next o h told i x lt at all here =
 -- a client's requests and its discoveries
 pub logged_both : (o p : Opening) (h k : List Entry) (c : ℕ) (told : Outcomes) (rs : List Told) (ds : List Discovered)
     (b : Bool) → p ≡ o → k ≡ h → rs ≡ told.requests.items → ds ≡ told.discoveries.items
-    → ends_logged p c k ≡ map end_told rs → OnTrue b (faults_logged p c k ≡ map (λ (d : Discovered). d.fault) ds) → OnTrue b (AreLogged o h c told)
+    → ends_logged p c k ≡ map end_told rs → OnTrue b (faults_logged p c k ≡ map (λ (d : Discovered). d.fault) ds)
+    → OnTrue b (AreLogged o h c told)
 logged_both o p h k c told rs ds true opening entries requests discoveries ends faults =
-    record { requests = rw (opening, entries, requests) at ends; discoveries = rw (opening, entries, discoveries) at faults }
+    record {
+      requests = rw (opening, entries, requests) at ends;
+      discoveries = rw (opening, entries, discoveries) at faults;
+    }
 logged_both o p h k c told rs ds false opening entries requests discoveries ends faults = tt
 
 -- a discovery that a collect gave is noted
-pub noted_ask : (some : Option Collected) (given : Collected) (told : AskTold) (old new : Outcomes) (d : Discovered) → some ≡ Some given → given ≡ collected.Ask told → IsToldBy told d
+pub noted_ask : (some : Option Collected) (given : Collected) (told : AskTold) (old new : Outcomes) (d : Discovered)
+    → some ≡ Some given → given ≡ collected.Ask told → IsToldBy told d
     → new.discoveries.items ≡ old.discoveries.items ++ d ∷ [] → new.requests ≡ old.requests → Notes some old new
 noted_ask some given told old new d is kind by more same = rw (is, kind) (d, by, more, same)

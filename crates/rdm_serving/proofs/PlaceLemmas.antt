@@ -1,5 +1,6 @@
 -- The places of the calls of one kind, one call after another.
-use Rattle.std.proofs.Common.{◌≡◌, ℕ, suc, ◌+◌, ◌<◌, ◌++◌, ◌∷◌, [], Bool, true, false, List, length, take, get_or, map, refl, sym, ap, ◌∙◌, arith}
+use Rattle.std.proofs.Common.{◌≡◌, ℕ, suc, ◌+◌, ◌<◌, ◌++◌, ◌∷◌, [], Bool, true, false, List, length, take, get_or, map}
+use Rattle.std.proofs.Common.{refl, sym, ap, ◌∙◌, arith}
 use Rattle.std.specs.Prelude.{if◌then◌else◌}
 use Rattle.std.proofs.Math.Seq.{take-suc}
 use Rattle.std.proofs.lemmas.List.{map-append, append-nil, length-take-le}
@@ -11,7 +12,8 @@ module _ (is_of_kind : ClientCall → Bool) where
   abbrev place_if : ClientCall → ℕ → List ℕ
   place_if call n = if is_of_kind call then n ∷ [] else []
 
-  one_more : (b : Bool) (n : ℕ) (xs ys zs : List ℕ) → xs ≡ ys ++ zs → (if b then n ∷ xs else xs) ≡ (if b then n ∷ ys else ys) ++ zs
+  one_more : (b : Bool) (n : ℕ) (xs ys zs : List ℕ) → xs ≡ ys ++ zs
+      → (if b then n ∷ xs else xs) ≡ (if b then n ∷ ys else ys) ++ zs
   one_more true n xs ys zs is = ap (λ l. n ∷ l) is
   one_more false n xs ys zs is = is
 
@@ -26,20 +28,26 @@ module _ (is_of_kind : ClientCall → Bool) where
       → places_of is_of_kind n (calls ++ call ∷ []) ≡ places_of is_of_kind n calls ++ place_if call (n + length calls)
   places_more n [] call = alone (is_of_kind call) n
   places_more n (c ∷ calls) call =
-      one_more (is_of_kind c) n (places_of is_of_kind (n + 1) (calls ++ call ∷ [])) (places_of is_of_kind (n + 1) calls) (place_if call (n + suc (length calls)))
-      (places_more (n + 1) calls call ∙ ap (λ k. places_of is_of_kind (n + 1) calls ++ place_if call k) (later n (length calls)))
+      one_more (is_of_kind c) n (places_of is_of_kind (n + 1) (calls ++ call ∷ [])) (places_of is_of_kind (n + 1) calls)
+      (place_if call (n + suc (length calls)))
+      (places_more (n + 1) calls call
+      ∙ ap (λ k. places_of is_of_kind (n + 1) calls ++ place_if call k) (later n (length calls)))
     where
       later : (k m : ℕ) → (k + 1) + m ≡ k + suc m
       later k m = omega arith
 
   -- the place of the next call
-  places_next : (calls : List ClientCall) (place : ℕ) (call : ClientCall) → place < length calls → call ≡ get_or calls place call
-      → places_of is_of_kind 0 (take (place + 1) calls) ≡ places_of is_of_kind 0 (take place calls) ++ place_if call place
+  places_next : (calls : List ClientCall) (place : ℕ) (call : ClientCall) → place < length calls
+      → call ≡ get_or calls place call
+      → places_of is_of_kind 0 (take (place + 1) calls) ≡ places_of is_of_kind 0 (take place calls)
+      ++ place_if call place
   places_next calls place call lt at =
       ap (λ k. places_of is_of_kind 0 (take k calls)) (next place)
-      ∙ ap (λ l. places_of is_of_kind 0 l) (take-suc calls place call lt ∙ ap (λ c. take place calls ++ c ∷ []) (sym at))
+      ∙ ap (λ l. places_of is_of_kind 0 l)
+      (take-suc calls place call lt ∙ ap (λ c. take place calls ++ c ∷ []) (sym at))
       ∙ places_more 0 (take place calls) call
-      ∙ ap (λ k. places_of is_of_kind 0 (take place calls) ++ place_if call k) (many (length (take place calls)) place (length-take-le place calls (omega (arith, lt))))
+      ∙ ap (λ k. places_of is_of_kind 0 (take place calls) ++ place_if call k)
+      (many (length (take place calls)) place (length-take-le place calls (omega (arith, lt))))
     where
       next : (n : ℕ) → n + 1 ≡ suc n
       next n = omega arith
@@ -48,23 +56,30 @@ module _ (is_of_kind : ClientCall → Bool) where
       many k n is = omega (arith, is)
 
   -- a call of another kind has no outcome here
-  pub other_call : (calls : List ClientCall) (tags : List ℕ) (place : ℕ) (call : ClientCall) → place < length calls → call ≡ get_or calls place call
-      → is_of_kind call ≡ false → tags ≡ places_of is_of_kind 0 (take place calls) → tags ≡ places_of is_of_kind 0 (take (place + 1) calls)
+  pub other_call : (calls : List ClientCall) (tags : List ℕ) (place : ℕ) (call : ClientCall) → place < length calls
+      → call ≡ get_or calls place call
+      → is_of_kind call ≡ false → tags ≡ places_of is_of_kind 0 (take place calls)
+      → tags ≡ places_of is_of_kind 0 (take (place + 1) calls)
   other_call calls tags place call lt at differs is =
-      is ∙ sym (places_next calls place call lt at ∙ ap (λ (b : Bool). places_of is_of_kind 0 (take place calls) ++ (if b then place ∷ [] else [])) differs
+      is ∙ sym (places_next calls place call lt at ∙ ap
+      (λ (b : Bool). places_of is_of_kind 0 (take place calls) ++ (if b then place ∷ [] else [])) differs
       ∙ append-nil (places_of is_of_kind 0 (take place calls)))
 
   -- a call of this kind has the next outcome
-  pub next_call : {T : Type 0} (tag : T → ℕ) (calls : List ClientCall) (outcomes : List T) (place count : ℕ) (call : ClientCall) (outcome : T)
-      → place < length calls → count < length outcomes → call ≡ get_or calls place call → outcome ≡ get_or outcomes count outcome → is_of_kind call ≡ true → tag outcome ≡ place
-      → map tag (take count outcomes) ≡ places_of is_of_kind 0 (take place calls) → map tag (take (count + 1) outcomes) ≡ places_of is_of_kind 0 (take (place + 1) calls)
+  pub next_call : {T : Type 0} (tag : T → ℕ) (calls : List ClientCall) (outcomes : List T) (place count : ℕ)
+      (call : ClientCall) (outcome : T)
+      → place < length calls → count < length outcomes → call ≡ get_or calls place call
+      → outcome ≡ get_or outcomes count outcome → is_of_kind call ≡ true → tag outcome ≡ place
+      → map tag (take count outcomes) ≡ places_of is_of_kind 0 (take place calls)
+      → map tag (take (count + 1) outcomes) ≡ places_of is_of_kind 0 (take (place + 1) calls)
   next_call tag calls outcomes place count call outcome lt few at there same own is =
       ap (λ k. map tag (take k outcomes)) (next count)
       ∙ ap (λ l. map tag l) (take-suc outcomes count outcome few ∙ ap (λ t. take count outcomes ++ t ∷ []) (sym there))
       ∙ map-append tag (take count outcomes) (outcome ∷ [])
       ∙ ap (λ l. l ++ tag outcome ∷ []) is
       ∙ ap (λ k. places_of is_of_kind 0 (take place calls) ++ k ∷ []) own
-      ∙ sym (places_next calls place call lt at ∙ ap (λ (b : Bool). places_of is_of_kind 0 (take place calls) ++ (if b then place ∷ [] else [])) same)
+      ∙ sym (places_next calls place call lt at ∙ ap
+      (λ (b : Bool). places_of is_of_kind 0 (take place calls) ++ (if b then place ∷ [] else [])) same)
     where
       next : (n : ℕ) → n + 1 ≡ suc n
       next n = omega arith

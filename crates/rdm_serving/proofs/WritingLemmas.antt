@@ -1,5 +1,7 @@
 -- What is written to a log, one text after another.
-use Rattle.std.proofs.Common.{◌≡◌, ◌≢◌, ℕ, suc, ◌+◌, ◌<◌, Bool, true, false, List, [], ◌∷◌, ◌++◌, length, take, get_or, Option, Some, None, Result, Ok, Err, refl, sym, ap, ◌∙◌, append_assoc, append-nil, subst, arith}
+use Rattle.std.proofs.Common.{◌≡◌, ◌≢◌, ℕ, suc, ◌+◌, ◌<◌, Bool, true, false, List, [], ◌∷◌, ◌++◌, length, take, get_or}
+use Rattle.std.proofs.Common.{Option, Some, None, Result, Ok, Err, refl, sym, ap, ◌∙◌, append_assoc, append-nil, subst}
+use Rattle.std.proofs.Common.{arith}
 use Rattle.std.specs.Prelude.{OnOk}
 use Rattle.std.specs.Io.KnownBytes.{Appends, Keeps}
 use Rattle.std.proofs.KnownBytes.{Appends-trans, Appends-nil, Keeps-refl, Keeps-trans}
@@ -39,7 +41,8 @@ cut_then_none a b c s t (front, rest, is, some, wrote) kept = (
 )
 
 -- a whole text, and then one that is cut short
-pub whole_then_cut : (a b c : Option (List ℕ)) (s t : List ℕ) → Appends a b s → IsCutShort b c t → IsCutShort a c (s ++ t)
+pub whole_then_cut : (a b c : Option (List ℕ)) (s t : List ℕ) → Appends a b s → IsCutShort b c t
+    → IsCutShort a c (s ++ t)
 whole_then_cut a b c s t wrote (front, rest, is, some, more) = (
   s ++ front,
   rest,
@@ -56,7 +59,8 @@ none_written a s some = ([], s, refl, some, Appends-nil a)
 logs_from_more : (was_open was_failed failed still_failed : Bool) (a b c : Option (List ℕ)) (s t : List ℕ)
     → LogsFrom was_open was_failed failed a b s → LogsFrom was_open failed still_failed b c t
     → LogsFrom was_open was_failed still_failed a c (s ++ t)
-logs_from_more false was_failed failed still_failed a b c s t (is, kept) (later, more) = (later ∙ is, Keeps-trans a b c kept more)
+logs_from_more false was_failed failed still_failed a b c s t (is, kept) (later, more) =
+    (later ∙ is, Keeps-trans a b c kept more)
 logs_from_more true true failed still_failed a b c s t (is, kept) next = after failed is next
   where
     after : (f : Bool) → f ≡ true → LogsFrom true f still_failed b c t → (still_failed ≡ true) × Keeps a c
@@ -73,7 +77,8 @@ logs_from_more true false false true a b c s t wrote cut = whole_then_cut a b c 
 pub logs_more : (was now later : LogState) (s t : List ℕ) → Logs was now s → Logs now later t → Logs was later (s ++ t)
 logs_more was now later s t (opened, first) (still, second) = (
   still ∙ opened,
-  logs_from_more was.is_open was.is_failed now.is_failed later.is_failed was.contents now.contents later.contents s t first
+  logs_from_more was.is_open was.is_failed now.is_failed later.is_failed was.contents now.contents later.contents s t
+      first
       (subst (λ o. LogsFrom o now.is_failed later.is_failed now.contents later.contents t) opened second),
 )
 
@@ -87,23 +92,31 @@ pub logs_none : (log : LogState) → Logs log log []
 logs_none log = (refl, none_from log.is_open log.is_failed log.contents)
 
 -- one more entry of a log
-pub entries_next : (entries : List Entry) (i : ℕ) (e : Entry) (was now later : LogState) → i < length entries → e ≡ get_or entries i e
-    → Logs was now (log_text (take i entries)) → Logs now later (entry_line e) → Logs was later (log_text (take (i + 1) entries))
+pub entries_next : (entries : List Entry) (i : ℕ) (e : Entry) (was now later : LogState) → i < length entries
+    → e ≡ get_or entries i e
+    → Logs was now (log_text (take i entries)) → Logs now later (entry_line e)
+    → Logs was later (log_text (take (i + 1) entries))
 entries_next entries i e was now later lt at before more =
-    subst (λ text. Logs was later text) (sym grows) (logs_more was now later (log_text (take i entries)) (entry_line e) before more)
+    subst (λ text. Logs was later text) (sym grows)
+    (logs_more was now later (log_text (take i entries)) (entry_line e) before more)
   where
     next : (n : ℕ) → n + 1 ≡ suc n
     next n = omega arith
 
     grows : log_text (take (i + 1) entries) ≡ log_text (take i entries) ++ entry_line e
-    grows = ap log_text (ap (λ k. take k entries) (next i) ∙ take-suc entries i e lt ∙ ap (λ w. take i entries ++ w ∷ []) (sym at))
-        ∙ flat_map-append entry_line (take i entries) (e ∷ []) ∙ ap (λ l. log_text (take i entries) ++ l) (append-nil (entry_line e))
+    grows = ap log_text
+        (ap (λ k. take k entries) (next i) ∙ take-suc entries i e lt ∙ ap (λ w. take i entries ++ w ∷ []) (sym at))
+        ∙ flat_map-append entry_line (take i entries) (e ∷ [])
+        ∙ ap (λ l. log_text (take i entries) ++ l) (append-nil (entry_line e))
 
 -- four texts, one after another
-pub four_written : {A E : Type 0} (r : Result A E) (t0 t1 t2 t3 t4 a b c d : List ℕ) → t1 ≡ t0 ++ a → t2 ≡ t1 ++ b → t3 ≡ t2 ++ c → OnOk r (t4 ≡ t3 ++ d)
+pub four_written : {A E : Type 0} (r : Result A E) (t0 t1 t2 t3 t4 a b c d : List ℕ) → t1 ≡ t0 ++ a → t2 ≡ t1 ++ b
+    → t3 ≡ t2 ++ c → OnOk r (t4 ≡ t3 ++ d)
     → OnOk r (t4 ≡ t0 ++ (((a ++ b) ++ c) ++ d))
 four_written (Err e) t0 t1 t2 t3 t4 a b c d p q s u = tt
-four_written (Ok x) t0 t1 t2 t3 t4 a b c d p q s u = u ∙ ap (λ l. l ++ d) (s ∙ ap (λ l. l ++ c) (q ∙ ap (λ l. l ++ b) p)) ∙ shift
+four_written (Ok x) t0 t1 t2 t3 t4 a b c d p q s u =
+    u ∙ ap (λ l. l ++ d) (s ∙ ap (λ l. l ++ c) (q ∙ ap (λ l. l ++ b) p)) ∙ shift
   where
     shift : (((t0 ++ a) ++ b) ++ c) ++ d ≡ t0 ++ (((a ++ b) ++ c) ++ d)
-    shift = ap (λ l. (l ++ c) ++ d) (append_assoc t0 a b) ∙ ap (λ l. l ++ d) (append_assoc t0 (a ++ b) c) ∙ append_assoc t0 ((a ++ b) ++ c) d
+    shift = ap (λ l. (l ++ c) ++ d) (append_assoc t0 a b) ∙ ap (λ l. l ++ d) (append_assoc t0 (a ++ b) c)
+        ∙ append_assoc t0 ((a ++ b) ++ c) d

@@ -104,7 +104,8 @@ branch_text_reads u preamble in_range short =
       rest = [];
       few = short;
       sixteen = refl;
-      bytes = append_assoc (replicate preamble 0xfe) (0xaa ∷ coded) sum ∙ sym (append-nil (replicate preamble 0xfe ++ (0xaa ∷ coded ++ sum)));
+      bytes = append_assoc (replicate preamble 0xfe) (0xaa ∷ coded) sum
+          ∙ sym (append-nil (replicate preamble 0xfe ++ (0xaa ∷ coded ++ sum)));
       uid = ap number_of back ∙ number_of-uid_bytes u in_range;
       sum = ap number_of sum_back ∙ number_of-two_bytes total fits;
     }

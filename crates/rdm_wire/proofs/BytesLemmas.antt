@@ -20,7 +20,8 @@ IsBytes-cons x xs h hs zero = h
 IsBytes-cons x xs h hs (suc i) = hs i
 
 IsBytes-two_after : (n : ℕ) (xs : List ℕ) → IsBytes xs → IsBytes (n / 256 % 256 ∷ n % 256 ∷ xs)
-IsBytes-two_after n xs hs = IsBytes-cons (n / 256 % 256) (n % 256 ∷ xs) (omega arith) (IsBytes-cons (n % 256) xs (omega arith) hs)
+IsBytes-two_after n xs hs =
+    IsBytes-cons (n / 256 % 256) (n % 256 ∷ xs) (omega arith) (IsBytes-cons (n % 256) xs (omega arith) hs)
 
 pub IsBytes-two_bytes : (n : ℕ) → IsBytes (two_bytes n)
 IsBytes-two_bytes n = IsBytes-two_after n [] IsBytes-nil
@@ -29,4 +30,5 @@ pub IsBytes-four_bytes : (n : ℕ) → IsBytes (four_bytes n)
 IsBytes-four_bytes n = IsBytes-two_after (n / 65536) (two_bytes n) (IsBytes-two_bytes n)
 
 pub IsBytes-uid_bytes : (u : ℕ) → IsBytes (uid_bytes u)
-IsBytes-uid_bytes u = IsBytes-two_after (manufacturer_of u) (four_bytes (device_of u)) (IsBytes-four_bytes (device_of u))
+IsBytes-uid_bytes u =
+    IsBytes-two_after (manufacturer_of u) (four_bytes (device_of u)) (IsBytes-four_bytes (device_of u))

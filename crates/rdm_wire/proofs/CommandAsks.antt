@@ -1,5 +1,6 @@
 -- What the frame of a command asks.
-use Rattle.std.proofs.Common.{◌≡◌, ◌≢◌, ℕ, ◌<◌, ◌≤◌, Bool, true, false, cond, List, [], ◌++◌, length, Option, Some, None, refl, sym, ap, ◌∙◌, subst, inl, inr, arith}
+use Rattle.std.proofs.Common.{◌≡◌, ◌≢◌, ℕ, ◌<◌, ◌≤◌, Bool, true, false, cond, List, [], ◌++◌, length, Option, Some}
+use Rattle.std.proofs.Common.{None, refl, sym, ap, ◌∙◌, subst, inl, inr, arith}
 use Rattle.std.specs.Prelude.{◌⊎◌, bytes_eq, slice_index}
 use Rattle.std.proofs.lemmas.Bool.{cases_Bool}
 use Rattle.std.proofs.lemmas.Slice.Eq.{bytes_eq-Decides}
@@ -7,7 +8,8 @@ use Rattle.hex.specs.Hex.{IsBytes}
 use Rattle.rdm_wire.specs.Bytes.{uid_bytes}
 use Rattle.rdm_wire.specs.Uid.{is_broadcast}
 use Rattle.rdm_wire.specs.Packet.{Fields, Fits, fields_at, packet}
-use Rattle.rdm_wire.specs.CommandFrames.{unmute_fields, branch_fields, mute_fields, unmute_frame, branch_frame, mute_frame, all_devices, code_of_request_class}
+use Rattle.rdm_wire.specs.CommandFrames.{unmute_fields, branch_fields, mute_fields, unmute_frame, branch_frame}
+use Rattle.rdm_wire.specs.CommandFrames.{mute_frame, all_devices, code_of_request_class}
 use Rattle.rdm_wire.specs.Commands.{Writes, command_fields, command_read, asked_by_command, AsksNobody, AsksSo}
 use Rattle.rdm_wire.specs.Frames.{asked_in, asked_with, lower_bound, upper_bound}
 use Rattle.rdm_wire.specs.Honest.Asked.{Unmute as Unmuted, Branch as Branched, Mute as Muted, Other}
@@ -18,19 +20,23 @@ use Rattle.rdm_wire.specs.declared.request.ReqClass.TheVariants.{Get, Set}
 use Rattle.rdm_wire.proofs.BytesLemmas.{number_of-uid_bytes}
 use Rattle.rdm_wire.proofs.OffsetLemmas.{uid_at}
 use Rattle.rdm_wire.proofs.PacketLemmas.{fields_at-packet}
-use Rattle.rdm_wire.proofs.CommandReads.{read_of-writes, writes-of_read, equal_bytes, discovery_fits, packet_body, param_bytes}
+use Rattle.rdm_wire.proofs.CommandReads.{read_of-writes, writes-of_read, equal_bytes, discovery_fits, packet_body}
+use Rattle.rdm_wire.proofs.CommandReads.{param_bytes}
 use Rattle.rdm_wire.proofs.ReadBack.{HasBody}
 
 -- packets with other fields are other bytes
 differs : (b : List ℕ) (f g : Fields) → b ≡ packet f → Fits f → Fits g → f ≢ g → bytes_eq b (packet g) ≡ false
 differs b f g is fits also other = elim (cases_Bool (bytes_eq b (packet g))) [
-  | inl same ↦ absurd (other (sym (fields_at-packet f fits) ∙ ap fields_at (sym is ∙ (bytes_eq-Decides b (packet g)).0 same) ∙ fields_at-packet g also))
+  | inl same ↦ absurd (other
+      (sym (fields_at-packet f fits) ∙ ap fields_at (sym is ∙ (bytes_eq-Decides b (packet g)).0 same)
+      ∙ fields_at-packet g also))
   | inr not ↦ not
 ]
 
 -- the three tests, one after another
 asks_with : (b : List ℕ) (f : Fields) (u r m : Bool) → bytes_eq b (unmute_frame f.source f.tn) ≡ u
-    → bytes_eq b (branch_frame (lower_bound f) (upper_bound f) f.source f.tn) ≡ r → bytes_eq b (mute_frame f.dest f.source f.tn) ≡ m
+    → bytes_eq b (branch_frame (lower_bound f) (upper_bound f) f.source f.tn) ≡ r
+    → bytes_eq b (mute_frame f.dest f.source f.tn) ≡ m
     → asked_with b f ≡ cond u Unmuted (cond r (Branched (lower_bound f) (upper_bound f)) (cond m (Muted f.dest) Other))
 asks_with b f u r m p q t = rw (p, q, t) refl
 
@@ -38,13 +44,15 @@ pub unmute_fits : (f : Fields) → Fits f → Fits (unmute_fields f.source f.tn)
 unmute_fits f fits = discovery_fits f all_devices 3 [] fits (omega arith) (omega arith) (omega arith)
 
 pub branch_fits : (f : Fields) (lo hi : ℕ) → Fits f → Fits (branch_fields lo hi f.source f.tn)
-branch_fits f lo hi fits = discovery_fits f all_devices 1 (uid_bytes lo ++ uid_bytes hi) fits (omega arith) (omega arith) (omega arith)
+branch_fits f lo hi fits =
+    discovery_fits f all_devices 1 (uid_bytes lo ++ uid_bytes hi) fits (omega arith) (omega arith) (omega arith)
 
 pub mute_fits : (f : Fields) → Fits f → Fits (mute_fields f.dest f.source f.tn)
 mute_fits f fits = discovery_fits f f.dest 2 [] fits fits.dest (omega arith) (omega arith)
 
 -- fields that say a command ask what it asks
-fields_ask : (c : asked.Command) (s tn : ℕ) (b : List ℕ) → Writes c s tn b → asked_with b (command_fields c s tn) ≡ asked_by_command c
+fields_ask : (c : asked.Command) (s tn : ℕ) (b : List ℕ) → Writes c s tn b
+    → asked_with b (command_fields c s tn) ≡ asked_by_command c
 fields_ask asks.Unmute s tn b w = rw (equal_bytes b (unmute_frame s tn) w.bytes) refl
 fields_ask (asks.Branch r) s tn b w =
     asks_with b f false true _ (differs b f (unmute_fields s tn) w.bytes w.frame.fits (unmute_fits f w.frame.fits)
@@ -62,15 +70,18 @@ fields_ask (asks.Branch r) s tn b w =
     hi : upper_bound f ≡ r.hi
     hi = number_of-uid_bytes r.hi w.frame.bounds.1
 
-    bounds : lower_bound f ≡ r.lo → upper_bound f ≡ r.hi → branch_frame r.lo r.hi s tn ≡ branch_frame (lower_bound f) (upper_bound f) s tn
+    bounds : lower_bound f ≡ r.lo → upper_bound f ≡ r.hi
+        → branch_frame r.lo r.hi s tn ≡ branch_frame (lower_bound f) (upper_bound f) s tn
     bounds p q = ap (λ x. branch_frame x r.hi s tn) (sym p) ∙ ap (λ x. branch_frame (lower_bound f) x s tn) (sym q)
 
     both : (x y : ℕ) → x ≡ r.lo → y ≡ r.hi → Branched x y ≡ Branched r.lo r.hi
     both x y p q = rw (p, q) refl
 fields_ask (asks.Mute u) s tn b w =
     asks_with b f false false true
-    (differs b f (unmute_fields s tn) w.bytes w.frame.fits (unmute_fits f w.frame.fits) (λ e. no_unmute (ap (λ x. x.pid) e)))
-    (differs b f (branch_fields (lower_bound f) (upper_bound f) s tn) w.bytes w.frame.fits (branch_fits f (lower_bound f) (upper_bound f) w.frame.fits) (λ e. no_branch (ap (λ x. x.pid) e)))
+    (differs b f (unmute_fields s tn) w.bytes w.frame.fits (unmute_fits f w.frame.fits)
+    (λ e. no_unmute (ap (λ x. x.pid) e)))
+    (differs b f (branch_fields (lower_bound f) (upper_bound f) s tn) w.bytes w.frame.fits
+    (branch_fits f (lower_bound f) (upper_bound f) w.frame.fits) (λ e. no_branch (ap (λ x. x.pid) e)))
     (equal_bytes b (mute_frame u s tn) w.bytes)
   where
     f : Fields
@@ -83,9 +94,12 @@ fields_ask (asks.Mute u) s tn b w =
     no_branch e = omega arith
 fields_ask (asks.Request r) s tn b w =
     asks_with b f false false false
-    (differs b f (unmute_fields s tn) w.bytes w.frame.fits (unmute_fits f w.frame.fits) (λ e. no_class r.class (ap (λ x. x.class) e)))
-    (differs b f (branch_fields (lower_bound f) (upper_bound f) s tn) w.bytes w.frame.fits (branch_fits f (lower_bound f) (upper_bound f) w.frame.fits) (λ e. no_class r.class (ap (λ x. x.class) e)))
-    (differs b f (mute_fields f.dest s tn) w.bytes w.frame.fits (mute_fits f w.frame.fits) (λ e. no_class r.class (ap (λ x. x.class) e)))
+    (differs b f (unmute_fields s tn) w.bytes w.frame.fits (unmute_fits f w.frame.fits)
+    (λ e. no_class r.class (ap (λ x. x.class) e)))
+    (differs b f (branch_fields (lower_bound f) (upper_bound f) s tn) w.bytes w.frame.fits
+    (branch_fits f (lower_bound f) (upper_bound f) w.frame.fits) (λ e. no_class r.class (ap (λ x. x.class) e)))
+    (differs b f (mute_fields f.dest s tn) w.bytes w.frame.fits (mute_fits f w.frame.fits)
+    (λ e. no_class r.class (ap (λ x. x.class) e)))
   where
     f : Fields
     f = command_fields (asks.Request r) s tn
@@ -99,7 +113,8 @@ some_is_not_none x h = cc
 
 -- what is no command asks no device: were it one, it would be read
 nobody : (b : List ℕ) → IsBytes b → command_read b ≡ None → AsksNobody (asked_in b)
-nobody b bytes none = subst AsksNobody (sym (asks_with b (fields_at b) _ _ _ refl refl refl)) (by_tests _ _ _ refl refl refl)
+nobody b bytes none =
+    subst AsksNobody (sym (asks_with b (fields_at b) _ _ _ refl refl refl)) (by_tests _ _ _ refl refl refl)
   where
     f : Fields
     f = fields_at b
@@ -111,12 +126,18 @@ nobody b bytes none = subst AsksNobody (sym (asks_with b (fields_at b) _ _ _ ref
     no_unmute same =
         let is : b ≡ unmute_frame f.source f.tn = (bytes_eq-Decides b _).0 same in
         let has : HasBody b = packet_body b (unmute_fields f.source f.tn) bytes is in
-        not_read asks.Unmute (record { frame = record { fits = unmute_fits f has.fits; bounds = tt }; in_order = tt; bytes = is })
+        not_read asks.Unmute (record {
+          frame = record { fits = unmute_fits f has.fits; bounds = tt };
+          in_order = tt;
+          bytes = is;
+        })
 
-    crossed : bytes_eq b (branch_frame (lower_bound f) (upper_bound f) f.source f.tn) ≡ true → upper_bound f < lower_bound f
+    crossed : bytes_eq b (branch_frame (lower_bound f) (upper_bound f) f.source f.tn) ≡ true
+        → upper_bound f < lower_bound f
     crossed same = elim (cases_order_of (lower_bound f) (upper_bound f)) [
       | inl below ↦ below
-      | inr in_order ↦ absurd (not_read (asks.Branch (record { lo = lower_bound f; hi = upper_bound f })) (written in_order))
+      | inr in_order
+          ↦ absurd (not_read (asks.Branch (record { lo = lower_bound f; hi = upper_bound f })) (written in_order))
     ]
       where
         cases_order_of : (lo hi : ℕ) → (hi < lo) ⊎ (lo ≤ hi)
@@ -131,18 +152,24 @@ nobody b bytes none = subst AsksNobody (sym (asks_with b (fields_at b) _ _ _ ref
         size : length f.param ≡ 12
         size = has.size ∙ ap (λ l. slice_index l 23) is
 
-        written : lower_bound f ≤ upper_bound f → Writes (asks.Branch (record { lo = lower_bound f; hi = upper_bound f })) f.source f.tn b
+        written : lower_bound f ≤ upper_bound f
+            → Writes (asks.Branch (record { lo = lower_bound f; hi = upper_bound f })) f.source f.tn b
         written in_order = record {
           frame = record {
             fits = branch_fits f _ _ has.fits;
-            bounds = ((uid_at 0 f.param (param_bytes b bytes) (omega (arith, size))).below, (uid_at 6 f.param (param_bytes b bytes) (omega (arith, size))).below);
+            bounds = (
+              (uid_at 0 f.param (param_bytes b bytes) (omega (arith, size))).below,
+              (uid_at 6 f.param (param_bytes b bytes) (omega (arith, size))).below,
+            );
           };
           in_order = in_order;
           bytes = is;
         }
 
     broadcast : bytes_eq b (mute_frame f.dest f.source f.tn) ≡ true → is_broadcast f.dest ≡ true
-    broadcast same = elim (cases_Bool (is_broadcast f.dest)) [ inl all ↦ all | inr own ↦ absurd (not_read (asks.Mute f.dest) (written own)) ]
+    broadcast same =
+        elim (cases_Bool (is_broadcast f.dest))
+        [ inl all ↦ all | inr own ↦ absurd (not_read (asks.Mute f.dest) (written own)) ]
       where
         is : b ≡ mute_frame f.dest f.source f.tn
         is = (bytes_eq-Decides b _).0 same
@@ -153,7 +180,8 @@ nobody b bytes none = subst AsksNobody (sym (asks_with b (fields_at b) _ _ _ ref
         written : is_broadcast f.dest ≡ false → Writes (asks.Mute f.dest) f.source f.tn b
         written own = record { frame = record { fits = mute_fits f has.fits; bounds = tt }; in_order = own; bytes = is }
 
-    by_tests : (u r m : Bool) → bytes_eq b (unmute_frame f.source f.tn) ≡ u → bytes_eq b (branch_frame (lower_bound f) (upper_bound f) f.source f.tn) ≡ r
+    by_tests : (u r m : Bool) → bytes_eq b (unmute_frame f.source f.tn) ≡ u
+        → bytes_eq b (branch_frame (lower_bound f) (upper_bound f) f.source f.tn) ≡ r
         → bytes_eq b (mute_frame f.dest f.source f.tn) ≡ m
         → AsksNobody (cond u Unmuted (cond r (Branched (lower_bound f) (upper_bound f)) (cond m (Muted f.dest) Other)))
     by_tests true r m p q t = no_unmute p
@@ -163,7 +191,9 @@ nobody b bytes none = subst AsksNobody (sym (asks_with b (fields_at b) _ _ _ ref
 
 -- what an encoder writes asks what its command does
 pub written_asks : (c : asked.Command) (s tn : ℕ) (b : List ℕ) → Writes c s tn b → asked_in b ≡ asked_by_command c
-written_asks c s tn b w = ap (asked_with b) (ap fields_at w.bytes ∙ fields_at-packet (command_fields c s tn) w.frame.fits) ∙ fields_ask c s tn b w
+written_asks c s tn b w =
+    ap (asked_with b) (ap fields_at w.bytes ∙ fields_at-packet (command_fields c s tn) w.frame.fits)
+    ∙ fields_ask c s tn b w
 
 -- a frame asks what the command does that it is read as
 pub asks_so : (b : List ℕ) → IsBytes b → AsksSo (command_read b) (asked_in b)

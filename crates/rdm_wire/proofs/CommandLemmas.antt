@@ -28,22 +28,34 @@ same_class Set Set h = refl
 same_uid : (u v : ℕ) → u < 2 ^ 48 → v < 2 ^ 48 → uid_bytes u ≡ uid_bytes v → u ≡ v
 same_uid u v hu hv h = sym (number_of-uid_bytes u hu) ∙ ap number_of h ∙ number_of-uid_bytes v hv
 
-same_branch : (r q : Span) → HasUids (asks.Branch r) → HasUids (asks.Branch q) → uid_bytes r.lo ++ uid_bytes r.hi ≡ uid_bytes q.lo ++ uid_bytes q.hi → asks.Branch r ≡ asks.Branch q
-same_branch r q h k same = both _ _ (same_uid r.lo q.lo h.0 k.0 (ap (take 6) same)) (same_uid r.hi q.hi h.1 k.1 (ap (drop 6) same))
+same_branch : (r q : Span) → HasUids (asks.Branch r) → HasUids (asks.Branch q)
+    → uid_bytes r.lo ++ uid_bytes r.hi ≡ uid_bytes q.lo ++ uid_bytes q.hi → asks.Branch r ≡ asks.Branch q
+same_branch r q h k same =
+    both _ _ (same_uid r.lo q.lo h.0 k.0 (ap (take 6) same)) (same_uid r.hi q.hi h.1 k.1 (ap (drop 6) same))
   where
     both : (x y : ℕ) → x ≡ q.lo → y ≡ q.hi → asks.Branch (record { lo = x; hi = y }) ≡ asks.Branch q
     both x y p q = rw (p, q) refl
 
-same_request : (r q : Request) (s m t n : ℕ) → command_fields (asks.Request r) s m ≡ command_fields (asks.Request q) t n → r ≡ q
+same_request : (r q : Request) (s m t n : ℕ) → command_fields (asks.Request r) s m ≡ command_fields (asks.Request q) t n
+    → r ≡ q
 same_request r q s m t n h =
-    made _ _ _ _ _ (ap (λ f. f.dest) h) (ap (λ f. f.sub_device) h) (same_class r.class q.class (ap (λ f. f.class) h)) (ap (λ f. f.pid) h) (ap (λ f. f.param) h)
+    made _ _ _ _ _ (ap (λ f. f.dest) h) (ap (λ f. f.sub_device) h) (same_class r.class q.class (ap (λ f. f.class) h))
+    (ap (λ f. f.pid) h) (ap (λ f. f.param) h)
   where
-    made : (target sub_device : ℕ) (class : ReqClass) (pid : ℕ) (items : List ℕ) → target ≡ q.target → sub_device ≡ q.sub_device → class ≡ q.class → pid ≡ q.pid → items ≡ q.param.items
-        → ◌≡◌ {A = Request} (record { target = target; sub_device = sub_device; class = class; pid = pid; param = record { items = items } }) q
+    made : (target sub_device : ℕ) (class : ReqClass) (pid : ℕ) (items : List ℕ) → target ≡ q.target
+        → sub_device ≡ q.sub_device → class ≡ q.class → pid ≡ q.pid → items ≡ q.param.items
+        → ◌≡◌ {A = Request} (record {
+          target = target;
+          sub_device = sub_device;
+          class = class;
+          pid = pid;
+          param = record { items = items };
+        }) q
     made target sub_device class pid items h1 h2 h3 h4 h5 = rw (h1, h2, h3, h4, h5) refl
 
 -- the fields tell the command
-same_command : (c d : Command) (s m t n : ℕ) → HasUids c → HasUids d → command_fields c s m ≡ command_fields d t n → c ≡ d
+same_command : (c d : Command) (s m t n : ℕ) → HasUids c → HasUids d → command_fields c s m ≡ command_fields d t n
+    → c ≡ d
 same_command asks.Unmute asks.Unmute s m t n h k e = refl
 same_command (asks.Branch a) (asks.Branch b) s m t n h k e = same_branch a b h k (ap (λ f. f.param) e)
 same_command (asks.Mute u) (asks.Mute v) s m t n h k e = ap asks.Mute (ap (λ f. f.dest) e)
@@ -60,11 +72,17 @@ same_command c d s m t n h k e = absurd (other_pid (ap (λ f. f.pid) e))
     other_pid p = omega arith
 
 -- a frame tells its command, its source and its number
-pub one_command : (c d : Command) (s m t n : ℕ) → FitsFrame c s m → FitsFrame d t n → command_frame c s m ≡ command_frame d t n → (c ≡ d) × (s ≡ t) × (m ≡ n)
-one_command c d s m t n can could same = (same_command c d s m t n can.bounds could.bounds fields, source c d (ap (λ f. f.source) fields), number c d (ap (λ f. f.tn) fields))
+pub one_command : (c d : Command) (s m t n : ℕ) → FitsFrame c s m → FitsFrame d t n
+    → command_frame c s m ≡ command_frame d t n → (c ≡ d) × (s ≡ t) × (m ≡ n)
+one_command c d s m t n can could same = (
+  same_command c d s m t n can.bounds could.bounds fields,
+  source c d (ap (λ f. f.source) fields),
+  number c d (ap (λ f. f.tn) fields),
+)
   where
     fields : command_fields c s m ≡ command_fields d t n
-    fields = sym (fields_at-packet (command_fields c s m) can.fits) ∙ ap fields_at same ∙ fields_at-packet (command_fields d t n) could.fits
+    fields = sym (fields_at-packet (command_fields c s m) can.fits) ∙ ap fields_at same
+        ∙ fields_at-packet (command_fields d t n) could.fits
 
     source_of : (x : Command) (u k : ℕ) → (command_fields x u k).source ≡ u
     source_of asks.Unmute u k = refl

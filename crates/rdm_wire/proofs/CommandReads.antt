@@ -1,5 +1,6 @@
 -- Reading a command back from its frame.
-use Rattle.std.proofs.Common.{◌≡◌, ℕ, ◌+◌, ◌-◌, ◌<◌, ◌≤◌, ◌^◌, Bool, true, false, ◌&&◌, cond, List, [], ◌++◌, length, drop, Option, Some, None, refl, sym, ap, ◌∙◌, subst, inl, inr, append-nil, arith}
+use Rattle.std.proofs.Common.{◌≡◌, ℕ, ◌+◌, ◌-◌, ◌<◌, ◌≤◌, ◌^◌, Bool, true, false, ◌&&◌, cond, List, [], ◌++◌, length}
+use Rattle.std.proofs.Common.{drop, Option, Some, None, refl, sym, ap, ◌∙◌, subst, inl, inr, append-nil, arith}
 use Rattle.std.specs.Prelude.{◌⊎◌, ◌↔◌, ◌==◌, nat_le, bytes_eq, slice_index}
 use Rattle.std.proofs.lemmas.Bool.{eqb-true, and_parts, le-leb, leb-true}
 use Rattle.std.proofs.lemmas.Slice.Eq.{bytes_eq-Decides}
@@ -9,7 +10,8 @@ use Rattle.rdm_wire.specs.Uid.{is_broadcast}
 use Rattle.rdm_wire.specs.Span.{Span}
 use Rattle.rdm_wire.specs.Packet.{Fields, Fits, fields_at, packet}
 use Rattle.rdm_wire.specs.CommandFrames.{code_of_request_class, discovery_fields, all_devices}
-use Rattle.rdm_wire.specs.Commands.{Writes, IsInOrder, command_fields, command_frame, FitsFrame, command_in, discovery_in, branch_in, request_in, written_so, command_read}
+use Rattle.rdm_wire.specs.Commands.{Writes, IsInOrder, command_fields, command_frame, FitsFrame, command_in}
+use Rattle.rdm_wire.specs.Commands.{discovery_in, branch_in, request_in, written_so, command_read}
 use Rattle.rdm_wire.specs.declared.command.Command as asked
 use Rattle.rdm_wire.specs.declared.command.Command.TheVariants as asks
 use Rattle.rdm_wire.specs.declared.request.ReqClass.{ReqClass}
@@ -33,7 +35,8 @@ tn_is (asks.Mute u) s tn = refl
 tn_is (asks.Request r) s tn = refl
 
 -- the data of a branch give its range
-branch_back : (r : Span) → r.lo < 2 ^ 48 → r.hi < 2 ^ 48 → r.lo ≤ r.hi → branch_in (uid_bytes r.lo ++ uid_bytes r.hi) ≡ Some (asks.Branch r)
+branch_back : (r : Span) → r.lo < 2 ^ 48 → r.hi < 2 ^ 48 → r.lo ≤ r.hi
+    → branch_in (uid_bytes r.lo ++ uid_bytes r.hi) ≡ Some (asks.Branch r)
 branch_back r lo hi in_order = same _ _ (number_of-uid_bytes r.lo lo) (number_of-uid_bytes r.hi hi)
   where
     same : (a b : ℕ) → a ≡ r.lo → b ≡ r.hi
@@ -41,13 +44,15 @@ branch_back r lo hi in_order = same _ _ (number_of-uid_bytes r.lo lo) (number_of
     same a b p q = rw (p, q, le-leb r.lo r.hi in_order) refl
 
 -- the fields of a command say it
-command_back : (c : asked.Command) (s tn : ℕ) → FitsFrame c s tn → IsInOrder c → command_in (command_fields c s tn) ≡ Some c
+command_back : (c : asked.Command) (s tn : ℕ) → FitsFrame c s tn → IsInOrder c
+    → command_in (command_fields c s tn) ≡ Some c
 command_back asks.Unmute s tn can in_order = refl
 command_back (asks.Branch r) s tn can in_order = branch_back r can.bounds.0 can.bounds.1 in_order
 command_back (asks.Mute u) s tn can in_order = rw in_order refl
 command_back (asks.Request r) s tn can in_order = of_class r.class refl
   where
-    of_class : (class : ReqClass) → r.class ≡ class → command_in (command_fields (asks.Request r) s tn) ≡ Some (asks.Request r)
+    of_class : (class : ReqClass) → r.class ≡ class
+        → command_in (command_fields (asks.Request r) s tn) ≡ Some (asks.Request r)
     of_class Get is = rw is refl
     of_class Set is = rw is refl
 
@@ -56,12 +61,15 @@ equal_bytes b c same = (bytes_eq-Decides b c).1 same
 
 -- what an encoder writes is read as its command
 pub read_of-writes : (c : asked.Command) (s tn : ℕ) (b : List ℕ) → Writes c s tn b → command_read b ≡ Some (c, s, tn)
-read_of-writes c s tn b w = made _ _ _ (ap (λ f. f.source) fields ∙ source_is c s tn) (ap (λ f. f.tn) fields ∙ tn_is c s tn) (ap command_in fields ∙ command_back c s tn w.frame w.in_order)
+read_of-writes c s tn b w =
+    made _ _ _ (ap (λ f. f.source) fields ∙ source_is c s tn) (ap (λ f. f.tn) fields ∙ tn_is c s tn)
+    (ap command_in fields ∙ command_back c s tn w.frame w.in_order)
   where
     fields : fields_at b ≡ command_fields c s tn
     fields = ap fields_at w.bytes ∙ fields_at-packet (command_fields c s tn) w.frame.fits
 
-    made : (source number : ℕ) (o : Option asked.Command) → source ≡ s → number ≡ tn → o ≡ Some c → written_so b source number o ≡ Some (c, s, tn)
+    made : (source number : ℕ) (o : Option asked.Command) → source ≡ s → number ≡ tn → o ≡ Some c
+        → written_so b source number o ≡ Some (c, s, tn)
     made source number o p q r = rw (p, q, r, equal_bytes b (command_frame c s tn) w.bytes) refl
 
 -- what is read was said by the fields, and its frame is these bytes
@@ -79,7 +87,8 @@ reads_so b c s tn h = by_option (command_in (fields_at b)) refl h
 
     by_test : (d : asked.Command) → command_in (fields_at b) ≡ Some d
         → (t : Bool) → bytes_eq b (command_frame d (fields_at b).source (fields_at b).tn) ≡ t
-        → cond {A = Option (asked.Command × ℕ × ℕ)} t (Some (d, (fields_at b).source, (fields_at b).tn)) None ≡ Some (c, s, tn) → ReadsSo b c s tn
+        → cond {A = Option (asked.Command × ℕ × ℕ)} t (Some (d, (fields_at b).source, (fields_at b).tn)) None
+        ≡ Some (c, s, tn) → ReadsSo b c s tn
     by_test d is true eq h =
         let all = same_some _ _ h in
         let command : d ≡ c = ap (λ (x : asked.Command × ℕ × ℕ). x.0) all in
@@ -96,7 +105,8 @@ reads_so b c s tn h = by_option (command_in (fields_at b)) refl h
         }
     by_test d is false eq h = absurd (let wrong : ⊥ = cc in wrong)
 
-    by_option : (o : Option asked.Command) → command_in (fields_at b) ≡ o → written_so b (fields_at b).source (fields_at b).tn o ≡ Some (c, s, tn) → ReadsSo b c s tn
+    by_option : (o : Option asked.Command) → command_in (fields_at b) ≡ o
+        → written_so b (fields_at b).source (fields_at b).tn o ≡ Some (c, s, tn) → ReadsSo b c s tn
     by_option None is h = absurd (let wrong : ⊥ = cc in wrong)
     by_option (Some d) is h = by_test d is _ refl h
 
@@ -109,7 +119,8 @@ pub record HasLengths (b : List ℕ) : Type 0 where
 
 pub packet_form : (b : List ℕ) (f : Fields) → b ≡ packet f → HasLengths b
 packet_form b f same =
-    let size : length (packet f) ≡ 26 + length f.param = ap length (sym (append-nil (packet f))) ∙ long f [] ∙ omega arith in
+    let size : length (packet f) ≡ 26 + length f.param = ap length (sym (append-nil (packet f))) ∙ long f []
+    ∙ omega arith in
     rw same (record { size = size; message = refl; start = refl; sub_start = refl })
 
 -- so the fields of bytes that are a packet are in range
@@ -131,7 +142,8 @@ by_code : {X : Type 0} (code k : ℕ) (first others : Option X) (x : X) → cond
     → ((code ≡ k) × (first ≡ Some x)) ⊎ (others ≡ Some x)
 by_code code k first others x h = by_test (code == k) refl h
   where
-    by_test : (t : Bool) → (code == k) ≡ t → cond t first others ≡ Some x → ((code ≡ k) × (first ≡ Some x)) ⊎ (others ≡ Some x)
+    by_test : (t : Bool) → (code == k) ≡ t → cond t first others ≡ Some x → ((code ≡ k) × (first ≡ Some x))
+        ⊎ (others ≡ Some x)
     by_test true is e = inl (eqb-true code k is, e)
     by_test false is e = inr e
 
@@ -140,7 +152,8 @@ record Sendable (f : Fields) (c : asked.Command) : Type 0 where
   frame : FitsFrame c f.source f.tn
   in_order : IsInOrder c
 
-pub discovery_fits : (f : Fields) (dest pid : ℕ) (param : List ℕ) → Fits f → dest < 2 ^ 48 → pid < 2 ^ 16 → length param ≤ 231 → Fits (discovery_fields dest pid param f.source f.tn)
+pub discovery_fits : (f : Fields) (dest pid : ℕ) (param : List ℕ) → Fits f → dest < 2 ^ 48 → pid < 2 ^ 16
+    → length param ≤ 231 → Fits (discovery_fields dest pid param f.source f.tn)
 discovery_fits f dest pid param fits d p few = record {
   dest = d;
   source = fits.source;
@@ -153,9 +166,11 @@ discovery_fits f dest pid param fits d p few = record {
   param = few;
 }
 
-branch_sendable : (f : Fields) (c : asked.Command) → IsBytes f.param → Fits f → branch_in f.param ≡ Some c → Sendable f c
+branch_sendable : (f : Fields) (c : asked.Command) → IsBytes f.param → Fits f → branch_in f.param ≡ Some c
+    → Sendable f c
 branch_sendable f c bytes fits h =
-    let test = chosen ((length f.param == 12) && nat_le (number_at 0 6 f.param) (number_at 6 6 f.param)) (Some (asks.Branch (record { lo = number_at 0 6 f.param; hi = number_at 6 6 f.param }))) c h in
+    let test = chosen ((length f.param == 12) && nat_le (number_at 0 6 f.param) (number_at 6 6 f.param))
+    (Some (asks.Branch (record { lo = number_at 0 6 f.param; hi = number_at 6 6 f.param }))) c h in
     let both = and_parts (length f.param == 12) (nat_le (number_at 0 6 f.param) (number_at 6 6 f.param)) test.0 in
     let size : length f.param ≡ 12 = eqb-true _ 12 both.0 in
     let is : asks.Branch (record { lo = number_at 0 6 f.param; hi = number_at 6 6 f.param }) ≡ c = cc in
@@ -167,7 +182,8 @@ branch_sendable f c bytes fits h =
       in_order = leb-true _ _ both.1;
     })
 
-request_sendable : (f : Fields) (c : asked.Command) (class : ReqClass) → Fits f → Some (asks.Request (request_in f class)) ≡ Some c → Sendable f c
+request_sendable : (f : Fields) (c : asked.Command) (class : ReqClass) → Fits f
+    → Some (asks.Request (request_in f class)) ≡ Some c → Sendable f c
 request_sendable f c class fits h =
     let is : asks.Request (request_in f class) ≡ c = cc in
     subst (Sendable f) is (record {
@@ -192,12 +208,20 @@ request_sendable f c class fits h =
     code Get = omega arith
     code Set = omega arith
 
-discovery_sendable : (f : Fields) (c : asked.Command) → IsBytes f.param → Fits f → discovery_in f ≡ Some c → Sendable f c
+discovery_sendable : (f : Fields) (c : asked.Command) → IsBytes f.param → Fits f → discovery_in f ≡ Some c
+    → Sendable f c
 discovery_sendable f c bytes fits h = elim (by_code f.pid 3 _ _ c h) [
-  | inl unmute ↦ subst (Sendable f) (same unmute.1) (record { frame = record { fits = discovery_fits f all_devices 3 [] fits (omega arith) (omega arith) (omega arith); bounds = tt }; in_order = tt })
+  | inl unmute ↦ subst (Sendable f) (same unmute.1) (record {
+    frame = record {
+      fits = discovery_fits f all_devices 3 [] fits (omega arith) (omega arith) (omega arith);
+      bounds = tt;
+    };
+    in_order = tt;
+  })
   | inr h ↦ elim (by_code f.pid 2 _ _ c h) [
     | inl mute ↦ muted (is_broadcast f.dest) refl mute.1
-    | inr h ↦ elim (by_code f.pid 1 _ _ c h) [ inl branch ↦ branch_sendable f c bytes fits branch.1 | inr none ↦ absurd (let wrong : ⊥ = cc in wrong) ]
+    | inr h ↦ elim (by_code f.pid 1 _ _ c h)
+        [ inl branch ↦ branch_sendable f c bytes fits branch.1 | inr none ↦ absurd (let wrong : ⊥ = cc in wrong) ]
   ]
 ]
   where
@@ -208,19 +232,27 @@ discovery_sendable f c bytes fits h = elim (by_code f.pid 3 _ _ c h) [
     muted true is e = absurd (let wrong : ⊥ = cc in wrong)
     muted false is e =
         let mute : asks.Mute f.dest ≡ c = cc in
-        subst (Sendable f) mute (record { frame = record { fits = discovery_fits f f.dest 2 [] fits fits.dest (omega arith) (omega arith); bounds = tt }; in_order = is })
+        subst (Sendable f) mute (record {
+          frame = record {
+            fits = discovery_fits f f.dest 2 [] fits fits.dest (omega arith) (omega arith);
+            bounds = tt;
+          };
+          in_order = is;
+        })
 
 sendable : (f : Fields) (c : asked.Command) → IsBytes f.param → Fits f → command_in f ≡ Some c → Sendable f c
 sendable f c bytes fits h = elim (by_code f.class 0x10 _ _ c h) [
   | inl discovery ↦ discovery_sendable f c bytes fits discovery.1
   | inr h ↦ elim (by_code f.class 0x20 _ _ c h) [
     | inl get ↦ request_sendable f c Get fits get.1
-    | inr h ↦ elim (by_code f.class 0x30 _ _ c h) [ inl set ↦ request_sendable f c Set fits set.1 | inr none ↦ absurd (let wrong : ⊥ = cc in wrong) ]
+    | inr h ↦ elim (by_code f.class 0x30 _ _ c h)
+        [ inl set ↦ request_sendable f c Set fits set.1 | inr none ↦ absurd (let wrong : ⊥ = cc in wrong) ]
   ]
 ]
 
 -- what is read is what an encoder writes
-pub writes-of_read : (b : List ℕ) (c : asked.Command) (s tn : ℕ) → IsBytes b → command_read b ≡ Some (c, s, tn) → Writes c s tn b
+pub writes-of_read : (b : List ℕ) (c : asked.Command) (s tn : ℕ) → IsBytes b → command_read b ≡ Some (c, s, tn)
+    → Writes c s tn b
 writes-of_read b c s tn bytes h = record { frame = sent.0; in_order = sent.1; bytes = so.bytes }
   where
     so : ReadsSo b c s tn
@@ -233,10 +265,15 @@ writes-of_read b c s tn bytes h = record { frame = sent.0; in_order = sent.1; by
     so_sendable = sendable (fields_at b) c (param_bytes b bytes) has.fits so.in_fields
 
     sent : FitsFrame c s tn × IsInOrder c
-    sent = (subst (λ n. FitsFrame c s n) so.number (subst (λ n. FitsFrame c n (fields_at b).tn) so.source so_sendable.frame), so_sendable.in_order)
+    sent = (
+      subst (λ n. FitsFrame c s n) so.number
+          (subst (λ n. FitsFrame c n (fields_at b).tn) so.source so_sendable.frame),
+      so_sendable.in_order,
+    )
 
 -- bytes that aren't as many as their data length says, or more than a frame has, are no command
-pub none_unless_long : (b : List ℕ) → IsBytes b → (length b ≡ 26 + slice_index b 23 → length b ≤ 257 → ⊥) → command_read b ≡ None
+pub none_unless_long : (b : List ℕ) → IsBytes b → (length b ≡ 26 + slice_index b 23 → length b ≤ 257 → ⊥)
+    → command_read b ≡ None
 none_unless_long b bytes not = by_option (command_read b) refl
   where
     by_option : (o : Option (asked.Command × ℕ × ℕ)) → command_read b ≡ o → command_read b ≡ None
@@ -247,5 +284,7 @@ none_unless_long b bytes not = by_option (command_read b) refl
         absurd (not form.size (omega (arith, form.size, form.message)))
 
 -- a value that is what the bytes are read as tells exactly what was written
-pub reads_exactly : (b : List ℕ) (x : Option (asked.Command × ℕ × ℕ)) → IsBytes b → x ≡ command_read b → (c : asked.Command) (s tn : ℕ) → (x ≡ Some (c, s, tn)) ↔ Writes c s tn b
-reads_exactly b x bytes value c s tn = (λ h. writes-of_read b c s tn bytes (sym value ∙ h), λ w. value ∙ read_of-writes c s tn b w)
+pub reads_exactly : (b : List ℕ) (x : Option (asked.Command × ℕ × ℕ)) → IsBytes b → x ≡ command_read b
+    → (c : asked.Command) (s tn : ℕ) → (x ≡ Some (c, s, tn)) ↔ Writes c s tn b
+reads_exactly b x bytes value c s tn =
+    (λ h. writes-of_read b c s tn bytes (sym value ∙ h), λ w. value ∙ read_of-writes c s tn b w)

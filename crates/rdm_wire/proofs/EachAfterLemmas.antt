@@ -20,7 +20,8 @@ no_more : {X : Type 0} (front back : List X) (x : X) → [] ≡ front ++ x ∷ b
 no_more [] back x h = cc
 no_more (f ∷ front) back x h = cc
 
-place_of : {X : Type 0} (xs front back : List X) (e x : X) → xs ++ e ∷ [] ≡ front ++ x ∷ back → IsLast xs e front x ⊎ ((rest : List X) × (xs ≡ front ++ x ∷ rest))
+place_of : {X : Type 0} (xs front back : List X) (e x : X) → xs ++ e ∷ [] ≡ front ++ x ∷ back → IsLast xs e front x
+    ⊎ ((rest : List X) × (xs ≡ front ++ x ∷ rest))
 place_of [] [] back e x w = inl (record { front_is = refl; is = sym (ap (head_or e) w) })
 place_of [] (f ∷ front) back e x w = absurd (no_more front back x (ap tail_of w))
 place_of (a ∷ xs) [] back e x w = inr (xs, ap (λ y. y ∷ xs) (ap (head_or a) w))
@@ -29,12 +30,17 @@ place_of {X} (a ∷ xs) (f ∷ front) back e x w = onward (place_of xs front bac
     first : f ≡ a
     first = sym (ap (head_or a) w)
 
-    onward : IsLast xs e front x ⊎ ((rest : List X) × (xs ≡ front ++ x ∷ rest)) → IsLast (a ∷ xs) e (f ∷ front) x ⊎ ((rest : List X) × (a ∷ xs ≡ f ∷ front ++ x ∷ rest))
-    onward (inl last) = inl (record { front_is = ap (λ y. y ∷ front) first ∙ ap (λ l. a ∷ l) last.front_is; is = last.is })
+    onward : IsLast xs e front x ⊎ ((rest : List X) × (xs ≡ front ++ x ∷ rest)) → IsLast (a ∷ xs) e (f ∷ front) x
+        ⊎ ((rest : List X) × (a ∷ xs ≡ f ∷ front ++ x ∷ rest))
+    onward (inl last) = inl (record {
+      front_is = ap (λ y. y ∷ front) first ∙ ap (λ l. a ∷ l) last.front_is;
+      is = last.is;
+    })
     onward (inr inner) = inr (inner.0, ap (λ y. y ∷ xs) (sym first) ∙ ap (λ l. f ∷ l) inner.1)
 
 -- it holds of a list with one more, where it holds of the list and of the one after it
-pub EachAfter-push : {X : Type 0} (P : List X → X → Type 0) (xs : List X) (e : X) → EachAfter P xs → P xs e → EachAfter P (xs ++ e ∷ [])
+pub EachAfter-push : {X : Type 0} (P : List X → X → Type 0) (xs : List X) (e : X) → EachAfter P xs → P xs e
+    → EachAfter P (xs ++ e ∷ [])
 EachAfter-push {X} P xs e all last = λ front back x w. of_place front x (place_of xs front back e x w)
   where
     of_place : (front : List X) (x : X) → IsLast xs e front x ⊎ ((rest : List X) × (xs ≡ front ++ x ∷ rest)) → P front x
@@ -43,4 +49,5 @@ EachAfter-push {X} P xs e all last = λ front back x w. of_place front x (place_
 
 -- it holds of a front of the list
 pub EachAfter-front : {X : Type 0} (P : List X → X → Type 0) (xs ys : List X) → EachAfter P (xs ++ ys) → EachAfter P xs
-EachAfter-front P xs ys all = λ front back x w. all front (back ++ ys) x (ap (λ l. l ++ ys) w ∙ append_assoc front (x ∷ back) ys)
+EachAfter-front P xs ys all =
+    λ front back x w. all front (back ++ ys) x (ap (λ l. l ++ ys) w ∙ append_assoc front (x ∷ back) ys)

@@ -1,12 +1,14 @@
 -- The line of one fixed set of devices is the line of changing sets that are all the same.
-use Rattle.std.proofs.Common.{◌≡◌, ◌↔◌, inl, inr, ℕ, zero, suc, ◌+◌, Bool, true, false, ◌&&◌, ◌||◌, not, cond, List, [], ◌∷◌, ◌++◌, length, refl, sym, ap, ◌∙◌, subst, true≢false, MatchBool}
+use Rattle.std.proofs.Common.{◌≡◌, ◌↔◌, inl, inr, ℕ, zero, suc, ◌+◌, Bool, true, false, ◌&&◌, ◌||◌, not, cond, List, []}
+use Rattle.std.proofs.Common.{◌∷◌, ◌++◌, length, refl, sym, ap, ◌∙◌, subst, true≢false, MatchBool}
 use Rattle.std.specs.Prelude.{◌⊎◌, ◌==◌, filter, replicate}
 use Rattle.std.specs.List.{AllByRecursion}
 use Rattle.std.proofs.Math.Bool.{or-true}
 use Rattle.std.proofs.lemmas.List.{length-replicate}
 use Rattle.std.proofs.lemmas.Bool.{eqb-true, eq-eqb, cases_Bool}
 use Rattle.rdm_wire.specs.Uid.{has, is_within, IsDeviceSet}
-use Rattle.rdm_wire.specs.Honest.{Asked, Heard, Seen, LineState, HonestStep, HonestTrace, Chain, Counts, KeepsMuted, MuteMoves, UnmuteMoves, MayReply, lost_after, due_in, before_run}
+use Rattle.rdm_wire.specs.Honest.{Asked, Heard, Seen, LineState, HonestStep, HonestTrace, Chain, Counts, KeepsMuted}
+use Rattle.rdm_wire.specs.Honest.{MuteMoves, UnmuteMoves, MayReply, lost_after, due_in, before_run}
 use Rattle.rdm_wire.specs.Honest.Asked.{Unmute, Branch, Mute, Other}
 use Rattle.rdm_wire.specs.Honest.Heard.{Silent}
 use Rattle.rdm_wire.specs.HonestOver.{HonestOver, ChainOver, ComeAndLeave}
@@ -41,16 +43,21 @@ module _ (p : List ℕ) where
   filter_same f g [] same = refl
   filter_same f g (u ∷ us) same =
       ap (λ b. cond b (u ∷ filter f us) (filter f us)) (same u (ap (λ b. b || has us u) (eq-eqb u u refl)))
-      ∙ ap (λ l. cond (g u) (u ∷ l) l) (filter_same f g us (λ v h. same v (ap (λ b. (v == u) || b) h ∙ or-true (v == u))))
+      ∙ ap (λ l. cond (g u) (u ∷ l) l)
+      (filter_same f g us (λ v h. same v (ap (λ b. (v == u) || b) h ∙ or-true (v == u))))
 
   due_within : (s : LineState) (lo hi : ℕ) → due_in p (within s).muted lo hi ≡ due_in p s.muted lo hi
   due_within s lo hi = filter_same _ _ p (λ u h. ap (λ b. is_within lo hi u && not (b && s.muted u)) h)
 
-  mute_within : (u : ℕ) (old new : LineState) (heard : Heard) → has p u ≡ true → MuteMoves u old heard new → MuteMoves u (within old) heard (within new)
-  mute_within u old new heard here (inl acked) = inl (acked.0, muted_within u new here acked.1, counts_within new 0 0 0 acked.2)
-  mute_within u old new heard here (inr lost) = inr (lost.0, moved lost.1, counts_within new 0 (old.lost_mutes + 1) 0 lost.2)
+  mute_within : (u : ℕ) (old new : LineState) (heard : Heard) → has p u ≡ true → MuteMoves u old heard new
+      → MuteMoves u (within old) heard (within new)
+  mute_within u old new heard here (inl acked) =
+      inl (acked.0, muted_within u new here acked.1, counts_within new 0 0 0 acked.2)
+  mute_within u old new heard here (inr lost) =
+      inr (lost.0, moved lost.1, counts_within new 0 (old.lost_mutes + 1) 0 lost.2)
     where
-      moved : (new.muted u ≡ true) ⊎ KeepsMuted u old new → ((within new).muted u ≡ true) ⊎ KeepsMuted u (within old) (within new)
+      moved : (new.muted u ≡ true) ⊎ KeepsMuted u old new → ((within new).muted u ≡ true)
+          ⊎ KeepsMuted u (within old) (within new)
       moved (inl muted) = inl (muted_within u new here muted)
       moved (inr keeps) = inr (keeps_within u old new keeps)
 
@@ -58,21 +65,29 @@ module _ (p : List ℕ) where
   unmute_within u old new moves = by_test (cases_Bool (has p u))
     where
       by_test : (has p u ≡ true) ⊎ (has p u ≡ false) → UnmuteMoves u (within old) (within new)
-      by_test (inl here) = record { fewer = λ m. rw here (moves.fewer (rw here at m)); third = λ n. rw here (moves.third n) }
+      by_test (inl here) = record {
+        fewer = λ m. rw here (moves.fewer (rw here at m));
+        third = λ n. rw here (moves.third n);
+      }
       by_test (inr away) = record { fewer = λ m. absurd (true≢false (sym (rw away at m))); third = λ n. rw away refl }
 
   -- a step of the line is a step of those present alone
-  step_within : (old new : LineState) (asked : Asked) (heard : Heard) → HonestStep p old asked heard new → HonestStep p (within old) asked heard (within new)
+  step_within : (old new : LineState) (asked : Asked) (heard : Heard) → HonestStep p old asked heard new
+      → HonestStep p (within old) asked heard (within new)
   step_within old new (Branch lo hi) heard step =
       let due = sym (due_within old lo hi) in (
         subst (λ d. MayReply d heard) due step.0,
         (λ u. keeps_within u old new (step.1 u)),
-        subst (λ d. Counts (within new) (lost_after d heard old.lost_branches) 0 0) due (counts_within new _ 0 0 step.2),
+        subst (λ d. Counts (within new) (lost_after d heard old.lost_branches) 0 0) due
+            (counts_within new _ 0 0 step.2),
       )
-  step_within old new (Mute u) heard step = ((λ v other. keeps_within v old new (step.0 v other)), by_test (has p u) refl step.1)
+  step_within old new (Mute u) heard step =
+      ((λ v other. keeps_within v old new (step.0 v other)), by_test (has p u) refl step.1)
     where
-      by_test : (b : Bool) → has p u ≡ b → MatchBool b (MuteMoves u old heard new) ((heard ≡ Silent) × KeepsMuted u old new × Counts new 0 0 0)
-          → MatchBool b (MuteMoves u (within old) heard (within new)) ((heard ≡ Silent) × KeepsMuted u (within old) (within new) × Counts (within new) 0 0 0)
+      by_test : (b : Bool) → has p u ≡ b
+          → MatchBool b (MuteMoves u old heard new) ((heard ≡ Silent) × KeepsMuted u old new × Counts new 0 0 0)
+          → MatchBool b (MuteMoves u (within old) heard (within new))
+          ((heard ≡ Silent) × KeepsMuted u (within old) (within new) × Counts (within new) 0 0 0)
       by_test true here moves = mute_within u old new heard here moves
       by_test false away silent = (silent.0, keeps_within u old new silent.1, counts_within new 0 0 0 silent.2)
   step_within old new Unmute heard step =
@@ -90,7 +105,8 @@ module _ (p : List ℕ) where
     unmutes = refl;
   }
 
-  chain_over : (earlier : List ℕ) (s : LineState) (x : List Seen) → Chain (HonestStep p) s x → ChainOver earlier p (within s) (replicate (length x) p) x
+  chain_over : (earlier : List ℕ) (s : LineState) (x : List Seen) → Chain (HonestStep p) s x
+      → ChainOver earlier p (within s) (replicate (length x) p) x
   chain_over earlier s [] chain = tt
   chain_over earlier s (e ∷ x) (inl failed) = (within s, stays_same earlier s, inl failed)
   chain_over earlier s (e ∷ x) (inr step) = (
@@ -118,11 +134,14 @@ module _ (p : List ℕ) where
           by_test (inl here) = moves.stays u here here
           by_test (inr away) = moves.leaves u away ∙ sym (out u away)
 
-  still_outside : (old new : LineState) (asked : Asked) (heard : Heard) → Outside old → HonestStep p old asked heard new → Outside new
+  still_outside : (old new : LineState) (asked : Asked) (heard : Heard) → Outside old → HonestStep p old asked heard new
+      → Outside new
   still_outside old new (Branch lo hi) heard out step u away = step.1 u ∙ out u away
   still_outside old new (Mute v) heard out step u away = by_test (v == u) refl
     where
-      absent : (b : Bool) → has p v ≡ b → b ≡ false → MatchBool b (MuteMoves v old heard new) ((heard ≡ Silent) × KeepsMuted v old new × Counts new 0 0 0) → new.muted v ≡ old.muted v
+      absent : (b : Bool) → has p v ≡ b → b ≡ false
+          → MatchBool b (MuteMoves v old heard new) ((heard ≡ Silent) × KeepsMuted v old new × Counts new 0 0 0)
+          → new.muted v ≡ old.muted v
       absent true is no' silent = absurd (true≢false no')
       absent false is no' silent = silent.1
 
@@ -139,7 +158,8 @@ module _ (p : List ℕ) where
       by_test (inr unmuted) = unmuted
   still_outside old new Other heard out step u away = step.0 u ∙ out u away
 
-  chain_of : (earlier : List ℕ) (s : LineState) (x : List Seen) → Outside s → ChainOver earlier p s (replicate (length x) p) x → Chain (HonestStep p) s x
+  chain_of : (earlier : List ℕ) (s : LineState) (x : List Seen) → Outside s
+      → ChainOver earlier p s (replicate (length x) p) x → Chain (HonestStep p) s x
   chain_of earlier s [] out chain = tt
   chain_of earlier s (e ∷ x) out (moved, moves, inl failed) = inl failed
   chain_of earlier s (e ∷ x) out (moved, moves, inr step) =
@@ -151,7 +171,13 @@ module _ (p : List ℕ) where
   all_same (suc n) devices = (devices, all_same n devices)
 
   to_over : (x : List Seen) → HonestTrace p x → HonestOver (replicate (length x) p) x
-  to_over [] trace = record { one_each = refl; devices = tt; muted = λ u. false; present = λ u h. absurd (true≢false (sym h)); chain = tt }
+  to_over [] trace = record {
+    one_each = refl;
+    devices = tt;
+    muted = λ u. false;
+    present = λ u h. absurd (true≢false (sym h));
+    chain = tt;
+  }
   to_over (e ∷ x) trace = record {
     one_each = length-replicate (length (e ∷ x)) p;
     devices = all_same (length (e ∷ x)) trace.0;

@@ -1,5 +1,6 @@
 -- A packet, with any bytes after it.
-use Rattle.std.proofs.Common.{◌≡◌, ℕ, ◌+◌, ◌-◌, List, [], ◌++◌, length, take, drop, refl, sym, ap, ◌∙◌, subst, append_assoc, append-nil, length-append, arith}
+use Rattle.std.proofs.Common.{◌≡◌, ℕ, ◌+◌, ◌-◌, List, [], ◌++◌, length, take, drop, refl, sym, ap, ◌∙◌, subst}
+use Rattle.std.proofs.Common.{append_assoc, append-nil, length-append, arith}
 use Rattle.std.specs.Prelude.{slice_range}
 use Rattle.std.proofs.Math.Seq.{drop-append_seam, take-append_seam}
 use Rattle.rdm_wire.specs.Bytes.{number_of, number_at, checksum, two_bytes}
@@ -18,7 +19,8 @@ front f rest = subst (λ (n : ℕ). take n (packet f ++ rest) ≡ body_of f) (bo
     (ap (take (length (body_of f))) (whole f rest)
     ∙ take-append_seam (body_of f) (two_bytes (checksum (body_of f)) ++ rest))
 
-pub after : (f : Fields) (rest : List ℕ) → drop (24 + length f.param) (packet f ++ rest) ≡ two_bytes (checksum (body_of f)) ++ rest
+pub after : (f : Fields) (rest : List ℕ)
+    → drop (24 + length f.param) (packet f ++ rest) ≡ two_bytes (checksum (body_of f)) ++ rest
 after f rest = subst (λ (n : ℕ). drop n (packet f ++ rest) ≡ two_bytes (checksum (body_of f)) ++ rest) (body_length f)
     (ap (drop (length (body_of f))) (whole f rest)
     ∙ drop-append_seam (body_of f) (two_bytes (checksum (body_of f)) ++ rest))
@@ -37,7 +39,9 @@ pub param_at : (f : Fields) (rest : List ℕ) → slice_range (packet f ++ rest)
 param_at f rest = counted (24 + length f.param - 24) (omega arith)
   where
     counted : (n : ℕ) → n ≡ length f.param → take n ((f.param ++ two_bytes (checksum (body_of f))) ++ rest) ≡ f.param
-    counted n h = rw h (ap (take (length f.param)) (append_assoc f.param (two_bytes (checksum (body_of f))) rest) ∙ take-append_seam f.param (two_bytes (checksum (body_of f)) ++ rest))
+    counted n h =
+        rw h (ap (take (length f.param)) (append_assoc f.param (two_bytes (checksum (body_of f))) rest)
+        ∙ take-append_seam f.param (two_bytes (checksum (body_of f)) ++ rest))
 
 pub fields_back : (f : Fields) (rest : List ℕ) → Fits f → fields_at (packet f ++ rest) ≡ f
 fields_back f rest fits = same _ _ _ _ _ _ _ _ _ (number_of-uid_bytes f.dest fits.dest)
@@ -48,12 +52,25 @@ fields_back f rest fits = same _ _ _ _ _ _ _ _ _ (number_of-uid_bytes f.dest fit
     one_spell : (n : ℕ) → 0 + n ≡ n
     one_spell n = omega arith
 
-    same : (d s t o c b k p : ℕ) (data_ : List ℕ) → d ≡ f.dest → s ≡ f.source → t ≡ f.tn → o ≡ f.port → c ≡ f.count → b ≡ f.sub_device → k ≡ f.class → p ≡ f.pid → data_ ≡ f.param
-        → ◌≡◌ {A = Fields} (record { dest = d; source = s; tn = t; port = o; count = c; sub_device = b; class = k; pid = p; param = data_ }) f
+    same : (d s t o c b k p : ℕ) (data_ : List ℕ) → d ≡ f.dest → s ≡ f.source → t ≡ f.tn → o ≡ f.port → c ≡ f.count
+        → b ≡ f.sub_device → k ≡ f.class → p ≡ f.pid → data_ ≡ f.param
+        → ◌≡◌ {A = Fields} (record {
+          dest = d;
+          source = s;
+          tn = t;
+          port = o;
+          count = c;
+          sub_device = b;
+          class = k;
+          pid = p;
+          param = data_;
+        }) f
     same d s t o c b k p data_ q1 q2 q3 q4 q5 q6 q7 q8 q9 = rw (q1, q2, q3, q4, q5, q6, q7, q8, q9) refl
 
 pub long : (f : Fields) (rest : List ℕ) → length (packet f ++ rest) ≡ 26 + length f.param + length rest
-long f rest = ap length (whole f rest) ∙ length-append (body_of f) (two_bytes (checksum (body_of f)) ++ rest) ∙ ap (λ n. n + length (two_bytes (checksum (body_of f)) ++ rest)) (body_length f) ∙ summed
+long f rest =
+    ap length (whole f rest) ∙ length-append (body_of f) (two_bytes (checksum (body_of f)) ++ rest)
+    ∙ ap (λ n. n + length (two_bytes (checksum (body_of f)) ++ rest)) (body_length f) ∙ summed
   where
     summed : 24 + length f.param + length (two_bytes (checksum (body_of f)) ++ rest) ≡ 26 + length f.param + length rest
     summed = omega arith

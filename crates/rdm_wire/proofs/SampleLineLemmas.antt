@@ -1,5 +1,6 @@
 -- The sample lines: what is honest of them, and what isn't.
-use Rattle.std.proofs.Common.{◌≡◌, ◌≢◌, ℕ, Bool, true, false, ◌||◌, List, [], ◌∷◌, refl, sym, inl, inr, true≢false, arith}
+use Rattle.std.proofs.Common.{◌≡◌, ◌≢◌, ℕ, Bool, true, false, ◌||◌, List, [], ◌∷◌, refl, sym, inl, inr, true≢false}
+use Rattle.std.proofs.Common.{arith}
 use Rattle.std.specs.Prelude.{◌==◌}
 use Rattle.rdm_wire.specs.Uid.{has, IsDeviceSet}
 use Rattle.rdm_wire.specs.Honest.{Seen, LineState, Counts, before_run}
@@ -21,10 +22,18 @@ abbrev quiet : LineState
 quiet = before_run (λ u. false)
 
 quiet-counts : Counts quiet 0 0 0
-quiet-counts = record { branches = refl; mutes = refl; unmutes = refl; few_branches = omega arith; few_mutes = omega arith }
+quiet-counts = record {
+  branches = refl;
+  mutes = refl;
+  unmutes = refl;
+  few_branches = omega arith;
+  few_mutes = omega arith;
+}
 
 -- who comes wasn't there before, and nobody is muted
-quiet-moves : (earlier last present : List ℕ) → ((u : ℕ) → has last u ≡ false → has present u ≡ true → has earlier u ≡ false) → ComeAndLeave earlier last present quiet quiet
+quiet-moves : (earlier last present : List ℕ)
+    → ((u : ℕ) → has last u ≡ false → has present u ≡ true → has earlier u ≡ false)
+    → ComeAndLeave earlier last present quiet quiet
 quiet-moves earlier last present new = record {
   stays = λ u was is. refl;
   comes = λ u was is. (new u was is, refl);
@@ -88,7 +97,8 @@ leaves = record {
         by_test true was is = absurd (true≢false was)
         by_test false was is = absurd (true≢false (sym is))
 
-pub comes_back : (a b c : Seen) → a.heard ≢ Failed → b.heard ≢ Failed → HonestOver (two_there ∷ one_there ∷ two_there ∷ []) (a ∷ b ∷ c ∷ []) → ⊥
+pub comes_back : (a b c : Seen) → a.heard ≢ Failed → b.heard ≢ Failed
+    → HonestOver (two_there ∷ one_there ∷ two_there ∷ []) (a ∷ b ∷ c ∷ []) → ⊥
 comes_back a b c first second over =
     elim over.chain.2 [
       | inl failed ↦ first failed

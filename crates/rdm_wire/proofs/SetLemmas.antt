@@ -1,5 +1,6 @@
 -- Ascending lists of UIDs: where a UID stands in one, and the set with one more.
-use Rattle.std.proofs.Common.{◌≡◌, ℕ, zero, suc, ◌<◌, ◌≤◌, Bool, true, false, cond, List, [], ◌∷◌, length, get_or, Ok, Err, refl, sym, ap, ◌∙◌, inl, inr, true≢false, arith}
+use Rattle.std.proofs.Common.{◌≡◌, ℕ, zero, suc, ◌<◌, ◌≤◌, Bool, true, false, cond, List, [], ◌∷◌, length, get_or, Ok}
+use Rattle.std.proofs.Common.{Err, refl, sym, ap, ◌∙◌, inl, inr, true≢false, arith}
 use Rattle.std.specs.Prelude.{◌==◌, nat_lt}
 use Rattle.std.specs.List.{AllByRecursion, insert}
 use Rattle.std.specs.List.Sorted.{IsBinarySearchResult}
@@ -58,7 +59,8 @@ with_uid-insert u (v ∷ us) zero place =
     let p : u < v = place.above 0 (omega arith) (omega arith) in rw (lt-ltb u v p) refl
 with_uid-insert u (v ∷ us) (suc i) place =
     let p : v < u = place.below 0 (omega arith) in
-    rw (le-ltb u v (omega arith), ne_eqb u v (omega arith)) (ap (λ l. v ∷ l) (with_uid-insert u us i (place-rest u v us i place)))
+    rw (le-ltb u v (omega arith), ne_eqb u v (omega arith))
+    (ap (λ l. v ∷ l) (with_uid-insert u us i (place-rest u v us i place)))
 
 -- what is below the first stands before it
 pub place-before : (u : ℕ) (v : ℕ) (vs : List ℕ) → IsAscending (v ∷ vs) → u < v → IsPlace (v ∷ vs) u zero
@@ -75,7 +77,8 @@ with_uid-present u (v ∷ us) a h =
     elim (cases_order u v) [
       | inl same ↦ rw (le-ltb u v (omega arith), eq-eqb u v same) refl
       | inr (inl less) ↦ absurd (true≢false (sym h ∙ has-at_place u (v ∷ us) zero (place-before u v us a less)))
-      | inr (inr more) ↦ rw (le-ltb u v (omega arith), ne_eqb u v (omega arith)) (ap (λ l. v ∷ l) (with_uid-present u us a.1 (rw (ne_eqb u v (omega arith)) at h)))
+      | inr (inr more) ↦ rw (le-ltb u v (omega arith), ne_eqb u v (omega arith))
+          (ap (λ l. v ∷ l) (with_uid-present u us a.1 (rw (ne_eqb u v (omega arith)) at h)))
     ]
 
 -- what holds of all and of u holds of all with u
@@ -83,7 +86,8 @@ pub all-with_uid : (P : ℕ → Type 0) (u : ℕ) (us : List ℕ) → P u → Al
 all-with_uid P u [] p all = (p, tt)
 all-with_uid P u (v ∷ us) p all = by_test (nat_lt u v) (u == v) (all-with_uid P u us p all.1)
   where
-    by_test : (b c : Bool) → AllByRecursion P (with_uid u us) → AllByRecursion P (cond b (u ∷ v ∷ us) (cond c (v ∷ us) (v ∷ with_uid u us)))
+    by_test : (b c : Bool) → AllByRecursion P (with_uid u us)
+        → AllByRecursion P (cond b (u ∷ v ∷ us) (cond c (v ∷ us) (v ∷ with_uid u us)))
     by_test true c rest = (p, all)
     by_test false true rest = all
     by_test false false rest = (all.0, rest)
@@ -99,7 +103,8 @@ ascending-with_uid u (v ∷ us) a = by_test (nat_lt u v) (u == v) refl refl (asc
     above : (nat_lt u v ≡ false) → ((u == v) ≡ false) → v < u
     above p q = let r : v ≤ u = ltb-false u v p in let s : u ≡ v → ⊥ = eqb-false u v q in grind arith
 
-    by_test : (b c : Bool) → nat_lt u v ≡ b → (u == v) ≡ c → IsAscending (with_uid u us) → IsAscending (cond b (u ∷ v ∷ us) (cond c (v ∷ us) (v ∷ with_uid u us)))
+    by_test : (b c : Bool) → nat_lt u v ≡ b → (u == v) ≡ c → IsAscending (with_uid u us)
+        → IsAscending (cond b (u ∷ v ∷ us) (cond c (v ∷ us) (v ∷ with_uid u us)))
     by_test true c p q rest = let r : u < v = ltb-true u v p in ((r, above_more u v us r a.0), a)
     by_test false true p q rest = a
     by_test false false p q rest = (all-with_uid (λ w. v < w) u us (above p q) a.0, rest)
@@ -109,12 +114,15 @@ devices-with_uid u us d s =
     record { devices = all-with_uid IsDevice u us d s.devices; ascending = ascending-with_uid u us s.ascending }
 
 -- what a search by halves says, where it finds u and where it doesn't
-pub search-there : (us : List ℕ) (u i : ℕ) → IsBinarySearchResult (λ v. nat_cmp v u) us (Ok i) → IsAscending us → has us u ≡ true
+pub search-there : (us : List ℕ) (u i : ℕ) → IsBinarySearchResult (λ v. nat_cmp v u) us (Ok i) → IsAscending us
+    → has us u ≡ true
 search-there us u i found a =
     let at : (i < length us) × (get_or us i 0 ≡ u) = searched us u (Ok i) found (ascending-at us a) in
     list_any_at (λ v. u == v) us i 0 at.0 (eq-eqb u (get_or us i 0) (sym at.1))
 
-pub search-absent : (us : List ℕ) (u i : ℕ) → IsBinarySearchResult (λ v. nat_cmp v u) us (Err i) → IsAscending us → IsPlace us u i
+pub search-absent : (us : List ℕ) (u i : ℕ) → IsBinarySearchResult (λ v. nat_cmp v u) us (Err i) → IsAscending us
+    → IsPlace us u i
 search-absent us u i found a =
-    let at : (i ≤ length us) × ((k : ℕ) → k < i → get_or us k 0 < u) × ((k : ℕ) → i ≤ k → k < length us → u < get_or us k 0) = searched us u (Err i) found (ascending-at us a) in
+    let at : (i ≤ length us) × ((k : ℕ) → k < i → get_or us k 0 < u)
+    × ((k : ℕ) → i ≤ k → k < length us → u < get_or us k 0) = searched us u (Err i) found (ascending-at us a) in
     record { within = at.0; below = at.1; above = at.2 }

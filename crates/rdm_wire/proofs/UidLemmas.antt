@@ -1,9 +1,11 @@
 -- Facts on the bytes and the text of UIDs.
-use Rattle.std.proofs.Common.{◌≡◌, ℕ, ◌^◌, ◌<◌, Bool, true, false, ◌&&◌, List, [], ◌∷◌, ◌++◌, length, take, drop, get_or}
+use Rattle.std.proofs.Common.{◌≡◌, ℕ, ◌^◌, ◌<◌, Bool, true, false, ◌&&◌, List, [], ◌∷◌, ◌++◌, length, take, drop}
+use Rattle.std.proofs.Common.{get_or}
 use Rattle.std.proofs.Common.{refl, sym, ap, ◌∙◌, arith, true≢false}
 use Rattle.std.specs.Prelude.{◌↔◌, Result, Ok, Err, nat_lt}
 use Rattle.std.proofs.lemmas.Bool.{ltb-true}
-use Rattle.std.proofs.lemmas.List.{take-append-drop, take_at, drop_at, drop_more, append_assoc, append-nil, length-append}
+use Rattle.std.proofs.lemmas.List.{take-append-drop, take_at, drop_at, drop_more, append_assoc, append-nil}
+use Rattle.std.proofs.lemmas.List.{length-append}
 use Rattle.hex.specs.Hex.{decode_of, encode_lower, lower_digits}
 use Rattle.hex.proofs.HexLemmas.{decode_of-same, length-encode_with, decode_of-encode_lower, IsAscii-encode_with}
 use Rattle.std.specs.Str.{IsUtf8, IsAscii}
@@ -16,7 +18,8 @@ use Rattle.rdm_wire.specs.UidText.{UidText, uid_text, colon}
 use Rattle.rdm_wire.proofs.BytesLemmas.{number_of-uid_bytes, IsBytes-two_bytes, IsBytes-four_bytes}
 
 -- a text whose fifth byte is a colon, at its places
-pub text_parts : (text : List ℕ) → length text ≡ 13 → get_or text 4 0 ≡ colon → text ≡ take 4 text ++ colon ∷ drop 5 text
+pub text_parts : (text : List ℕ) → length text ≡ 13 → get_or text 4 0 ≡ colon
+    → text ≡ take 4 text ++ colon ∷ drop 5 text
 text_parts text len is_colon =
     let within : 4 < length text = omega arith in
     sym (take-append-drop 4 text)
@@ -25,9 +28,11 @@ text_parts text len is_colon =
 -- the places of a text's parts
 text_places : (text : List ℕ) (u : ℕ) (f : UidText text u) → (take 4 text ≡ f.manufacturer) × (drop 5 text ≡ f.device)
 text_places text u f =
-    let front : length (f.manufacturer ++ colon ∷ []) ≡ 5 = omega (arith, length-append f.manufacturer (colon ∷ []), f.manufacturer_length) in (
+    let front : length (f.manufacturer ++ colon ∷ [])
+    ≡ 5 = omega (arith, length-append f.manufacturer (colon ∷ []), f.manufacturer_length) in (
       ap (take 4) f.parts ∙ take_at f.manufacturer _ 4 f.manufacturer_length,
-      ap (drop 5) (f.parts ∙ sym (append_assoc f.manufacturer (colon ∷ []) f.device)) ∙ drop_at (f.manufacturer ++ colon ∷ []) f.device 5 front,
+      ap (drop 5) (f.parts ∙ sym (append_assoc f.manufacturer (colon ∷ []) f.device))
+          ∙ drop_at (f.manufacturer ++ colon ∷ []) f.device 5 front,
     )
 
 -- the digits of a text
@@ -48,11 +53,13 @@ text_once text u v f g =
     sym (number_of-uid_bytes u f.in_range) ∙ ap number_of bytes ∙ number_of-uid_bytes v g.in_range
 
 -- a text of one UID is of no other
-pub reads_ok : {E : Type 0} (text : List ℕ) (v : ℕ) → UidText text v → (u : ℕ) → (◌≡◌ {A = Result ℕ E} (Ok v) (Ok u)) ↔ UidText text u
+pub reads_ok : {E : Type 0} (text : List ℕ) (v : ℕ) → UidText text v → (u : ℕ) → (◌≡◌ {A = Result ℕ E} (Ok v) (Ok u))
+    ↔ UidText text u
 reads_ok text v f u = (λ e. let same : v ≡ u = cc in rw (← same) f, λ g. ap Ok (text_once text v u f g))
 
 -- a text of no UID
-pub reads_err : {E : Type 0} (text : List ℕ) (e : E) → ((u : ℕ) → UidText text u → ⊥) → (u : ℕ) → (◌≡◌ {A = Result ℕ E} (Err e) (Ok u)) ↔ UidText text u
+pub reads_err : {E : Type 0} (text : List ℕ) (e : E) → ((u : ℕ) → UidText text u → ⊥) → (u : ℕ)
+    → (◌≡◌ {A = Result ℕ E} (Err e) (Ok u)) ↔ UidText text u
 reads_err text e unread u = (λ same. absurd (let bad : ⊥ = cc in bad), λ f. absurd (unread u f))
 
 -- the written text is a text of the UID
@@ -76,7 +83,8 @@ are_ascii (x ∷ xs) = nat_lt x 128 && are_ascii xs
 ascii_of : (xs : List ℕ) → are_ascii xs ≡ true → IsAscii xs
 unfolding are_ascii
 ascii_of [] h = IsAscii-nil
-ascii_of (x ∷ xs) h = let both = parts (nat_lt x 128) (are_ascii xs) h in IsAscii-cons x xs (ltb-true x 128 both.0) (ascii_of xs both.1)
+ascii_of (x ∷ xs) h =
+    let both = parts (nat_lt x 128) (are_ascii xs) h in IsAscii-cons x xs (ltb-true x 128 both.0) (ascii_of xs both.1)
   where
     parts : (a b : Bool) → (a && b) ≡ true → (a ≡ true) × (b ≡ true)
     parts true b h = (refl, h)

@@ -1,5 +1,6 @@
 -- The counts and numbers of discoveries in a log in which each entry may follow those before it.
-use Rattle.std.proofs.Common.{◌≡◌, ℕ, ◌+◌, ◌≤◌, ◌<◌, List, [], ◌∷◌, ◌++◌, length, Option, Some, None, slice_get, refl, sym, ◌∙◌, arith, length-append}
+use Rattle.std.proofs.Common.{◌≡◌, ℕ, ◌+◌, ◌≤◌, ◌<◌, List, [], ◌∷◌, ◌++◌, length, Option, Some, None, slice_get, refl}
+use Rattle.std.proofs.Common.{sym, ◌∙◌, arith, length-append}
 use Rattle.std.proofs.lemmas.Option.{none-some, slice_get_within}
 use Rattle.std.proofs.lemmas.List.{length_push}
 use Rattle.rdm_wire.specs.Lists.{EachAfter}
@@ -28,13 +29,16 @@ pub record AskFacts (o : Opening) (h : List Entry) : Type 0 where
   pub askers : (i : ℕ) (a : AskedDiscovery) → slice_get (asks h) i ≡ Some a → a.client < next_client o h
 
 -- the i-th unanswered discovery: its place among the Asks, and its number
-pub unanswered_place : (h : List Entry) (i : ℕ) (a : AskedDiscovery) → slice_get (unanswered h) i ≡ Some a → slice_get (asks h) (length (answers h) + i) ≡ Some a
+pub unanswered_place : (h : List Entry) (i : ℕ) (a : AskedDiscovery) → slice_get (unanswered h) i ≡ Some a
+    → slice_get (asks h) (length (answers h) + i) ≡ Some a
 unanswered_place h i a at = sym (slice_get-drop (length (answers h)) (asks h) i) ∙ at
 
-pub unanswered_within : (h : List Entry) (i : ℕ) (a : AskedDiscovery) → slice_get (unanswered h) i ≡ Some a → length (answers h) + i < length (asks h)
+pub unanswered_within : (h : List Entry) (i : ℕ) (a : AskedDiscovery) → slice_get (unanswered h) i ≡ Some a
+    → length (answers h) + i < length (asks h)
 unanswered_within h i a at = slice_get_within (asks h) (length (answers h) + i) a (unanswered_place h i a at)
 
-pub unanswered_number : (o : Opening) (h : List Entry) → AskFacts o h → (i : ℕ) (a : AskedDiscovery) → slice_get (unanswered h) i ≡ Some a → a.number ≡ o.next_ask + (length (answers h) + i)
+pub unanswered_number : (o : Opening) (h : List Entry) → AskFacts o h → (i : ℕ) (a : AskedDiscovery)
+    → slice_get (unanswered h) i ≡ Some a → a.number ≡ o.next_ask + (length (answers h) + i)
 unanswered_number o h facts i a at = facts.ask_numbers (length (answers h) + i) a (unanswered_place h i a at)
 
 facts_of_empty : (o : Opening) → AskFacts o []
@@ -47,10 +51,18 @@ facts_of_empty o = record {
 }
 
 more_clients : (o : Opening) (h : List Entry) (e : Entry) → next_client o h ≤ next_client o (h ++ e ∷ [])
-more_clients o h e = rw joins-append (omega (arith, length-append o.places.items (joins h), length-append o.places.items (joins h ++ joins (e ∷ [])), length-append (joins h) (joins (e ∷ []))))
+more_clients o h e =
+    rw joins-append
+    (omega (
+      arith,
+      length-append o.places.items (joins h),
+      length-append o.places.items (joins h ++ joins (e ∷ [])),
+      length-append (joins h) (joins (e ∷ [])),
+    ))
 
 -- each entry keeps the facts: others, an Ask, an Answer
-facts_other : (o : Opening) (h : List Entry) (e : Entry) → asked_of e ≡ None → answered_of e ≡ None → AskFacts o h → AskFacts o (h ++ e ∷ [])
+facts_other : (o : Opening) (h : List Entry) (e : Entry) → asked_of e ≡ None → answered_of e ≡ None → AskFacts o h
+    → AskFacts o (h ++ e ∷ [])
 facts_other o h e ask answer facts = record {
   answered_within = rw (asks_same h e ask, answered_same h e answer) facts.answered_within;
   ask_numbers = rw (asks_same h e ask) facts.ask_numbers;
@@ -58,12 +70,16 @@ facts_other o h e ask answer facts = record {
   askers = rw (asks_same h e ask) (λ i a at. omega (arith, facts.askers i a at, more_clients o h e));
 }
 
-facts_ask : (o : Opening) (h : List Entry) (c : ClientId) (n : ℕ) (kind : Kind) → AskFacts o h → MayFollow o h (Ask c n kind) → AskFacts o (h ++ Ask c n kind ∷ [])
+facts_ask : (o : Opening) (h : List Entry) (c : ClientId) (n : ℕ) (kind : Kind) → AskFacts o h
+    → MayFollow o h (Ask c n kind) → AskFacts o (h ++ Ask c n kind ∷ [])
 facts_ask o h c n kind facts may = record {
   answered_within = rw (more, answered_same h e refl) (omega (arith, facts.answered_within, length_push (asks h) a));
   ask_numbers = rw more (each_place_push (λ i b. b.number ≡ o.next_ask + i) (asks h) a facts.ask_numbers may.2);
   answer_numbers = rw (answered_same h e refl) facts.answer_numbers;
-  askers = rw more (each_place_push (λ i b. b.client < next_client o (h ++ e ∷ [])) (asks h) a (λ i b at. omega (arith, facts.askers i b at, more_clients o h e)) (omega (arith, (ask_passes o h c.0 may.1).known, more_clients o h e)));
+  askers = rw more
+      (each_place_push (λ i b. b.client < next_client o (h ++ e ∷ [])) (asks h) a
+      (λ i b at. omega (arith, facts.askers i b at, more_clients o h e))
+      (omega (arith, (ask_passes o h c.0 may.1).known, more_clients o h e)));
 }
   where
     e : Entry
@@ -75,11 +91,16 @@ facts_ask o h c n kind facts may = record {
     more : asks (h ++ e ∷ []) ≡ asks h ++ a ∷ []
     more = asks_more h e a refl
 
-facts_answer : (o : Opening) (h : List Entry) (n r : ℕ) (fault : Option AgentFault) → AskFacts o h → MayAnswer o h n r fault → AskFacts o (h ++ Answer n r fault ∷ [])
+facts_answer : (o : Opening) (h : List Entry) (n r : ℕ) (fault : Option AgentFault) → AskFacts o h
+    → MayAnswer o h n r fault → AskFacts o (h ++ Answer n r fault ∷ [])
 facts_answer o h n r fault facts may = record {
-  answered_within = rw (asks_same h e refl, more) (omega (arith, length_push (answers h) b, unanswered_within h 0 may.asked may.oldest));
+  answered_within =
+      rw (asks_same h e refl, more)
+      (omega (arith, length_push (answers h) b, unanswered_within h 0 may.asked may.oldest));
   ask_numbers = rw (asks_same h e refl) facts.ask_numbers;
-  answer_numbers = rw more (each_place_push (λ i x. x.number ≡ o.next_ask + i) (answers h) b facts.answer_numbers (omega (arith, may.number, unanswered_number o h facts 0 may.asked may.oldest)));
+  answer_numbers =
+      rw more (each_place_push (λ i x. x.number ≡ o.next_ask + i) (answers h) b facts.answer_numbers
+      (omega (arith, may.number, unanswered_number o h facts 0 may.asked may.oldest)));
   askers = rw (asks_same h e refl) (λ i a at. omega (arith, facts.askers i a at, more_clients o h e));
 }
   where
@@ -92,7 +113,8 @@ facts_answer o h n r fault facts may = record {
     more : answers (h ++ e ∷ []) ≡ answers h ++ b ∷ []
     more = answered_more h e b refl
 
-facts_step : (o : Opening) (h : List Entry) (e : Entry) → EachAfter (MayFollow o) h → AskFacts o h → MayFollow o h e → AskFacts o (h ++ e ∷ [])
+facts_step : (o : Opening) (h : List Entry) (e : Entry) → EachAfter (MayFollow o) h → AskFacts o h → MayFollow o h e
+    → AskFacts o (h ++ e ∷ [])
 facts_step o h (Ask c n kind) each facts may = facts_ask o h c n kind facts may
 facts_step o h (Answer n r fault) each facts may = facts_answer o h n r fault facts may
 facts_step o h e each facts may = facts_other o h e refl refl facts

@@ -1,5 +1,6 @@
 -- A request's exchanges and its result, as a log grows by a frame or by what came for it.
-use Rattle.std.proofs.Common.{◌≡◌, ℕ, true, false, List, [], ◌∷◌, ◌++◌, length, map, filter, Some, None, slice_get, zip, refl, ap, append-nil, suc}
+use Rattle.std.proofs.Common.{◌≡◌, ℕ, true, false, List, [], ◌∷◌, ◌++◌, length, map, filter, Some, None, slice_get, zip}
+use Rattle.std.proofs.Common.{refl, ap, append-nil, suc}
 use Rattle.std.proofs.lemmas.List.{map-append}
 use Rattle.std.proofs.lemmas.List.Elements.{filter-append}
 use Rattle.arrayvec.specs.ArrayVec.{ArrayVec}
@@ -8,7 +9,8 @@ use Rattle.rdm_join.specs.Result.{result_of}
 use Rattle.rdm_log.specs.declared.entry.Owner.{Owner}
 use Rattle.rdm_log.specs.declared.entry.Entry.{Entry}
 use Rattle.rdm_log.specs.declared.entry.Entry.TheVariants.{Send, Came}
-use Rattle.rdm_log.specs.log.Entries.{Sending, traded_of, is_request, verdict_on, sends, cames, traded, of_request, verdicts, result}
+use Rattle.rdm_log.specs.log.Entries.{Sending, traded_of, is_request, verdict_on, sends, cames, traded, of_request}
+use Rattle.rdm_log.specs.log.Entries.{verdicts, result}
 use Rattle.rdm_log.proofs.LogLemmas.Places.{zip_first_more, zip_both_more}
 use Rattle.rdm_log.proofs.LogLemmas.PushLemmas.{sends_same, sends_more, cames_same, cames_more}
 
@@ -22,17 +24,23 @@ unfolding result
 result_same h k n s c = ap result_of (verdicts_same h k n s c)
 
 -- a frame without its answer is no exchange
-pub traded_sent : (h : List Entry) (owner : Owner) (frame : ArrayVec ℕ) → length (sends h) ≡ length (cames h) → traded (h ++ Send owner frame ∷ []) ≡ traded h
+pub traded_sent : (h : List Entry) (owner : Owner) (frame : ArrayVec ℕ) → length (sends h) ≡ length (cames h)
+    → traded (h ++ Send owner frame ∷ []) ≡ traded h
 unfolding traded
 traded_sent h owner frame even =
-    rw (sends_more h (Send owner frame) (record { owner = owner; frame = frame }) refl, cames_same h (Send owner frame) refl)
+    rw (
+      sends_more h (Send owner frame) (record { owner = owner; frame = frame }) refl,
+      cames_same h (Send owner frame) refl,
+    )
     (ap (λ l. map traded_of l) (zip_first_more (sends h) (cames h) (record { owner = owner; frame = frame }) even))
 
-pub verdicts_sent : (h : List Entry) (owner : Owner) (frame : ArrayVec ℕ) (n : ℕ) → length (sends h) ≡ length (cames h) → verdicts n (h ++ Send owner frame ∷ []) ≡ verdicts n h
+pub verdicts_sent : (h : List Entry) (owner : Owner) (frame : ArrayVec ℕ) (n : ℕ) → length (sends h) ≡ length (cames h)
+    → verdicts n (h ++ Send owner frame ∷ []) ≡ verdicts n h
 unfolding of_request verdicts
 verdicts_sent h owner frame n even = rw (traded_sent h owner frame even) refl
 
-pub result_sent : (h : List Entry) (owner : Owner) (frame : ArrayVec ℕ) (n : ℕ) → length (sends h) ≡ length (cames h) → result n (h ++ Send owner frame ∷ []) ≡ result n h
+pub result_sent : (h : List Entry) (owner : Owner) (frame : ArrayVec ℕ) (n : ℕ) → length (sends h) ≡ length (cames h)
+    → result n (h ++ Send owner frame ∷ []) ≡ result n h
 unfolding result
 result_sent h owner frame n even = ap result_of (verdicts_sent h owner frame n even)
 
@@ -43,38 +51,66 @@ pub record IsUnanswered (h : List Entry) (s : Sending) : Type 0 where
   pub answered : length earlier ≡ length (cames h)
 
 -- what came is the last frame's
-pub traded_came : (h : List Entry) (s : Sending) (event : LineEvent) → IsUnanswered h s → traded (h ++ Came event ∷ []) ≡ traded h ++ record { owner = s.owner; frame = s.frame; event = event } ∷ []
+pub traded_came : (h : List Entry) (s : Sending) (event : LineEvent) → IsUnanswered h s
+    → traded (h ++ Came event ∷ []) ≡ traded h ++ record { owner = s.owner; frame = s.frame; event = event } ∷ []
 unfolding traded
 traded_came h s event waits =
-    rw (sends_same h (Came event) refl, cames_more h (Came event) event refl, waits.last, zip_both_more waits.earlier (cames h) s event waits.answered, zip_first_more waits.earlier (cames h) s waits.answered)
+    rw (
+      sends_same h (Came event) refl,
+      cames_more h (Came event) event refl,
+      waits.last,
+      zip_both_more waits.earlier (cames h) s event waits.answered,
+      zip_first_more waits.earlier (cames h) s waits.answered,
+    )
     (map-append traded_of (zip waits.earlier (cames h)) ((s, event) ∷ []))
 
 -- one verdict more for the frame's owner, and none for others
-pub verdicts_came_own : (h : List Entry) (s : Sending) (event : LineEvent) (n : ℕ) → IsUnanswered h s → is_request n s.owner ≡ true → verdicts n (h ++ Came event ∷ []) ≡ verdicts n h ++ verdict_on (record { owner = s.owner; frame = s.frame; event = event }) ∷ []
+pub verdicts_came_own : (h : List Entry) (s : Sending) (event : LineEvent) (n : ℕ) → IsUnanswered h s
+    → is_request n s.owner ≡ true
+    → verdicts n (h ++ Came event ∷ []) ≡ verdicts n h
+    ++ verdict_on (record { owner = s.owner; frame = s.frame; event = event }) ∷ []
 unfolding of_request verdicts
 verdicts_came_own h s event n waits own =
-    rw (traded_came h s event waits, filter-append (λ t. is_request n t.owner) (traded h) (record { owner = s.owner; frame = s.frame; event = event } ∷ []), own)
-    (map-append verdict_on (filter (λ t. is_request n t.owner) (traded h)) (record { owner = s.owner; frame = s.frame; event = event } ∷ []))
+    rw (
+      traded_came h s event waits,
+      filter-append (λ t. is_request n t.owner) (traded h)
+          (record { owner = s.owner; frame = s.frame; event = event } ∷ []),
+      own,
+    )
+    (map-append verdict_on (filter (λ t. is_request n t.owner) (traded h))
+    (record { owner = s.owner; frame = s.frame; event = event } ∷ []))
 
-pub verdicts_came_other : (h : List Entry) (s : Sending) (event : LineEvent) (n : ℕ) → IsUnanswered h s → is_request n s.owner ≡ false → verdicts n (h ++ Came event ∷ []) ≡ verdicts n h
+pub verdicts_came_other : (h : List Entry) (s : Sending) (event : LineEvent) (n : ℕ) → IsUnanswered h s
+    → is_request n s.owner ≡ false → verdicts n (h ++ Came event ∷ []) ≡ verdicts n h
 unfolding of_request verdicts
 verdicts_came_other h s event n waits other =
-    rw (traded_came h s event waits, filter-append (λ t. is_request n t.owner) (traded h) (record { owner = s.owner; frame = s.frame; event = event } ∷ []), other, append-nil) refl
+    rw (
+      traded_came h s event waits,
+      filter-append (λ t. is_request n t.owner) (traded h)
+          (record { owner = s.owner; frame = s.frame; event = event } ∷ []),
+      other,
+      append-nil,
+    ) refl
 
-pub result_came_other : (h : List Entry) (s : Sending) (event : LineEvent) (n : ℕ) → IsUnanswered h s → is_request n s.owner ≡ false → result n (h ++ Came event ∷ []) ≡ result n h
+pub result_came_other : (h : List Entry) (s : Sending) (event : LineEvent) (n : ℕ) → IsUnanswered h s
+    → is_request n s.owner ≡ false → result n (h ++ Came event ∷ []) ≡ result n h
 unfolding result
 result_came_other h s event n waits other = ap result_of (verdicts_came_other h s event n waits other)
 
 -- no frame of the request was sent: no verdicts, and its result is open
-none_of : (n : ℕ) (ss : List Sending) (es : List LineEvent) → ((i : ℕ) (s : Sending) → slice_get ss i ≡ Some s → is_request n s.owner ≡ false) → filter (λ t. is_request n t.owner) (map traded_of (zip ss es)) ≡ []
+none_of : (n : ℕ) (ss : List Sending) (es : List LineEvent)
+    → ((i : ℕ) (s : Sending) → slice_get ss i ≡ Some s → is_request n s.owner ≡ false)
+    → filter (λ t. is_request n t.owner) (map traded_of (zip ss es)) ≡ []
 none_of n [] es others = refl
 none_of n (s ∷ ss) [] others = refl
 none_of n (s ∷ ss) (e ∷ es) others = rw (others 0 s refl) (none_of n ss es (λ i t at. others (suc i) t at))
 
-pub verdicts_unsent : (h : List Entry) (n : ℕ) → ((i : ℕ) (s : Sending) → slice_get (sends h) i ≡ Some s → is_request n s.owner ≡ false) → verdicts n h ≡ []
+pub verdicts_unsent : (h : List Entry) (n : ℕ)
+    → ((i : ℕ) (s : Sending) → slice_get (sends h) i ≡ Some s → is_request n s.owner ≡ false) → verdicts n h ≡ []
 unfolding traded of_request verdicts
 verdicts_unsent h n others = rw (none_of n (sends h) (cames h) others) refl
 
-pub result_unsent : (h : List Entry) (n : ℕ) → ((i : ℕ) (s : Sending) → slice_get (sends h) i ≡ Some s → is_request n s.owner ≡ false) → result n h ≡ None
+pub result_unsent : (h : List Entry) (n : ℕ)
+    → ((i : ℕ) (s : Sending) → slice_get (sends h) i ≡ Some s → is_request n s.owner ≡ false) → result n h ≡ None
 unfolding result
 result_unsent h n others = rw (verdicts_unsent h n others) refl

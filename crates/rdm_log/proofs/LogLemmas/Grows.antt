@@ -8,7 +8,8 @@ use Rattle.rdm_log.specs.log.Entries.{accepts, asks, sends, finishes, answers}
 use Rattle.rdm_log.specs.log.Runs.{last_run}
 use Rattle.rdm_log.specs.log.Legal.{MayFollow, Legal}
 
-pub pushed : (o : Opening) (h : List Entry) (e : Entry) → EachAfter (MayFollow o) h → MayFollow o h e → EachAfter (MayFollow o) (h ++ e ∷ [])
+pub pushed : (o : Opening) (h : List Entry) (e : Entry) → EachAfter (MayFollow o) h → MayFollow o h e
+    → EachAfter (MayFollow o) (h ++ e ∷ [])
 pushed o h e all last = EachAfter-push (MayFollow o) h e all last
 
 pub front : (o : Opening) (h more : List Entry) → EachAfter (MayFollow o) (h ++ more) → EachAfter (MayFollow o) h
@@ -22,5 +23,10 @@ pub empty : (o : Opening) → Legal o []
 unfolding accepts asks sends finishes answers last_run
 empty o = record {
   each = λ before back e w. absurd (no_element before back e w);
-  settled = record { results_open = tt; runs_answered = tt; run_goes_on = tt; all_closed = λ closed waits. (refl, refl) };
+  settled = record {
+    results_open = tt;
+    runs_answered = tt;
+    run_goes_on = tt;
+    all_closed = λ closed waits. (refl, refl);
+  };
 }

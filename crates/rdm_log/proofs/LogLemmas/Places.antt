@@ -1,5 +1,7 @@
 -- Elements of a list by their places, and lists with one more at the end.
-use Rattle.std.proofs.Common.{◌≡◌, ℕ, zero, suc, ◌+◌, List, [], ◌∷◌, ◌++◌, length, drop, Option, Some, None, slice_get, ◌<◌, ◌≤◌, Bool, filter, refl, ap, ◌∙◌, zero-add, suc-add, append-nil, inl, inr, arith, filter_map}
+use Rattle.std.proofs.Common.{◌≡◌, ℕ, zero, suc, ◌+◌, List, [], ◌∷◌, ◌++◌, length, drop, Option, Some, None, slice_get}
+use Rattle.std.proofs.Common.{◌<◌, ◌≤◌, Bool, filter, refl, ap, ◌∙◌, zero-add, suc-add, append-nil, inl, inr, arith}
+use Rattle.std.proofs.Common.{filter_map}
 use Rattle.std.specs.Prelude.{◌⊎◌, ◌≢◌, zip}
 use Rattle.std.specs.List.{AllByRecursion, cons_option}
 use Rattle.std.proofs.lemmas.List.{drop_all}
@@ -7,12 +9,14 @@ use Rattle.std.proofs.lemmas.Bool.{cases_lt}
 use Rattle.std.proofs.lemmas.List.Elements.{filter_map-append}
 
 -- what holds of each place holds of all
-pub all_from_places : {X : Type 0} (P : X → Type 0) (xs : List X) → ((i : ℕ) (x : X) → slice_get xs i ≡ Some x → P x) → AllByRecursion P xs
+pub all_from_places : {X : Type 0} (P : X → Type 0) (xs : List X) → ((i : ℕ) (x : X) → slice_get xs i ≡ Some x → P x)
+    → AllByRecursion P xs
 all_from_places P [] at = tt
 all_from_places P (x ∷ xs) at = (at 0 x refl, all_from_places P xs (λ i y e. at (suc i) y e))
 
 -- and what holds of all holds at each place
-pub all_at : {X : Type 0} (P : X → Type 0) (xs : List X) → AllByRecursion P xs → (i : ℕ) (x : X) → slice_get xs i ≡ Some x → P x
+pub all_at : {X : Type 0} (P : X → Type 0) (xs : List X) → AllByRecursion P xs → (i : ℕ) (x : X)
+    → slice_get xs i ≡ Some x → P x
 all_at P [] all i x e = cc
 all_at P (y ∷ xs) all zero x e = let same : y ≡ x = cc in rw same at all.0
 all_at P (y ∷ xs) all (suc i) x e = all_at P xs all.1 i x e
@@ -23,7 +27,8 @@ pub record IsPushed {X : Type 0} (xs : List X) (y : X) (i : ℕ) (x : X) : Type 
   pub is : x ≡ y
 
 -- a place of a list with one more: of the list, or the last
-pub slice_get-push : {X : Type 0} (xs : List X) (y : X) (i : ℕ) (x : X) → slice_get (xs ++ y ∷ []) i ≡ Some x → (slice_get xs i ≡ Some x) ⊎ IsPushed xs y i x
+pub slice_get-push : {X : Type 0} (xs : List X) (y : X) (i : ℕ) (x : X) → slice_get (xs ++ y ∷ []) i ≡ Some x
+    → (slice_get xs i ≡ Some x) ⊎ IsPushed xs y i x
 slice_get-push [] y zero x e = inr (record { place = refl; is = cc })
 slice_get-push [] y (suc i) x e = cc
 slice_get-push (z ∷ xs) y zero x e = inl e
@@ -34,7 +39,8 @@ slice_get-push {X} (z ∷ xs) y (suc i) x e = onward (slice_get-push xs y i x e)
     onward (inr last) = inr (record { place = ap suc last.place; is = last.is })
 
 -- a place of a list is the same place of a longer one
-pub slice_get-append_left : {X : Type 0} (xs ys : List X) (i : ℕ) (x : X) → slice_get xs i ≡ Some x → slice_get (xs ++ ys) i ≡ Some x
+pub slice_get-append_left : {X : Type 0} (xs ys : List X) (i : ℕ) (x : X) → slice_get xs i ≡ Some x
+    → slice_get (xs ++ ys) i ≡ Some x
 slice_get-append_left [] ys i x e = cc
 slice_get-append_left (z ∷ xs) ys zero x e = e
 slice_get-append_left (z ∷ xs) ys (suc i) x e = slice_get-append_left xs ys i x e
@@ -51,27 +57,33 @@ slice_get_first [] x e = cc
 slice_get_first (y ∷ xs) x e = let same : y ≡ x = cc in rw same refl
 
 -- pairs of lists of one length, where one grows or both
-pub zip_first_more : {X Y : Type 0} (xs : List X) (ys : List Y) (x : X) → length xs ≡ length ys → zip (xs ++ x ∷ []) ys ≡ zip xs ys
+pub zip_first_more : {X Y : Type 0} (xs : List X) (ys : List Y) (x : X) → length xs ≡ length ys
+    → zip (xs ++ x ∷ []) ys ≡ zip xs ys
 zip_first_more [] [] x e = refl
 zip_first_more [] (y ∷ ys) x e = absurd (omega arith)
 zip_first_more (z ∷ xs) [] x e = absurd (omega arith)
 zip_first_more (z ∷ xs) (y ∷ ys) x e = ap (λ l. (z, y) ∷ l) (zip_first_more xs ys x (omega arith))
 
-pub zip_both_more : {X Y : Type 0} (xs : List X) (ys : List Y) (x : X) (y : Y) → length xs ≡ length ys → zip (xs ++ x ∷ []) (ys ++ y ∷ []) ≡ zip xs ys ++ (x, y) ∷ []
+pub zip_both_more : {X Y : Type 0} (xs : List X) (ys : List Y) (x : X) (y : Y) → length xs ≡ length ys
+    → zip (xs ++ x ∷ []) (ys ++ y ∷ []) ≡ zip xs ys ++ (x, y) ∷ []
 zip_both_more [] [] x y e = refl
 zip_both_more [] (z ∷ ys) x y e = absurd (omega arith)
 zip_both_more (z ∷ xs) [] x y e = absurd (omega arith)
 zip_both_more (z ∷ xs) (w ∷ ys) x y e = ap (λ l. (z, w) ∷ l) (zip_both_more xs ys x y (omega arith))
 
 -- what a last element adds to a projection
-pub filter_map_none : {X Y : Type 0} (f : X → Option Y) (xs : List X) (x : X) → f x ≡ None → filter_map f (xs ++ x ∷ []) ≡ filter_map f xs
+pub filter_map_none : {X Y : Type 0} (f : X → Option Y) (xs : List X) (x : X) → f x ≡ None
+    → filter_map f (xs ++ x ∷ []) ≡ filter_map f xs
 filter_map_none f xs x e = filter_map-append f xs (x ∷ []) ∙ rw e (append-nil (filter_map f xs))
 
-pub filter_map_some : {X Y : Type 0} (f : X → Option Y) (xs : List X) (x : X) (y : Y) → f x ≡ Some y → filter_map f (xs ++ x ∷ []) ≡ filter_map f xs ++ y ∷ []
+pub filter_map_some : {X Y : Type 0} (f : X → Option Y) (xs : List X) (x : X) (y : Y) → f x ≡ Some y
+    → filter_map f (xs ++ x ∷ []) ≡ filter_map f xs ++ y ∷ []
 filter_map_some f xs x y e = filter_map-append f xs (x ∷ []) ∙ rw e refl
 
 -- what holds at each place of a list and of one more at its end
-pub each_place_push : {X : Type 0} (P : ℕ → X → Type 0) (xs : List X) (x : X) → ((i : ℕ) (y : X) → slice_get xs i ≡ Some y → P i y) → P (length xs) x → (i : ℕ) (y : X) → slice_get (xs ++ x ∷ []) i ≡ Some y → P i y
+pub each_place_push : {X : Type 0} (P : ℕ → X → Type 0) (xs : List X) (x : X)
+    → ((i : ℕ) (y : X) → slice_get xs i ≡ Some y → P i y) → P (length xs) x → (i : ℕ) (y : X)
+    → slice_get (xs ++ x ∷ []) i ≡ Some y → P i y
 each_place_push {X} P xs x each last i y at = by_place (slice_get-push xs x i y at)
   where
     by_place : (slice_get xs i ≡ Some y) ⊎ IsPushed xs x i y → P i y
@@ -79,23 +91,27 @@ each_place_push {X} P xs x each last i y at = by_place (slice_get-push xs x i y 
     by_place (inr pushed) = rw (pushed.place, pushed.is) last
 
 -- within a list, more after it changes no place
-pub slice_get_append_within : {X : Type 0} (xs ys : List X) (i : ℕ) → i < length xs → slice_get (xs ++ ys) i ≡ slice_get xs i
+pub slice_get_append_within : {X : Type 0} (xs ys : List X) (i : ℕ) → i < length xs
+    → slice_get (xs ++ ys) i ≡ slice_get xs i
 slice_get_append_within [] ys i within = absurd (omega arith)
 slice_get_append_within (x ∷ xs) ys zero within = refl
 slice_get_append_within (x ∷ xs) ys (suc i) within = slice_get_append_within xs ys i (omega arith)
 
 -- what a projection makes of an element stands in it
-pub filter_map_has : {X Y : Type 0} (f : X → Option Y) (xs : List X) (i : ℕ) (x : X) (y : Y) → slice_get xs i ≡ Some x → f x ≡ Some y → (j : ℕ) × (slice_get (filter_map f xs) j ≡ Some y)
+pub filter_map_has : {X Y : Type 0} (f : X → Option Y) (xs : List X) (i : ℕ) (x : X) (y : Y) → slice_get xs i ≡ Some x
+    → f x ≡ Some y → (j : ℕ) × (slice_get (filter_map f xs) j ≡ Some y)
 filter_map_has f [] i x y at is = cc
 filter_map_has f (z ∷ xs) zero x y at is = let same : z ≡ x = cc in (0, rw (same, is) refl)
 filter_map_has {X} {Y} f (z ∷ xs) (suc i) x y at is = onward (f z) (filter_map_has f xs i x y at is)
   where
-    onward : (o : Option Y) → (j : ℕ) × (slice_get (filter_map f xs) j ≡ Some y) → (j : ℕ) × (slice_get (cons_option o (filter_map f xs)) j ≡ Some y)
+    onward : (o : Option Y) → (j : ℕ) × (slice_get (filter_map f xs) j ≡ Some y) → (j : ℕ)
+        × (slice_get (cons_option o (filter_map f xs)) j ≡ Some y)
     onward None found = found
     onward (Some w) found = (suc found.0, found.1)
 
 -- tests that agree on a list pass the same of it
-pub filter_agree_on : {X : Type 0} (p q : X → Bool) (xs : List X) → ((i : ℕ) (x : X) → slice_get xs i ≡ Some x → p x ≡ q x) → filter p xs ≡ filter q xs
+pub filter_agree_on : {X : Type 0} (p q : X → Bool) (xs : List X)
+    → ((i : ℕ) (x : X) → slice_get xs i ≡ Some x → p x ≡ q x) → filter p xs ≡ filter q xs
 filter_agree_on p q [] agree = refl
 filter_agree_on p q (x ∷ xs) agree = rw (agree 0 x refl, filter_agree_on p q xs (λ i y at. agree (suc i) y at)) refl
 

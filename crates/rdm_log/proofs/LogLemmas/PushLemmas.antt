@@ -10,8 +10,11 @@ use Rattle.rdm_log.specs.declared.entry.ClientId.{ClientId}
 use Rattle.rdm_log.specs.declared.entry.Opening.{Opening}
 use Rattle.rdm_log.specs.declared.entry.Entry.{Entry}
 use Rattle.rdm_log.specs.declared.entry.Entry.TheVariants.{Accept, Finish}
-use Rattle.rdm_log.specs.log.Entries.{Accepted, AskedDiscovery, Sending, Finished, Answered, join_of, accepted_of, asked_of, sending_of, came_of, finished_of, answered_of, collector_of, joins, accepts, asks, sends, cames, finishes, answers, collectors}
-use Rattle.rdm_log.specs.log.History.{unfinished, unanswered, awaits_after, paused_after, closed_after, awaited, is_paused, is_closed}
+use Rattle.rdm_log.specs.log.Entries.{Accepted, AskedDiscovery, Sending, Finished, Answered, join_of, accepted_of}
+use Rattle.rdm_log.specs.log.Entries.{asked_of, sending_of, came_of, finished_of, answered_of, collector_of, joins}
+use Rattle.rdm_log.specs.log.Entries.{accepts, asks, sends, cames, finishes, answers, collectors}
+use Rattle.rdm_log.specs.log.History.{unfinished, unanswered, awaits_after, paused_after, closed_after, awaited}
+use Rattle.rdm_log.specs.log.History.{is_paused, is_closed}
 use Rattle.rdm_log.proofs.LogLemmas.Places.{filter_map_none, filter_map_some}
 
 -- of two parts: what the first says, and then what the second says
@@ -52,7 +55,8 @@ pub accepts_same : (h : List Entry) (e : Entry) → accepted_of e ≡ None → a
 unfolding accepts
 accepts_same h e other = filter_map_none accepted_of h e other
 
-pub accepts_more : (h : List Entry) (e : Entry) (a : Accepted) → accepted_of e ≡ Some a → accepts (h ++ e ∷ []) ≡ accepts h ++ a ∷ []
+pub accepts_more : (h : List Entry) (e : Entry) (a : Accepted) → accepted_of e ≡ Some a
+    → accepts (h ++ e ∷ []) ≡ accepts h ++ a ∷ []
 unfolding accepts
 accepts_more h e a is = filter_map_some accepted_of h e a is
 
@@ -60,7 +64,8 @@ pub asks_same : (h : List Entry) (e : Entry) → asked_of e ≡ None → asks (h
 unfolding asks
 asks_same h e other = filter_map_none asked_of h e other
 
-pub asks_more : (h : List Entry) (e : Entry) (a : AskedDiscovery) → asked_of e ≡ Some a → asks (h ++ e ∷ []) ≡ asks h ++ a ∷ []
+pub asks_more : (h : List Entry) (e : Entry) (a : AskedDiscovery) → asked_of e ≡ Some a
+    → asks (h ++ e ∷ []) ≡ asks h ++ a ∷ []
 unfolding asks
 asks_more h e a is = filter_map_some asked_of h e a is
 
@@ -68,7 +73,8 @@ pub answered_same : (h : List Entry) (e : Entry) → answered_of e ≡ None → 
 unfolding answers
 answered_same h e other = filter_map_none answered_of h e other
 
-pub answered_more : (h : List Entry) (e : Entry) (b : Answered) → answered_of e ≡ Some b → answers (h ++ e ∷ []) ≡ answers h ++ b ∷ []
+pub answered_more : (h : List Entry) (e : Entry) (b : Answered) → answered_of e ≡ Some b
+    → answers (h ++ e ∷ []) ≡ answers h ++ b ∷ []
 unfolding answers
 answered_more h e b is = filter_map_some answered_of h e b is
 
@@ -76,7 +82,8 @@ pub sends_same : (h : List Entry) (e : Entry) → sending_of e ≡ None → send
 unfolding sends
 sends_same h e other = filter_map_none sending_of h e other
 
-pub sends_more : (h : List Entry) (e : Entry) (s : Sending) → sending_of e ≡ Some s → sends (h ++ e ∷ []) ≡ sends h ++ s ∷ []
+pub sends_more : (h : List Entry) (e : Entry) (s : Sending) → sending_of e ≡ Some s
+    → sends (h ++ e ∷ []) ≡ sends h ++ s ∷ []
 unfolding sends
 sends_more h e s is = filter_map_some sending_of h e s is
 
@@ -84,7 +91,8 @@ pub cames_same : (h : List Entry) (e : Entry) → came_of e ≡ None → cames (
 unfolding cames
 cames_same h e other = filter_map_none came_of h e other
 
-pub cames_more : (h : List Entry) (e : Entry) (event : LineEvent) → came_of e ≡ Some event → cames (h ++ e ∷ []) ≡ cames h ++ event ∷ []
+pub cames_more : (h : List Entry) (e : Entry) (event : LineEvent) → came_of e ≡ Some event
+    → cames (h ++ e ∷ []) ≡ cames h ++ event ∷ []
 unfolding cames
 cames_more h e event is = filter_map_some came_of h e event is
 
@@ -92,7 +100,8 @@ pub finishes_same : (h : List Entry) (e : Entry) → finished_of e ≡ None → 
 unfolding finishes
 finishes_same h e other = filter_map_none finished_of h e other
 
-pub finishes_more : (h : List Entry) (e : Entry) (f : Finished) → finished_of e ≡ Some f → finishes (h ++ e ∷ []) ≡ finishes h ++ f ∷ []
+pub finishes_more : (h : List Entry) (e : Entry) (f : Finished) → finished_of e ≡ Some f
+    → finishes (h ++ e ∷ []) ≡ finishes h ++ f ∷ []
 unfolding finishes
 finishes_more h e f is = filter_map_some finished_of h e f is
 
@@ -100,7 +109,8 @@ pub collectors_same : (h : List Entry) (e : Entry) → collector_of e ≡ None �
 unfolding collectors
 collectors_same h e other = filter_map_none collector_of h e other
 
-pub collectors_more : (h : List Entry) (e : Entry) (c : ℕ) → collector_of e ≡ Some c → collectors (h ++ e ∷ []) ≡ collectors h ++ c ∷ []
+pub collectors_more : (h : List Entry) (e : Entry) (c : ℕ) → collector_of e ≡ Some c
+    → collectors (h ++ e ∷ []) ≡ collectors h ++ c ∷ []
 unfolding collectors
 collectors_more h e c is = filter_map_some collector_of h e c is
 
@@ -109,11 +119,13 @@ pub awaited-push : (h : List Entry) (e : Entry) → awaited (h ++ e ∷ []) ≡ 
 unfolding awaited
 awaited-push h e = fold_push awaits_after false h e
 
-pub is_paused-push : (o : Opening) (h : List Entry) (e : Entry) → is_paused o (h ++ e ∷ []) ≡ paused_after (is_paused o h) e
+pub is_paused-push : (o : Opening) (h : List Entry) (e : Entry)
+    → is_paused o (h ++ e ∷ []) ≡ paused_after (is_paused o h) e
 unfolding is_paused
 is_paused-push o h e = fold_push paused_after o.paused h e
 
-pub is_closed-push : (o : Opening) (h : List Entry) (e : Entry) → is_closed o (h ++ e ∷ []) ≡ closed_after (is_closed o h) e
+pub is_closed-push : (o : Opening) (h : List Entry) (e : Entry)
+    → is_closed o (h ++ e ∷ []) ≡ closed_after (is_closed o h) e
 unfolding is_closed
 is_closed-push o h e = fold_push closed_after o.closed h e
 
@@ -126,7 +138,8 @@ pub record SameRequests (h k : List Entry) : Type 0 where
   pub same_awaited : awaited k ≡ awaited h
 
 -- an entry of another kind leaves them
-pub same_after : (h : List Entry) (e : Entry) → accepted_of e ≡ None → finished_of e ≡ None → sending_of e ≡ None → came_of e ≡ None → awaits_after (awaited h) e ≡ awaited h → SameRequests h (h ++ e ∷ [])
+pub same_after : (h : List Entry) (e : Entry) → accepted_of e ≡ None → finished_of e ≡ None → sending_of e ≡ None
+    → came_of e ≡ None → awaits_after (awaited h) e ≡ awaited h → SameRequests h (h ++ e ∷ [])
 same_after h e accept finish send came waits = record {
   same_accepts = accepts_same h e accept;
   same_finishes = finishes_same h e finish;
@@ -139,19 +152,33 @@ same_after h e accept finish send came waits = record {
 pub unfinished_same : (h k : List Entry) → accepts k ≡ accepts h → finishes k ≡ finishes h → unfinished k ≡ unfinished h
 unfinished_same h k accept finish = rw (accept, finish) refl
 
-pub unfinished_accept : (h : List Entry) (c : ClientId) (n : ℕ) (request : Request) → length (finishes h) ≤ length (accepts h) → unfinished (h ++ Accept c n request ∷ []) ≡ unfinished h ++ record { client = c.0; number = n; request = request } ∷ []
+pub unfinished_accept : (h : List Entry) (c : ClientId) (n : ℕ) (request : Request)
+    → length (finishes h) ≤ length (accepts h)
+    → unfinished (h ++ Accept c n request ∷ []) ≡ unfinished h
+    ++ record { client = c.0; number = n; request = request } ∷ []
 unfinished_accept h c n request within =
     let a : Accepted = record { client = c.0; number = n; request = request } in
-    rw (accepts_more h (Accept c n request) a refl, finishes_same h (Accept c n request) refl) (drop-append-le (length (finishes h)) (accepts h) (a ∷ []) within)
+    rw (accepts_more h (Accept c n request) a refl, finishes_same h (Accept c n request) refl)
+    (drop-append-le (length (finishes h)) (accepts h) (a ∷ []) within)
 
-pub unfinished_finish : (h : List Entry) (n : ℕ) (status : Status) (len : ℕ) → unfinished (h ++ Finish n status len ∷ []) ≡ drop 1 (unfinished h)
+pub unfinished_finish : (h : List Entry) (n : ℕ) (status : Status) (len : ℕ)
+    → unfinished (h ++ Finish n status len ∷ []) ≡ drop 1 (unfinished h)
 unfinished_finish h n status len =
     let f : Finished = record { number = n; status = status; len = len } in
-    rw (accepts_same h (Finish n status len) refl, finishes_more h (Finish n status len) f refl, length_push (finishes h) f) (sym (drop-drop 1 (length (finishes h)) (accepts h)))
+    rw (
+      accepts_same h (Finish n status len) refl,
+      finishes_more h (Finish n status len) f refl,
+      length_push (finishes h) f,
+    ) (sym (drop-drop 1 (length (finishes h)) (accepts h)))
 
 -- the unanswered discoveries likewise
-pub unanswered_ask : (h : List Entry) (e : Entry) (a : AskedDiscovery) → asked_of e ≡ Some a → answered_of e ≡ None → length (answers h) ≤ length (asks h) → unanswered (h ++ e ∷ []) ≡ unanswered h ++ a ∷ []
-unanswered_ask h e a is other within = rw (asks_more h e a is, answered_same h e other) (drop-append-le (length (answers h)) (asks h) (a ∷ []) within)
+pub unanswered_ask : (h : List Entry) (e : Entry) (a : AskedDiscovery) → asked_of e ≡ Some a → answered_of e ≡ None
+    → length (answers h) ≤ length (asks h) → unanswered (h ++ e ∷ []) ≡ unanswered h ++ a ∷ []
+unanswered_ask h e a is other within =
+    rw (asks_more h e a is, answered_same h e other) (drop-append-le (length (answers h)) (asks h) (a ∷ []) within)
 
-pub unanswered_answer : (h : List Entry) (e : Entry) (b : Answered) → asked_of e ≡ None → answered_of e ≡ Some b → unanswered (h ++ e ∷ []) ≡ drop 1 (unanswered h)
-unanswered_answer h e b other is = rw (asks_same h e other, answered_more h e b is, length_push (answers h) b) (sym (drop-drop 1 (length (answers h)) (asks h)))
+pub unanswered_answer : (h : List Entry) (e : Entry) (b : Answered) → asked_of e ≡ None → answered_of e ≡ Some b
+    → unanswered (h ++ e ∷ []) ≡ drop 1 (unanswered h)
+unanswered_answer h e b other is =
+    rw (asks_same h e other, answered_more h e b is, length_push (answers h) b)
+    (sym (drop-drop 1 (length (answers h)) (asks h)))

@@ -1,5 +1,6 @@
 -- What holds where a call isn't refused.
-use Rattle.std.proofs.Common.{◌≡◌, ℕ, ◌+◌, ◌-◌, ◌^◌, ◌<◌, ◌≤◌, Bool, true, false, Option, Some, None, if◌then◌else◌, slice_index, sum, List, refl}
+use Rattle.std.proofs.Common.{◌≡◌, ℕ, ◌+◌, ◌-◌, ◌^◌, ◌<◌, ◌≤◌, Bool, true, false, Option, Some, None, if◌then◌else◌}
+use Rattle.std.proofs.Common.{slice_index, sum, List, refl}
 use Rattle.std.proofs.lemmas.Bool.{leb-false, ltb-false, or_parts}
 use Rattle.rdm_log.specs.declared.entry.Opening.{Opening}
 use Rattle.rdm_log.specs.declared.entry.Entry.{Entry}
@@ -8,7 +9,8 @@ use Rattle.rdm_log.specs.log.Clients.{outstanding_requests, outstanding_discover
 use Rattle.rdm_log.specs.log.Refusals.{join_fault, submit_fault, ask_fault}
 
 -- of faults in order none stands
-pub none_stands : {X : Type 0} (b : Bool) (fault : X) (later : Option X) → (if b then Some fault else later) ≡ None → (b ≡ false) × (later ≡ None)
+pub none_stands : {X : Type 0} (b : Bool) (fault : X) (later : Option X) → (if b then Some fault else later) ≡ None
+    → (b ≡ false) × (later ≡ None)
 none_stands true fault later e = cc
 none_stands false fault later e = (refl, e)
 
@@ -38,7 +40,12 @@ submit_passes o h c e =
     let b = none_stands _ _ _ a.1 in
     let d = none_stands _ _ _ b.1 in
     let f = or_parts _ _ d.0 in
-    record { not_closed = a.0; known = leb-false _ _ b.0; has_place = leb-false _ _ f.0; has_number = leb-false _ _ f.1 }
+    record {
+      not_closed = a.0;
+      known = leb-false _ _ b.0;
+      has_place = leb-false _ _ f.0;
+      has_number = leb-false _ _ f.1;
+    }
 
 -- what no fault of a discover says
 pub record AskPasses (o : Opening) (h : List Entry) (c : ℕ) : Type 0 where
@@ -53,4 +60,9 @@ ask_passes o h c e =
     let b = none_stands _ _ _ a.1 in
     let d = none_stands _ _ _ b.1 in
     let f = or_parts _ _ d.0 in
-    record { not_closed = a.0; known = leb-false _ _ b.0; has_place = leb-false _ _ f.0; has_number = leb-false _ _ f.1 }
+    record {
+      not_closed = a.0;
+      known = leb-false _ _ b.0;
+      has_place = leb-false _ _ f.0;
+      has_number = leb-false _ _ f.1;
+    }

@@ -1,5 +1,6 @@
 -- How much of a log's room an entry takes, what is reserved for later ones among it.
-use Rattle.std.proofs.Common.{◌≡◌, ℕ, ◌+◌, ◌<◌, ◌≤◌, true, false, Option, None, List, [], ◌∷◌, ◌++◌, length, refl, append_assoc, append-nil, length-drop, arith}
+use Rattle.std.proofs.Common.{◌≡◌, ℕ, ◌+◌, ◌<◌, ◌≤◌, true, false, Option, None, List, [], ◌∷◌, ◌++◌, length, refl}
+use Rattle.std.proofs.Common.{append_assoc, append-nil, length-drop, arith}
 use Rattle.std.proofs.lemmas.List.{length_push}
 use Rattle.std.proofs.lemmas.Option.{slice_get_within}
 use Rattle.arrayvec.specs.ArrayVec.{ArrayVec}
@@ -14,15 +15,20 @@ use Rattle.rdm_log.specs.declared.entry.Owner.{Owner}
 use Rattle.rdm_log.specs.declared.entry.Owner.TheVariants as owners
 use Rattle.rdm_log.specs.declared.entry.Opening.{Opening}
 use Rattle.rdm_log.specs.declared.entry.Entry.{Entry}
-use Rattle.rdm_log.specs.declared.entry.Entry.TheVariants.{Join, Refuse, Accept, Ask, Send, Came, Finish, Answer, Collect, Pause, Resume, Close}
-use Rattle.rdm_log.specs.log.Entries.{Accepted, AskedDiscovery, Finished, Answered, asked_of, answered_of, accepts, asks, finishes, answers, collectors}
+use Rattle.rdm_log.specs.declared.entry.Entry.TheVariants.{Join, Refuse, Accept, Ask, Send, Came, Finish, Answer}
+use Rattle.rdm_log.specs.declared.entry.Entry.TheVariants.{Collect, Pause, Resume, Close}
+use Rattle.rdm_log.specs.log.Entries.{Accepted, AskedDiscovery, Finished, Answered, asked_of, answered_of, accepts}
+use Rattle.rdm_log.specs.log.Entries.{asks, finishes, answers, collectors}
 use Rattle.rdm_log.specs.log.History.{awaited, is_closed, unfinished, unanswered, reserved}
 use Rattle.rdm_log.specs.log.Legal.{MayFollow}
 use Rattle.rdm_log.proofs.LogLemmas.Grows.{front, pushed}
 use Rattle.rdm_log.proofs.LogLemmas.LegalFacts.{legal_facts}
 use Rattle.rdm_log.proofs.LogLemmas.AskFacts.{ask_facts}
 use Rattle.rdm_log.proofs.LogLemmas.ClientFacts.{client_facts, collects_within}
-use Rattle.rdm_log.proofs.LogLemmas.PushLemmas.{SameRequests, same_after, finishes_more, answered_more, accepts_same, asks_same, finishes_same, answered_same, collectors_same, collectors_more, unfinished_accept, unfinished_finish, unanswered_ask, unanswered_answer, awaited-push, is_closed-push}
+use Rattle.rdm_log.proofs.LogLemmas.PushLemmas.{SameRequests, same_after, finishes_more, answered_more, accepts_same}
+use Rattle.rdm_log.proofs.LogLemmas.PushLemmas.{asks_same, finishes_same, answered_same, collectors_same}
+use Rattle.rdm_log.proofs.LogLemmas.PushLemmas.{collectors_more, unfinished_accept, unfinished_finish, unanswered_ask}
+use Rattle.rdm_log.proofs.LogLemmas.PushLemmas.{unanswered_answer, awaited-push, is_closed-push}
 
 -- the entries that stand and those that are reserved
 abbrev pub taken : Opening → List Entry → ℕ
@@ -45,67 +51,191 @@ added_by [] = 0
 added_by (e ∷ block) = added e + added_by block
 
 -- each kind of entry
-taken_same : (o : Opening) (h : List Entry) (e : Entry) → SameRequests h (h ++ e ∷ []) → asked_of e ≡ None → answered_of e ≡ None → collectors (h ++ e ∷ []) ≡ collectors h → is_closed o (h ++ e ∷ []) ≡ is_closed o h → taken o (h ++ e ∷ []) ≡ taken o h + 1
-taken_same o h e same ask reply collect closed = rw (length_push h e, closed, same.same_awaited, same.same_accepts, same.same_finishes, asks_same h e ask, answered_same h e reply, collect) (omega arith)
+taken_same : (o : Opening) (h : List Entry) (e : Entry) → SameRequests h (h ++ e ∷ []) → asked_of e ≡ None
+    → answered_of e ≡ None → collectors (h ++ e ∷ []) ≡ collectors h → is_closed o (h ++ e ∷ []) ≡ is_closed o h
+    → taken o (h ++ e ∷ []) ≡ taken o h + 1
+taken_same o h e same ask reply collect closed =
+    rw (
+      length_push h e,
+      closed,
+      same.same_awaited,
+      same.same_accepts,
+      same.same_finishes,
+      asks_same h e ask,
+      answered_same h e reply,
+      collect,
+    ) (omega arith)
 
-taken_accept : (o : Opening) (h : List Entry) (c : ClientId) (n : ℕ) (request : Request) → length (finishes h) ≤ length (accepts h) → taken o (h ++ Accept c n request ∷ []) ≡ taken o h + 3
+taken_accept : (o : Opening) (h : List Entry) (c : ClientId) (n : ℕ) (request : Request)
+    → length (finishes h) ≤ length (accepts h) → taken o (h ++ Accept c n request ∷ []) ≡ taken o h + 3
 taken_accept o h c n request within =
     let a : Accepted = record { client = c.0; number = n; request = request } in
     let e = Accept c n request in
-    rw (unfinished_accept h c n request within, length_push (unfinished h) a, length_push h e, is_closed-push o h e, awaited-push h e, finishes_same h e refl, asks_same h e refl, answered_same h e refl, collectors_same h e refl) (omega arith)
+    rw (
+      unfinished_accept h c n request within,
+      length_push (unfinished h) a,
+      length_push h e,
+      is_closed-push o h e,
+      awaited-push h e,
+      finishes_same h e refl,
+      asks_same h e refl,
+      answered_same h e refl,
+      collectors_same h e refl,
+    )
+    (omega arith)
 
-taken_ask : (o : Opening) (h : List Entry) (c : ClientId) (n : ℕ) (kind : Kind) → length (answers h) ≤ length (asks h) → taken o (h ++ Ask c n kind ∷ []) ≡ taken o h + 3
+taken_ask : (o : Opening) (h : List Entry) (c : ClientId) (n : ℕ) (kind : Kind) → length (answers h) ≤ length (asks h)
+    → taken o (h ++ Ask c n kind ∷ []) ≡ taken o h + 3
 taken_ask o h c n kind within =
     let a : AskedDiscovery = record { client = c.0; number = n; kind = kind } in
     let e = Ask c n kind in
-    rw (unanswered_ask h e a refl refl within, length_push (unanswered h) a, length_push h e, is_closed-push o h e, awaited-push h e, accepts_same h e refl, finishes_same h e refl, answered_same h e refl, collectors_same h e refl) (omega arith)
+    rw (
+      unanswered_ask h e a refl refl within,
+      length_push (unanswered h) a,
+      length_push h e,
+      is_closed-push o h e,
+      awaited-push h e,
+      accepts_same h e refl,
+      finishes_same h e refl,
+      answered_same h e refl,
+      collectors_same h e refl,
+    ) (omega arith)
 
-taken_send : (o : Opening) (h : List Entry) (owner : Owner) (frame : ArrayVec ℕ) → awaited h ≡ false → taken o (h ++ Send owner frame ∷ []) ≡ taken o h + 2
-taken_send o h owner frame idle = let e = Send owner frame in rw (length_push h e, is_closed-push o h e, awaited-push h e, idle, accepts_same h e refl, finishes_same h e refl, asks_same h e refl, answered_same h e refl, collectors_same h e refl) (omega arith)
+taken_send : (o : Opening) (h : List Entry) (owner : Owner) (frame : ArrayVec ℕ) → awaited h ≡ false
+    → taken o (h ++ Send owner frame ∷ []) ≡ taken o h + 2
+taken_send o h owner frame idle =
+    let e = Send owner frame in
+    rw (
+      length_push h e,
+      is_closed-push o h e,
+      awaited-push h e,
+      idle,
+      accepts_same h e refl,
+      finishes_same h e refl,
+      asks_same h e refl,
+      answered_same h e refl,
+      collectors_same h e refl,
+    ) (omega arith)
 
-taken_came : (o : Opening) (h : List Entry) (event : LineEvent) → awaited h ≡ true → taken o (h ++ Came event ∷ []) ≡ taken o h + 0
-taken_came o h event waits = let e = Came event in rw (length_push h e, is_closed-push o h e, awaited-push h e, waits, accepts_same h e refl, finishes_same h e refl, asks_same h e refl, answered_same h e refl, collectors_same h e refl) (omega arith)
+taken_came : (o : Opening) (h : List Entry) (event : LineEvent) → awaited h ≡ true
+    → taken o (h ++ Came event ∷ []) ≡ taken o h + 0
+taken_came o h event waits =
+    let e = Came event in
+    rw (
+      length_push h e,
+      is_closed-push o h e,
+      awaited-push h e,
+      waits,
+      accepts_same h e refl,
+      finishes_same h e refl,
+      asks_same h e refl,
+      answered_same h e refl,
+      collectors_same h e refl,
+    ) (omega arith)
 
-taken_finish : (o : Opening) (h : List Entry) (n : ℕ) (status : Status) (len : ℕ) → 0 < length (unfinished h) → length (collectors h) ≤ length (finishes h) + length (answers h) → taken o (h ++ Finish n status len ∷ []) ≡ taken o h + 0
+taken_finish : (o : Opening) (h : List Entry) (n : ℕ) (status : Status) (len : ℕ) → 0 < length (unfinished h)
+    → length (collectors h) ≤ length (finishes h) + length (answers h)
+    → taken o (h ++ Finish n status len ∷ []) ≡ taken o h + 0
 taken_finish o h n status len some within =
     let f : Finished = record { number = n; status = status; len = len } in
     let e = Finish n status len in
-    rw (unfinished_finish h n status len, length-drop 1 (unfinished h), length_push h e, is_closed-push o h e, awaited-push h e, finishes_more h e f refl, length_push (finishes h) f, asks_same h e refl, answered_same h e refl, collectors_same h e refl) (omega arith)
+    rw (
+      unfinished_finish h n status len,
+      length-drop 1 (unfinished h),
+      length_push h e,
+      is_closed-push o h e,
+      awaited-push h e,
+      finishes_more h e f refl,
+      length_push (finishes h) f,
+      asks_same h e refl,
+      answered_same h e refl,
+      collectors_same h e refl,
+    ) (omega arith)
 
-taken_answer : (o : Opening) (h : List Entry) (n r : ℕ) (fault : Option AgentFault) → 0 < length (unanswered h) → length (collectors h) ≤ length (finishes h) + length (answers h) → taken o (h ++ Answer n r fault ∷ []) ≡ taken o h + 0
+taken_answer : (o : Opening) (h : List Entry) (n r : ℕ) (fault : Option AgentFault) → 0 < length (unanswered h)
+    → length (collectors h) ≤ length (finishes h) + length (answers h)
+    → taken o (h ++ Answer n r fault ∷ []) ≡ taken o h + 0
 taken_answer o h n r fault some within =
     let b : Answered = record { number = n; run = r; fault = fault } in
     let e = Answer n r fault in
-    rw (unanswered_answer h e b refl refl, length-drop 1 (unanswered h), length_push h e, is_closed-push o h e, awaited-push h e, answered_more h e b refl, length_push (answers h) b, accepts_same h e refl, finishes_same h e refl, collectors_same h e refl) (omega arith)
+    rw (
+      unanswered_answer h e b refl refl,
+      length-drop 1 (unanswered h),
+      length_push h e,
+      is_closed-push o h e,
+      awaited-push h e,
+      answered_more h e b refl,
+      length_push (answers h) b,
+      accepts_same h e refl,
+      finishes_same h e refl,
+      collectors_same h e refl,
+    ) (omega arith)
 
-taken_collect : (o : Opening) (h : List Entry) (c : ClientId) → length (collectors (h ++ Collect c ∷ [])) ≤ length (finishes (h ++ Collect c ∷ [])) + length (answers (h ++ Collect c ∷ [])) → taken o (h ++ Collect c ∷ []) ≡ taken o h + 0
+taken_collect : (o : Opening) (h : List Entry) (c : ClientId)
+    → length (collectors (h ++ Collect c ∷ [])) ≤ length (finishes (h ++ Collect c ∷ [])) + length
+    (answers (h ++ Collect c ∷ [])) → taken o (h ++ Collect c ∷ []) ≡ taken o h + 0
 taken_collect o h c within =
     let e = Collect c in
     let more = length_push (collectors h) c.0 in
     let fewer = rw (collectors_more h e c.0 refl, finishes_same h e refl, answered_same h e refl) at within in
-    rw (length_push h e, is_closed-push o h e, awaited-push h e, accepts_same h e refl, finishes_same h e refl, asks_same h e refl, answered_same h e refl, collectors_more h e c.0 refl) (omega arith)
+    rw (
+      length_push h e,
+      is_closed-push o h e,
+      awaited-push h e,
+      accepts_same h e refl,
+      finishes_same h e refl,
+      asks_same h e refl,
+      answered_same h e refl,
+      collectors_more h e c.0 refl,
+    ) (omega arith)
 
 taken_close : (o : Opening) (h : List Entry) → is_closed o h ≡ false → taken o (h ++ Close ∷ []) ≡ taken o h + 0
-taken_close o h not_closed = rw (length_push h Close, is_closed-push o h Close, not_closed, awaited-push h Close, accepts_same h Close refl, finishes_same h Close refl, asks_same h Close refl, answered_same h Close refl, collectors_same h Close refl) (omega arith)
+taken_close o h not_closed =
+    rw (
+      length_push h Close,
+      is_closed-push o h Close,
+      not_closed,
+      awaited-push h Close,
+      accepts_same h Close refl,
+      finishes_same h Close refl,
+      asks_same h Close refl,
+      answered_same h Close refl,
+      collectors_same h Close refl,
+    )
+    (omega arith)
 
 -- the Collects of such a log are within its Finishes and Answers
-collects_fit : (o : Opening) (h : List Entry) → EachAfter (MayFollow o) h → length (collectors h) ≤ length (finishes h) + length (answers h)
+collects_fit : (o : Opening) (h : List Entry) → EachAfter (MayFollow o) h
+    → length (collectors h) ≤ length (finishes h) + length (answers h)
 collects_fit o h each = collects_within o h (legal_facts o h each) (ask_facts o h each) (client_facts o h each)
 
 -- what an entry takes that may follow
-pub taken_step : (o : Opening) (h : List Entry) (e : Entry) → EachAfter (MayFollow o) h → MayFollow o h e → taken o (h ++ e ∷ []) ≡ taken o h + added e
+pub taken_step : (o : Opening) (h : List Entry) (e : Entry) → EachAfter (MayFollow o) h → MayFollow o h e
+    → taken o (h ++ e ∷ []) ≡ taken o h + added e
 taken_step o h (Accept c n request) each may = taken_accept o h c n request (legal_facts o h each).finished_within
 taken_step o h (Ask c n kind) each may = taken_ask o h c n kind (ask_facts o h each).answered_within
 taken_step o h (Send (owners.Request n) frame) each may = taken_send o h (owners.Request n) frame may.1.not_awaited
 taken_step o h (Send (owners.Run r) frame) each may = taken_send o h (owners.Run r) frame may.1.not_awaited
 taken_step o h (Came event) each may = taken_came o h event may.1
-taken_step o h (Finish n status len) each may = taken_finish o h n status len (slice_get_within (unfinished h) 0 may.accepted may.oldest) (collects_fit o h each)
-taken_step o h (Answer n r fault) each may = taken_answer o h n r fault (slice_get_within (unanswered h) 0 may.asked may.oldest) (collects_fit o h each)
-taken_step o h (Collect c) each may = taken_collect o h c (collects_fit o (h ++ Collect c ∷ []) (pushed o h (Collect c) each may))
+taken_step o h (Finish n status len) each may =
+    taken_finish o h n status len (slice_get_within (unfinished h) 0 may.accepted may.oldest) (collects_fit o h each)
+taken_step o h (Answer n r fault) each may =
+    taken_answer o h n r fault (slice_get_within (unanswered h) 0 may.asked may.oldest) (collects_fit o h each)
+taken_step o h (Collect c) each may =
+    taken_collect o h c (collects_fit o (h ++ Collect c ∷ []) (pushed o h (Collect c) each may))
 taken_step o h Close each may = taken_close o h may.1
-taken_step o h e each may = taken_same o h e (same_after h e refl refl refl refl refl) refl refl (collectors_same h e refl) (is_closed-push o h e)
+taken_step o h e each may =
+    taken_same o h e (same_after h e refl refl refl refl refl) refl refl (collectors_same h e refl)
+    (is_closed-push o h e)
 
 -- what a block takes
-pub taken_block : (o : Opening) (h block : List Entry) → EachAfter (MayFollow o) (h ++ block) → taken o (h ++ block) ≡ taken o h + added_by block
+pub taken_block : (o : Opening) (h block : List Entry) → EachAfter (MayFollow o) (h ++ block)
+    → taken o (h ++ block) ≡ taken o h + added_by block
 taken_block o h [] each = rw append-nil (omega arith)
-taken_block o h (e ∷ block) each = omega (arith, rw (append_assoc h (e ∷ []) block) at (taken_block o (h ++ e ∷ []) block (rw (append_assoc h (e ∷ []) block) each)), taken_step o h e (front o h (e ∷ block) each) (each h block e refl))
+taken_block o h (e ∷ block) each =
+    omega (
+      arith,
+      rw (append_assoc h (e ∷ []) block) at (taken_block o (h ++ e ∷ []) block
+          (rw (append_assoc h (e ∷ []) block) each)),
+      taken_step o h e (front o h (e ∷ block) each) (each h block e refl),
+    )

@@ -1,5 +1,7 @@
 -- What a log says of its runs, as it grows.
-use Rattle.std.proofs.Common.{◌≡◌, ℕ, ◌≤◌, arith, Bool, true, false, cond, List, [], ◌∷◌, ◌++◌, length, filter, filter_map, map, Option, Some, None, fold, ◌+◌, take, not, one-add, refl, sym, ap, ◌∙◌, append-nil, inl, inr}
+use Rattle.std.proofs.Common.{◌≡◌, ℕ, ◌≤◌, arith, Bool, true, false, cond, List, [], ◌∷◌, ◌++◌, length, filter}
+use Rattle.std.proofs.Common.{filter_map, map, Option, Some, None, fold, ◌+◌, take, not, one-add, refl, sym, ap, ◌∙◌}
+use Rattle.std.proofs.Common.{append-nil, inl, inr}
 use Rattle.std.specs.Prelude.{◌⊎◌, ◌||◌, zip}
 use Rattle.std.specs.List.{list_any, before_first, position_or_len}
 use Rattle.std.proofs.lemmas.Bool.{cases_Bool, false≢true, eq-eqb, or_parts}
@@ -16,8 +18,11 @@ use Rattle.rdm_log.specs.declared.entry.Owner.TheVariants as owners
 use Rattle.rdm_log.specs.declared.entry.Opening.{Opening}
 use Rattle.rdm_log.specs.declared.entry.Entry.{Entry}
 use Rattle.rdm_log.specs.declared.entry.Entry.TheVariants.{Send, Came}
-use Rattle.rdm_log.specs.log.Entries.{Sending, Traded, traded_of, sending_of, came_of, answered_of, asks, answers, sends, cames, traded, is_run}
-use Rattle.rdm_log.specs.log.Runs.{sends_run, has_begun, entries_before_run, run_of_owner, last_run, unless_answered, open_run, asked_before, served, seen_of, run_exchanges, run_frames, last_run_without_fault, devices_of, known_devices}
+use Rattle.rdm_log.specs.log.Entries.{Sending, Traded, traded_of, sending_of, came_of, answered_of, asks, answers}
+use Rattle.rdm_log.specs.log.Entries.{sends, cames, traded, is_run}
+use Rattle.rdm_log.specs.log.Runs.{sends_run, has_begun, entries_before_run, run_of_owner, last_run, unless_answered}
+use Rattle.rdm_log.specs.log.Runs.{open_run, asked_before, served, seen_of, run_exchanges, run_frames}
+use Rattle.rdm_log.specs.log.Runs.{last_run_without_fault, devices_of, known_devices}
 use Rattle.rdm_log.proofs.LogLemmas.PushLemmas.{sends_more, sends_same, cames_same, answered_same}
 use Rattle.rdm_log.proofs.LogLemmas.ExchangeLemmas.{IsUnanswered, traded_sent, traded_came}
 
@@ -26,12 +31,19 @@ pub last_run_same : (h k : List Entry) → sends k ≡ sends h → last_run k �
 unfolding last_run
 last_run_same h k same = rw same refl
 
-pub last_run_sent : (h : List Entry) (owner : Owner) (frame : ArrayVec ℕ) → last_run (h ++ Send owner frame ∷ []) ≡ run_of_owner (last_run h) owner
+pub last_run_sent : (h : List Entry) (owner : Owner) (frame : ArrayVec ℕ)
+    → last_run (h ++ Send owner frame ∷ []) ≡ run_of_owner (last_run h) owner
 unfolding last_run
-last_run_sent h owner frame = rw (sends_more h (Send owner frame) (record { owner = owner; frame = frame }) refl) (fold_push (λ before (s : Sending). run_of_owner before s.owner) None (sends h) (record { owner = owner; frame = frame }))
+last_run_sent h owner frame =
+    rw (sends_more h (Send owner frame) (record { owner = owner; frame = frame }) refl)
+    (fold_push (λ before (s : Sending). run_of_owner before s.owner) None (sends h) (record {
+      owner = owner;
+      frame = frame;
+    }))
 
 -- that a run has begun
-pub has_begun_more : (r : ℕ) (h : List Entry) (e : Entry) → has_begun r (h ++ e ∷ []) ≡ (has_begun r h || (sends_run r e || false))
+pub has_begun_more : (r : ℕ) (h : List Entry) (e : Entry)
+    → has_begun r (h ++ e ∷ []) ≡ (has_begun r h || (sends_run r e || false))
 unfolding has_begun
 has_begun_more r h e = list_any-append (sends_run r) h (e ∷ [])
 
@@ -39,7 +51,8 @@ pub begun_stays : (r : ℕ) (h k : List Entry) → has_begun r h ≡ true → ha
 unfolding has_begun
 begun_stays r h k begun = list_any-append (sends_run r) h k ∙ rw begun refl
 
-pub begun_same : (r : ℕ) (h : List Entry) (e : Entry) → sends_run r e ≡ false → has_begun r (h ++ e ∷ []) ≡ has_begun r h
+pub begun_same : (r : ℕ) (h : List Entry) (e : Entry) → sends_run r e ≡ false
+    → has_begun r (h ++ e ∷ []) ≡ has_begun r h
 begun_same r h e other = has_begun_more r h e ∙ rw other (or_false (has_begun r h))
   where
     or_false : (b : Bool) → (b || false) ≡ b
@@ -47,22 +60,28 @@ begun_same r h e other = has_begun_more r h e ∙ rw other (or_false (has_begun 
     or_false false = refl
 
 -- what stood before it began
-pub before_first-cons : {X : Type 0} (p : X → Bool) (x : X) (xs : List X) → before_first p (x ∷ xs) ≡ cond (p x) [] (x ∷ before_first p xs)
+pub before_first-cons : {X : Type 0} (p : X → Bool) (x : X) (xs : List X)
+    → before_first p (x ∷ xs) ≡ cond (p x) [] (x ∷ before_first p xs)
 before_first-cons {X} p x xs = by_test (p x) (position_or_len p xs)
   where
     by_test : (b : Bool) (n : ℕ) → take (cond (not b) (1 + n) 0) (x ∷ xs) ≡ cond b [] (x ∷ take n xs)
     by_test true n = refl
     by_test false n = rw one-add refl
 
-before_first-stays : {X : Type 0} (p : X → Bool) (xs ys : List X) → list_any p xs ≡ true → before_first p (xs ++ ys) ≡ before_first p xs
+before_first-stays : {X : Type 0} (p : X → Bool) (xs ys : List X) → list_any p xs ≡ true
+    → before_first p (xs ++ ys) ≡ before_first p xs
 before_first-stays p [] ys some = absurd (false≢true some)
-before_first-stays {X} p (x ∷ xs) ys some = before_first-cons p x (xs ++ ys) ∙ by_test (cases_Bool (p x)) (before_first-stays p xs ys) ∙ sym (before_first-cons p x xs)
+before_first-stays {X} p (x ∷ xs) ys some =
+    before_first-cons p x (xs ++ ys) ∙ by_test (cases_Bool (p x)) (before_first-stays p xs ys)
+    ∙ sym (before_first-cons p x xs)
   where
-    by_test : (p x ≡ true) ⊎ (p x ≡ false) → (list_any p xs ≡ true → before_first p (xs ++ ys) ≡ before_first p xs) → cond (p x) [] (x ∷ before_first p (xs ++ ys)) ≡ cond (p x) [] (x ∷ before_first p xs)
+    by_test : (p x ≡ true) ⊎ (p x ≡ false) → (list_any p xs ≡ true → before_first p (xs ++ ys) ≡ before_first p xs)
+        → cond (p x) [] (x ∷ before_first p (xs ++ ys)) ≡ cond (p x) [] (x ∷ before_first p xs)
     by_test (inl passes) later = rw passes refl
     by_test (inr fails) later = rw fails (ap (λ l. x ∷ l) (later (rw fails at some)))
 
-pub entries_before_run_stays : (r : ℕ) (h k : List Entry) → has_begun r h ≡ true → entries_before_run r (h ++ k) ≡ entries_before_run r h
+pub entries_before_run_stays : (r : ℕ) (h k : List Entry) → has_begun r h ≡ true
+    → entries_before_run r (h ++ k) ≡ entries_before_run r h
 unfolding has_begun entries_before_run
 entries_before_run_stays r h k begun = before_first-stays (sends_run r) h k begun
 
@@ -70,12 +89,15 @@ entries_before_run_stays r h k begun = before_first-stays (sends_run r) h k begu
 any_cons : {X : Type 0} (p : X → Bool) (x : X) (xs : List X) → list_any p (x ∷ xs) ≡ (p x || list_any p xs)
 any_cons p x xs = refl
 
-pub sent_begins : (r : ℕ) (h : List Entry) → list_any (λ (s : Sending). is_run r s.owner) (filter_map sending_of h) ≡ list_any (sends_run r) h
+pub sent_begins : (r : ℕ) (h : List Entry)
+    → list_any (λ (s : Sending). is_run r s.owner) (filter_map sending_of h) ≡ list_any (sends_run r) h
 sent_begins r [] = refl
 sent_begins r (Send owner frame ∷ h) = ap (λ b. is_run r owner || b) (sent_begins r h)
 sent_begins r (e ∷ h) = sent_begins r h
 
-from_sends : (r : ℕ) (first : Option ℕ) (ss : List Sending) → fold (λ before (s : Sending). run_of_owner before s.owner) first ss ≡ Some r → (first ≡ Some r) ⊎ (list_any (λ (s : Sending). is_run r s.owner) ss ≡ true)
+from_sends : (r : ℕ) (first : Option ℕ) (ss : List Sending)
+    → fold (λ before (s : Sending). run_of_owner before s.owner) first ss ≡ Some r → (first ≡ Some r)
+    ⊎ (list_any (λ (s : Sending). is_run r s.owner) ss ≡ true)
 from_sends r first [] e = inl e
 from_sends r first (s ∷ ss) e = by_owner s.owner (from_sends r (run_of_owner first s.owner) ss e)
   where
@@ -83,7 +105,9 @@ from_sends r first (s ∷ ss) e = by_owner s.owner (from_sends r (run_of_owner f
     or_right true c t = refl
     or_right false c t = t
 
-    by_owner : (owner : Owner) → (run_of_owner first owner ≡ Some r) ⊎ (list_any (λ (t : Sending). is_run r t.owner) ss ≡ true) → (first ≡ Some r) ⊎ ((is_run r owner || list_any (λ (t : Sending). is_run r t.owner) ss) ≡ true)
+    by_owner : (owner : Owner) → (run_of_owner first owner ≡ Some r)
+        ⊎ (list_any (λ (t : Sending). is_run r t.owner) ss ≡ true) → (first ≡ Some r)
+        ⊎ ((is_run r owner || list_any (λ (t : Sending). is_run r t.owner) ss) ≡ true)
     by_owner owner (inr later) = inr (or_right (is_run r owner) _ later)
     by_owner (owners.Request n) (inl here) = inl here
     by_owner (owners.Run q) (inl here) = inr (rw (eq-eqb r q (sym (same_Some q r here))) refl)
@@ -92,7 +116,8 @@ pub last_begun : (r : ℕ) (h : List Entry) → last_run h ≡ Some r → has_be
 unfolding last_run has_begun sends
 last_begun r h last = by_sends (from_sends r None (filter_map sending_of h) last)
   where
-    by_sends : (None ≡ Some r) ⊎ (list_any (λ (s : Sending). is_run r s.owner) (filter_map sending_of h) ≡ true) → list_any (sends_run r) h ≡ true
+    by_sends : (None ≡ Some r) ⊎ (list_any (λ (s : Sending). is_run r s.owner) (filter_map sending_of h) ≡ true)
+        → list_any (sends_run r) h ≡ true
     by_sends (inl none) = absurd (none-some r none)
     by_sends (inr some) = sym (sent_begins r h) ∙ some
 
@@ -116,35 +141,57 @@ open_run_same h k sent answered = rw (last_run_same h k sent) (by_last (last_run
     by_last (Some r) = rw answered refl
 
 -- how many were asked before the last run began, and which no run serves
-pub asked_before_same : (h : List Entry) (e : Entry) → sending_of e ≡ None → asked_before (last_run (h ++ e ∷ [])) (h ++ e ∷ []) ≡ asked_before (last_run h) h
+pub asked_before_same : (h : List Entry) (e : Entry) → sending_of e ≡ None
+    → asked_before (last_run (h ++ e ∷ [])) (h ++ e ∷ []) ≡ asked_before (last_run h) h
 asked_before_same h e other = rw (last_run_same h (h ++ e ∷ []) (sends_same h e other)) (by_last (last_run h) refl)
   where
     by_last : (last : Option ℕ) → last_run h ≡ last → asked_before last (h ++ e ∷ []) ≡ asked_before last h
     by_last None is = refl
-    by_last (Some r) is = ap (λ (l : List Entry). length (asks l)) (entries_before_run_stays r h (e ∷ []) (last_begun r h is))
+    by_last (Some r) is =
+        ap (λ (l : List Entry). length (asks l)) (entries_before_run_stays r h (e ∷ []) (last_begun r h is))
 
 -- a run's exchanges
-pub run_exchanges_same : (h k : List Entry) (r : ℕ) → sends k ≡ sends h → cames k ≡ cames h → run_exchanges r k ≡ run_exchanges r h
+pub run_exchanges_same : (h k : List Entry) (r : ℕ) → sends k ≡ sends h → cames k ≡ cames h
+    → run_exchanges r k ≡ run_exchanges r h
 unfolding traded run_exchanges
 run_exchanges_same h k r s c = rw (s, c) refl
 
-pub run_exchanges_sent : (h : List Entry) (owner : Owner) (frame : ArrayVec ℕ) (r : ℕ) → length (sends h) ≡ length (cames h) → run_exchanges r (h ++ Send owner frame ∷ []) ≡ run_exchanges r h
+pub run_exchanges_sent : (h : List Entry) (owner : Owner) (frame : ArrayVec ℕ) (r : ℕ)
+    → length (sends h) ≡ length (cames h) → run_exchanges r (h ++ Send owner frame ∷ []) ≡ run_exchanges r h
 unfolding run_exchanges
 run_exchanges_sent h owner frame r even = rw (traded_sent h owner frame even) refl
 
-pub run_exchanges_came_own : (h : List Entry) (s : Sending) (event : LineEvent) (r : ℕ) → IsUnanswered h s → is_run r s.owner ≡ true → run_exchanges r (h ++ Came event ∷ []) ≡ run_exchanges r h ++ seen_of (record { owner = s.owner; frame = s.frame; event = event }) ∷ []
+pub run_exchanges_came_own : (h : List Entry) (s : Sending) (event : LineEvent) (r : ℕ) → IsUnanswered h s
+    → is_run r s.owner ≡ true
+    → run_exchanges r (h ++ Came event ∷ []) ≡ run_exchanges r h
+    ++ seen_of (record { owner = s.owner; frame = s.frame; event = event }) ∷ []
 unfolding run_exchanges
 run_exchanges_came_own h s event r waits own =
-    rw (traded_came h s event waits, filter-append (λ t. is_run r t.owner) (traded h) (record { owner = s.owner; frame = s.frame; event = event } ∷ []), own)
-    (map-append seen_of (filter (λ t. is_run r t.owner) (traded h)) (record { owner = s.owner; frame = s.frame; event = event } ∷ []))
+    rw (
+      traded_came h s event waits,
+      filter-append (λ t. is_run r t.owner) (traded h)
+          (record { owner = s.owner; frame = s.frame; event = event } ∷ []),
+      own,
+    )
+    (map-append seen_of (filter (λ t. is_run r t.owner) (traded h))
+    (record { owner = s.owner; frame = s.frame; event = event } ∷ []))
 
-pub run_exchanges_came_other : (h : List Entry) (s : Sending) (event : LineEvent) (r : ℕ) → IsUnanswered h s → is_run r s.owner ≡ false → run_exchanges r (h ++ Came event ∷ []) ≡ run_exchanges r h
+pub run_exchanges_came_other : (h : List Entry) (s : Sending) (event : LineEvent) (r : ℕ) → IsUnanswered h s
+    → is_run r s.owner ≡ false → run_exchanges r (h ++ Came event ∷ []) ≡ run_exchanges r h
 unfolding run_exchanges
 run_exchanges_came_other h s event r waits other =
-    rw (traded_came h s event waits, filter-append (λ t. is_run r t.owner) (traded h) (record { owner = s.owner; frame = s.frame; event = event } ∷ []), other, append-nil) refl
+    rw (
+      traded_came h s event waits,
+      filter-append (λ t. is_run r t.owner) (traded h)
+          (record { owner = s.owner; frame = s.frame; event = event } ∷ []),
+      other,
+      append-nil,
+    ) refl
 
 -- a run has no more exchanges than frames, and none before it begins
-length_exchanges_of : (r : ℕ) (ss : List Sending) (es : List LineEvent) → length (map seen_of (filter (λ (t : Traded). is_run r t.owner) (map traded_of (zip ss es)))) ≤ length (filter (λ (s : Sending). is_run r s.owner) ss)
+length_exchanges_of : (r : ℕ) (ss : List Sending) (es : List LineEvent)
+    → length (map seen_of (filter (λ (t : Traded). is_run r t.owner) (map traded_of (zip ss es)))) ≤ length
+    (filter (λ (s : Sending). is_run r s.owner) ss)
 length_exchanges_of r [] es = omega arith
 length_exchanges_of r (s ∷ ss) [] = omega arith
 length_exchanges_of r (s ∷ ss) (e ∷ es) = by_test (is_run r s.owner) (length_exchanges_of r ss es)
@@ -155,7 +202,8 @@ length_exchanges_of r (s ∷ ss) (e ∷ es) = by_test (is_run r s.owner) (length
     exchanges : List Traded
     exchanges = filter (λ (t : Traded). is_run r t.owner) (map traded_of (zip ss es))
 
-    by_test : (b : Bool) → length (map seen_of exchanges) ≤ length frames → length (map seen_of (cond b (traded_of (s, e) ∷ exchanges) exchanges)) ≤ length (cond b (s ∷ frames) frames)
+    by_test : (b : Bool) → length (map seen_of exchanges) ≤ length frames
+        → length (map seen_of (cond b (traded_of (s, e) ∷ exchanges) exchanges)) ≤ length (cond b (s ∷ frames) frames)
     by_test true fewer = omega arith
     by_test false fewer = fewer
 
@@ -163,7 +211,8 @@ pub length_exchanges : (r : ℕ) (h : List Entry) → length (run_exchanges r h)
 unfolding run_exchanges traded
 length_exchanges r h = length_exchanges_of r (sends h) (cames h)
 
-none_sent : (r : ℕ) (ss : List Sending) → list_any (λ (s : Sending). is_run r s.owner) ss ≡ false → filter (λ (s : Sending). is_run r s.owner) ss ≡ []
+none_sent : (r : ℕ) (ss : List Sending) → list_any (λ (s : Sending). is_run r s.owner) ss ≡ false
+    → filter (λ (s : Sending). is_run r s.owner) ss ≡ []
 none_sent r [] none = refl
 none_sent r (s ∷ ss) none = let parts = or_parts (is_run r s.owner) _ none in rw parts.0 (none_sent r ss parts.1)
 
@@ -191,7 +240,8 @@ pub not_sent : (r : ℕ) (e : Entry) → sending_of e ≡ None → sends_run r e
 not_sent r (Send owner frame) none = cc
 not_sent r _ none = refl
 
-pub same_runs : (h : List Entry) (e : Entry) → sending_of e ≡ None → came_of e ≡ None → answered_of e ≡ None → SameRuns h (h ++ e ∷ [])
+pub same_runs : (h : List Entry) (e : Entry) → sending_of e ≡ None → came_of e ≡ None → answered_of e ≡ None
+    → SameRuns h (h ++ e ∷ [])
 same_runs h e send came answer = record {
   same_answers = answered_same h e answer;
   same_served = λ r. served_same r h e (not_sent r e send);
@@ -201,7 +251,8 @@ same_runs h e send came answer = record {
 }
 
 -- and so does a request's frame
-pub same_runs_sent : (h : List Entry) (n : ℕ) (frame : ArrayVec ℕ) → length (sends h) ≡ length (cames h) → SameRuns h (h ++ Send (owners.Request n) frame ∷ [])
+pub same_runs_sent : (h : List Entry) (n : ℕ) (frame : ArrayVec ℕ) → length (sends h) ≡ length (cames h)
+    → SameRuns h (h ++ Send (owners.Request n) frame ∷ [])
 same_runs_sent h n frame even = record {
   same_answers = answered_same h e refl;
   same_served = λ r. served_same r h e refl;
@@ -218,7 +269,8 @@ same_runs_sent h n frame even = record {
     by_last (Some r) = rw (answered_same h e refl) refl
 
 -- the devices known depend on the Answers and on their runs' exchanges alone
-pub known_same : (o : Opening) (h k : List Entry) → answers k ≡ answers h → ((r : ℕ) → run_exchanges r k ≡ run_exchanges r h) → known_devices o k ≡ known_devices o h
+pub known_same : (o : Opening) (h k : List Entry) → answers k ≡ answers h
+    → ((r : ℕ) → run_exchanges r k ≡ run_exchanges r h) → known_devices o k ≡ known_devices o h
 known_same o h k answered same = rw answered (by_last (last_run_without_fault h))
   where
     by_last : (last : Option ℕ) → devices_of o.devices last k ≡ devices_of o.devices last h

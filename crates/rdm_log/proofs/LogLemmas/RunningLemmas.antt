@@ -1,5 +1,6 @@
 -- The run that has begun, as the log grows.
-use Rattle.std.proofs.Common.{◌≡◌, ℕ, Bool, true, false, List, [], ◌∷◌, ◌++◌, length, Option, Some, None, refl, sym, ap, ◌∙◌}
+use Rattle.std.proofs.Common.{◌≡◌, ℕ, Bool, true, false, List, [], ◌∷◌, ◌++◌, length, Option, Some, None, refl, sym, ap}
+use Rattle.std.proofs.Common.{◌∙◌}
 use Rattle.std.proofs.lemmas.Option.{none-some}
 use Rattle.rdm_wire.specs.Devices.{uids_of}
 use Rattle.arrayvec.specs.ArrayVec.{ArrayVec}
@@ -10,10 +11,12 @@ use Rattle.rdm_log.specs.declared.entry.Entry.{Entry}
 use Rattle.rdm_log.specs.declared.entry.Entry.TheVariants.{Send, Came, Close}
 use Rattle.rdm_log.specs.log.Entries.{sending_of, came_of, answered_of, answers, asks}
 use Rattle.rdm_log.specs.log.History.{awaits_after, closed_after, awaited, is_closed}
-use Rattle.rdm_log.specs.log.Runs.{has_begun, entries_before_run, last_run, unless_answered, open_run, asked_before, served, run_exchanges, run_kind, known_at_run, known_devices}
+use Rattle.rdm_log.specs.log.Runs.{has_begun, entries_before_run, last_run, unless_answered, open_run, asked_before}
+use Rattle.rdm_log.specs.log.Runs.{served, run_exchanges, run_kind, known_at_run, known_devices}
 use Rattle.rdm_log.proofs.LogLemmas.PushLemmas.{sends_same, answered_same, awaited-push, is_closed-push}
 use Rattle.rdm_log.proofs.LogLemmas.ExchangeLemmas.{IsUnanswered}
-use Rattle.rdm_log.proofs.LogLemmas.RunLemmas.{last_run_same, last_begun, served_stays, entries_before_run_stays, asked_before_same, run_exchanges_came_other, same_runs}
+use Rattle.rdm_log.proofs.LogLemmas.RunLemmas.{last_run_same, last_begun, served_stays, entries_before_run_stays}
+use Rattle.rdm_log.proofs.LogLemmas.RunLemmas.{asked_before_same, run_exchanges_came_other, same_runs}
 
 -- what is the same of runs
 pub record SameRunning (o : Opening) (h k : List Entry) : Type 0 where
@@ -35,11 +38,14 @@ idle_stays b (Send owner frame) send is = absurd (none-some _ (sym send))
 idle_stays b (Came event) send is = refl
 idle_stays b _ send is = is
 
-pub asked_stays : (h : List Entry) (e : Entry) (last : Option ℕ) → last_run h ≡ last → asked_before last (h ++ e ∷ []) ≡ asked_before last h
+pub asked_stays : (h : List Entry) (e : Entry) (last : Option ℕ) → last_run h ≡ last
+    → asked_before last (h ++ e ∷ []) ≡ asked_before last h
 asked_stays h e None is = refl
-asked_stays h e (Some r) is = ap (λ (l : List Entry). length (asks l)) (entries_before_run_stays r h (e ∷ []) (last_begun r h is))
+asked_stays h e (Some r) is =
+    ap (λ (l : List Entry). length (asks l)) (entries_before_run_stays r h (e ∷ []) (last_begun r h is))
 
-pub same_running : (o : Opening) (h : List Entry) (e : Entry) → sending_of e ≡ None → came_of e ≡ None → answered_of e ≡ None → SameRunning o h (h ++ e ∷ [])
+pub same_running : (o : Opening) (h : List Entry) (e : Entry) → sending_of e ≡ None → came_of e ≡ None
+    → answered_of e ≡ None → SameRunning o h (h ++ e ∷ [])
 same_running o h e send came answer =
     let same = same_runs h e send came answer in
     record {
@@ -54,7 +60,8 @@ same_running o h e send came answer =
     }
 
 -- a request's reply changes no run
-pub same_running_came : (o : Opening) (h : List Entry) (n : ℕ) (frame : ArrayVec ℕ) (event : LineEvent) → IsUnanswered h (record { owner = owners.Request n; frame = frame }) → SameRunning o h (h ++ Came event ∷ [])
+pub same_running_came : (o : Opening) (h : List Entry) (n : ℕ) (frame : ArrayVec ℕ) (event : LineEvent)
+    → IsUnanswered h (record { owner = owners.Request n; frame = frame }) → SameRunning o h (h ++ Came event ∷ [])
 same_running_came o h n frame event waits = record {
   same_last = last_run_same h (h ++ Came event ∷ []) (sends_same h (Came event) refl);
   same_answers = answered_same h (Came event) refl;
@@ -73,8 +80,10 @@ open_same o h k same = rw same.same_last (by_last (last_run h))
     by_last None = refl
     by_last (Some r) = rw same.same_answers refl
 
-pub kind_same : (o : Opening) (h k : List Entry) (r : ℕ) → SameRunning o h k → has_begun r h ≡ true → run_kind r k ≡ run_kind r h
+pub kind_same : (o : Opening) (h k : List Entry) (r : ℕ) → SameRunning o h k → has_begun r h ≡ true
+    → run_kind r k ≡ run_kind r h
 kind_same o h k r same begun = rw (same.same_served r begun) refl
 
-pub known_at_same : (o : Opening) (h k : List Entry) (r : ℕ) → SameRunning o h k → has_begun r h ≡ true → known_at_run o r k ≡ known_at_run o r h
+pub known_at_same : (o : Opening) (h k : List Entry) (r : ℕ) → SameRunning o h k → has_begun r h ≡ true
+    → known_at_run o r k ≡ known_at_run o r h
 known_at_same o h k r same begun = ap (λ (l : List Entry). uids_of (known_devices o l)) (same.same_before r begun)

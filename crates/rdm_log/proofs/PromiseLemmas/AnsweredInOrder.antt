@@ -1,5 +1,7 @@
 -- Each discovery has exactly one answer, first in, first out.
-use Rattle.std.proofs.Common.{◌≡◌, ℕ, zero, suc, ◌+◌, ◌-◌, ◌<◌, ◌≤◌, Bool, true, false, List, [], ◌∷◌, ◌++◌, length, take, drop, filter, Some, slice_get, if◌then◌else◌, refl, sym, ap, ◌∙◌, inl, inr, length-drop, arith}
+use Rattle.std.proofs.Common.{◌≡◌, ℕ, zero, suc, ◌+◌, ◌-◌, ◌<◌, ◌≤◌, Bool, true, false, List, [], ◌∷◌, ◌++◌, length}
+use Rattle.std.proofs.Common.{take, drop, filter, Some, slice_get, if◌then◌else◌, refl, sym, ap, ◌∙◌, inl, inr}
+use Rattle.std.proofs.Common.{length-drop, arith}
 use Rattle.std.specs.Prelude.{◌⊎◌, ◌==◌, filter_map}
 use Rattle.std.specs.List.{Contains, range_with_len}
 use Rattle.std.proofs.lemmas.List.{map-append, take-append-drop, length-take-le}
@@ -9,31 +11,40 @@ use Rattle.rdm_log.specs.declared.entry.Entry.{Entry}
 use Rattle.rdm_log.specs.declared.entry.Entry.TheVariants.{Finish, Answer}
 use Rattle.rdm_log.specs.log.Entries.{AskedDiscovery, Answered, answered_of, asks, answers}
 use Rattle.rdm_log.specs.log.History.{awaited, is_closed}
-use Rattle.rdm_log.specs.log.Clients.{asks_by, client_of_request, client_of_discovery, is_client_of, is_answer_to, answers_to}
+use Rattle.rdm_log.specs.log.Clients.{asks_by, client_of_request, client_of_discovery, is_client_of, is_answer_to}
+use Rattle.rdm_log.specs.log.Clients.{answers_to}
 use Rattle.rdm_log.specs.log.Legal.{Legal}
 use Rattle.rdm_log.specs.promises.Headline.{Begins}
-use Rattle.rdm_log.specs.promises.Discoveries.{numbers_asked, numbers_answered, answer_count, OneAnswer, AnsweredInOrder}
+use Rattle.rdm_log.specs.promises.Discoveries.{numbers_asked, numbers_answered, answer_count, OneAnswer}
+use Rattle.rdm_log.specs.promises.Discoveries.{AnsweredInOrder}
 use Rattle.rdm_log.proofs.PromiseLemmas.Numbers.{range_parts, numbers_by_place, count_outside, count_within}
 use Rattle.rdm_log.proofs.PromiseLemmas.OneResult.{IsAmong, among, contains_range, range_contains}
 use Rattle.rdm_log.proofs.LogLemmas.AskFacts.{AskFacts, ask_facts}
 use Rattle.rdm_log.proofs.LogLemmas.ClientLemmas.{client_of_asked}
 
-asked_in_order : (o : Opening) (h : List Entry) → AskFacts o h → numbers_asked (asks h) ≡ range_with_len o.next_ask (length (asks h))
+asked_in_order : (o : Opening) (h : List Entry) → AskFacts o h
+    → numbers_asked (asks h) ≡ range_with_len o.next_ask (length (asks h))
 asked_in_order o h facts = numbers_by_place (λ a. a.number) (asks h) o.next_ask facts.ask_numbers
 
-answered_in_order : (o : Opening) (h : List Entry) → AskFacts o h → numbers_answered (answers h) ≡ range_with_len o.next_ask (length (answers h))
+answered_in_order : (o : Opening) (h : List Entry) → AskFacts o h
+    → numbers_answered (answers h) ≡ range_with_len o.next_ask (length (answers h))
 answered_in_order o h facts = numbers_by_place (λ b. b.number) (answers h) o.next_ask facts.answer_numbers
 
-answered_first : (o : Opening) (h : List Entry) → AskFacts o h → Begins (numbers_answered (answers h)) (numbers_asked (asks h))
+answered_first : (o : Opening) (h : List Entry) → AskFacts o h
+    → Begins (numbers_answered (answers h)) (numbers_asked (asks h))
 answered_first o h facts = record {
   rest = range_with_len (o.next_ask + length (answers h)) (length (asks h) - length (answers h));
-  whole = rw (asked_in_order o h facts, answered_in_order o h facts) (range_parts o.next_ask (length (answers h)) (length (asks h)) facts.answered_within);
+  whole = rw (asked_in_order o h facts, answered_in_order o h facts)
+      (range_parts o.next_ask (length (answers h)) (length (asks h)) facts.answered_within);
 }
 
 -- a client's Answers, by the clients of their discoveries
-answers_to_client : (o : Opening) (c : ℕ) (h k : List Entry) → filter_map answered_of (filter (is_answer_to o c h) k) ≡ filter (λ b. is_client_of c (client_of_discovery o h b.number)) (filter_map answered_of k)
+answers_to_client : (o : Opening) (c : ℕ) (h k : List Entry)
+    → filter_map answered_of (filter (is_answer_to o c h) k)
+    ≡ filter (λ b. is_client_of c (client_of_discovery o h b.number)) (filter_map answered_of k)
 answers_to_client o c h [] = refl
-answers_to_client o c h (Answer n run fault ∷ k) = by_test (is_client_of c (client_of_discovery o h n)) (answers_to_client o c h k)
+answers_to_client o c h (Answer n run fault ∷ k) =
+    by_test (is_client_of c (client_of_discovery o h n)) (answers_to_client o c h k)
   where
     b : Answered
     b = record { number = n; run = run; fault = fault }
@@ -44,10 +55,12 @@ answers_to_client o c h (Answer n run fault ∷ k) = by_test (is_client_of c (cl
     own : List Answered
     own = filter (λ x. is_client_of c (client_of_discovery o h x.number)) (filter_map answered_of k)
 
-    by_test : (t : Bool) → filter_map answered_of told ≡ own → filter_map answered_of (if t then Answer n run fault ∷ told else told) ≡ (if t then b ∷ own else own)
+    by_test : (t : Bool) → filter_map answered_of told ≡ own
+        → filter_map answered_of (if t then Answer n run fault ∷ told else told) ≡ (if t then b ∷ own else own)
     by_test true later = ap (λ l. b ∷ l) later
     by_test false later = later
-answers_to_client o c h (Finish n status len ∷ k) = by_test (is_client_of c (client_of_request o h n)) (answers_to_client o c h k)
+answers_to_client o c h (Finish n status len ∷ k) =
+    by_test (is_client_of c (client_of_request o h n)) (answers_to_client o c h k)
   where
     told : List Entry
     told = filter (is_answer_to o c h) k
@@ -55,38 +68,49 @@ answers_to_client o c h (Finish n status len ∷ k) = by_test (is_client_of c (c
     own : List Answered
     own = filter (λ x. is_client_of c (client_of_discovery o h x.number)) (filter_map answered_of k)
 
-    by_test : (t : Bool) → filter_map answered_of told ≡ own → filter_map answered_of (if t then Finish n status len ∷ told else told) ≡ own
+    by_test : (t : Bool) → filter_map answered_of told ≡ own
+        → filter_map answered_of (if t then Finish n status len ∷ told else told) ≡ own
     by_test true later = later
     by_test false later = later
 answers_to_client o c h (e ∷ k) = answers_to_client o c h k
 
 -- Answers and Asks that agree at each place
-same_numbers : (p : Answered → Bool) (q : AskedDiscovery → Bool) (bs : List Answered) (rs : List AskedDiscovery) → length bs ≡ length rs → ((i : ℕ) (b : Answered) (a : AskedDiscovery) → slice_get bs i ≡ Some b → slice_get rs i ≡ Some a → (b.number ≡ a.number) × (p b ≡ q a)) → numbers_answered (filter p bs) ≡ numbers_asked (filter q rs)
+same_numbers : (p : Answered → Bool) (q : AskedDiscovery → Bool) (bs : List Answered) (rs : List AskedDiscovery)
+    → length bs ≡ length rs
+    → ((i : ℕ) (b : Answered) (a : AskedDiscovery) → slice_get bs i ≡ Some b → slice_get rs i ≡ Some a
+    → (b.number ≡ a.number) × (p b ≡ q a)) → numbers_answered (filter p bs) ≡ numbers_asked (filter q rs)
 same_numbers p q [] [] even at = refl
 same_numbers p q [] (a ∷ rs) even at = absurd (omega arith)
 same_numbers p q (b ∷ bs) [] even at = absurd (omega arith)
-same_numbers p q (b ∷ bs) (a ∷ rs) even at = let here = at 0 b a refl refl in by_test (p b) (q a) here.1 here.0 (same_numbers p q bs rs (omega arith) (λ i g c x y. at (suc i) g c x y))
+same_numbers p q (b ∷ bs) (a ∷ rs) even at =
+    let here = at 0 b a refl refl in
+    by_test (p b) (q a) here.1 here.0 (same_numbers p q bs rs (omega arith) (λ i g c x y. at (suc i) g c x y))
   where
-    by_test : (s t : Bool) → s ≡ t → b.number ≡ a.number → numbers_answered (filter p bs) ≡ numbers_asked (filter q rs) → numbers_answered (if s then b ∷ filter p bs else filter p bs) ≡ numbers_asked (if t then a ∷ filter q rs else filter q rs)
+    by_test : (s t : Bool) → s ≡ t → b.number ≡ a.number → numbers_answered (filter p bs) ≡ numbers_asked (filter q rs)
+        → numbers_answered (if s then b ∷ filter p bs else filter p bs)
+        ≡ numbers_asked (if t then a ∷ filter q rs else filter q rs)
     by_test true true e n later = rw (n, later) refl
     by_test true false e n later = cc
     by_test false true e n later = cc
     by_test false false e n later = later
 
-taken_place : (n : ℕ) (xs : List AskedDiscovery) (i : ℕ) (a : AskedDiscovery) → slice_get (take n xs) i ≡ Some a → slice_get xs i ≡ Some a
+taken_place : (n : ℕ) (xs : List AskedDiscovery) (i : ℕ) (a : AskedDiscovery) → slice_get (take n xs) i ≡ Some a
+    → slice_get xs i ≡ Some a
 taken_place zero xs i a e = cc
 taken_place (suc n) [] i a e = cc
 taken_place (suc n) (x ∷ xs) zero a e = e
 taken_place (suc n) (x ∷ xs) (suc i) a e = taken_place n xs i a e
 
-each_client : (o : Opening) (h : List Entry) → AskFacts o h → (c : ℕ) → Begins (numbers_answered (answers (answers_to o c h))) (numbers_asked (asks_by c h))
+each_client : (o : Opening) (h : List Entry) → AskFacts o h → (c : ℕ)
+    → Begins (numbers_answered (answers (answers_to o c h))) (numbers_asked (asks_by c h))
 unfolding answers answers_to
 each_client o h facts c = record {
   rest = numbers_asked (filter (λ a. c == a.client) later);
   whole = sym (ap (λ l. numbers_asked (filter (λ a. c == a.client) l)) (take-append-drop (length (answers h)) (asks h)))
       ∙ ap numbers_asked (filter-append (λ a. c == a.client) earlier later)
       ∙ map-append (λ a. a.number) (filter (λ a. c == a.client) earlier) (filter (λ a. c == a.client) later)
-      ∙ ap (λ l. l ++ numbers_asked (filter (λ a. c == a.client) later)) (sym (ap numbers_answered (answers_to_client o c h h) ∙ paired));
+      ∙ ap (λ l. l ++ numbers_asked (filter (λ a. c == a.client) later))
+      (sym (ap numbers_answered (answers_to_client o c h h) ∙ paired));
 }
   where
     earlier : List AskedDiscovery
@@ -98,41 +122,59 @@ each_client o h facts c = record {
     even : length (answers h) ≡ length earlier
     even = sym (length-take-le (length (answers h)) (asks h) facts.answered_within)
 
-    agree : (i : ℕ) (b : Answered) (a : AskedDiscovery) → slice_get (answers h) i ≡ Some b → slice_get earlier i ≡ Some a → (b.number ≡ a.number) × (is_client_of c (client_of_discovery o h b.number) ≡ (c == a.client))
+    agree : (i : ℕ) (b : Answered) (a : AskedDiscovery) → slice_get (answers h) i ≡ Some b
+        → slice_get earlier i ≡ Some a → (b.number ≡ a.number)
+        × (is_client_of c (client_of_discovery o h b.number) ≡ (c == a.client))
     agree i b a at_b at_a =
         let place = taken_place (length (answers h)) (asks h) i a at_a in
         let number : b.number ≡ a.number = facts.answer_numbers i b at_b ∙ sym (facts.ask_numbers i a place) in
         (number, rw (number, client_of_asked o h facts i a place) refl)
 
-    paired : numbers_answered (filter (λ b. is_client_of c (client_of_discovery o h b.number)) (answers h)) ≡ numbers_asked (filter (λ a. c == a.client) earlier)
-    paired = same_numbers (λ b. is_client_of c (client_of_discovery o h b.number)) (λ a. c == a.client) (answers h) earlier even agree
+    paired : numbers_answered (filter (λ b. is_client_of c (client_of_discovery o h b.number)) (answers h))
+        ≡ numbers_asked (filter (λ a. c == a.client) earlier)
+    paired = same_numbers (λ b. is_client_of c (client_of_discovery o h b.number)) (λ a. c == a.client) (answers h)
+        earlier even agree
 
 pub in_order : (o : Opening) (h : List Entry) → Legal o h → AnsweredInOrder o h
-in_order o h legal = let facts = ask_facts o h legal.each in record { numbered = asked_in_order o h facts; all = answered_first o h facts; each = each_client o h facts }
+in_order o h legal =
+    let facts = ask_facts o h legal.each in
+    record { numbered = asked_in_order o h facts; all = answered_first o h facts; each = each_client o h facts }
 
 -- a discovery has one answer where its number is among those of the Answers, else none
-counted : (o : Opening) (h : List Entry) → AskFacts o h → (n : ℕ) → IsAmong o.next_ask (length (answers h)) n → answer_count n h ≡ 1
+counted : (o : Opening) (h : List Entry) → AskFacts o h → (n : ℕ) → IsAmong o.next_ask (length (answers h)) n
+    → answer_count n h ≡ 1
 counted o h facts n is = rw (answered_in_order o h facts) (count_within n o.next_ask (length (answers h)) is.from is.to)
 
-not_counted : (o : Opening) (h : List Entry) → AskFacts o h → (n : ℕ) → (n < o.next_ask) ⊎ (o.next_ask + length (answers h) ≤ n) → answer_count n h ≡ 0
+not_counted : (o : Opening) (h : List Entry) → AskFacts o h → (n : ℕ) → (n < o.next_ask)
+    ⊎ (o.next_ask + length (answers h) ≤ n) → answer_count n h ≡ 0
 not_counted o h facts n out = rw (answered_in_order o h facts) (count_outside n o.next_ask (length (answers h)) out)
 
 at_most_one : (o : Opening) (h : List Entry) → AskFacts o h → (n : ℕ) → answer_count n h ≤ 1
 at_most_one o h facts n = by_place (among o.next_ask (length (answers h)) n)
   where
-    by_place : IsAmong o.next_ask (length (answers h)) n ⊎ ((n < o.next_ask) ⊎ (o.next_ask + length (answers h) ≤ n)) → answer_count n h ≤ 1
+    by_place : IsAmong o.next_ask (length (answers h)) n ⊎ ((n < o.next_ask) ⊎ (o.next_ask + length (answers h) ≤ n))
+        → answer_count n h ≤ 1
     by_place (inl is) = omega (arith, counted o h facts n is)
     by_place (inr out) = omega (arith, not_counted o h facts n out)
 
-was_asked : (o : Opening) (h : List Entry) → AskFacts o h → (n : ℕ) → 0 < answer_count n h → Contains (numbers_asked (asks h)) n
+was_asked : (o : Opening) (h : List Entry) → AskFacts o h → (n : ℕ) → 0 < answer_count n h
+    → Contains (numbers_asked (asks h)) n
 was_asked o h facts n some = by_place (among o.next_ask (length (answers h)) n)
   where
-    by_place : IsAmong o.next_ask (length (answers h)) n ⊎ ((n < o.next_ask) ⊎ (o.next_ask + length (answers h) ≤ n)) → Contains (numbers_asked (asks h)) n
-    by_place (inl is) = rw (asked_in_order o h facts) (contains_range o.next_ask (length (asks h)) n (record { from = is.from; to = omega (arith, is.to, facts.answered_within) }))
+    by_place : IsAmong o.next_ask (length (answers h)) n ⊎ ((n < o.next_ask) ⊎ (o.next_ask + length (answers h) ≤ n))
+        → Contains (numbers_asked (asks h)) n
+    by_place (inl is) = rw (asked_in_order o h facts) (contains_range o.next_ask (length (asks h)) n (record {
+      from = is.from;
+      to = omega (arith, is.to, facts.answered_within);
+    }))
     by_place (inr out) = absurd (omega (arith, not_counted o h facts n out))
 
-exactly_one : (o : Opening) (h : List Entry) → Legal o h → is_closed o h ≡ true → awaited h ≡ false → (n : ℕ) → Contains (numbers_asked (asks h)) n → answer_count n h ≡ 1
-exactly_one o h legal closed idle n has = counted o h facts n (record { from = is.from; to = omega (arith, is.to, all) })
+exactly_one : (o : Opening) (h : List Entry) → Legal o h → is_closed o h ≡ true → awaited h ≡ false → (n : ℕ)
+    → Contains (numbers_asked (asks h)) n → answer_count n h ≡ 1
+exactly_one o h legal closed idle n has = counted o h facts n (record {
+  from = is.from;
+  to = omega (arith, is.to, all);
+})
   where
     facts : AskFacts o h
     facts = ask_facts o h legal.each
@@ -144,4 +186,6 @@ exactly_one o h legal closed idle n has = counted o h facts n (record { from = i
     all = omega (arith, length-drop (length (answers h)) (asks h), ap length (legal.settled.all_closed closed idle).1)
 
 pub one_answer : (o : Opening) (h : List Entry) → Legal o h → OneAnswer o h
-one_answer o h legal = let facts = ask_facts o h legal.each in record { at_most_one = at_most_one o h facts; asked = was_asked o h facts; exactly_one = exactly_one o h legal }
+one_answer o h legal =
+    let facts = ask_facts o h legal.each in
+    record { at_most_one = at_most_one o h facts; asked = was_asked o h facts; exactly_one = exactly_one o h legal }

@@ -1,5 +1,7 @@
 -- A client is given the outcomes of its Finishes and Answers once, in order.
-use Rattle.std.proofs.Common.{◌≡◌, ℕ, zero, suc, Bool, true, false, List, [], ◌∷◌, ◌++◌, length, take, drop, Option, Some, None, if◌then◌else◌, slice_get, refl, ap, ◌∙◌, append_assoc, append-nil, add-one, inl, inr, filter_map}
+use Rattle.std.proofs.Common.{◌≡◌, ℕ, zero, suc, Bool, true, false, List, [], ◌∷◌, ◌++◌, length, take, drop, Option}
+use Rattle.std.proofs.Common.{Some, None, if◌then◌else◌, slice_get, refl, ap, ◌∙◌, append_assoc, append-nil, add-one}
+use Rattle.std.proofs.Common.{inl, inr, filter_map}
 use Rattle.std.specs.Prelude.{◌⊎◌, ◌==◌, Ok, Err}
 use Rattle.std.specs.List.{AllByRecursion, cons_option}
 use Rattle.std.proofs.lemmas.Bool.{eq-eqb, cases_Bool, false≢true, eqb-true}
@@ -23,9 +25,11 @@ use Rattle.rdm_log.specs.log.Clients.{answers_to, collects_by, collected, uncoll
 use Rattle.rdm_log.specs.log.Legal.{MayFollow}
 use Rattle.rdm_log.specs.promises.Outcomes.{OutcomeValue, outcome_value, outcome_of, unboxed}
 use Rattle.rdm_log.specs.log.LogState.{LogState, grown}
-use Rattle.rdm_log.specs.promises.Blocks.{join_refused, submit_refused, ask_refused, is_result, IsWithResults, IsOldest, SwitchAdds, CloseAddsWhere}
+use Rattle.rdm_log.specs.promises.Blocks.{join_refused, submit_refused, ask_refused, is_result, IsWithResults, IsOldest}
+use Rattle.rdm_log.specs.promises.Blocks.{SwitchAdds, CloseAddsWhere}
 use Rattle.rdm_log.specs.promises.Explains.{Adds, IsAnswered, Explains}
-use Rattle.rdm_log.proofs.PromiseLemmas.BlockLemmas.{join_ok, submit_ok, discover_ok, join_refusal, submit_refusal, discover_refusal}
+use Rattle.rdm_log.proofs.PromiseLemmas.BlockLemmas.{join_ok, submit_ok, discover_ok, join_refusal, submit_refusal}
+use Rattle.rdm_log.proofs.PromiseLemmas.BlockLemmas.{discover_refusal}
 use Rattle.rdm_log.specs.promises.EventsHeadline.{outcome_given, given_to, collected_outcomes}
 use Rattle.rdm_log.proofs.LogLemmas.Grows.{front}
 use Rattle.rdm_log.proofs.LogLemmas.PushLemmas.{collectors_more}
@@ -38,33 +42,54 @@ use Rattle.rdm_log.proofs.PromiseLemmas.ExplainsLemmas.{explained_grows}
 abbrev NoCollects : List Entry → Type 0
 NoCollects block = AllByRecursion (λ e. collector_of e ≡ None) block
 
-collected_block : (o : Opening) (c : ℕ) (h block : List Entry) → EachAfter (MayFollow o) (h ++ block) → NoCollects block → collected o c (h ++ block) ≡ collected o c h
+collected_block : (o : Opening) (c : ℕ) (h block : List Entry) → EachAfter (MayFollow o) (h ++ block) → NoCollects block
+    → collected o c (h ++ block) ≡ collected o c h
 collected_block o c h [] each none = rw append-nil refl
 collected_block o c h (e ∷ block) each none =
-    rw (append_assoc h (e ∷ []) block) at (collected_block o c (h ++ e ∷ []) block (rw (append_assoc h (e ∷ []) block) each) none.1)
+    rw (append_assoc h (e ∷ []) block) at (collected_block o c (h ++ e ∷ []) block
+    (rw (append_assoc h (e ∷ []) block) each) none.1)
     ∙ collected_step o c h e (front o h (e ∷ block) each) (each h block e refl) none.0
 
 -- a Collect takes the client's oldest uncollected answer
-take_next : (m : ℕ) (xs : List Entry) (x : Entry) → slice_get (drop m xs) 0 ≡ Some x → take (suc m) xs ≡ take m xs ++ x ∷ []
+take_next : (m : ℕ) (xs : List Entry) (x : Entry) → slice_get (drop m xs) 0 ≡ Some x
+    → take (suc m) xs ≡ take m xs ++ x ∷ []
 take_next zero [] x at = cc
 take_next zero (y ∷ xs) x at = rw (same_Some y x at) refl
 take_next (suc m) [] x at = cc
 take_next (suc m) (y ∷ xs) x at = ap (λ l. y ∷ l) (take_next m xs x at)
 
-collected_own : (o : Opening) (h : List Entry) (d : ClientId) (x : Entry) → slice_get (uncollected o d.0 h) 0 ≡ Some x → collected o d.0 (h ++ Collect d ∷ []) ≡ collected o d.0 h ++ x ∷ []
+collected_own : (o : Opening) (h : List Entry) (d : ClientId) (x : Entry) → slice_get (uncollected o d.0 h) 0 ≡ Some x
+    → collected o d.0 (h ++ Collect d ∷ []) ≡ collected o d.0 h ++ x ∷ []
 collected_own o h d x at =
-    rw (answers_same o d.0 h (Collect d) refl refl, collectors_more h (Collect d) d.0 refl, filter-append (λ c. d.0 == c) (collectors h) (d.0 ∷ []), eq-eqb d.0 d.0 refl, length_push (collects_by d.0 h) d.0, add-one)
+    rw (
+      answers_same o d.0 h (Collect d) refl refl,
+      collectors_more h (Collect d) d.0 refl,
+      filter-append (λ c. d.0 == c) (collectors h) (d.0 ∷ []),
+      eq-eqb d.0 d.0 refl,
+      length_push (collects_by d.0 h) d.0,
+      add-one,
+    )
     (take_next (length (collects_by d.0 h)) (answers_to o d.0 h) x at)
 
-collected_other : (o : Opening) (c : ℕ) (h : List Entry) (d : ClientId) → (c == d.0) ≡ false → collected o c (h ++ Collect d ∷ []) ≡ collected o c h
-collected_other o c h d other = rw (answers_same o c h (Collect d) refl refl, collectors_more h (Collect d) d.0 refl, filter-append (λ x. c == x) (collectors h) (d.0 ∷ []), other, append-nil) refl
+collected_other : (o : Opening) (c : ℕ) (h : List Entry) (d : ClientId) → (c == d.0) ≡ false
+    → collected o c (h ++ Collect d ∷ []) ≡ collected o c h
+collected_other o c h d other =
+    rw (
+      answers_same o c h (Collect d) refl refl,
+      collectors_more h (Collect d) d.0 refl,
+      filter-append (λ x. c == x) (collectors h) (d.0 ∷ []),
+      other,
+      append-nil,
+    ) refl
 
 -- an event that gives no outcome adds no Collect
-none_or_one : (e : Entry) (block : List Entry) → collector_of e ≡ None → (block ≡ []) ⊎ (block ≡ e ∷ []) → NoCollects block
+none_or_one : (e : Entry) (block : List Entry) → collector_of e ≡ None → (block ≡ []) ⊎ (block ≡ e ∷ [])
+    → NoCollects block
 none_or_one e block none (inl is) = rw is tt
 none_or_one e block none (inr is) = rw is (none, tt)
 
-switch_none : (b : Bool) (e : Entry) (block : List Entry) → collector_of e ≡ None → SwitchAdds b e block → NoCollects block
+switch_none : (b : Bool) (e : Entry) (block : List Entry) → collector_of e ≡ None → SwitchAdds b e block
+    → NoCollects block
 switch_none true e block none is = rw is (none, tt)
 switch_none false e block none is = rw is tt
 
@@ -94,35 +119,88 @@ pub record GaveOne (k : LogState) (e : Event) (r : Answer) (block : List Entry) 
   pub is : block ≡ Collect client ∷ []
   pub given : (c : ℕ) → outcome_given c e r ≡ (if c == client.0 then Some (outcome_value outcome) else None)
 
-gave : (k : LogState) (e : Event) (r : Answer) (block : List Entry) → Adds k e r block → GaveNothing e r block ⊎ GaveOne k e r block
-gave k (events.Join n) (answers.Join (Ok c)) block adds = inl (record { none = rw (join_ok k n c block adds).2 (refl, tt); nothing = λ d. refl })
-gave k (events.Join n) (answers.Join (Err fault)) block adds = inl (record { none = none_or_one (join_refused n fault) block refl (join_refusal k n fault block adds); nothing = λ d. refl })
-gave k (events.Submit c request) (answers.Submit (Ok n)) block adds = inl (record { none = rw (submit_ok k c request n block adds).2 (refl, tt); nothing = λ d. refl })
-gave k (events.Submit c request) (answers.Submit (Err e)) block adds = inl (record { none = none_or_one (submit_refused c request e.0) block refl (submit_refusal k c request e block adds); nothing = λ d. refl })
-gave k (events.Discover c kind) (answers.Discover (Ok n)) block adds = inl (record { none = rw (discover_ok k c kind n block adds).2 (refl, tt); nothing = λ d. refl })
-gave k (events.Discover c kind) (answers.Discover (Err fault)) block adds = inl (record { none = none_or_one (ask_refused c kind fault) block refl (discover_refusal k c kind fault block adds); nothing = λ d. refl })
-gave k events.Pause (answers.Pause (Ok x)) block adds = inl (record { none = switch_none (can_pause k.opening k.entries) Pause block refl adds.1; nothing = λ d. refl })
+gave : (k : LogState) (e : Event) (r : Answer) (block : List Entry) → Adds k e r block → GaveNothing e r block
+    ⊎ GaveOne k e r block
+gave k (events.Join n) (answers.Join (Ok c)) block adds = inl (record {
+  none = rw (join_ok k n c block adds).2 (refl, tt);
+  nothing = λ d. refl;
+})
+gave k (events.Join n) (answers.Join (Err fault)) block adds = inl (record {
+  none = none_or_one (join_refused n fault) block refl (join_refusal k n fault block adds);
+  nothing = λ d. refl;
+})
+gave k (events.Submit c request) (answers.Submit (Ok n)) block adds = inl (record {
+  none = rw (submit_ok k c request n block adds).2 (refl, tt);
+  nothing = λ d. refl;
+})
+gave k (events.Submit c request) (answers.Submit (Err e)) block adds = inl (record {
+  none = none_or_one (submit_refused c request e.0) block refl (submit_refusal k c request e block adds);
+  nothing = λ d. refl;
+})
+gave k (events.Discover c kind) (answers.Discover (Ok n)) block adds = inl (record {
+  none = rw (discover_ok k c kind n block adds).2 (refl, tt);
+  nothing = λ d. refl;
+})
+gave k (events.Discover c kind) (answers.Discover (Err fault)) block adds = inl (record {
+  none = none_or_one (ask_refused c kind fault) block refl (discover_refusal k c kind fault block adds);
+  nothing = λ d. refl;
+})
+gave k events.Pause (answers.Pause (Ok x)) block adds = inl (record {
+  none = switch_none (can_pause k.opening k.entries) Pause block refl adds.1;
+  nothing = λ d. refl;
+})
 gave k events.Pause (answers.Pause (Err x)) block adds = inl (record { none = rw adds.1 tt; nothing = λ d. refl })
-gave k events.Resume (answers.Resume (Ok x)) block adds = inl (record { none = switch_none (can_resume k.opening k.entries) Resume block refl adds.1; nothing = λ d. refl })
+gave k events.Resume (answers.Resume (Ok x)) block adds = inl (record {
+  none = switch_none (can_resume k.opening k.entries) Resume block refl adds.1;
+  nothing = λ d. refl;
+})
 gave k events.Resume (answers.Resume (Err x)) block adds = inl (record { none = rw adds.1 tt; nothing = λ d. refl })
-gave k events.Close answers.Close block adds = inl (record { none = close_none (is_closed k.opening k.entries) block adds; nothing = λ d. refl })
-gave k events.Take (answers.Take (Ok (Some frame))) block adds = inl (record { none = rw adds.1.2 (refl, tt); nothing = λ d. refl })
+gave k events.Close answers.Close block adds = inl (record {
+  none = close_none (is_closed k.opening k.entries) block adds;
+  nothing = λ d. refl;
+})
+gave k events.Take (answers.Take (Ok (Some frame))) block adds = inl (record {
+  none = rw adds.1.2 (refl, tt);
+  nothing = λ d. refl;
+})
 gave k events.Take (answers.Take (Ok None)) block adds = inl (record { none = rw adds.1.1 tt; nothing = λ d. refl })
 gave k events.Take (answers.Take (Err x)) block adds = inl (record { none = rw adds.1 tt; nothing = λ d. refl })
-gave k (events.Deliver event) (answers.Deliver (Ok x)) block adds = inl (record { none = with_results_none (Came event) block refl adds.1; nothing = λ d. refl })
-gave k (events.Deliver event) (answers.Deliver (Err e)) block adds = inl (record { none = rw adds.2 tt; nothing = λ d. refl })
-gave k (events.Collect c) (answers.Collect (Ok (Some outcome))) block adds = inr (record { client = c; outcome = unboxed outcome; oldest = adds.0; is = adds.1; given = λ d. refl })
-gave k (events.Collect c) (answers.Collect (Ok None)) block adds = inl (record { none = rw adds.1 tt; nothing = λ d. refl })
-gave k (events.Collect c) (answers.Collect (Err x)) block adds = inl (record { none = rw adds.1 tt; nothing = λ d. refl })
+gave k (events.Deliver event) (answers.Deliver (Ok x)) block adds = inl (record {
+  none = with_results_none (Came event) block refl adds.1;
+  nothing = λ d. refl;
+})
+gave k (events.Deliver event) (answers.Deliver (Err e)) block adds = inl (record {
+  none = rw adds.2 tt;
+  nothing = λ d. refl;
+})
+gave k (events.Collect c) (answers.Collect (Ok (Some outcome))) block adds = inr (record {
+  client = c;
+  outcome = unboxed outcome;
+  oldest = adds.0;
+  is = adds.1;
+  given = λ d. refl;
+})
+gave k (events.Collect c) (answers.Collect (Ok None)) block adds = inl (record {
+  none = rw adds.1 tt;
+  nothing = λ d. refl;
+})
+gave k (events.Collect c) (answers.Collect (Err x)) block adds = inl (record {
+  none = rw adds.1 tt;
+  nothing = λ d. refl;
+})
 gave k _ _ block adds = absurd adds
 
 -- the oldest uncollected answer has its outcome also in a later log
-outcome_lasts : (o : Opening) (h more : List Entry) (c : ℕ) (outcome : Outcome) → EachAfter (MayFollow o) (h ++ more) → (is : IsOldest o h c outcome) → outcome_of (h ++ more) is.entry ≡ Some (outcome_value outcome)
+outcome_lasts : (o : Opening) (h more : List Entry) (c : ℕ) (outcome : Outcome) → EachAfter (MayFollow o) (h ++ more)
+    → (is : IsOldest o h c outcome) → outcome_of (h ++ more) is.entry ≡ Some (outcome_value outcome)
 outcome_lasts o h more c outcome each is = outcome_stays o h more c 0 is.entry each is.oldest ∙ is.told
 
 -- what one event adds to a client's outcomes, as a later log has them
-one_collect : (k : LogState) (d : ClientId) (outcome : Outcome) (back log : List Entry) → log ≡ (k.entries ++ Collect d ∷ []) ++ back → EachAfter (MayFollow k.opening) log → IsOldest k.opening k.entries d.0 outcome
-    → collected_outcomes k.opening d.0 (k.entries ++ Collect d ∷ []) log ≡ collected_outcomes k.opening d.0 k.entries log ++ outcome_value outcome ∷ []
+one_collect : (k : LogState) (d : ClientId) (outcome : Outcome) (back log : List Entry)
+    → log ≡ (k.entries ++ Collect d ∷ []) ++ back → EachAfter (MayFollow k.opening) log
+    → IsOldest k.opening k.entries d.0 outcome
+    → collected_outcomes k.opening d.0 (k.entries ++ Collect d ∷ []) log
+    ≡ collected_outcomes k.opening d.0 k.entries log ++ outcome_value outcome ∷ []
 one_collect k d outcome back log is each oldest =
     ap (filter_map (outcome_of log)) (collected_own k.opening k.entries d oldest.entry oldest.oldest)
     ∙ filter_map-append (outcome_of log) (collected k.opening d.0 k.entries) (oldest.entry ∷ [])
@@ -134,27 +212,49 @@ one_collect k d outcome back log is each oldest =
     lasts : outcome_of log oldest.entry ≡ Some (outcome_value outcome)
     lasts = rw whole (outcome_lasts k.opening k.entries (Collect d ∷ back) d.0 outcome (rw whole at each) oldest)
 
-one_event : (c : ℕ) (k : LogState) (e : Event) (r : Answer) (block back log : List Entry) → log ≡ (k.entries ++ block) ++ back → EachAfter (MayFollow k.opening) log → Adds k e r block
-    → collected_outcomes k.opening c (k.entries ++ block) log ≡ collected_outcomes k.opening c k.entries log ++ cons_option (outcome_given c e r) []
+one_event : (c : ℕ) (k : LogState) (e : Event) (r : Answer) (block back log : List Entry)
+    → log ≡ (k.entries ++ block) ++ back → EachAfter (MayFollow k.opening) log → Adds k e r block
+    → collected_outcomes k.opening c (k.entries ++ block) log ≡ collected_outcomes k.opening c k.entries log
+    ++ cons_option (outcome_given c e r) []
 one_event c k e r block back log is each adds = by_gift (gave k e r block adds)
   where
-    by_client : (gift : GaveOne k e r block) → ((c == gift.client.0) ≡ true) ⊎ ((c == gift.client.0) ≡ false) → collected_outcomes k.opening c (k.entries ++ block) log ≡ collected_outcomes k.opening c k.entries log ++ cons_option (outcome_given c e r) []
-    by_client gift (inl own) = rw (gift.given c, own, gift.is, eqb-true c gift.client.0 own) (one_collect k gift.client gift.outcome back log (rw gift.is at is) each gift.oldest)
-    by_client gift (inr other) = rw (gift.given c, other, append-nil, gift.is) (ap (filter_map (outcome_of log)) (collected_other k.opening c k.entries gift.client other))
+    by_client : (gift : GaveOne k e r block) → ((c == gift.client.0) ≡ true) ⊎ ((c == gift.client.0) ≡ false)
+        → collected_outcomes k.opening c (k.entries ++ block) log ≡ collected_outcomes k.opening c k.entries log
+        ++ cons_option (outcome_given c e r) []
+    by_client gift (inl own) =
+        rw (gift.given c, own, gift.is, eqb-true c gift.client.0 own)
+        (one_collect k gift.client gift.outcome back log (rw gift.is at is) each gift.oldest)
+    by_client gift (inr other) =
+        rw (gift.given c, other, append-nil, gift.is)
+        (ap (filter_map (outcome_of log)) (collected_other k.opening c k.entries gift.client other))
 
-    by_gift : GaveNothing e r block ⊎ GaveOne k e r block → collected_outcomes k.opening c (k.entries ++ block) log ≡ collected_outcomes k.opening c k.entries log ++ cons_option (outcome_given c e r) []
-    by_gift (inl gift) = rw (gift.nothing c, append-nil) (ap (filter_map (outcome_of log)) (collected_block k.opening c k.entries block (front k.opening (k.entries ++ block) back (rw is at each)) gift.none))
+    by_gift : GaveNothing e r block ⊎ GaveOne k e r block
+        → collected_outcomes k.opening c (k.entries ++ block) log ≡ collected_outcomes k.opening c k.entries log
+        ++ cons_option (outcome_given c e r) []
+    by_gift (inl gift) =
+        rw (gift.nothing c, append-nil)
+        (ap (filter_map (outcome_of log))
+        (collected_block k.opening c k.entries block (front k.opening (k.entries ++ block) back (rw is at each))
+        gift.none))
     by_gift (inr gift) = by_client gift (cases_Bool (c == gift.client.0))
 
-first_given : (given : Option OutcomeValue) (later : List OutcomeValue) → cons_option given [] ++ later ≡ cons_option given later
+first_given : (given : Option OutcomeValue) (later : List OutcomeValue)
+    → cons_option given [] ++ later ≡ cons_option given later
 first_given None later = refl
 first_given (Some x) later = refl
 
-pub collected_once : (old : LogState) (es : List Event) (rs : List Answer) (new : LogState) → Explains old es rs new → EachAfter (MayFollow new.opening) new.entries → (c : ℕ) → collected_outcomes new.opening c new.entries new.entries ≡ collected_outcomes new.opening c old.entries new.entries ++ given_to c es rs
-collected_once old [] [] new is each c = rw append-nil (ap (λ k. collected_outcomes new.opening c k.entries new.entries) is)
+pub collected_once : (old : LogState) (es : List Event) (rs : List Answer) (new : LogState) → Explains old es rs new
+    → EachAfter (MayFollow new.opening) new.entries → (c : ℕ)
+    → collected_outcomes new.opening c new.entries new.entries
+    ≡ collected_outcomes new.opening c old.entries new.entries ++ given_to c es rs
+collected_once old [] [] new is each c =
+    rw append-nil (ap (λ k. collected_outcomes new.opening c k.entries new.entries) is)
 collected_once old [] (r ∷ rs) new is each c = absurd is
 collected_once old (e ∷ es) [] new is each c = absurd is
-collected_once old (e ∷ es) (r ∷ rs) new is each c = collected_once is.0 es rs new is.2 each c ∙ ap (λ l. l ++ given_to c es rs) step ∙ append_assoc earlier (cons_option (outcome_given c e r) []) (given_to c es rs) ∙ ap (λ l. earlier ++ l) (first_given (outcome_given c e r) (given_to c es rs))
+collected_once old (e ∷ es) (r ∷ rs) new is each c =
+    collected_once is.0 es rs new is.2 each c ∙ ap (λ l. l ++ given_to c es rs) step
+    ∙ append_assoc earlier (cons_option (outcome_given c e r) []) (given_to c es rs)
+    ∙ ap (λ l. earlier ++ l) (first_given (outcome_given c e r) (given_to c es rs))
   where
     here : IsAnswered old e r is.0
     here = is.1
@@ -172,4 +272,5 @@ collected_once old (e ∷ es) (r ∷ rs) new is each c = collected_once is.0 es 
     earlier = collected_outcomes new.opening c old.entries new.entries
 
     step : collected_outcomes new.opening c is.0.entries new.entries ≡ earlier ++ cons_option (outcome_given c e r) []
-    step = rw (opening, ap (λ k. k.entries) here.grows) (one_event c old e r here.block later.0 new.entries (ap (λ k. k.entries) whole) (rw opening at each) here.adds)
+    step = rw (opening, ap (λ k. k.entries) here.grows)
+        (one_event c old e r here.block later.0 new.entries (ap (λ k. k.entries) whole) (rw opening at each) here.adds)

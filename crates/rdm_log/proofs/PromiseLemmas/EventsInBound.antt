@@ -1,5 +1,6 @@
 -- On a calm line, with a budget that suffices, a discovery that events answered has a fault only after a close.
-use Rattle.std.proofs.Common.{◌≡◌, ℕ, zero, suc, Bool, true, false, List, [], ◌∷◌, ◌++◌, Some, None, refl, sym, ap, ◌∙◌, append_assoc, append-nil, inl, inr}
+use Rattle.std.proofs.Common.{◌≡◌, ℕ, zero, suc, Bool, true, false, List, [], ◌∷◌, ◌++◌, Some, None, refl, sym, ap, ◌∙◌}
+use Rattle.std.proofs.Common.{append_assoc, append-nil, inl, inr}
 use Rattle.std.specs.Prelude.{◌⊎◌, ◌≢◌, Ok, Err}
 use Rattle.std.proofs.lemmas.List.{append_cancel_left}
 use Rattle.rdm_wire.specs.Lists.{EachAfter}
@@ -16,7 +17,8 @@ use Rattle.rdm_log.specs.log.Runs.{has_begun}
 use Rattle.rdm_log.specs.log.MayAnswer.{MayAnswer}
 use Rattle.rdm_log.specs.log.Legal.{MayFollow}
 use Rattle.rdm_log.specs.log.LogState.{LogState, grown, with_entries}
-use Rattle.rdm_log.specs.promises.Blocks.{join_refused, submit_refused, ask_refused, SwitchAdds, CloseAddsWhere, GrowsBy}
+use Rattle.rdm_log.specs.promises.Blocks.{join_refused, submit_refused, ask_refused, SwitchAdds, CloseAddsWhere}
+use Rattle.rdm_log.specs.promises.Blocks.{GrowsBy}
 use Rattle.rdm_log.specs.promises.InBound.{IsCalmRun, FaultNeedsClose, AnswersInBound}
 use Rattle.rdm_log.specs.promises.Explains.{Adds, Explains}
 use Rattle.rdm_log.proofs.BoundLemmas.{both_in_bound, after_growth, within_block}
@@ -24,15 +26,18 @@ use Rattle.rdm_log.proofs.LogLemmas.PushLemmas.{is_closed-push}
 use Rattle.rdm_log.proofs.LogLemmas.RunLemmas.{entries_before_run_stays, served_stays}
 use Rattle.rdm_log.proofs.PromiseLemmas.NothingAfterClose.{closed_more}
 use Rattle.rdm_log.proofs.PromiseLemmas.RunsAnswer.{named_begun, ended}
-use Rattle.rdm_log.proofs.PromiseLemmas.BlockLemmas.{join_ok, submit_ok, discover_ok, join_refusal, submit_refusal, discover_refusal}
+use Rattle.rdm_log.proofs.PromiseLemmas.BlockLemmas.{join_ok, submit_ok, discover_ok, join_refusal, submit_refusal}
+use Rattle.rdm_log.proofs.PromiseLemmas.BlockLemmas.{discover_refusal}
 use Rattle.rdm_log.proofs.PromiseLemmas.ExplainsLemmas.{grown_twice}
 
 -- blocks of one entry that is no Answer, or of none
-none_or_one : (k : LogState) (e : Entry) (block : List Entry) → FaultNeedsClose k e → (block ≡ []) ⊎ (block ≡ e ∷ []) → AnswersInBound k block
+none_or_one : (k : LogState) (e : Entry) (block : List Entry) → FaultNeedsClose k e → (block ≡ []) ⊎ (block ≡ e ∷ [])
+    → AnswersInBound k block
 none_or_one k e block none (inl is) = rw is tt
 none_or_one k e block none (inr is) = rw is (none, tt)
 
-switch_in_bound : (k : LogState) (b : Bool) (e : Entry) (block : List Entry) → FaultNeedsClose k e → SwitchAdds b e block → AnswersInBound k block
+switch_in_bound : (k : LogState) (b : Bool) (e : Entry) (block : List Entry) → FaultNeedsClose k e
+    → SwitchAdds b e block → AnswersInBound k block
 switch_in_bound k true e block none is = rw is (none, tt)
 switch_in_bound k false e block none is = rw is tt
 
@@ -42,25 +47,37 @@ closed_entry k (discovery.Answer n r (Some fault)) closed = λ present calm. clo
 closed_entry k (discovery.Answer n r None) closed = tt
 closed_entry k _ closed = tt
 
-pub closed_in_bound : (k : LogState) (block : List Entry) → is_closed k.opening k.entries ≡ true → AnswersInBound k block
+pub closed_in_bound : (k : LogState) (block : List Entry) → is_closed k.opening k.entries ≡ true
+    → AnswersInBound k block
 closed_in_bound k [] closed = tt
-closed_in_bound k (e ∷ block) closed = (closed_entry k e closed, closed_in_bound (grown k (e ∷ [])) block (closed_more k.opening k.entries e closed))
+closed_in_bound k (e ∷ block) closed =
+    (closed_entry k e closed, closed_in_bound (grown k (e ∷ [])) block (closed_more k.opening k.entries e closed))
 
-close_in_bound : (k : LogState) (closed : Bool) (block : List Entry) → CloseAddsWhere closed block → AnswersInBound k block
+close_in_bound : (k : LogState) (closed : Bool) (block : List Entry) → CloseAddsWhere closed block
+    → AnswersInBound k block
 close_in_bound k true block adds = rw adds tt
-close_in_bound k false block adds = rw adds.whole (tt, closed_in_bound (grown k (Close ∷ [])) adds.results (is_closed-push k.opening k.entries Close))
+close_in_bound k false block adds =
+    rw adds.whole (tt, closed_in_bound (grown k (Close ∷ [])) adds.results (is_closed-push k.opening k.entries Close))
 
 -- so it is with each event's block
-pub event_in_bound : (k : LogState) (e : Event) (r : Answer) (block : List Entry) → Adds k e r block → AnswersInBound k block
+pub event_in_bound : (k : LogState) (e : Event) (r : Answer) (block : List Entry) → Adds k e r block
+    → AnswersInBound k block
 event_in_bound k (events.Join n) (answers.Join (Ok c)) block adds = rw (join_ok k n c block adds).2 (tt, tt)
-event_in_bound k (events.Join n) (answers.Join (Err fault)) block adds = none_or_one k (join_refused n fault) block tt (join_refusal k n fault block adds)
-event_in_bound k (events.Submit c request) (answers.Submit (Ok n)) block adds = rw (submit_ok k c request n block adds).2 (tt, tt)
-event_in_bound k (events.Submit c request) (answers.Submit (Err e)) block adds = none_or_one k (submit_refused c request e.0) block tt (submit_refusal k c request e block adds)
-event_in_bound k (events.Discover c kind) (answers.Discover (Ok n)) block adds = rw (discover_ok k c kind n block adds).2 (tt, tt)
-event_in_bound k (events.Discover c kind) (answers.Discover (Err fault)) block adds = none_or_one k (ask_refused c kind fault) block tt (discover_refusal k c kind fault block adds)
-event_in_bound k events.Pause (answers.Pause (Ok x)) block adds = switch_in_bound k (can_pause k.opening k.entries) Pause block tt adds.1
+event_in_bound k (events.Join n) (answers.Join (Err fault)) block adds =
+    none_or_one k (join_refused n fault) block tt (join_refusal k n fault block adds)
+event_in_bound k (events.Submit c request) (answers.Submit (Ok n)) block adds =
+    rw (submit_ok k c request n block adds).2 (tt, tt)
+event_in_bound k (events.Submit c request) (answers.Submit (Err e)) block adds =
+    none_or_one k (submit_refused c request e.0) block tt (submit_refusal k c request e block adds)
+event_in_bound k (events.Discover c kind) (answers.Discover (Ok n)) block adds =
+    rw (discover_ok k c kind n block adds).2 (tt, tt)
+event_in_bound k (events.Discover c kind) (answers.Discover (Err fault)) block adds =
+    none_or_one k (ask_refused c kind fault) block tt (discover_refusal k c kind fault block adds)
+event_in_bound k events.Pause (answers.Pause (Ok x)) block adds =
+    switch_in_bound k (can_pause k.opening k.entries) Pause block tt adds.1
 event_in_bound k events.Pause (answers.Pause (Err x)) block adds = rw adds.1 tt
-event_in_bound k events.Resume (answers.Resume (Ok x)) block adds = switch_in_bound k (can_resume k.opening k.entries) Resume block tt adds.1
+event_in_bound k events.Resume (answers.Resume (Ok x)) block adds =
+    switch_in_bound k (can_resume k.opening k.entries) Resume block tt adds.1
 event_in_bound k events.Resume (answers.Resume (Err x)) block adds = rw adds.1 tt
 event_in_bound k events.Close answers.Close block adds = close_in_bound k (is_closed k.opening k.entries) block adds
 event_in_bound k events.Take (answers.Take (Ok (Some frame))) block adds = rw adds.1.2 (tt, tt)
@@ -74,38 +91,61 @@ event_in_bound k (events.Collect c) (answers.Collect (Err x)) block adds = rw ad
 event_in_bound k _ _ block adds = absurd adds
 
 -- and with all that events added
-all_in_bound : (old : LogState) (es : List Event) (rs : List Answer) (new : LogState) → Explains old es rs new → GrowsBy old (AnswersInBound old) new
-all_in_bound old [] [] new is = record { block = []; adds = tt; grows = is ∙ ap (λ l. record old { entries = l }) (sym (append-nil old.entries)) }
+all_in_bound : (old : LogState) (es : List Event) (rs : List Answer) (new : LogState) → Explains old es rs new
+    → GrowsBy old (AnswersInBound old) new
+all_in_bound old [] [] new is = record {
+  block = [];
+  adds = tt;
+  grows = is ∙ ap (λ l. record old { entries = l }) (sym (append-nil old.entries));
+}
 all_in_bound old (e ∷ es) (r ∷ rs) new is =
     let here = is.1 in
     let later = all_in_bound is.0 es rs new is.2 in
     record {
       block = here.block ++ later.block;
-      adds = both_in_bound old here.block later.block (event_in_bound old e r here.block here.adds) (after_growth old is.0 here.block later.block here.grows later.adds);
+      adds = both_in_bound old here.block later.block (event_in_bound old e r here.block here.adds)
+          (after_growth old is.0 here.block later.block here.grows later.adds);
       grows = later.grows ∙ ap (λ k. grown k later.block) here.grows ∙ grown_twice old here.block later.block;
     }
 all_in_bound old [] (r ∷ rs) new is = absurd is
 all_in_bound old (e ∷ es) [] new is = absurd is
 
 -- a run that an Answer names is as calm before the Answer
-calm_before : (k : LogState) (before back : List Entry) (n r : ℕ) (fault : AgentFault) (present : List ℕ) → EachAfter (MayFollow k.opening) k.entries → k.entries ≡ before ++ discovery.Answer n r (Some fault) ∷ back → has_begun r before ≡ true → IsCalmRun k r present → IsCalmRun (with_entries k before) r present
+calm_before : (k : LogState) (before back : List Entry) (n r : ℕ) (fault : AgentFault) (present : List ℕ)
+    → EachAfter (MayFollow k.opening) k.entries → k.entries ≡ before ++ discovery.Answer n r (Some fault) ∷ back
+    → has_begun r before ≡ true → IsCalmRun k r present → IsCalmRun (with_entries k before) r present
 calm_before k before back n r fault present each is begun calm = record {
   calm = rw (ended k.opening k.entries each before back n r (Some fault) is) at calm.calm;
-  budgeted = rw (is, served_stays r before (discovery.Answer n r (Some fault) ∷ back) begun, entries_before_run_stays r before (discovery.Answer n r (Some fault) ∷ back) begun) at calm.budgeted;
+  budgeted = rw (
+    is,
+    served_stays r before (discovery.Answer n r (Some fault) ∷ back) begun,
+    entries_before_run_stays r before (discovery.Answer n r (Some fault) ∷ back) begun,
+  ) at calm.budgeted;
 }
 
 -- an Answer that names no run stands after a close
-by_number : (k : LogState) (before back : List Entry) (n r : ℕ) (fault : AgentFault) (present : List ℕ) → EachAfter (MayFollow k.opening) k.entries → k.entries ≡ before ++ discovery.Answer n r (Some fault) ∷ back → MayAnswer k.opening before n r (Some fault) → FaultNeedsClose (with_entries k before) (discovery.Answer n r (Some fault)) → IsCalmRun k r present → is_closed k.opening before ≡ true
+by_number : (k : LogState) (before back : List Entry) (n r : ℕ) (fault : AgentFault) (present : List ℕ)
+    → EachAfter (MayFollow k.opening) k.entries → k.entries ≡ before ++ discovery.Answer n r (Some fault) ∷ back
+    → MayAnswer k.opening before n r (Some fault)
+    → FaultNeedsClose (with_entries k before) (discovery.Answer n r (Some fault)) → IsCalmRun k r present
+    → is_closed k.opening before ≡ true
 by_number k before back n zero fault present each is may bound calm = (may.unserved refl).closing.closed
-by_number k before back n (suc r) fault present each is may bound calm = bound present (calm_before k before back n (suc r) fault present each is (named_begun k.opening before n (suc r) (Some fault) may some) calm)
+by_number k before back n (suc r) fault present each is may bound calm =
+    bound present
+    (calm_before k before back n (suc r) fault present each is
+    (named_begun k.opening before n (suc r) (Some fault) may some) calm)
   where
     some : suc r ≢ 0
     some e = cc
 
-pub in_bound : (old : LogState) (es : List Event) (rs : List Answer) (new : LogState) → Explains old es rs new → EachAfter (MayFollow new.opening) new.entries → (front back : List Entry) (n r : ℕ) (fault : AgentFault) (present : List ℕ) → new.entries ≡ old.entries ++ front ++ discovery.Answer n r (Some fault) ∷ back
+pub in_bound : (old : LogState) (es : List Event) (rs : List Answer) (new : LogState) → Explains old es rs new
+    → EachAfter (MayFollow new.opening) new.entries
+    → (front back : List Entry) (n r : ℕ) (fault : AgentFault) (present : List ℕ)
+    → new.entries ≡ old.entries ++ front ++ discovery.Answer n r (Some fault) ∷ back
     → IsCalmRun new r present → is_closed new.opening (old.entries ++ front) ≡ true
 in_bound old es rs new explains each front back n r fault present is calm =
-    by_number new (old.entries ++ front) back n r fault present each is (each (old.entries ++ front) back answer is) bound calm
+    by_number new (old.entries ++ front) back n r fault present each is (each (old.entries ++ front) back answer is)
+    bound calm
   where
     answer : Entry
     answer = discovery.Answer n r (Some fault)
@@ -114,7 +154,9 @@ in_bound old es rs new explains each front back n r fault present is calm =
     added = all_in_bound old es rs new explains
 
     block_is : added.block ≡ front ++ answer ∷ back
-    block_is = append_cancel_left old.entries added.block (front ++ answer ∷ back) (sym (ap (λ k. k.entries) added.grows) ∙ is ∙ append_assoc old.entries front (answer ∷ back))
+    block_is = append_cancel_left old.entries added.block (front ++ answer ∷ back)
+        (sym (ap (λ k. k.entries) added.grows) ∙ is ∙ append_assoc old.entries front (answer ∷ back))
 
     bound : FaultNeedsClose (with_entries new (old.entries ++ front)) answer
-    bound = rw (ap (λ k. k.opening) added.grows, ap (λ k. k.room) added.grows, ap (λ k. k.search) added.grows) (within_block old front answer back (rw block_is at added.adds))
+    bound = rw (ap (λ k. k.opening) added.grows, ap (λ k. k.room) added.grows, ap (λ k. k.search) added.grows)
+        (within_block old front answer back (rw block_is at added.adds))

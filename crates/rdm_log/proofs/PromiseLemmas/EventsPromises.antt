@@ -1,5 +1,6 @@
 -- What is promised of a list of events.
-use Rattle.std.proofs.Common.{◌≡◌, ℕ, false, List, [], ◌∷◌, ◌++◌, Option, Some, slice_get, refl, sym, ap, ◌∙◌, append_assoc, append-nil}
+use Rattle.std.proofs.Common.{◌≡◌, ℕ, false, List, [], ◌∷◌, ◌++◌, Option, Some, slice_get, refl, sym, ap, ◌∙◌}
+use Rattle.std.proofs.Common.{append_assoc, append-nil}
 use Rattle.std.specs.Prelude.{Ok, Err, option_map}
 use Rattle.std.specs.List.{Contains}
 use Rattle.std.proofs.lemmas.Option.{none-some, slice_get-get_or, slice_get-map, same_Some}
@@ -26,7 +27,8 @@ use Rattle.rdm_log.specs.promises.Blocks.{submit_refused, SubmitAdds}
 use Rattle.rdm_log.specs.promises.Outcomes.{discovered, unboxed}
 use Rattle.rdm_log.specs.promises.Explains.{Adds, Explains}
 use Rattle.rdm_log.specs.promises.Headline.{IsFull, numbers_accepted}
-use Rattle.rdm_log.specs.promises.EventsHeadline.{AnsweredAt, FullExactly, refuses_full, IsOwnOutcome, ReportsTheLine, RefusesDiscovery, EventsPromised}
+use Rattle.rdm_log.specs.promises.EventsHeadline.{AnsweredAt, FullExactly, refuses_full, IsOwnOutcome, ReportsTheLine}
+use Rattle.rdm_log.specs.promises.EventsHeadline.{RefusesDiscovery, EventsPromised}
 use Rattle.rdm_log.proofs.LogLemmas.Places.{filter_map_has}
 use Rattle.rdm_log.proofs.PromiseLemmas.StableResults.{contains_from_get}
 use Rattle.rdm_log.proofs.PromiseLemmas.OneResult.{one_result}
@@ -41,56 +43,90 @@ use Rattle.rdm_log.proofs.PromiseLemmas.EventsInBound.{in_bound}
 use Rattle.rdm_log.proofs.PromiseLemmas.ClosedEvents.{closes, nothing_after, nothing_closed}
 use Rattle.rdm_log.proofs.PromiseLemmas.QuietEvents.{idle_after}
 use Rattle.rdm_log.proofs.PromiseLemmas.RisingNumbers.{numbers_rise, asks_rise}
-use Rattle.rdm_log.proofs.PromiseLemmas.ExplainsLemmas.{IsPlaced, placed, one_answer_each, explained_grows, answered_at, block_contained, block_follows}
+use Rattle.rdm_log.proofs.PromiseLemmas.ExplainsLemmas.{IsPlaced, placed, one_answer_each, explained_grows, answered_at}
+use Rattle.rdm_log.proofs.PromiseLemmas.ExplainsLemmas.{block_contained, block_follows}
 
 -- a request that was accepted stands in the log
-accepted : (old : LogState) (es : List Event) (rs : List Answer) (new : LogState) → Explains old es rs new → (i : ℕ) (c : ClientId) (n : ℕ) (request : Request) → slice_get es i ≡ Some (events.Submit c request) → slice_get rs i ≡ Some (answers.Submit (Ok n)) → Contains new.entries (Accept c n request)
+accepted : (old : LogState) (es : List Event) (rs : List Answer) (new : LogState) → Explains old es rs new
+    → (i : ℕ) (c : ClientId) (n : ℕ) (request : Request) → slice_get es i ≡ Some (events.Submit c request)
+    → slice_get rs i ≡ Some (answers.Submit (Ok n)) → Contains new.entries (Accept c n request)
 accepted old es rs new explains i c n request at_e at_r =
     let at = answered_at old es rs new explains i (events.Submit c request) (answers.Submit (Ok n)) at_e at_r in
-    block_contained new at.before at.here.block (Accept c n request) (placed old es rs new i (events.Submit c request) (answers.Submit (Ok n)) at) (submit_ok at.before c request n at.here.block at.here.adds).2
+    block_contained new at.before at.here.block (Accept c n request)
+    (placed old es rs new i (events.Submit c request) (answers.Submit (Ok n)) at)
+    (submit_ok at.before c request n at.here.block at.here.adds).2
 
-number_contained : (h : List Entry) (c : ClientId) (n : ℕ) (request : Request) → Contains h (Accept c n request) → Contains (numbers_accepted (accepts h)) n
+number_contained : (h : List Entry) (c : ClientId) (n : ℕ) (request : Request) → Contains h (Accept c n request)
+    → Contains (numbers_accepted (accepts h)) n
 unfolding accepts
 number_contained h c n request has =
     let e : Entry = Accept c n request in
     let a : Accepted = record { client = c.0; number = n; request = request } in
-    let found = filter_map_has accepted_of h has.0 e a (slice_get-get_or h has.0 e has.1 ∙ ap (λ x. Some x) has.2) refl in
-    contains_from_get (numbers_accepted (accepts h)) found.0 n (slice_get-map (λ b. b.number) (accepts h) found.0 ∙ ap (option_map (λ b. b.number)) found.1)
+    let found = filter_map_has accepted_of h has.0 e a (slice_get-get_or h has.0 e has.1 ∙ ap (λ x. Some x) has.2)
+    refl in
+    contains_from_get (numbers_accepted (accepts h)) found.0 n
+    (slice_get-map (λ b. b.number) (accepts h) found.0 ∙ ap (option_map (λ b. b.number)) found.1)
 
 -- a submit where the log isn't full
-full_answered : (k : LogState) (c : ClientId) (request : Request) (answer : Answer) (block : List Entry) → Adds k (events.Submit c request) answer block → is_full_log k ≡ false → answer ≡ refuses_full request → IsFull k.opening k.entries c.0
-full_answered k c request answer block adds room is = full_is_fault k.opening k.entries c.0 (submit_full k c request block (rw is at adds)).0
+full_answered : (k : LogState) (c : ClientId) (request : Request) (answer : Answer) (block : List Entry)
+    → Adds k (events.Submit c request) answer block → is_full_log k ≡ false → answer ≡ refuses_full request
+    → IsFull k.opening k.entries c.0
+full_answered k c request answer block adds room is =
+    full_is_fault k.opening k.entries c.0 (submit_full k c request block (rw is at adds)).0
 
-answered_full : (k : LogState) (c : ClientId) (request : Request) (answer : Answer) (block : List Entry) → Adds k (events.Submit c request) answer block → is_full_log k ≡ false → submit_fault k.opening k.entries c.0 ≡ Some Full → answer ≡ refuses_full request
-answered_full k c request (answers.Submit (Ok n)) block adds room fault = absurd (none-some Full (sym (submit_ok k c request n block adds).0 ∙ fault))
+answered_full : (k : LogState) (c : ClientId) (request : Request) (answer : Answer) (block : List Entry)
+    → Adds k (events.Submit c request) answer block → is_full_log k ≡ false
+    → submit_fault k.opening k.entries c.0 ≡ Some Full → answer ≡ refuses_full request
+answered_full k c request (answers.Submit (Ok n)) block adds room fault =
+    absurd (none-some Full (sym (submit_ok k c request n block adds).0 ∙ fault))
 answered_full k c request (answers.Submit (Err e)) block adds room fault =
     let own : SubmitAdds k.opening k.entries c request (Err e) block = rw room at adds in
     rw (own.1, same_Some e.0 Full (sym own.0 ∙ fault)) refl
 answered_full k c request _ block adds room fault = absurd adds
 
-refused_block : (k : LogState) (c : ClientId) (request : Request) (answer : Answer) (block : List Entry) → Adds k (events.Submit c request) answer block → answer ≡ refuses_full request → block ≡ submit_refused c request Full ∷ []
+refused_block : (k : LogState) (c : ClientId) (request : Request) (answer : Answer) (block : List Entry)
+    → Adds k (events.Submit c request) answer block → answer ≡ refuses_full request
+    → block ≡ submit_refused c request Full ∷ []
 refused_block k c request answer block adds is = (submit_full k c request block (rw is at adds)).2
 
-full : (old : LogState) (es : List Event) (rs : List Answer) (new : LogState) → Explains old es rs new → Legal new.opening new.entries → (i : ℕ) (c : ClientId) (request : Request) (answer : Answer) → slice_get es i ≡ Some (events.Submit c request) → slice_get rs i ≡ Some answer → FullExactly old es rs new i c request answer
+full : (old : LogState) (es : List Event) (rs : List Answer) (new : LogState) → Explains old es rs new
+    → Legal new.opening new.entries → (i : ℕ) (c : ClientId) (request : Request) (answer : Answer)
+    → slice_get es i ≡ Some (events.Submit c request) → slice_get rs i ≡ Some answer
+    → FullExactly old es rs new i c request answer
 full old es rs new explains legal i c request answer at_e at_r = record {
   at = at;
-  exactly = λ room. (full_answered at.before c request answer at.here.block at.here.adds room, λ is. answered_full at.before c request answer at.here.block at.here.adds room (fault_is_full at.before.opening at.before.entries c.0 is));
+  exactly = λ room. (
+    full_answered at.before c request answer at.here.block at.here.adds room,
+    λ is. answered_full at.before c request answer at.here.block at.here.adds room
+        (fault_is_full at.before.opening at.before.entries c.0 is),
+  );
   refused = refused;
-  unchanged = λ is. rw (refused is) (refusal_changes_nothing new.opening at.before.entries (Some c) (calls.Submit request) (record { 0 = 3 }) (each is));
+  unchanged = λ is. rw (refused is)
+      (refusal_changes_nothing new.opening at.before.entries (Some c) (calls.Submit request) (record { 0 = 3 })
+      (each is));
 }
   where
     at : AnsweredAt old es rs new i (events.Submit c request) answer
     at = answered_at old es rs new explains i (events.Submit c request) answer at_e at_r
 
     refused : answer ≡ refuses_full request → at.after ≡ grown at.before (submit_refused c request Full ∷ [])
-    refused is = at.here.grows ∙ ap (grown at.before) (refused_block at.before c request answer at.here.block at.here.adds is)
+    refused is =
+        at.here.grows ∙ ap (grown at.before) (refused_block at.before c request answer at.here.block at.here.adds is)
 
-    each : answer ≡ refuses_full request → EachAfter (MayFollow new.opening) (at.before.entries ++ submit_refused c request Full ∷ [])
+    each : answer ≡ refuses_full request
+        → EachAfter (MayFollow new.opening) (at.before.entries ++ submit_refused c request Full ∷ [])
     each is =
-        block_follows new at.before at.here.block (submit_refused c request Full ∷ []) (placed old es rs new i (events.Submit c request) answer at) (refused_block at.before c request answer at.here.block at.here.adds is) legal.each
+        block_follows new at.before at.here.block (submit_refused c request Full ∷ [])
+        (placed old es rs new i (events.Submit c request) answer at)
+        (refused_block at.before c request answer at.here.block at.here.adds is) legal.each
 
-collected : (old : LogState) (es : List Event) (rs : List Answer) (new : LogState) → Explains old es rs new → Legal new.opening new.entries → (i : ℕ) (c : ClientId) (outcome : BoxedOutcome) → slice_get es i ≡ Some (events.Collect c) → slice_get rs i ≡ Some (answers.Collect (Ok (Some outcome))) → IsOwnOutcome new.opening new.entries c.0 (unboxed outcome)
-collected old es rs new explains legal i c outcome at_e at_r = rw whole (own_outcome new.opening at.before.entries (at.here.block ++ place.back) c.0 (unboxed outcome) (rw whole at legal.each) (rw (← place.same_opening) at at.here.adds.0))
+collected : (old : LogState) (es : List Event) (rs : List Answer) (new : LogState) → Explains old es rs new
+    → Legal new.opening new.entries → (i : ℕ) (c : ClientId) (outcome : BoxedOutcome)
+    → slice_get es i ≡ Some (events.Collect c) → slice_get rs i ≡ Some (answers.Collect (Ok (Some outcome)))
+    → IsOwnOutcome new.opening new.entries c.0 (unboxed outcome)
+collected old es rs new explains legal i c outcome at_e at_r =
+    rw whole (own_outcome new.opening at.before.entries (at.here.block ++ place.back) c.0 (unboxed outcome)
+    (rw whole at legal.each) (rw (← place.same_opening) at at.here.adds.0))
   where
     at : AnsweredAt old es rs new i (events.Collect c) (answers.Collect (Ok (Some outcome)))
     at = answered_at old es rs new explains i (events.Collect c) (answers.Collect (Ok (Some outcome))) at_e at_r
@@ -101,25 +137,43 @@ collected old es rs new explains legal i c outcome at_e at_r = rw whole (own_out
     whole : new.entries ≡ at.before.entries ++ (at.here.block ++ place.back)
     whole = place.whole ∙ append_assoc at.before.entries at.here.block place.back
 
-reported : (old : LogState) (es : List Event) (rs : List Answer) (new : LogState) → Explains old es rs new → Legal new.opening new.entries → (i : ℕ) (outcome : BoxedOutcome) (number : Option ℕ) (done : AskCompletion) → slice_get rs i ≡ Some (answers.Collect (Ok (Some outcome))) → unboxed outcome ≡ outcomes.Discovery number done → ReportsTheLine new.entries (discovered done)
+reported : (old : LogState) (es : List Event) (rs : List Answer) (new : LogState) → Explains old es rs new
+    → Legal new.opening new.entries → (i : ℕ) (outcome : BoxedOutcome) (number : Option ℕ) (done : AskCompletion)
+    → slice_get rs i ≡ Some (answers.Collect (Ok (Some outcome))) → unboxed outcome ≡ outcomes.Discovery number done
+    → ReportsTheLine new.entries (discovered done)
 reported old es rs new explains legal i outcome number done at_r is =
     let asked = collected_by old es rs new explains i (Ok (Some outcome)) at_r in
-    reports_the_line new.opening new.entries legal asked.0.0 number (discovered done) (rw is at (collected old es rs new explains legal i asked.0 outcome asked.1 at_r))
+    reports_the_line new.opening new.entries legal asked.0.0 number (discovered done)
+    (rw is at (collected old es rs new explains legal i asked.0 outcome asked.1 at_r))
 
-no_memory : (old : LogState) (es : List Event) (rs : List Answer) (new : LogState) → Explains old es rs new → (i : ℕ) (c : ClientId) (fault : NoMemory) → slice_get es i ≡ Some (events.Collect c) → slice_get rs i ≡ Some (answers.Collect (Err fault)) → RefusesDiscovery old es rs new i c fault
+no_memory : (old : LogState) (es : List Event) (rs : List Answer) (new : LogState) → Explains old es rs new
+    → (i : ℕ) (c : ClientId) (fault : NoMemory) → slice_get es i ≡ Some (events.Collect c)
+    → slice_get rs i ≡ Some (answers.Collect (Err fault)) → RefusesDiscovery old es rs new i c fault
 no_memory old es rs new explains i c fault at_e at_r =
     let at = answered_at old es rs new explains i (events.Collect c) (answers.Collect (Err fault)) at_e at_r in
-    record { at = at; discovery = at.here.adds.0; unchanged = at.here.grows ∙ ap (grown at.before) at.here.adds.1 ∙ ap (λ l. record at.before { entries = l }) (append-nil at.before.entries) }
+    record {
+      at = at;
+      discovery = at.here.adds.0;
+      unchanged = at.here.grows ∙ ap (grown at.before) at.here.adds.1
+          ∙ ap (λ l. record at.before { entries = l }) (append-nil at.before.entries);
+    }
 
-pub events_promised : (old : LogState) (es : List Event) (rs : List Answer) (new : LogState) → Explains old es rs new → Legal new.opening new.entries → EventsPromised old es rs new
+pub events_promised : (old : LogState) (es : List Event) (rs : List Answer) (new : LogState) → Explains old es rs new
+    → Legal new.opening new.entries → EventsPromised old es rs new
 events_promised old es rs new explains legal = record {
   all_answered = one_answer_each old es rs new explains;
   only_grows = explained_grows old es rs new explains;
   log = promised new.opening new.entries legal;
   accepted = accepted old es rs new explains;
-  finished = λ i j m c n request event at_e at_r before at_close at_deliver. (one_result new.opening new.entries legal).exactly_one (closes old es rs new explains j at_close) (idle_after old es rs new explains j m event before at_close at_deliver) n (number_contained new.entries c n request (accepted old es rs new explains i c n request at_e at_r));
+  finished = λ i j m c n request event at_e at_r before at_close at_deliver.
+      (one_result new.opening new.entries legal).exactly_one (closes old es rs new explains j at_close)
+      (idle_after old es rs new explains j m event before at_close at_deliver) n
+      (number_contained new.entries c n request (accepted old es rs new explains i c n request at_e at_r));
   asked = asked old es rs new explains;
-  answered = λ i j m c n kind event at_e at_r before at_close at_deliver. (one_answer new.opening new.entries legal).exactly_one (closes old es rs new explains j at_close) (idle_after old es rs new explains j m event before at_close at_deliver) n (discovery_contained new.entries c n kind (asked old es rs new explains i c n kind at_e at_r));
+  answered = λ i j m c n kind event at_e at_r before at_close at_deliver.
+      (one_answer new.opening new.entries legal).exactly_one (closes old es rs new explains j at_close)
+      (idle_after old es rs new explains j m event before at_close at_deliver) n
+      (discovery_contained new.entries c n kind (asked old es rs new explains i c n kind at_e at_r));
   numbers_rise = numbers_rise old es rs new explains;
   asks_rise = asks_rise old es rs new explains;
   closed = closes old es rs new explains;

@@ -1,5 +1,6 @@
 -- A full queue refuses, and changes nothing.
-use Rattle.std.proofs.Common.{◌≡◌, ℕ, ◌≤◌, Bool, true, false, List, [], ◌∷◌, ◌++◌, Option, Some, None, if◌then◌else◌, slice_index, refl, sym, ◌∙◌, inl, inr, arith, append_assoc}
+use Rattle.std.proofs.Common.{◌≡◌, ℕ, ◌≤◌, Bool, true, false, List, [], ◌∷◌, ◌++◌, Option, Some, None, if◌then◌else◌}
+use Rattle.std.proofs.Common.{slice_index, refl, sym, ◌∙◌, inl, inr, arith, append_assoc}
 use Rattle.std.specs.Prelude.{◌⊎◌, ◌||◌, option_map, nat_le}
 use Rattle.std.proofs.lemmas.Bool.{leb-true, leb-false, le-leb, lt-leb, or_cases, or_left, or_right}
 use Rattle.std.proofs.lemmas.Option.{same_Some}
@@ -19,13 +20,18 @@ use Rattle.rdm_log.specs.log.Refusals.{submit_fault, number_of_submit_fault}
 use Rattle.rdm_log.specs.log.Legal.{MayFollow, Legal}
 use Rattle.rdm_log.specs.promises.Headline.{IsFull, SameQueue, FullRefuses}
 use Rattle.rdm_log.proofs.LogLemmas.Grows.{front}
-use Rattle.rdm_log.proofs.LogLemmas.PushLemmas.{joins_same, accepts_same, asks_same, answered_same, finishes_same, sends_same, cames_same, unfinished_same, awaited-push, is_paused-push, is_closed-push}
+use Rattle.rdm_log.proofs.LogLemmas.PushLemmas.{joins_same, accepts_same, asks_same, answered_same, finishes_same}
+use Rattle.rdm_log.proofs.LogLemmas.PushLemmas.{sends_same, cames_same, unfinished_same, awaited-push, is_paused-push}
+use Rattle.rdm_log.proofs.LogLemmas.PushLemmas.{is_closed-push}
 use Rattle.rdm_log.proofs.LogLemmas.ExchangeLemmas.{result_same}
 use Rattle.rdm_log.proofs.LogLemmas.RunLemmas.{SameRuns, same_runs, last_run_same, asked_before_same, known_same}
 use Rattle.rdm_log.proofs.LogLemmas.ClientSteps.{uncollected_same, outstanding_same, outstanding_discoveries_same}
 
 -- of three tests in order the third decides
-first_two_pass : (closed unknown full : Bool) → (if closed then Some faults.Closed else (if unknown then Some faults.UnknownClient else (if full then Some faults.Full else None))) ≡ Some faults.Full → (closed ≡ false) × (unknown ≡ false) × (full ≡ true)
+first_two_pass : (closed unknown full : Bool)
+    → (if closed then Some faults.Closed else
+    (if unknown then Some faults.UnknownClient else (if full then Some faults.Full else None))) ≡ Some faults.Full
+    → (closed ≡ false) × (unknown ≡ false) × (full ≡ true)
 first_two_pass true unknown full e = cc
 first_two_pass false true full e = cc
 first_two_pass false false true e = (refl, refl, refl)
@@ -33,7 +39,11 @@ first_two_pass false false false e = cc
 
 -- a queue is full exactly when that is a submit's first fault
 pub full_is_fault : (o : Opening) (h : List Entry) (c : ℕ) → submit_fault o h c ≡ Some faults.Full → IsFull o h c
-full_is_fault o h c is = record { not_closed = tests.0; known = leb-false (next_client o h) c tests.1; full = by_test (or_cases places_taken numbers_out tests.2) }
+full_is_fault o h c is = record {
+  not_closed = tests.0;
+  known = leb-false (next_client o h) c tests.1;
+  full = by_test (or_cases places_taken numbers_out tests.2);
+}
   where
     places_taken : Bool
     places_taken = nat_le (slice_index (places o h) c) (outstanding_requests o c h)
@@ -44,25 +54,30 @@ full_is_fault o h c is = record { not_closed = tests.0; known = leb-false (next_
     tests : (is_closed o h ≡ false) × (nat_le (next_client o h) c ≡ false) × ((places_taken || numbers_out) ≡ true)
     tests = first_two_pass (is_closed o h) (nat_le (next_client o h) c) (places_taken || numbers_out) is
 
-    by_test : (places_taken ≡ true) ⊎ (numbers_out ≡ true) → (slice_index (places o h) c ≤ outstanding_requests o c h) ⊎ (18446744073709551615 ≤ next_request o h)
+    by_test : (places_taken ≡ true) ⊎ (numbers_out ≡ true) → (slice_index (places o h) c ≤ outstanding_requests o c h)
+        ⊎ (18446744073709551615 ≤ next_request o h)
     by_test (inl taken) = inl (leb-true (slice_index (places o h) c) (outstanding_requests o c h) taken)
     by_test (inr out) = inr (leb-true 18446744073709551615 (next_request o h) out)
 
 pub fault_is_full : (o : Opening) (h : List Entry) (c : ℕ) → IsFull o h c → submit_fault o h c ≡ Some faults.Full
 fault_is_full o h c is = rw (is.not_closed, lt-leb (next_client o h) c is.known, is_true is.full) refl
   where
-    is_true : (slice_index (places o h) c ≤ outstanding_requests o c h) ⊎ (18446744073709551615 ≤ next_request o h) → (nat_le (slice_index (places o h) c) (outstanding_requests o c h) || nat_le 0xffffffffffffffff (next_request o h)) ≡ true
+    is_true : (slice_index (places o h) c ≤ outstanding_requests o c h) ⊎ (18446744073709551615 ≤ next_request o h)
+        → (nat_le (slice_index (places o h) c) (outstanding_requests o c h)
+        || nat_le 0xffffffffffffffff (next_request o h)) ≡ true
     is_true (inl taken) = or_left _ _ (le-leb _ _ taken)
     is_true (inr out) = or_right _ _ (le-leb _ _ out)
 
-third_fault : (fault : Option SubmitFault) (cause : ℕ) → option_map number_of_submit_fault fault ≡ Some cause → cause ≡ 3 → fault ≡ Some faults.Full
+third_fault : (fault : Option SubmitFault) (cause : ℕ) → option_map number_of_submit_fault fault ≡ Some cause
+    → cause ≡ 3 → fault ≡ Some faults.Full
 third_fault None cause is three = cc
 third_fault (Some faults.Closed) cause is three = absurd (omega (arith, same_Some 1 cause is))
 third_fault (Some faults.UnknownClient) cause is three = absurd (omega (arith, same_Some 2 cause is))
 third_fault (Some faults.Full) cause is three = refl
 third_fault (Some faults.LogFull) cause is three = absurd (omega (arith, same_Some 4 cause is))
 
-pub refusal_changes_nothing : (o : Opening) (h : List Entry) (c : Option ClientId) (call : Call) (cause : Cause) → EachAfter (MayFollow o) (h ++ Refuse c call cause ∷ []) → SameQueue o h (h ++ Refuse c call cause ∷ [])
+pub refusal_changes_nothing : (o : Opening) (h : List Entry) (c : Option ClientId) (call : Call) (cause : Cause)
+    → EachAfter (MayFollow o) (h ++ Refuse c call cause ∷ []) → SameQueue o h (h ++ Refuse c call cause ∷ [])
 refusal_changes_nothing o h c call cause each = record {
   paused = is_paused-push o h e;
   closed = is_closed-push o h e;
@@ -99,9 +114,14 @@ refusal_changes_nothing o h c call cause each = record {
 
 pub full_refuses : (o : Opening) (h : List Entry) → Legal o h → FullRefuses o h
 full_refuses o h legal = record {
-  refused = λ front back c request cause is full. full_is_fault o front c.0 (third_fault (submit_fault o front c.0) cause.0 (legal.each front back (Refuse (Some c) (calls.Submit request) cause) is).1 full);
-  accepted = λ front back c n request is full. absurd (passed (sym (fault_is_full o front c.0 full) ∙ (legal.each front back (Accept c n request) is).1));
-  unchanged = λ before back c call cause is. refusal_changes_nothing o before c call cause (front o (before ++ Refuse c call cause ∷ []) back (rw (append_assoc before (Refuse c call cause ∷ []) back, ← is) legal.each));
+  refused = λ front back c request cause is full. full_is_fault o front c.0
+      (third_fault (submit_fault o front c.0) cause.0
+      (legal.each front back (Refuse (Some c) (calls.Submit request) cause) is).1 full);
+  accepted = λ front back c n request is
+      full. absurd (passed (sym (fault_is_full o front c.0 full) ∙ (legal.each front back (Accept c n request) is).1));
+  unchanged = λ before back c call cause is. refusal_changes_nothing o before c call cause
+      (front o (before ++ Refuse c call cause ∷ []) back
+      (rw (append_assoc before (Refuse c call cause ∷ []) back, ← is) legal.each));
 }
   where
     passed : Some faults.Full ≡ None → ⊥

@@ -21,7 +21,8 @@ BoundAt k h e = FaultNeedsClose (with_entries k h) e
 
 -- said of each entry
 each_of : (k : LogState) → InBound k → EachAfter (BoundAt k) k.entries
-each_of k is front back (entries.Answer n r (Some fault)) at = λ present calm. is.closed_first front back n r fault present at calm
+each_of k is front back (entries.Answer n r (Some fault)) at =
+    λ present calm. is.closed_first front back n r fault present at calm
 each_of k is front back (entries.Answer n r None) at = tt
 each_of k is front back (entries.Join c n) at = tt
 each_of k is front back (entries.Refuse c call cause) at = tt
@@ -36,15 +37,25 @@ each_of k is front back entries.Resume at = tt
 each_of k is front back entries.Close at = tt
 
 of_each : (k : LogState) → EachAfter (BoundAt k) k.entries → InBound k
-of_each k each = record { closed_first = λ front back n r fault present at calm. each front back (entries.Answer n r (Some fault)) at present calm }
+of_each k each = record {
+  closed_first =
+      λ front back n r fault present at calm. each front back (entries.Answer n r (Some fault)) at present calm;
+}
 
-each_block : (k : LogState) (block : List Entry) → EachAfter (BoundAt k) k.entries → AnswersInBound k block → EachAfter (BoundAt k) (k.entries ++ block)
+each_block : (k : LogState) (block : List Entry) → EachAfter (BoundAt k) k.entries → AnswersInBound k block
+    → EachAfter (BoundAt k) (k.entries ++ block)
 each_block k [] each all = subst (EachAfter (BoundAt k)) (sym (append-nil k.entries)) each
-each_block k (e ∷ block) each all = subst (EachAfter (BoundAt k)) (append_assoc k.entries (e ∷ []) block) (each_block (grown k (e ∷ [])) block (EachAfter-push (BoundAt k) k.entries e each all.0) all.1)
+each_block k (e ∷ block) each all =
+    subst (EachAfter (BoundAt k)) (append_assoc k.entries (e ∷ []) block)
+    (each_block (grown k (e ∷ [])) block (EachAfter-push (BoundAt k) k.entries e each all.0) all.1)
 
 -- an empty log is in bound
 pub empty_in_bound : (k : LogState) → k.entries ≡ [] → InBound k
-empty_in_bound k empty = record { closed_first = λ front back n r fault present at calm. absurd (not_empty front (entries.Answer n r (Some fault)) back (sym empty ∙ at)) }
+empty_in_bound k empty = record {
+  closed_first =
+      λ front back n r fault
+      present at calm. absurd (not_empty front (entries.Answer n r (Some fault)) back (sym empty ∙ at));
+}
   where
     not_empty : (front : List Entry) (x : Entry) (back : List Entry) → [] ≡ front ++ x ∷ back → ⊥
     not_empty [] x back at = cc
@@ -55,8 +66,11 @@ pub in_bound_grows : (k : LogState) (block : List Entry) → InBound k → Answe
 in_bound_grows k block is all = of_each (grown k block) (each_block k block (each_of k is) all)
 
 -- and a log after any call
-pub call_in_bound : (old : LogState) (e : Event) (r : Answer) (new : LogState) → InBound old → IsAnswered old e r new → InBound new
-call_in_bound old e r new is answered = subst InBound (sym answered.grows) (in_bound_grows old answered.block is (event_in_bound old e r answered.block answered.adds))
+pub call_in_bound : (old : LogState) (e : Event) (r : Answer) (new : LogState) → InBound old → IsAnswered old e r new
+    → InBound new
+call_in_bound old e r new is answered =
+    subst InBound (sym answered.grows)
+    (in_bound_grows old answered.block is (event_in_bound old e r answered.block answered.adds))
 
 -- all that is promised of the log of a session
 pub promised_in_bound : (k : LogState) → Legal k.opening k.entries → InBound k → Promised k

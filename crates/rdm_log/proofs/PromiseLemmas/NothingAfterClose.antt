@@ -33,20 +33,26 @@ starts_none e more one rest = record {
 one_after : (o : Opening) (h : List Entry) (e : Entry) → is_closed o h ≡ true → MayFollow o h e → NothingStarts (e ∷ [])
 unfolding joins accepts asks sends
 one_after o h (Join c n) closed may = absurd (false≢true (sym (join_passes o h n may.1).not_closed ∙ closed))
-one_after o h (Accept c n request) closed may = absurd (false≢true (sym (submit_passes o h c.0 may.1).not_closed ∙ closed))
+one_after o h (Accept c n request) closed may =
+    absurd (false≢true (sym (submit_passes o h c.0 may.1).not_closed ∙ closed))
 one_after o h (Ask c n kind) closed may = absurd (false≢true (sym (ask_passes o h c.0 may.1).not_closed ∙ closed))
 one_after o h (Send (owners.Run r) frame) closed may = absurd (false≢true (sym may.1.not_closed ∙ closed))
 one_after o h (Send (owners.Request n) frame) closed may = absurd (false≢true (sym may.1.not_closed ∙ closed))
 one_after o h _ closed may = record { no_client = refl; no_request = refl; no_discovery = refl; no_frame = refl }
 
-nothing_after : (o : Opening) (h more : List Entry) → is_closed o h ≡ true → EachAfter (MayFollow o) (h ++ more) → NothingStarts more
+nothing_after : (o : Opening) (h more : List Entry) → is_closed o h ≡ true → EachAfter (MayFollow o) (h ++ more)
+    → NothingStarts more
 unfolding joins accepts asks sends
 nothing_after o h [] closed each = record { no_client = refl; no_request = refl; no_discovery = refl; no_frame = refl }
 nothing_after o h (e ∷ more) closed each =
-    starts_none e more (one_after o h e closed (each h more e refl)) (nothing_after o (h ++ e ∷ []) more (closed_more o h e closed) (rw (append_assoc h (e ∷ []) more) each))
+    starts_none e more (one_after o h e closed (each h more e refl))
+    (nothing_after o (h ++ e ∷ []) more (closed_more o h e closed) (rw (append_assoc h (e ∷ []) more) each))
 
-starts_nothing : (o : Opening) (h : List Entry) → Legal o h → (front back : List Entry) → h ≡ front ++ Close ∷ back → NothingStarts back
-starts_nothing o h legal front back is = nothing_after o (front ++ Close ∷ []) back (is_closed-push o front Close) (rw (append_assoc front (Close ∷ []) back, ← is) legal.each)
+starts_nothing : (o : Opening) (h : List Entry) → Legal o h → (front back : List Entry) → h ≡ front ++ Close ∷ back
+    → NothingStarts back
+starts_nothing o h legal front back is =
+    nothing_after o (front ++ Close ∷ []) back (is_closed-push o front Close)
+    (rw (append_assoc front (Close ∷ []) back, ← is) legal.each)
 
 closed_from_start : (o : Opening) (h : List Entry) → Legal o h → o.closed ≡ true → NothingStarts h
 unfolding is_closed

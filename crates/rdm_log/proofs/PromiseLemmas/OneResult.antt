@@ -1,5 +1,6 @@
 -- Each accepted request has exactly one result.
-use Rattle.std.proofs.Common.{◌≡◌, ℕ, ◌+◌, ◌-◌, ◌<◌, ◌≤◌, true, false, List, length, sym, ap, ◌∙◌, arith, inl, inr, length-drop}
+use Rattle.std.proofs.Common.{◌≡◌, ℕ, ◌+◌, ◌-◌, ◌<◌, ◌≤◌, true, false, List, length, sym, ap, ◌∙◌, arith, inl, inr}
+use Rattle.std.proofs.Common.{length-drop}
 use Rattle.std.specs.Prelude.{◌⊎◌}
 use Rattle.std.specs.List.{Contains, range_with_len}
 use Rattle.std.proofs.lemmas.Bool.{cases_lt}
@@ -28,7 +29,11 @@ among a m n = by_tests (cases_lt n a) (cases_lt n (a + m))
     by_tests (inr from) (inr above) = inr (inr above)
 
 pub contains_range : (a m n : ℕ) → IsAmong a m n → Contains (range_with_len a m) n
-contains_range a m n is = (n - a, omega (arith, length-range_with_len a m, is.from, is.to), get_or-range_with_len a m (n - a) n (omega (arith, is.from, is.to)) ∙ omega (arith, is.from))
+contains_range a m n is = (
+  n - a,
+  omega (arith, length-range_with_len a m, is.from, is.to),
+  get_or-range_with_len a m (n - a) n (omega (arith, is.from, is.to)) ∙ omega (arith, is.from),
+)
 
 pub range_contains : (a m n : ℕ) → Contains (range_with_len a m) n → IsAmong a m n
 range_contains a m n has =
@@ -37,28 +42,43 @@ range_contains a m n has =
     record { from = omega arith; to = omega arith }
 
 -- a request has one result where its number is among those of the Finishes, else none
-counted : (o : Opening) (h : List Entry) → LogFacts o h → (n : ℕ) → IsAmong o.next_request (length (finishes h)) n → result_count n h ≡ 1
-counted o h facts n is = rw (finished_in_order o h facts) (count_within n o.next_request (length (finishes h)) is.from is.to)
+counted : (o : Opening) (h : List Entry) → LogFacts o h → (n : ℕ) → IsAmong o.next_request (length (finishes h)) n
+    → result_count n h ≡ 1
+counted o h facts n is =
+    rw (finished_in_order o h facts) (count_within n o.next_request (length (finishes h)) is.from is.to)
 
-not_counted : (o : Opening) (h : List Entry) → LogFacts o h → (n : ℕ) → (n < o.next_request) ⊎ (o.next_request + length (finishes h) ≤ n) → result_count n h ≡ 0
-not_counted o h facts n out = rw (finished_in_order o h facts) (count_outside n o.next_request (length (finishes h)) out)
+not_counted : (o : Opening) (h : List Entry) → LogFacts o h → (n : ℕ) → (n < o.next_request)
+    ⊎ (o.next_request + length (finishes h) ≤ n) → result_count n h ≡ 0
+not_counted o h facts n out =
+    rw (finished_in_order o h facts) (count_outside n o.next_request (length (finishes h)) out)
 
 at_most_one : (o : Opening) (h : List Entry) → LogFacts o h → (n : ℕ) → result_count n h ≤ 1
 at_most_one o h facts n = by_place (among o.next_request (length (finishes h)) n)
   where
-    by_place : IsAmong o.next_request (length (finishes h)) n ⊎ ((n < o.next_request) ⊎ (o.next_request + length (finishes h) ≤ n)) → result_count n h ≤ 1
+    by_place : IsAmong o.next_request (length (finishes h)) n
+        ⊎ ((n < o.next_request) ⊎ (o.next_request + length (finishes h) ≤ n)) → result_count n h ≤ 1
     by_place (inl is) = omega (arith, counted o h facts n is)
     by_place (inr out) = omega (arith, not_counted o h facts n out)
 
-was_accepted : (o : Opening) (h : List Entry) → LogFacts o h → (n : ℕ) → 0 < result_count n h → Contains (numbers_accepted (accepts h)) n
+was_accepted : (o : Opening) (h : List Entry) → LogFacts o h → (n : ℕ) → 0 < result_count n h
+    → Contains (numbers_accepted (accepts h)) n
 was_accepted o h facts n some = by_place (among o.next_request (length (finishes h)) n)
   where
-    by_place : IsAmong o.next_request (length (finishes h)) n ⊎ ((n < o.next_request) ⊎ (o.next_request + length (finishes h) ≤ n)) → Contains (numbers_accepted (accepts h)) n
-    by_place (inl is) = rw (accepted_in_order o h facts) (contains_range o.next_request (length (accepts h)) n (record { from = is.from; to = omega (arith, is.to, facts.finished_within) }))
+    by_place : IsAmong o.next_request (length (finishes h)) n
+        ⊎ ((n < o.next_request) ⊎ (o.next_request + length (finishes h) ≤ n))
+        → Contains (numbers_accepted (accepts h)) n
+    by_place (inl is) = rw (accepted_in_order o h facts) (contains_range o.next_request (length (accepts h)) n (record {
+      from = is.from;
+      to = omega (arith, is.to, facts.finished_within);
+    }))
     by_place (inr out) = absurd (omega (arith, not_counted o h facts n out))
 
-exactly_one : (o : Opening) (h : List Entry) → Legal o h → is_closed o h ≡ true → awaited h ≡ false → (n : ℕ) → Contains (numbers_accepted (accepts h)) n → result_count n h ≡ 1
-exactly_one o h legal closed idle n has = counted o h facts n (record { from = is.from; to = omega (arith, is.to, all) })
+exactly_one : (o : Opening) (h : List Entry) → Legal o h → is_closed o h ≡ true → awaited h ≡ false → (n : ℕ)
+    → Contains (numbers_accepted (accepts h)) n → result_count n h ≡ 1
+exactly_one o h legal closed idle n has = counted o h facts n (record {
+  from = is.from;
+  to = omega (arith, is.to, all);
+})
   where
     facts : LogFacts o h
     facts = legal_facts o h legal.each
@@ -67,7 +87,17 @@ exactly_one o h legal closed idle n has = counted o h facts n (record { from = i
     is = range_contains o.next_request (length (accepts h)) n (rw (accepted_in_order o h facts) at has)
 
     all : length (accepts h) ≤ length (finishes h)
-    all = omega (arith, length-drop (length (finishes h)) (accepts h), ap length (legal.settled.all_closed closed idle).0)
+    all = omega (
+      arith,
+      length-drop (length (finishes h)) (accepts h),
+      ap length (legal.settled.all_closed closed idle).0,
+    )
 
 pub one_result : (o : Opening) (h : List Entry) → Legal o h → OneResult o h
-one_result o h legal = let facts = legal_facts o h legal.each in record { at_most_one = at_most_one o h facts; accepted = was_accepted o h facts; exactly_one = exactly_one o h legal }
+one_result o h legal =
+    let facts = legal_facts o h legal.each in
+    record {
+      at_most_one = at_most_one o h facts;
+      accepted = was_accepted o h facts;
+      exactly_one = exactly_one o h legal;
+    }

@@ -1,5 +1,7 @@
 -- Each result is the joined answer of the request's own exchanges.
-use Rattle.std.proofs.Common.{◌≡◌, ℕ, ◌+◌, ◌<◌, ◌≤◌, Bool, true, false, List, [], ◌∷◌, ◌++◌, length, take, map, Option, Some, None, Result, Ok, Err, slice_get, if◌then◌else◌, refl, sym, ap, ◌∙◌, inl, inr, arith, append-nil, append_assoc, length-append}
+use Rattle.std.proofs.Common.{◌≡◌, ℕ, ◌+◌, ◌<◌, ◌≤◌, Bool, true, false, List, [], ◌∷◌, ◌++◌, length, take, map, Option}
+use Rattle.std.proofs.Common.{Some, None, Result, Ok, Err, slice_get, if◌then◌else◌, refl, sym, ap, ◌∙◌, inl, inr}
+use Rattle.std.proofs.Common.{arith, append-nil, append_assoc, length-append}
 use Rattle.std.specs.Prelude.{◌≢◌, ◌&&◌, not, ◌==◌, option_map}
 use Rattle.std.proofs.lemmas.Bool.{false≢true}
 use Rattle.std.proofs.lemmas.Option.{none-some, same_Some, slice_get-map}
@@ -21,7 +23,8 @@ use Rattle.rdm_join.specs.declared.verdict.Judged.TheVariants.{Whole, Part, Ende
 use Rattle.rdm_join.specs.declared.status.Status.{Status}
 use Rattle.rdm_join.specs.declared.status.Status.TheVariants.{Completed, FailedToSend, NoMemory}
 use Rattle.rdm_join.specs.declared.status.Status.TheVariants as statuses
-use Rattle.rdm_join.specs.Verdict.{answers_class, verdict_of_type, verdict_of_packet, verdict_of_bytes, verdict, sent_by}
+use Rattle.rdm_join.specs.Verdict.{answers_class, verdict_of_type, verdict_of_packet, verdict_of_bytes, verdict}
+use Rattle.rdm_join.specs.Verdict.{sent_by}
 use Rattle.rdm_join.specs.Result.{Joined, decides, decides_option, IsResult}
 use Rattle.rdm_join.proofs.Determined.{meets, only}
 use Rattle.rdm_log.specs.declared.entry.Opening.{Opening}
@@ -57,7 +60,9 @@ either true v w one other = one
 either false v w one other = other
 
 of_type : (r : Response) (ack : AckType) → IsFromLine (verdict_of_type r ack)
-of_type r Overflow = either (code_of_class r.class == 0x21) (Part r) (Ended statuses.InvalidResponse) (record { without = refl }) (with_status statuses.InvalidResponse refl)
+of_type r Overflow =
+    either (code_of_class r.class == 0x21) (Part r) (Ended statuses.InvalidResponse) (record { without = refl })
+    (with_status statuses.InvalidResponse refl)
 of_type r Ack = record { without = refl }
 of_type r Timer = record { without = refl }
 of_type r Nack = record { without = refl }
@@ -81,7 +86,8 @@ of_tests false false false false false false v from = from
 of_packet : (sent : Sent) (packet : Result Response PacketFault) → IsFromLine (verdict_of_packet sent packet)
 of_packet sent (Ok r) = of_tests
     (not (r.tn == sent.tn))
-    (not (r.sub_device == sent.sub_device) && not (sent.sub_device == ALL_SUB_DEVICES) && not (sent.pid == QUEUED_MESSAGE))
+    (not (r.sub_device == sent.sub_device) && not (sent.sub_device == ALL_SUB_DEVICES)
+    && not (sent.pid == QUEUED_MESSAGE))
     (not (r.source == sent.target))
     (not (r.dest == sent.source))
     (not (answers_class sent r.class))
@@ -110,7 +116,8 @@ record IsAnswer (j : Joined) : Type 0 where
   remembered : is_no_memory j.status ≡ false
   no_data : j.status ≢ Completed → j.data_ ≡ []
 
-one_of : (b : Bool) (one other j : Joined) → (if b then Some one else Some other) ≡ Some j → IsAnswer one → IsAnswer other → IsAnswer j
+one_of : (b : Bool) (one other j : Joined) → (if b then Some one else Some other) ≡ Some j → IsAnswer one
+    → IsAnswer other → IsAnswer j
 one_of true one other j e is_one is_other = rw (same_Some one j e) at is_one
 one_of false one other j e is_one is_other = rw (same_Some other j e) at is_other
 
@@ -121,12 +128,17 @@ one_or_none false one j e is = absurd (none-some j e)
 no_answer_data : (s : Status) → is_no_memory s ≡ false → IsAnswer (record { status = s; data_ = []; head = None })
 no_answer_data s not = record { remembered = not; no_data = λ other. refl }
 
-decided_answer : (before : List Judged) (v : Judged) (j : Joined) → IsFromLine v → decides before v ≡ Some j → IsAnswer j
+decided_answer : (before : List Judged) (v : Judged) (j : Joined) → IsFromLine v → decides before v ≡ Some j
+    → IsAnswer j
 decided_answer before (Ended s) j from e = rw (same_Some _ j e) at (no_answer_data s from.without)
-decided_answer before (Whole r) j from e = one_of _ _ _ j e (no_answer_data _ refl) (record { remembered = refl; no_data = λ other. absurd (other refl) })
+decided_answer before (Whole r) j from e = one_of _ _ _ j e (no_answer_data _ refl) (record {
+  remembered = refl;
+  no_data = λ other. absurd (other refl);
+})
 decided_answer before (Part r) j from e = one_or_none _ _ j e (no_answer_data _ refl)
 
-decided_at : (before : List Judged) (ts : List Traded) (i : ℕ) (j : Joined) → decides_option before (slice_get (map verdict_on ts) i) ≡ Some j → IsAnswer j
+decided_at : (before : List Judged) (ts : List Traded) (i : ℕ) (j : Joined)
+    → decides_option before (slice_get (map verdict_on ts) i) ≡ Some j → IsAnswer j
 decided_at before ts i j e = by_place (slice_get ts i) (rw (slice_get-map verdict_on ts i) at e)
   where
     by_place : (t : Option Traded) → decides_option before (option_map verdict_on t) ≡ Some j → IsAnswer j
@@ -140,7 +152,8 @@ result_is_answer h n j is = decided_at (take is.at (verdicts n h)) (of_request n
 told_memory : (s : Status) → is_no_memory s ≡ false → s ≡ NoMemory → ⊥
 told_memory s other is = false≢true (sym other ∙ ap is_no_memory is)
 
-fits_answer : (o : Opening) (h : List Entry) (n : ℕ) (status : Status) (len : ℕ) (r : Option Joined) → result n h ≡ r → FitsResult (IsClosing o h) r status len → OwnAnswer o h n status len
+fits_answer : (o : Opening) (h : List Entry) (n : ℕ) (status : Status) (len : ℕ) (r : Option Joined) → result n h ≡ r
+    → FitsResult (IsClosing o h) r status len → OwnAnswer o h n status len
 unfolding result
 fits_answer o h n status len None is fits = record {
   decided = λ j decides. absurd (none-some j (sym is ∙ only (verdicts n h) j decides));
@@ -161,7 +174,8 @@ fits_answer o h n status len (Some k) is fits = record {
     answer : IsAnswer k
     answer = result_is_answer h n k decides_k
 
-    by_fit_memory : Tells k status len → status ≡ NoMemory → (j : Joined) × IsResult (verdicts n h) j × (j.status ≡ Completed) × (j.data_ ≢ [])
+    by_fit_memory : Tells k status len → status ≡ NoMemory → (j : Joined) × IsResult (verdicts n h) j
+        × (j.status ≡ Completed) × (j.data_ ≢ [])
     by_fit_memory (inl own) memory = absurd (told_memory k.status answer.remembered (sym own.0 ∙ memory))
     by_fit_memory (inr wanted) memory = (k, decides_k, wanted.1, wanted.2)
 
@@ -171,16 +185,23 @@ fits_answer o h n status len (Some k) is fits = record {
 
 -- what follows changes no finished request's result
 more_finishes : (h : List Entry) (e : Entry) → length (finishes h) ≤ length (finishes (h ++ e ∷ []))
-more_finishes h e = omega (arith, ap length (finishes-append h (e ∷ [])), length-append (finishes h) (finishes (e ∷ [])))
+more_finishes h e =
+    omega (arith, ap length (finishes-append h (e ∷ [])), length-append (finishes h) (finishes (e ∷ [])))
 
-pub finished_stays : (o : Opening) (h more : List Entry) (n : ℕ) → EachAfter (MayFollow o) (h ++ more) → n < o.next_request + length (finishes h) → result n (h ++ more) ≡ result n h
+pub finished_stays : (o : Opening) (h more : List Entry) (n : ℕ) → EachAfter (MayFollow o) (h ++ more)
+    → n < o.next_request + length (finishes h) → result n (h ++ more) ≡ result n h
 finished_stays o h [] n each finished = rw append-nil refl
 finished_stays o h (e ∷ more) n each finished =
-    rw (append_assoc h (e ∷ []) more) at (finished_stays o (h ++ e ∷ []) more n (rw (append_assoc h (e ∷ []) more) each) (omega (arith, more_finishes h e)))
+    rw (append_assoc h (e ∷ []) more) at (finished_stays o (h ++ e ∷ []) more n (rw (append_assoc h (e ∷ []) more) each)
+    (omega (arith, more_finishes h e)))
     ∙ result_step o h e (front o h (e ∷ more) each) (each h more e refl) n (λ same. omega arith)
 
-result_stays : (o : Opening) (h : List Entry) → Legal o h → (before back : List Entry) (n : ℕ) (status : Status) (len : ℕ) → h ≡ before ++ Finish n status len ∷ back → result n h ≡ result n before
-result_stays o h legal before back n status len is = ap (result n) (is ∙ sym (append_assoc before (e ∷ []) back)) ∙ finished_stays o (before ++ e ∷ []) back n all within ∙ result_same before (before ++ e ∷ []) n (sends_same before e refl) (cames_same before e refl)
+result_stays : (o : Opening) (h : List Entry) → Legal o h
+    → (before back : List Entry) (n : ℕ) (status : Status) (len : ℕ) → h ≡ before ++ Finish n status len ∷ back
+    → result n h ≡ result n before
+result_stays o h legal before back n status len is =
+    ap (result n) (is ∙ sym (append_assoc before (e ∷ []) back)) ∙ finished_stays o (before ++ e ∷ []) back n all within
+    ∙ result_same before (before ++ e ∷ []) n (sends_same before e refl) (cames_same before e refl)
   where
     e : Entry
     e = Finish n status len
@@ -196,10 +217,17 @@ result_stays o h legal before back n status len is = ap (result n) (is ∙ sym (
 
     within : n < o.next_request + length (finishes (before ++ e ∷ []))
     within = let facts = legal_facts o before (front o before (e ∷ []) (front o (before ++ e ∷ []) back all)) in
-        omega (arith, may.number, unfinished_number o before facts 0 may.accepted may.oldest, ap length (finishes_more before e f refl), length_push (finishes before) f)
+        omega (
+          arith,
+          may.number,
+          unfinished_number o before facts 0 may.accepted may.oldest,
+          ap length (finishes_more before e f refl),
+          length_push (finishes before) f,
+        )
 
 pub own_answers : (o : Opening) (h : List Entry) → Legal o h → OwnAnswers o h
 own_answers o h legal = record {
-  told = λ front back n status len is. let may = legal.each front back (Finish n status len) is in fits_answer o front n status len (result n front) refl may.fits;
+  told = λ front back n status len is. let may = legal.each front back (Finish n status len) is in
+      fits_answer o front n status len (result n front) refl may.fits;
   stays = result_stays o h legal;
 }

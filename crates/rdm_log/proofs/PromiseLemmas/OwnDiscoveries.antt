@@ -1,5 +1,6 @@
 -- A client is answered what it asked, and refused only where it has four discoveries outstanding.
-use Rattle.std.proofs.Common.{◌≡◌, ℕ, ◌-◌, ◌≤◌, Bool, true, false, List, [], ◌∷◌, map, Option, Some, None, slice_get, filter_map, if◌then◌else◌, refl, sym, ap, ◌∙◌, inl, inr, arith, zero, suc, ◌++◌}
+use Rattle.std.proofs.Common.{◌≡◌, ℕ, ◌-◌, ◌≤◌, Bool, true, false, List, [], ◌∷◌, map, Option, Some, None, slice_get}
+use Rattle.std.proofs.Common.{filter_map, if◌then◌else◌, refl, sym, ap, ◌∙◌, inl, inr, arith, zero, suc, ◌++◌}
 use Rattle.std.specs.Prelude.{◌⊎◌, ◌||◌, option_map, nat_le, ◌==◌}
 use Rattle.std.specs.List.{Contains, cons_option, list_any}
 use Rattle.std.proofs.lemmas.Bool.{eq-eqb, le-leb, leb-false, leb-true, lt-leb, or_cases, or_left, or_right}
@@ -23,10 +24,12 @@ use Rattle.rdm_log.specs.log.Runs.{is_answered}
 use Rattle.rdm_log.specs.log.Legal.{MayFollow, Legal}
 use Rattle.rdm_log.specs.promises.Outcomes.{outcome_of, completion_of}
 use Rattle.rdm_log.specs.promises.Outcomes.OutcomeValue.{RequestValue}
-use Rattle.rdm_log.specs.promises.Discoveries.{HasMostDiscoveries, OwnDiscoveries, FullRefusesDiscoveries, DiscoveriesPromised}
+use Rattle.rdm_log.specs.promises.Discoveries.{HasMostDiscoveries, OwnDiscoveries, FullRefusesDiscoveries}
+use Rattle.rdm_log.specs.promises.Discoveries.{DiscoveriesPromised}
 use Rattle.rdm_log.proofs.LogLemmas.AskFacts.{AskFacts, ask_facts}
 use Rattle.rdm_log.proofs.LogLemmas.Places.{filter_map_has}
-use Rattle.rdm_log.proofs.PromiseLemmas.StableResults.{contains_from_get, IsFinish, IsReply, answer_at, filter_has, client_is}
+use Rattle.rdm_log.proofs.PromiseLemmas.StableResults.{contains_from_get, IsFinish, IsReply, answer_at, filter_has}
+use Rattle.rdm_log.proofs.PromiseLemmas.StableResults.{client_is}
 use Rattle.rdm_log.proofs.PromiseLemmas.OwnAnswers.{finished_stays}
 use Rattle.rdm_log.proofs.LogLemmas.LegalFacts.{legal_facts}
 use Rattle.rdm_log.proofs.LogLemmas.Grows.{front}
@@ -47,27 +50,52 @@ record IsAsk (e : Entry) (a : AskedDiscovery) : Type 0 where
   is : e ≡ Ask client a.number a.kind
 
 ask_of : (e : Entry) (a : AskedDiscovery) → asked_of e ≡ Some a → IsAsk e a
-ask_of (Ask c n kind) a is = let same = same_Some (record { client = c.0; number = n; kind = kind }) a is in record { client = c; same_client = ap (λ (x : AskedDiscovery). x.client) same; is = rw (← same) refl }
+ask_of (Ask c n kind) a is =
+    let same = same_Some (record { client = c.0; number = n; kind = kind }) a is in
+    record { client = c; same_client = ap (λ (x : AskedDiscovery). x.client) same; is = rw (← same) refl }
 ask_of _ a is = cc
 
 ask_in : (h : List Entry) (i : ℕ) (a : AskedDiscovery) → slice_get (filter_map asked_of h) i ≡ Some a → IsAskAt h a
 ask_in [] i a at = absurd (none-some a at)
 ask_in (e ∷ h) i a at = by_entry (asked_of e) refl i at (ask_in h)
   where
-    by_entry : (b : Option AskedDiscovery) → asked_of e ≡ b → (j : ℕ) → slice_get (cons_option b (filter_map asked_of h)) j ≡ Some a → ((j : ℕ) (x : AskedDiscovery) → slice_get (filter_map asked_of h) j ≡ Some x → IsAskAt h x) → IsAskAt (e ∷ h) a
-    by_entry None is j here later = let rest = later j a here in record { place = suc rest.place; client = rest.client; same_client = rest.same_client; stands = rest.stands }
-    by_entry (Some b) is zero here later = let one = ask_of e a (is ∙ here) in record { place = 0; client = one.client; same_client = one.same_client; stands = ap (λ (x : Entry). Some x) one.is }
-    by_entry (Some b) is (suc j) here later = let rest = later j a here in record { place = suc rest.place; client = rest.client; same_client = rest.same_client; stands = rest.stands }
+    by_entry : (b : Option AskedDiscovery) → asked_of e ≡ b → (j : ℕ)
+        → slice_get (cons_option b (filter_map asked_of h)) j ≡ Some a
+        → ((j : ℕ) (x : AskedDiscovery) → slice_get (filter_map asked_of h) j ≡ Some x → IsAskAt h x)
+        → IsAskAt (e ∷ h) a
+    by_entry None is j here later =
+        let rest = later j a here in
+        record { place = suc rest.place; client = rest.client; same_client = rest.same_client; stands = rest.stands }
+    by_entry (Some b) is zero here later =
+        let one = ask_of e a (is ∙ here) in
+        record {
+          place = 0;
+          client = one.client;
+          same_client = one.same_client;
+          stands = ap (λ (x : Entry). Some x) one.is;
+        }
+    by_entry (Some b) is (suc j) here later =
+        let rest = later j a here in
+        record { place = suc rest.place; client = rest.client; same_client = rest.same_client; stands = rest.stands }
 
 -- the Ask of an Answer to a client
-mapped_place : {X Y : Type 0} (f : X → Y) (xs : List X) (i : ℕ) (y : Y) → slice_get (map f xs) i ≡ Some y → (x : X) × (slice_get xs i ≡ Some x) × (f x ≡ y)
+mapped_place : {X Y : Type 0} (f : X → Y) (xs : List X) (i : ℕ) (y : Y) → slice_get (map f xs) i ≡ Some y → (x : X)
+    × (slice_get xs i ≡ Some x) × (f x ≡ y)
 mapped_place f [] i y at = absurd (none-some y at)
 mapped_place f (x ∷ xs) zero y at = (x, refl, same_Some (f x) y at)
 mapped_place f (x ∷ xs) (suc i) y at = mapped_place f xs i y at
 
-asked_by : (o : Opening) (h : List Entry) → Legal o h → (c n r : ℕ) (fault : Option AgentFault) → Contains (answers_to o c h) (Answer n r fault) → AskFacts o h → (client : ClientId) × (kind : Kind) × (client.0 ≡ c) × Contains h (Ask client n kind)
+asked_by : (o : Opening) (h : List Entry) → Legal o h → (c n r : ℕ) (fault : Option AgentFault)
+    → Contains (answers_to o c h) (Answer n r fault) → AskFacts o h → (client : ClientId) × (kind : Kind)
+    × (client.0 ≡ c) × Contains h (Ask client n kind)
 unfolding answers_to asks answers
-asked_by o h legal c n r fault has facts = (ask.client, a.0.kind, ask.same_client ∙ a.2, contains_from_get h ask.place (Ask ask.client n a.0.kind) (ask.stands ∙ ap (λ m. Some (Ask ask.client m a.0.kind)) (number_is)))
+asked_by o h legal c n r fault has facts = (
+  ask.client,
+  a.0.kind,
+  ask.same_client ∙ a.2,
+  contains_from_get h ask.place (Ask ask.client n a.0.kind)
+      (ask.stands ∙ ap (λ m. Some (Ask ask.client m a.0.kind)) (number_is)),
+)
   where
     at : slice_get (answers_to o c h) has.0 ≡ Some (Answer n r fault)
     at = slice_get-get_or (answers_to o c h) has.0 (Answer n r fault) has.1 ∙ ap (λ y. Some y) has.2
@@ -85,35 +113,55 @@ asked_by o h legal c n r fault has facts = (ask.client, a.0.kind, ask.same_clien
     ask = ask_in h (n - o.next_ask) a.0 a.1
 
     number_is : a.0.number ≡ n
-    number_is = by_place (filter_map_has answered_of h own.0 (Answer n r fault) (record { number = n; run = r; fault = fault }) own.1 refl)
+    number_is = by_place
+        (filter_map_has answered_of h own.0 (Answer n r fault) (record { number = n; run = r; fault = fault }) own.1
+        refl)
       where
-        by_place : (j : ℕ) × (slice_get (filter_map answered_of h) j ≡ Some (record { number = n; run = r; fault = fault })) → a.0.number ≡ n
-        by_place found = omega (arith, facts.answer_numbers found.0 _ found.1, facts.ask_numbers (n - o.next_ask) a.0 a.1)
+        by_place : (j : ℕ)
+            × (slice_get (filter_map answered_of h) j ≡ Some (record { number = n; run = r; fault = fault }))
+            → a.0.number ≡ n
+        by_place found =
+            omega (arith, facts.answer_numbers found.0 _ found.1, facts.ask_numbers (n - o.next_ask) a.0 a.1)
 
 -- a run that an Answer of the log names is answered
-answered_from : (h : List Entry) (j n r : ℕ) (fault : Option AgentFault) → slice_get h j ≡ Some (Answer n r fault) → is_answered r h ≡ true
+answered_from : (h : List Entry) (j n r : ℕ) (fault : Option AgentFault) → slice_get h j ≡ Some (Answer n r fault)
+    → is_answered r h ≡ true
 unfolding answers
 answered_from h j n r fault at = by_place (filter_map_has answered_of h j (Answer n r fault) b at refl)
   where
     b : Answered
     b = record { number = n; run = r; fault = fault }
 
-    by_place : (i : ℕ) × (slice_get (filter_map answered_of h) i ≡ Some b) → list_any (λ x. x.run == r) (filter_map answered_of h) ≡ true
-    by_place found = list_any_at (λ x. x.run == r) (filter_map answered_of h) found.0 b (slice_get_within (filter_map answered_of h) found.0 b found.1) (rw (get_or_from_slice_get (filter_map answered_of h) found.0 b b found.1) (eq-eqb r r refl))
+    by_place : (i : ℕ) × (slice_get (filter_map answered_of h) i ≡ Some b)
+        → list_any (λ x. x.run == r) (filter_map answered_of h) ≡ true
+    by_place found =
+        list_any_at (λ x. x.run == r) (filter_map answered_of h) found.0 b
+        (slice_get_within (filter_map answered_of h) found.0 b found.1)
+        (rw (get_or_from_slice_get (filter_map answered_of h) found.0 b b found.1) (eq-eqb r r refl))
 
 -- the outcome of a client's answer stays
-pub outcome_stays : (o : Opening) (front back : List Entry) → EachAfter (MayFollow o) (front ++ back) → (c i : ℕ) (x : Entry) → slice_get (answers_to o c front) i ≡ Some x → outcome_of (front ++ back) x ≡ outcome_of front x
+pub outcome_stays : (o : Opening) (front back : List Entry) → EachAfter (MayFollow o) (front ++ back)
+    → (c i : ℕ) (x : Entry) → slice_get (answers_to o c front) i ≡ Some x
+    → outcome_of (front ++ back) x ≡ outcome_of front x
 unfolding answers_to
-outcome_stays o early back each c i x at = by_kind (answer_at o early (legal_facts o early (front o early back each)) c found.0 x found.1 found.2)
+outcome_stays o early back each c i x at =
+    by_kind (answer_at o early (legal_facts o early (front o early back each)) c found.0 x found.1 found.2)
   where
     found : (j : ℕ) × (slice_get early j ≡ Some x) × (is_answer_to o c early x ≡ true)
     found = filter_has (is_answer_to o c early) early i x at
 
-    of_finish : (f : IsFinish o early x) → outcome_of (early ++ back) (Finish f.number f.status f.len) ≡ outcome_of early (Finish f.number f.status f.len)
-    of_finish f = ap (λ r. Some (RequestValue (Some f.number) (completion_of f.status r))) (finished_stays o early back f.number each f.finished)
+    of_finish : (f : IsFinish o early x)
+        → outcome_of (early ++ back) (Finish f.number f.status f.len)
+        ≡ outcome_of early (Finish f.number f.status f.len)
+    of_finish f =
+        ap (λ r. Some (RequestValue (Some f.number) (completion_of f.status r)))
+        (finished_stays o early back f.number each f.finished)
 
-    of_reply : (g : IsReply x) → outcome_of (early ++ back) (Answer g.number g.run g.fault) ≡ outcome_of early (Answer g.number g.run g.fault)
-    of_reply g = rw (exchanges_stay o early back g.run each (answered_from early found.0 g.number g.run g.fault (found.1 ∙ ap (λ (y : Entry). Some y) g.is))) refl
+    of_reply : (g : IsReply x)
+        → outcome_of (early ++ back) (Answer g.number g.run g.fault) ≡ outcome_of early (Answer g.number g.run g.fault)
+    of_reply g =
+        rw (exchanges_stay o early back g.run each
+        (answered_from early found.0 g.number g.run g.fault (found.1 ∙ ap (λ (y : Entry). Some y) g.is))) refl
 
     by_kind : IsFinish o early x ⊎ IsReply x → outcome_of (early ++ back) x ≡ outcome_of early x
     by_kind (inl f) = ap (outcome_of (early ++ back)) f.is ∙ of_finish f ∙ sym (ap (outcome_of early) f.is)
@@ -126,14 +174,22 @@ own_discoveries o h legal = record {
 }
 
 -- a client has as many discoveries as it may exactly when that is a discover's first fault
-first_two_pass : (closed unknown full : Bool) → (if closed then Some faults.Closed else (if unknown then Some faults.UnknownClient else (if full then Some faults.Full else None))) ≡ Some faults.Full → (closed ≡ false) × (unknown ≡ false) × (full ≡ true)
+first_two_pass : (closed unknown full : Bool)
+    → (if closed then Some faults.Closed else
+    (if unknown then Some faults.UnknownClient else (if full then Some faults.Full else None))) ≡ Some faults.Full
+    → (closed ≡ false) × (unknown ≡ false) × (full ≡ true)
 first_two_pass true unknown full e = cc
 first_two_pass false true full e = cc
 first_two_pass false false true e = (refl, refl, refl)
 first_two_pass false false false e = cc
 
-pub most_is_fault : (o : Opening) (h : List Entry) (c : ℕ) → ask_fault o h c ≡ Some faults.Full → HasMostDiscoveries o h c
-most_is_fault o h c is = record { not_closed = tests.0; known = leb-false (next_client o h) c tests.1; full = by_test (or_cases four numbers_out tests.2) }
+pub most_is_fault : (o : Opening) (h : List Entry) (c : ℕ) → ask_fault o h c ≡ Some faults.Full
+    → HasMostDiscoveries o h c
+most_is_fault o h c is = record {
+  not_closed = tests.0;
+  known = leb-false (next_client o h) c tests.1;
+  full = by_test (or_cases four numbers_out tests.2);
+}
   where
     four : Bool
     four = nat_le 4 (outstanding_discoveries o c h)
@@ -144,18 +200,22 @@ most_is_fault o h c is = record { not_closed = tests.0; known = leb-false (next_
     tests : (is_closed o h ≡ false) × (nat_le (next_client o h) c ≡ false) × ((four || numbers_out) ≡ true)
     tests = first_two_pass (is_closed o h) (nat_le (next_client o h) c) (four || numbers_out) is
 
-    by_test : (four ≡ true) ⊎ (numbers_out ≡ true) → (4 ≤ outstanding_discoveries o c h) ⊎ (18446744073709551614 ≤ next_ask o h)
+    by_test : (four ≡ true) ⊎ (numbers_out ≡ true) → (4 ≤ outstanding_discoveries o c h)
+        ⊎ (18446744073709551614 ≤ next_ask o h)
     by_test (inl many) = inl (leb-true 4 (outstanding_discoveries o c h) many)
     by_test (inr out) = inr (leb-true 18446744073709551614 (next_ask o h) out)
 
-pub fault_is_most : (o : Opening) (h : List Entry) (c : ℕ) → HasMostDiscoveries o h c → ask_fault o h c ≡ Some faults.Full
+pub fault_is_most : (o : Opening) (h : List Entry) (c : ℕ) → HasMostDiscoveries o h c
+    → ask_fault o h c ≡ Some faults.Full
 fault_is_most o h c is = rw (is.not_closed, lt-leb (next_client o h) c is.known, is_true is.full) refl
   where
-    is_true : (4 ≤ outstanding_discoveries o c h) ⊎ (18446744073709551614 ≤ next_ask o h) → (nat_le 4 (outstanding_discoveries o c h) || nat_le 18446744073709551614 (next_ask o h)) ≡ true
+    is_true : (4 ≤ outstanding_discoveries o c h) ⊎ (18446744073709551614 ≤ next_ask o h)
+        → (nat_le 4 (outstanding_discoveries o c h) || nat_le 18446744073709551614 (next_ask o h)) ≡ true
     is_true (inl many) = or_left _ _ (le-leb _ _ many)
     is_true (inr out) = or_right _ _ (le-leb _ _ out)
 
-third_fault : (fault : Option AskFault) (cause : ℕ) → option_map number_of_ask_fault fault ≡ Some cause → cause ≡ 3 → fault ≡ Some faults.Full
+third_fault : (fault : Option AskFault) (cause : ℕ) → option_map number_of_ask_fault fault ≡ Some cause → cause ≡ 3
+    → fault ≡ Some faults.Full
 third_fault None cause is three = cc
 third_fault (Some faults.Closed) cause is three = absurd (omega (arith, same_Some 1 cause is))
 third_fault (Some faults.UnknownClient) cause is three = absurd (omega (arith, same_Some 2 cause is))
@@ -164,8 +224,11 @@ third_fault (Some faults.LogFull) cause is three = absurd (omega (arith, same_So
 
 pub full_refuses : (o : Opening) (h : List Entry) → Legal o h → FullRefusesDiscoveries o h
 full_refuses o h legal = record {
-  refused = λ front back c kind cause is full. most_is_fault o front c.0 (third_fault (ask_fault o front c.0) cause.0 (legal.each front back (Refuse (Some c) (calls.Discover kind) cause) is).1 full);
-  accepted = λ front back c n kind is full. absurd (passed (sym (fault_is_most o front c.0 full) ∙ (legal.each front back (Ask c n kind) is).1));
+  refused = λ front back c kind cause is full. most_is_fault o front c.0
+      (third_fault (ask_fault o front c.0) cause.0
+      (legal.each front back (Refuse (Some c) (calls.Discover kind) cause) is).1 full);
+  accepted = λ front back c n kind is
+      full. absurd (passed (sym (fault_is_most o front c.0 full) ∙ (legal.each front back (Ask c n kind) is).1));
 }
   where
     passed : Some faults.Full ≡ None → ⊥

@@ -1,5 +1,6 @@
 -- A client collects the joined answers of its own requests, and what the runs of its own discoveries found.
-use Rattle.std.proofs.Common.{◌≡◌, ℕ, suc, ◌-◌, ◌<◌, true, List, ◌∷◌, ◌++◌, length, map, take, drop, Option, Some, None, slice_get, sym, ap, ◌∙◌, inl, inr, arith}
+use Rattle.std.proofs.Common.{◌≡◌, ℕ, suc, ◌-◌, ◌<◌, true, List, ◌∷◌, ◌++◌, length, map, take, drop, Option, Some, None}
+use Rattle.std.proofs.Common.{slice_get, sym, ap, ◌∙◌, inl, inr, arith}
 use Rattle.std.specs.Prelude.{◌⊎◌}
 use Rattle.std.proofs.lemmas.List.{length-map}
 use Rattle.std.proofs.lemmas.List.Elements.{Contains-append_left}
@@ -16,73 +17,107 @@ use Rattle.rdm_log.specs.log.Runs.{answer_devices}
 use Rattle.rdm_log.specs.log.Clients.{client_of_request, client_of_discovery, is_answer_to}
 use Rattle.rdm_log.specs.log.Legal.{MayFollow, Legal}
 use Rattle.rdm_log.specs.promises.Blocks.{IsOldest}
-use Rattle.rdm_log.specs.promises.Outcomes.{OutcomeValue, Discovered, completion_value, discovered, outcome_value, outcome_of, completion_of, discovered_by}
+use Rattle.rdm_log.specs.promises.Outcomes.{OutcomeValue, Discovered, completion_value, discovered, outcome_value}
+use Rattle.rdm_log.specs.promises.Outcomes.{outcome_of, completion_of, discovered_by}
 use Rattle.rdm_log.specs.promises.Outcomes.OutcomeValue.{RequestValue, DiscoveryValue}
 use Rattle.rdm_log.specs.promises.Discoveries.{TellsTheLine}
 use Rattle.rdm_log.specs.promises.EventsHeadline.{IsOwnReport, IsOwnOutcome, ReportsTheLine}
 use Rattle.rdm_log.proofs.LogLemmas.Grows.{front}
 use Rattle.rdm_log.proofs.LogLemmas.LegalFacts.{legal_facts}
 use Rattle.rdm_log.proofs.LogLemmas.ClientLemmas.{client_stays, asker_stays}
-use Rattle.rdm_log.proofs.PromiseLemmas.StableResults.{contains_from_get, client_is, IsFinish, IsReply, uncollected_found, uncollected_answer}
+use Rattle.rdm_log.proofs.PromiseLemmas.StableResults.{contains_from_get, client_is, IsFinish, IsReply}
+use Rattle.rdm_log.proofs.PromiseLemmas.StableResults.{uncollected_found, uncollected_answer}
 use Rattle.rdm_log.proofs.PromiseLemmas.OwnAnswers.{finished_stays}
 use Rattle.rdm_log.proofs.PromiseLemmas.StableOutcomes.{named_in, devices_stay}
 use Rattle.rdm_log.proofs.PromiseLemmas.TellsTheLine.{tells_the_line, split_at}
 
 -- an outcome's value has its parts
-same_result : (n m : Option ℕ) (i j : Joined) → ◌≡◌ {A = Option OutcomeValue} (Some (RequestValue n i)) (Some (RequestValue m j)) → (m ≡ n) × (j ≡ i)
-same_result n m i j e = let same : RequestValue n i ≡ RequestValue m j = same_Some (RequestValue n i) (RequestValue m j) e in (cc, cc)
+same_result : (n m : Option ℕ) (i j : Joined)
+    → ◌≡◌ {A = Option OutcomeValue} (Some (RequestValue n i)) (Some (RequestValue m j)) → (m ≡ n) × (j ≡ i)
+same_result n m i j e =
+    let same : RequestValue n i ≡ RequestValue m j = same_Some (RequestValue n i) (RequestValue m j) e in (cc, cc)
 
-same_report : (n m : Option ℕ) (i j : Discovered) → ◌≡◌ {A = Option OutcomeValue} (Some (DiscoveryValue n i)) (Some (DiscoveryValue m j)) → (m ≡ n) × (j ≡ i)
-same_report n m i j e = let same : DiscoveryValue n i ≡ DiscoveryValue m j = same_Some (DiscoveryValue n i) (DiscoveryValue m j) e in (cc, cc)
+same_report : (n m : Option ℕ) (i j : Discovered)
+    → ◌≡◌ {A = Option OutcomeValue} (Some (DiscoveryValue n i)) (Some (DiscoveryValue m j)) → (m ≡ n) × (j ≡ i)
+same_report n m i j e =
+    let same : DiscoveryValue n i ≡ DiscoveryValue m j = same_Some (DiscoveryValue n i) (DiscoveryValue m j) e in
+    (cc, cc)
 
-no_report : (n m : Option ℕ) (i : Joined) (j : Discovered) → ◌≡◌ {A = Option OutcomeValue} (Some (RequestValue n i)) (Some (DiscoveryValue m j)) → ⊥
+no_report : (n m : Option ℕ) (i : Joined) (j : Discovered)
+    → ◌≡◌ {A = Option OutcomeValue} (Some (RequestValue n i)) (Some (DiscoveryValue m j)) → ⊥
 no_report n m i j e = cc
 
-no_result : (n m : Option ℕ) (i : Discovered) (j : Joined) → ◌≡◌ {A = Option OutcomeValue} (Some (DiscoveryValue n i)) (Some (RequestValue m j)) → ⊥
+no_result : (n m : Option ℕ) (i : Discovered) (j : Joined)
+    → ◌≡◌ {A = Option OutcomeValue} (Some (DiscoveryValue n i)) (Some (RequestValue m j)) → ⊥
 no_result n m i j e = cc
 
 -- a request's or a discovery's client is known, also in a later log
-request_client : (o : Opening) (h more : List Entry) (c n : ℕ) → client_of_request o h n ≡ Some c → client_of_request o (h ++ more) n ≡ Some c
+request_client : (o : Opening) (h more : List Entry) (c n : ℕ) → client_of_request o h n ≡ Some c
+    → client_of_request o (h ++ more) n ≡ Some c
 request_client o h more c n client = client_stays o h more n within ∙ client
   where
     within : n - o.next_request < length (accepts h)
-    within = omega (arith, slice_get_within (map (λ (a : Accepted). a.client) (accepts h)) (n - o.next_request) c client, length-map (accepts h) (λ (a : Accepted). a.client))
+    within = omega (
+      arith,
+      slice_get_within (map (λ (a : Accepted). a.client) (accepts h)) (n - o.next_request) c client,
+      length-map (accepts h) (λ (a : Accepted). a.client),
+    )
 
-discovery_client : (o : Opening) (h more : List Entry) (c n : ℕ) → client_of_discovery o h n ≡ Some c → client_of_discovery o (h ++ more) n ≡ Some c
+discovery_client : (o : Opening) (h more : List Entry) (c n : ℕ) → client_of_discovery o h n ≡ Some c
+    → client_of_discovery o (h ++ more) n ≡ Some c
 discovery_client o h more c n client = asker_stays o h more n within ∙ client
   where
     within : n - o.next_ask < length (asks h)
-    within = omega (arith, slice_get_within (map (λ (a : AskedDiscovery). a.client) (asks h)) (n - o.next_ask) c client, length-map (asks h) (λ (a : AskedDiscovery). a.client))
+    within = omega (
+      arith,
+      slice_get_within (map (λ (a : AskedDiscovery). a.client) (asks h)) (n - o.next_ask) c client,
+      length-map (asks h) (λ (a : AskedDiscovery). a.client),
+    )
 
-of_finish : (o : Opening) (h more : List Entry) (c j : ℕ) (x : Entry) (outcome : Outcome) → EachAfter (MayFollow o) (h ++ more) → IsFinish o h x → slice_get h j ≡ Some x → is_answer_to o c h x ≡ true → outcome_of h x ≡ Some (outcome_value outcome) → IsOwnOutcome o (h ++ more) c outcome
+of_finish : (o : Opening) (h more : List Entry) (c j : ℕ) (x : Entry) (outcome : Outcome)
+    → EachAfter (MayFollow o) (h ++ more) → IsFinish o h x → slice_get h j ≡ Some x → is_answer_to o c h x ≡ true
+    → outcome_of h x ≡ Some (outcome_value outcome) → IsOwnOutcome o (h ++ more) c outcome
 of_finish o h more c j x (outcomes.Request number done) each f at own told =
-    let same = same_result (Some f.number) number (completion_of f.status (result f.number h)) (completion_value done) (rw f.is at told) in
+    let same = same_result (Some f.number) number (completion_of f.status (result f.number h)) (completion_value done)
+    (rw f.is at told) in
     record {
       request = f.number;
       number_is = same.0;
       status = f.status;
       len = f.len;
-      finished = Contains-append_left h more (Finish f.number f.status f.len) (contains_from_get h j (Finish f.number f.status f.len) (at ∙ ap (λ y. Some y) f.is));
+      finished = Contains-append_left h more (Finish f.number f.status f.len)
+          (contains_from_get h j (Finish f.number f.status f.len) (at ∙ ap (λ y. Some y) f.is));
       client = request_client o h more c f.number (client_is c (client_of_request o h f.number) (rw f.is at own));
       told = rw (finished_stays o h more f.number each f.finished) same.1;
     }
-of_finish o h more c j x (outcomes.Discovery number done) each f at own told = absurd (no_report (Some f.number) number (completion_of f.status (result f.number h)) (discovered done) (rw f.is at told))
+of_finish o h more c j x (outcomes.Discovery number done) each f at own told =
+    absurd (no_report (Some f.number) number (completion_of f.status (result f.number h)) (discovered done)
+    (rw f.is at told))
 
-of_reply : (o : Opening) (h more : List Entry) (c j : ℕ) (x : Entry) (outcome : Outcome) → EachAfter (MayFollow o) (h ++ more) → IsReply x → slice_get h j ≡ Some x → is_answer_to o c h x ≡ true → outcome_of h x ≡ Some (outcome_value outcome) → IsOwnOutcome o (h ++ more) c outcome
-of_reply o h more c j x (outcomes.Request number done) each f at own told = absurd (no_result (Some f.number) number (discovered_by f.run f.fault h) (completion_value done) (rw f.is at told))
+of_reply : (o : Opening) (h more : List Entry) (c j : ℕ) (x : Entry) (outcome : Outcome)
+    → EachAfter (MayFollow o) (h ++ more) → IsReply x → slice_get h j ≡ Some x → is_answer_to o c h x ≡ true
+    → outcome_of h x ≡ Some (outcome_value outcome) → IsOwnOutcome o (h ++ more) c outcome
+of_reply o h more c j x (outcomes.Request number done) each f at own told =
+    absurd (no_result (Some f.number) number (discovered_by f.run f.fault h) (completion_value done) (rw f.is at told))
 of_reply o h more c j x (outcomes.Discovery number done) each f at own told =
     let same = same_report (Some f.number) number (discovered_by f.run f.fault h) (discovered done) (rw f.is at told) in
     let here : slice_get h j ≡ Some (Answer f.number f.run f.fault) = at ∙ ap (λ y. Some y) f.is in
     record {
       discovery = f.number;
       number_is = same.0;
-      answered = rw (ap (λ (d : Discovered). d.run) same.1, ap (λ (d : Discovered). d.fault) same.1) (Contains-append_left h more (Answer f.number f.run f.fault) (contains_from_get h j (Answer f.number f.run f.fault) here));
+      answered = rw (ap (λ (d : Discovered). d.run) same.1, ap (λ (d : Discovered). d.fault) same.1)
+          (Contains-append_left h more (Answer f.number f.run f.fault)
+          (contains_from_get h j (Answer f.number f.run f.fault) here));
       client = discovery_client o h more c f.number (client_is c (client_of_discovery o h f.number) (rw f.is at own));
-      told = ap (λ (d : Discovered). d.devices) same.1 ∙ sym (devices_stay o h more f.run each (named_in h j f.number f.run f.fault here)) ∙ ap (λ r. answer_devices r (h ++ more)) (sym (ap (λ (d : Discovered). d.run) same.1));
+      told = ap (λ (d : Discovered). d.devices) same.1
+          ∙ sym (devices_stay o h more f.run each (named_in h j f.number f.run f.fault here))
+          ∙ ap (λ r. answer_devices r (h ++ more)) (sym (ap (λ (d : Discovered). d.run) same.1));
     }
 
-pub own_outcome : (o : Opening) (h more : List Entry) (c : ℕ) (outcome : Outcome) → EachAfter (MayFollow o) (h ++ more) → IsOldest o h c outcome → IsOwnOutcome o (h ++ more) c outcome
-own_outcome o h more c outcome each is = by_kind (uncollected_answer o h (legal_facts o h (front o h more each)) c 0 is.entry is.oldest)
+pub own_outcome : (o : Opening) (h more : List Entry) (c : ℕ) (outcome : Outcome) → EachAfter (MayFollow o) (h ++ more)
+    → IsOldest o h c outcome → IsOwnOutcome o (h ++ more) c outcome
+own_outcome o h more c outcome each is =
+    by_kind (uncollected_answer o h (legal_facts o h (front o h more each)) c 0 is.entry is.oldest)
   where
     found : (j : ℕ) × (slice_get h j ≡ Some is.entry) × (is_answer_to o c h is.entry ≡ true)
     found = uncollected_found o h c 0 is.entry is.oldest
@@ -92,13 +127,21 @@ own_outcome o h more c outcome each is = by_kind (uncollected_answer o h (legal_
     by_kind (inr f) = of_reply o h more c found.0 is.entry outcome each f found.1 found.2 is.told
 
 -- so it tells of the line what its Answer tells
-pub reports_the_line : (o : Opening) (h : List Entry) → Legal o h → (c : ℕ) (number : Option ℕ) (done : Discovered) → IsOwnReport o h c number done → ReportsTheLine h done
+pub reports_the_line : (o : Opening) (h : List Entry) → Legal o h → (c : ℕ) (number : Option ℕ) (done : Discovered)
+    → IsOwnReport o h c number done → ReportsTheLine h done
 reports_the_line o h legal c number done is = record {
-  exactly = λ present none honest. rw is.told (tells.exactly early late is.discovery done.run present (without_fault none) honest);
-  no_phantom = λ present u honest there. tells.no_phantom early late is.discovery done.run done.fault present u parts honest (rw is.told at there);
-  each = λ u none device honest. rw is.told (tells.each early late is.discovery done.run u (without_fault none) device honest);
-  staying = λ sets u none honest in_each. rw is.told (tells.staying early late is.discovery done.run sets u (without_fault none) honest in_each);
-  no_stranger = λ sets u honest there. tells.no_stranger early late is.discovery done.run done.fault sets u parts honest (rw is.told at there);
+  exactly = λ present none honest. rw is.told
+      (tells.exactly early late is.discovery done.run present (without_fault none) honest);
+  no_phantom =
+      λ present u honest there. tells.no_phantom early late is.discovery done.run done.fault present u parts honest
+      (rw is.told at there);
+  each = λ u none device honest. rw is.told
+      (tells.each early late is.discovery done.run u (without_fault none) device honest);
+  staying = λ sets u none honest in_each. rw is.told
+      (tells.staying early late is.discovery done.run sets u (without_fault none) honest in_each);
+  no_stranger =
+      λ sets u honest there. tells.no_stranger early late is.discovery done.run done.fault sets u parts honest
+      (rw is.told at there);
 }
   where
     tells : TellsTheLine o h
@@ -114,7 +157,8 @@ reports_the_line o h legal c number done is = record {
     late = drop (suc is.answered.0) h
 
     parts : h ≡ early ++ answer ∷ late
-    parts = split_at h is.answered.0 answer (slice_get-get_or h is.answered.0 answer is.answered.1 ∙ ap (λ y. Some y) is.answered.2)
+    parts = split_at h is.answered.0 answer
+        (slice_get-get_or h is.answered.0 answer is.answered.1 ∙ ap (λ y. Some y) is.answered.2)
 
     without_fault : done.fault ≡ None → h ≡ early ++ Answer is.discovery done.run None ∷ late
     without_fault none = rw (← none) parts

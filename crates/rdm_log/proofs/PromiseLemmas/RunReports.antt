@@ -1,5 +1,6 @@
 -- The devices that exchanges report: the acknowledged ones, each as its first acknowledgement says it.
-use Rattle.std.proofs.Common.{◌≡◌, ℕ, true, false, List, [], ◌∷◌, Some, None, filter_map, take, refl, sym, ap, ◌∙◌, inl, inr}
+use Rattle.std.proofs.Common.{◌≡◌, ℕ, true, false, List, [], ◌∷◌, Some, None, filter_map, take, refl, sym, ap, ◌∙◌, inl}
+use Rattle.std.proofs.Common.{inr}
 use Rattle.std.specs.Prelude.{◌⊎◌, ◌==◌}
 use Rattle.std.specs.List.{AllByRecursion, cons_option}
 use Rattle.std.proofs.lemmas.Bool.{cases_Bool, false≢true, eqb-true}
@@ -17,7 +18,9 @@ use Rattle.rdm_log.specs.log.Runs.{reported_devices}
 
 -- a reported UID was acknowledged
 pub reported_acked : (x : List Seen) (u : ℕ) → has (reported x) u ≡ true → has (acked_in x) u ≡ true
-reported_acked x u is = sym (has-once (acked_in x) u) ∙ has-take MOST_DEVICES (once (acked_in x)) u (sym (has-set_of (take MOST_DEVICES (once (acked_in x))) u) ∙ is)
+reported_acked x u is =
+    sym (has-once (acked_in x) u)
+    ∙ has-take MOST_DEVICES (once (acked_in x)) u (sym (has-set_of (take MOST_DEVICES (once (acked_in x))) u) ∙ is)
 
 -- each acknowledgement says a device with its UID
 record SaysDevice (a : Asked) (h : Heard) : Type 0 where
@@ -30,7 +33,11 @@ record SaysNone (a : Asked) (h : Heard) : Type 0 where
   no_uid : acked_uid a h ≡ None
 
 said : (a : Asked) (h : Heard) → SaysDevice a h ⊎ SaysNone a h
-said (Mute u) (Acked ack) = inl (record { device = record { uid = u; control = ack.control; binding = ack.binding }; says = refl; uid = refl })
+said (Mute u) (Acked ack) = inl (record {
+  device = record { uid = u; control = ack.control; binding = ack.binding };
+  says = refl;
+  uid = refl;
+})
 said (Mute u) Failed = inr (record { no_device = refl; no_uid = refl })
 said (Mute u) Silent = inr (record { no_device = refl; no_uid = refl })
 said (Mute u) (One v) = inr (record { no_device = refl; no_uid = refl })
@@ -43,7 +50,9 @@ devices_acked : (x : List Seen) → uids_of (devices_in x) ≡ acked_in x
 devices_acked [] = refl
 devices_acked (e ∷ x) = by_said (said e.asked e.heard) (devices_acked x)
   where
-    by_said : SaysDevice e.asked e.heard ⊎ SaysNone e.asked e.heard → uids_of (devices_in x) ≡ acked_in x → uids_of (cons_option (acked_device e.asked e.heard) (devices_in x)) ≡ cons_option (acked_uid e.asked e.heard) (acked_in x)
+    by_said : SaysDevice e.asked e.heard ⊎ SaysNone e.asked e.heard → uids_of (devices_in x) ≡ acked_in x
+        → uids_of (cons_option (acked_device e.asked e.heard) (devices_in x))
+        ≡ cons_option (acked_uid e.asked e.heard) (acked_in x)
     by_said (inl some) rest = rw (some.says, some.uid) (ap (λ l. some.device.uid ∷ l) rest)
     by_said (inr none) rest = rw (none.no_device, none.no_uid) rest
 
@@ -57,24 +66,36 @@ with_uid_there : (ds : List Device) (u : ℕ) → has (uids_of ds) u ≡ true �
 with_uid_there [] u is = absurd (false≢true is)
 with_uid_there (d ∷ ds) u is = by_test (cases_Bool (u == d.uid)) (with_uid_there ds u)
   where
-    by_test : ((u == d.uid) ≡ true) ⊎ ((u == d.uid) ≡ false) → (has (uids_of ds) u ≡ true → IsWith ds u) → IsWith (d ∷ ds) u
+    by_test : ((u == d.uid) ≡ true) ⊎ ((u == d.uid) ≡ false) → (has (uids_of ds) u ≡ true → IsWith ds u)
+        → IsWith (d ∷ ds) u
     by_test (inl here) later = record { device = d; found = rw here refl; uid = sym (eqb-true u d.uid here) }
-    by_test (inr there) later = let rest = later (rw there at is) in record { device = rest.device; found = rw there rest.found; uid = rest.uid }
+    by_test (inr there) later =
+        let rest = later (rw there at is) in
+        record { device = rest.device; found = rw there rest.found; uid = rest.uid }
 
 -- the devices with UIDs that are there
-devices_of_uids : (ds : List Device) (us : List ℕ) → AllByRecursion (λ u. has (uids_of ds) u ≡ true) us → uids_of (filter_map (device_with ds) us) ≡ us
+devices_of_uids : (ds : List Device) (us : List ℕ) → AllByRecursion (λ u. has (uids_of ds) u ≡ true) us
+    → uids_of (filter_map (device_with ds) us) ≡ us
 devices_of_uids ds [] all = refl
-devices_of_uids ds (u ∷ us) all = let one = with_uid_there ds u all.0 in rw one.found (rw one.uid (ap (λ l. u ∷ l) (devices_of_uids ds us all.1)))
+devices_of_uids ds (u ∷ us) all =
+    let one = with_uid_there ds u all.0 in rw one.found (rw one.uid (ap (λ l. u ∷ l) (devices_of_uids ds us all.1)))
 
-firsts_of_uids : (ds : List Device) (us : List ℕ) → AllByRecursion (λ u. has (uids_of ds) u ≡ true) us → AllByRecursion (λ d. device_with ds d.uid ≡ Some d) (filter_map (device_with ds) us)
+firsts_of_uids : (ds : List Device) (us : List ℕ) → AllByRecursion (λ u. has (uids_of ds) u ≡ true) us
+    → AllByRecursion (λ d. device_with ds d.uid ≡ Some d) (filter_map (device_with ds) us)
 firsts_of_uids ds [] all = tt
-firsts_of_uids ds (u ∷ us) all = let one = with_uid_there ds u all.0 in rw one.found (rw one.uid one.found, firsts_of_uids ds us all.1)
+firsts_of_uids ds (u ∷ us) all =
+    let one = with_uid_there ds u all.0 in rw one.found (rw one.uid one.found, firsts_of_uids ds us all.1)
 
 all_there : (x : List Seen) → AllByRecursion (λ u. has (uids_of (devices_in x)) u ≡ true) (reported x)
-all_there x = each_member (λ u. has (uids_of (devices_in x)) u ≡ true) (reported x) (λ u is. rw (devices_acked x) (reported_acked x u is))
+all_there x =
+    each_member (λ u. has (uids_of (devices_in x)) u ≡ true) (reported x)
+    (λ u is. rw (devices_acked x) (reported_acked x u is))
 
 pub reports : (x : List Seen) → IsReport x (reported_devices x)
-reports x = record { uids = devices_of_uids (devices_in x) (reported x) (all_there x); first = firsts_of_uids (devices_in x) (reported x) (all_there x) }
+reports x = record {
+  uids = devices_of_uids (devices_in x) (reported x) (all_there x);
+  first = firsts_of_uids (devices_in x) (reported x) (all_there x);
+}
 
 -- and so a device that is reported was acknowledged
 pub device_acked : (x : List Seen) (u : ℕ) → has (uids_of (reported_devices x)) u ≡ true → has (acked_in x) u ≡ true

@@ -19,12 +19,14 @@ use Rattle.rdm_log.specs.promises.Outcomes.OutcomeValue.{RequestValue, Discovery
 use Rattle.rdm_log.proofs.LogLemmas.Grows.{front}
 use Rattle.rdm_log.proofs.LogLemmas.Places.{filter_map_has}
 use Rattle.rdm_log.proofs.LogLemmas.LegalFacts.{legal_facts}
-use Rattle.rdm_log.proofs.PromiseLemmas.StableResults.{contains_from_get, IsFinish, IsReply, uncollected_found, uncollected_answer}
+use Rattle.rdm_log.proofs.PromiseLemmas.StableResults.{contains_from_get, IsFinish, IsReply, uncollected_found}
+use Rattle.rdm_log.proofs.PromiseLemmas.StableResults.{uncollected_answer}
 use Rattle.rdm_log.proofs.PromiseLemmas.OwnAnswers.{finished_stays}
 use Rattle.rdm_log.proofs.PromiseLemmas.RunsAnswer.{exchanges_stay}
 
 -- the run of an Answer is answered
-pub named_in : (h : List Entry) (j n r : ℕ) (fault : Option AgentFault) → slice_get h j ≡ Some (Answer n r fault) → is_answered r h ≡ true
+pub named_in : (h : List Entry) (j n r : ℕ) (fault : Option AgentFault) → slice_get h j ≡ Some (Answer n r fault)
+    → is_answered r h ≡ true
 unfolding answers
 named_in h j n r fault at = by_place (filter_map_has answered_of h j (Answer n r fault) b at refl)
   where
@@ -37,15 +39,23 @@ named_in h j n r fault at = by_place (filter_map_has answered_of h j (Answer n r
         list_any_at (λ x. x.run == r) (answers h) has.0 b has.1 (rw has.2 (eq-eqb r r refl))
 
 -- and so its devices stay as they are
-pub devices_stay : (o : Opening) (h more : List Entry) (r : ℕ) → EachAfter (MayFollow o) (h ++ more) → is_answered r h ≡ true → answer_devices r (h ++ more) ≡ answer_devices r h
+pub devices_stay : (o : Opening) (h more : List Entry) (r : ℕ) → EachAfter (MayFollow o) (h ++ more)
+    → is_answered r h ≡ true → answer_devices r (h ++ more) ≡ answer_devices r h
 devices_stay o h more r each is = rw (exchanges_stay o h more r each is) refl
 
-pub outcome_stays : (o : Opening) (h more : List Entry) (c i : ℕ) (x : Entry) → EachAfter (MayFollow o) (h ++ more) → slice_get (uncollected o c h) i ≡ Some x → outcome_of (h ++ more) x ≡ outcome_of h x
+pub outcome_stays : (o : Opening) (h more : List Entry) (c i : ℕ) (x : Entry) → EachAfter (MayFollow o) (h ++ more)
+    → slice_get (uncollected o c h) i ≡ Some x → outcome_of (h ++ more) x ≡ outcome_of h x
 outcome_stays o h more c i x each at = by_kind (uncollected_answer o h (legal_facts o h (front o h more each)) c i x at)
   where
     found : (j : ℕ) × (slice_get h j ≡ Some x) × (is_answer_to o c h x ≡ true)
     found = uncollected_found o h c i x at
 
     by_kind : IsFinish o h x ⊎ IsReply x → outcome_of (h ++ more) x ≡ outcome_of h x
-    by_kind (inl f) = rw f.is (ap (λ r. Some (RequestValue (Some f.number) (completion_of f.status r))) (finished_stays o h more f.number each f.finished))
-    by_kind (inr f) = rw f.is (ap (λ (ds : List Device). Some (DiscoveryValue (Some f.number) (record { run = f.run; fault = f.fault; devices = ds }))) (devices_stay o h more f.run each (named_in h found.0 f.number f.run f.fault (found.1 ∙ ap (λ y. Some y) f.is))))
+    by_kind (inl f) =
+        rw f.is (ap (λ r. Some (RequestValue (Some f.number) (completion_of f.status r)))
+        (finished_stays o h more f.number each f.finished))
+    by_kind (inr f) =
+        rw f.is (ap (λ (ds : List Device). Some
+        (DiscoveryValue (Some f.number) (record { run = f.run; fault = f.fault; devices = ds })))
+        (devices_stay o h more f.run each
+        (named_in h found.0 f.number f.run f.fault (found.1 ∙ ap (λ y. Some y) f.is))))

@@ -5,13 +5,15 @@ use Rattle.rdm_log.specs.declared.entry.Entry.TheVariants.{Join, Accept, Send, C
 use Rattle.rdm_log.specs.declared.entry.Owner.TheVariants as owners
 use Rattle.rdm_join.specs.declared.event.LineEvent.TheVariants.{Reply}
 use Rattle.rdm_join.specs.declared.status.Status.TheVariants.{Timeout}
-use Rattle.rdm_log.specs.log.Entries.{joins, accepts, sends, cames, finishes, collectors, traded, of_request, verdicts, result, asks, answers}
+use Rattle.rdm_log.specs.log.Entries.{joins, accepts, sends, cames, finishes, collectors, traded, of_request, verdicts}
+use Rattle.rdm_log.specs.log.Entries.{result, asks, answers}
 use Rattle.rdm_log.specs.log.Runs.{has_begun, entries_before_run, last_run, run_exchanges}
 use Rattle.rdm_log.specs.log.History.{awaited, is_paused, is_closed}
 use Rattle.rdm_log.specs.log.Clients.{answers_to}
 use Rattle.rdm_log.specs.log.Due.{NothingDue}
 use Rattle.rdm_log.specs.log.Legal.{MayFollow, Legal}
-use Rattle.rdm_log.specs.samples.Sample.{sample_opening, sample_request, sample_frame, join_only, accepted_one, sent_one, came_one, finished_one, collected_one, closed_log}
+use Rattle.rdm_log.specs.samples.Sample.{sample_opening, sample_request, sample_frame, join_only, accepted_one}
+use Rattle.rdm_log.specs.samples.Sample.{sent_one, came_one, finished_one, collected_one, closed_log}
 use Rattle.rdm_log.proofs.LogLemmas.Grows.{pushed, empty}
 
 no_close : {A : Type 0} → false ≡ true → A
@@ -25,11 +27,13 @@ unfolding accepts finishes is_closed asks answers sends has_begun entries_before
 due_join = record { results_open = tt; runs_answered = tt; run_goes_on = tt; all_closed = λ c w. no_close c }
 
 pub due_accept : NothingDue sample_opening accepted_one
-unfolding accepts finishes sends cames traded of_request verdicts result is_closed asks answers has_begun entries_before_run last_run run_exchanges
+unfolding accepts finishes sends cames traded of_request verdicts result is_closed asks answers has_begun
+    entries_before_run last_run run_exchanges
 due_accept = record { results_open = (refl, tt); runs_answered = tt; run_goes_on = tt; all_closed = λ c w. no_close c }
 
 due_sent : NothingDue sample_opening sent_one
-unfolding accepts finishes sends cames traded of_request verdicts result is_closed asks answers has_begun entries_before_run last_run run_exchanges
+unfolding accepts finishes sends cames traded of_request verdicts result is_closed asks answers has_begun
+    entries_before_run last_run run_exchanges
 due_sent = record { results_open = (refl, tt); runs_answered = tt; run_goes_on = tt; all_closed = λ c w. no_close c }
 
 due_finished : NothingDue sample_opening finished_one
@@ -49,11 +53,13 @@ unfolding joins is_closed
 may_join = ((empty sample_opening).settled, refl, refl)
 
 may_accept : MayFollow sample_opening join_only (Accept (record { 0 = 0 }) 0 sample_request)
-unfolding joins accepts finishes collectors is_closed answers_to asks answers sends has_begun entries_before_run last_run run_exchanges
+unfolding joins accepts finishes collectors is_closed answers_to asks answers sends has_begun entries_before_run
+    last_run run_exchanges
 may_accept = (due_join, refl, refl)
 
 pub may_send : MayFollow sample_opening accepted_one (Send (owners.Request 0) (record { items = sample_frame }))
-unfolding accepts finishes sends awaited is_paused is_closed asks answers has_begun entries_before_run last_run run_exchanges
+unfolding accepts finishes sends awaited is_paused is_closed asks answers has_begun entries_before_run last_run
+    run_exchanges
 may_send = (
   due_accept,
   record {
@@ -65,7 +71,20 @@ may_send = (
     lowest = refl;
     number = refl;
     turn = inr refl;
-    packet = (record { dest = omega arith; source = omega arith; tn = omega arith; port = omega arith; count = omega arith; sub_device = omega arith; class = omega arith; pid = omega arith; param = omega arith }, refl);
+    packet = (
+      record {
+        dest = omega arith;
+        source = omega arith;
+        tn = omega arith;
+        port = omega arith;
+        count = omega arith;
+        sub_device = omega arith;
+        class = omega arith;
+        pid = omega arith;
+        param = omega arith;
+      },
+      refl,
+    );
   },
 )
 
@@ -74,8 +93,14 @@ unfolding awaited
 may_come = (due_sent, refl)
 
 may_finish : MayFollow sample_opening came_one (Finish 0 Timeout 0)
-unfolding accepts finishes sends cames traded of_request verdicts result asks answers has_begun entries_before_run last_run run_exchanges
-may_finish = record { accepted = record { client = 0; number = 0; request = sample_request }; oldest = refl; number = refl; fits = inl (refl, refl) }
+unfolding accepts finishes sends cames traded of_request verdicts result asks answers has_begun entries_before_run
+    last_run run_exchanges
+may_finish = record {
+  accepted = record { client = 0; number = 0; request = sample_request };
+  oldest = refl;
+  number = refl;
+  fits = inl (refl, refl);
+}
 
 may_collect : MayFollow sample_opening finished_one (Collect (record { 0 = 0 }))
 unfolding accepts collectors answers_to asks answers sends has_begun entries_before_run last_run run_exchanges
@@ -87,7 +112,10 @@ may_close = (due_collected, refl)
 
 pub sample : Legal sample_opening closed_log
 sample = record {
-  each = pushed sample_opening collected_one _ (pushed sample_opening finished_one _ (pushed sample_opening came_one _ (pushed sample_opening sent_one _
-      (pushed sample_opening accepted_one _ (pushed sample_opening join_only _ (pushed sample_opening [] _ (empty sample_opening).each may_join) may_accept) may_send) may_come) may_finish) may_collect) may_close;
+  each = pushed sample_opening collected_one _
+      (pushed sample_opening finished_one _ (pushed sample_opening came_one _ (pushed sample_opening sent_one _
+      (pushed sample_opening accepted_one _
+      (pushed sample_opening join_only _ (pushed sample_opening [] _ (empty sample_opening).each may_join)
+      may_accept) may_send) may_come) may_finish) may_collect) may_close;
   settled = due_closed;
 }

@@ -1,5 +1,6 @@
 -- A queue stands after a log that grows by what each call adds: the calls that finish nothing.
-use Rattle.std.proofs.Common.{◌≡◌, ℕ, suc, Bool, true, false, not, List, [], ◌∷◌, ◌++◌, length, filter, map, sum, length-append, Option, Some, None, refl, sym, ap, ◌∙◌, append_assoc, arith, filter_map}
+use Rattle.std.proofs.Common.{◌≡◌, ℕ, suc, Bool, true, false, not, List, [], ◌∷◌, ◌++◌, length, filter, map, sum}
+use Rattle.std.proofs.Common.{length-append, Option, Some, None, refl, sym, ap, ◌∙◌, append_assoc, arith, filter_map}
 use Rattle.std.specs.Prelude.{◌≢◌, ◌==◌, option_map, option_and_then, is_some, slice_get, if◌then◌else◌}
 use Rattle.std.specs.List.{AllByRecursion}
 use Rattle.std.proofs.lemmas.Bool.{false≢true}
@@ -30,26 +31,33 @@ use Rattle.rdm_log.specs.declared.fault.AskFault.{AskFault}
 use Rattle.rdm_queue.specs.declared.pending.Awaited.{Awaited}
 use Rattle.rdm_queue.specs.declared.pending.Awaited.TheVariants as awaiting
 use Rattle.rdm_log.specs.log.Legal.{MayFollow}
-use Rattle.rdm_log.specs.log.Entries.{Accepted, finished_of, answered_of, joins, accepts, asks, sends, cames, finishes, answers, collectors, traded, of_request, verdicts}
+use Rattle.rdm_log.specs.log.Entries.{Accepted, finished_of, answered_of, joins, accepts, asks, sends, cames, finishes}
+use Rattle.rdm_log.specs.log.Entries.{answers, collectors, traded, of_request, verdicts}
 use Rattle.rdm_log.specs.log.Runs.{last_run}
 use Rattle.rdm_log.specs.log.History.{awaited, is_paused, is_closed, can_pause, can_resume}
-use Rattle.rdm_log.specs.log.Clients.{is_answer_to, answers_to, uncollected, outstanding_requests, outstanding_discoveries}
-use Rattle.rdm_log.specs.log.Refusals.{join_fault, submit_fault, ask_fault, IsRefused, number_of_join_fault, number_of_submit_fault, number_of_ask_fault}
+use Rattle.rdm_log.specs.log.Clients.{is_answer_to, answers_to, uncollected, outstanding_requests}
+use Rattle.rdm_log.specs.log.Clients.{outstanding_discoveries}
+use Rattle.rdm_log.specs.log.Refusals.{join_fault, submit_fault, ask_fault, IsRefused, number_of_join_fault}
+use Rattle.rdm_log.specs.log.Refusals.{number_of_submit_fault, number_of_ask_fault}
 use Rattle.rdm_log.specs.log.MaySend.{MaySend}
 use Rattle.rdm_log.specs.log.Legal.{Legal}
 use Rattle.rdm_log.specs.promises.Outcomes.{OutcomeValue, outcome_value, outcome_of, oldest_kind, kind_of_answer}
 use Rattle.rdm_log.specs.promises.Blocks.{RefusesJoin, join_refused, submit_refused, ask_refused, IsOldest}
 use Rattle.rdm_log.specs.declared.outcome.Outcome.{Outcome}
 use Rattle.rdm_log.specs.log.LogState.{opened}
-use Rattle.rdm_queue.specs.body.State.{QueueState, first_state, first_join_fault, first_submit_fault, first_ask_fault, outstanding, outstanding_asks, is_discovery, owed_to, joins_client, accepts_request, asks_discovery, collects_oldest, first_kind, kind_of_value}
+use Rattle.rdm_queue.specs.body.State.{QueueState, first_state, first_join_fault, first_submit_fault, first_ask_fault}
+use Rattle.rdm_queue.specs.body.State.{outstanding, outstanding_asks, is_discovery, owed_to, joins_client}
+use Rattle.rdm_queue.specs.body.State.{accepts_request, asks_discovery, collects_oldest, first_kind, kind_of_value}
 use Rattle.rdm_queue.specs.body.Sending.{sent_for}
 use Rattle.rdm_queue.specs.body.Agrees.{IsPending, Agrees, StandsAfter}
 use Rattle.rdm_log.proofs.LogLemmas.Grows.{empty}
 use Rattle.rdm_log.proofs.LogLemmas.LegalFacts.{LogFacts, legal_facts}
-use Rattle.rdm_log.proofs.LogLemmas.ClientFacts.{ClientFacts, client_facts, outstanding_parts, outstanding_discovery_parts}
+use Rattle.rdm_log.proofs.LogLemmas.ClientFacts.{ClientFacts, client_facts, outstanding_parts}
+use Rattle.rdm_log.proofs.LogLemmas.ClientFacts.{outstanding_discovery_parts}
 use Rattle.rdm_log.proofs.LogLemmas.AskFacts.{AskFacts, ask_facts}
 use Rattle.rdm_log.proofs.LogLemmas.PushLemmas.{joins_same, joins_more, is_paused-push, is_closed-push}
-use Rattle.rdm_log.proofs.LogLemmas.KeepsLegal.{join_keeps, refuse_keeps, collect_keeps, pause_keeps, resume_keeps, accept_keeps, ask_keeps}
+use Rattle.rdm_log.proofs.LogLemmas.KeepsLegal.{join_keeps, refuse_keeps, collect_keeps, pause_keeps, resume_keeps}
+use Rattle.rdm_log.proofs.LogLemmas.KeepsLegal.{accept_keeps, ask_keeps}
 use Rattle.rdm_log.proofs.PromiseLemmas.OutcomeLemmas.{answers_passed}
 use Rattle.rdm_queue.proofs.BodyLemmas.InvariantLemmas.{none_owed_more}
 use Rattle.rdm_queue.proofs.BodyLemmas.AgreesSame.{SameWork, same_work, stands_same}
@@ -66,7 +74,8 @@ clients_after o h s after = client_facts o h after.legal.each
 
 -- a queue without calls
 pub first_after : (setup : Setup) → StandsAfter (opened setup.config) [] (first_state setup)
-unfolding joins accepts asks sends cames finishes answers collectors traded of_request verdicts awaited is_paused is_closed answers_to last_run
+unfolding joins accepts asks sends cames finishes answers collectors traded of_request verdicts awaited is_paused
+    is_closed answers_to last_run
 first_after setup = record {
   legal = empty (opened setup.config);
   goes_on = tt;
@@ -97,101 +106,174 @@ first_after setup = record {
 }
 
 -- a join
-pub join_fault_is : (o : Opening) (h : List Entry) (s : QueueState) (n : ℕ) → Agrees o h s → first_join_fault s n ≡ join_fault o h n
+pub join_fault_is : (o : Opening) (h : List Entry) (s : QueueState) (n : ℕ) → Agrees o h s
+    → first_join_fault s n ≡ join_fault o h n
 join_fault_is o h s n stands = rw (stands.closed_is, stands.places_are, stands.greatest_is) refl
 
-pub join_after : (o : Opening) (h : List Entry) (s : QueueState) (c : ClientId) (n : ℕ) → join_fault o h n ≡ None → c.0 ≡ length s.places → StandsAfter o h s → StandsAfter o (h ++ Join c n ∷ []) (joins_client s n)
+pub join_after : (o : Opening) (h : List Entry) (s : QueueState) (c : ClientId) (n : ℕ) → join_fault o h n ≡ None
+    → c.0 ≡ length s.places → StandsAfter o h s → StandsAfter o (h ++ Join c n ∷ []) (joins_client s n)
 join_after o h s c n passes client after = record {
   legal = join_keeps o h c n after.legal passes (client ∙ ap length after.stands.places_are);
   goes_on = after.goes_on;
-  stands = stands_same o h e s (s.places ++ n ∷ []) s.paused s.closed (s.owed ++ [] ∷ []) after.legal.each (after.legal.settled, passes, client ∙ ap length after.stands.places_are) (same_work o h e refl refl refl refl refl refl)
-      (rw (joins_more h e n refl, after.stands.places_are) (append_assoc o.places.items (joins h) (n ∷ []))) (after.stands.paused_is ∙ sym (is_paused-push o h e)) (after.stands.closed_is ∙ sym (is_closed-push o h e))
+  stands = stands_same o h e s (s.places ++ n ∷ []) s.paused s.closed (s.owed ++ [] ∷ []) after.legal.each
+      (after.legal.settled, passes, client ∙ ap length after.stands.places_are)
+      (same_work o h e refl refl refl refl refl refl)
+      (rw (joins_more h e n refl, after.stands.places_are) (append_assoc o.places.items (joins h) (n ∷ [])))
+      (after.stands.paused_is ∙ sym (is_paused-push o h e)) (after.stands.closed_is ∙ sym (is_closed-push o h e))
       (none_owed_more s.owed) (sum_more s.owed) long after.stands;
 }
   where
     e : Entry
     e = Join c n
 
-    sum_more : (lists : List (List OutcomeValue)) → sum (map (λ (ds : List OutcomeValue). length ds) (lists ++ [] ∷ [])) ≡ sum (map (λ (ds : List OutcomeValue). length ds) lists)
-    sum_more lists = ap (λ l. sum l) (map-append (λ (ds : List OutcomeValue). length ds) lists ([] ∷ [])) ∙ (sum_by-append (λ (m : ℕ). m) (map (λ (ds : List OutcomeValue). length ds) lists) (0 ∷ []) ∙ omega arith)
+    sum_more : (lists : List (List OutcomeValue))
+        → sum (map (λ (ds : List OutcomeValue). length ds) (lists ++ [] ∷ []))
+        ≡ sum (map (λ (ds : List OutcomeValue). length ds) lists)
+    sum_more lists =
+        ap (λ l. sum l) (map-append (λ (ds : List OutcomeValue). length ds) lists ([] ∷ []))
+        ∙ (sum_by-append (λ (m : ℕ). m) (map (λ (ds : List OutcomeValue). length ds) lists) (0 ∷ []) ∙ omega arith)
 
     long : length (s.owed ++ [] ∷ []) ≡ length (o.places.items ++ joins (h ++ e ∷ []))
-    long = rw (joins_more h e n refl) (let one = length-append s.owed ([] ∷ []) in let two = length-append o.places.items (joins h ++ n ∷ []) in let three = length-append (joins h) (n ∷ []) in let four = length-append o.places.items (joins h) in let same = after.stands.owed_for_each in omega arith)
+    long = rw (joins_more h e n refl)
+        (let one = length-append s.owed ([] ∷ []) in let two = length-append o.places.items (joins h ++ n ∷ []) in
+        let three = length-append (joins h) (n ∷ []) in let four = length-append o.places.items (joins h) in
+        let same = after.stands.owed_for_each in omega arith)
 
 -- a refusal
-refuse_after : (o : Opening) (h : List Entry) (s : QueueState) (e : Entry) → MayFollow o h e → Legal o (h ++ e ∷ []) → SameWork o h (h ++ e ∷ []) → joins (h ++ e ∷ []) ≡ joins h → is_paused o (h ++ e ∷ []) ≡ is_paused o h → is_closed o (h ++ e ∷ []) ≡ is_closed o h → StandsAfter o h s → StandsAfter o (h ++ e ∷ []) s
+refuse_after : (o : Opening) (h : List Entry) (s : QueueState) (e : Entry) → MayFollow o h e → Legal o (h ++ e ∷ [])
+    → SameWork o h (h ++ e ∷ []) → joins (h ++ e ∷ []) ≡ joins h → is_paused o (h ++ e ∷ []) ≡ is_paused o h
+    → is_closed o (h ++ e ∷ []) ≡ is_closed o h → StandsAfter o h s → StandsAfter o (h ++ e ∷ []) s
 refuse_after o h s e may legal work joined paused closed after = record {
   legal = legal;
   goes_on = after.goes_on;
-  stands = stands_same o h e s s.places s.paused s.closed s.owed after.legal.each may work (rw joined after.stands.places_are) (after.stands.paused_is ∙ sym paused) (after.stands.closed_is ∙ sym closed) (λ c. refl) refl (rw joined after.stands.owed_for_each) after.stands;
+  stands = stands_same o h e s s.places s.paused s.closed s.owed after.legal.each may work
+      (rw joined after.stands.places_are) (after.stands.paused_is ∙ sym paused) (after.stands.closed_is ∙ sym closed)
+      (λ c. refl) refl (rw joined after.stands.owed_for_each) after.stands;
 }
 
-refused_after : (o : Opening) (h : List Entry) (s : QueueState) (c : Option ClientId) (call : calls.the_data) (cause : ℕ) → IsRefused o h c call cause → StandsAfter o h s → StandsAfter o (h ++ Refuse c call (record { 0 = cause }) ∷ []) s
+refused_after : (o : Opening) (h : List Entry) (s : QueueState) (c : Option ClientId) (call : calls.the_data)
+    (cause : ℕ) → IsRefused o h c call cause → StandsAfter o h s
+    → StandsAfter o (h ++ Refuse c call (record { 0 = cause }) ∷ []) s
 refused_after o h s c call cause refused after =
     let e = Refuse c call (record { 0 = cause }) in
-    refuse_after o h s e (after.legal.settled, refused) (refuse_keeps o h c call (record { 0 = cause }) after.legal refused) (same_work o h e refl refl refl refl refl refl) (joins_same h e refl) (is_paused-push o h e) (is_closed-push o h e) after
+    refuse_after o h s e (after.legal.settled, refused)
+    (refuse_keeps o h c call (record { 0 = cause }) after.legal refused)
+    (same_work o h e refl refl refl refl refl refl) (joins_same h e refl) (is_paused-push o h e)
+    (is_closed-push o h e) after
 
-pub join_refused_after : (o : Opening) (h : List Entry) (s : QueueState) (n : ℕ) (fault : JoinFault) → RefusesJoin (join_fault o h n) fault → StandsAfter o h s → StandsAfter o (h ++ join_refused n fault ∷ []) s
-join_refused_after o h s n fault refuses after = refused_after o h s None (calls.Join n) (number_of_join_fault fault) (ap number_of_join_fault refuses) after
+pub join_refused_after : (o : Opening) (h : List Entry) (s : QueueState) (n : ℕ) (fault : JoinFault)
+    → RefusesJoin (join_fault o h n) fault → StandsAfter o h s → StandsAfter o (h ++ join_refused n fault ∷ []) s
+join_refused_after o h s n fault refuses after =
+    refused_after o h s None (calls.Join n) (number_of_join_fault fault) (ap number_of_join_fault refuses) after
 
-pub submit_refused_after : (o : Opening) (h : List Entry) (s : QueueState) (c : ClientId) (request : Request) (fault : SubmitFault) → submit_fault o h c.0 ≡ Some fault → StandsAfter o h s → StandsAfter o (h ++ submit_refused c request fault ∷ []) s
-submit_refused_after o h s c request fault refuses after = refused_after o h s (Some c) (calls.Submit request) (number_of_submit_fault fault) (ap (option_map number_of_submit_fault) refuses) after
+pub submit_refused_after : (o : Opening) (h : List Entry) (s : QueueState) (c : ClientId) (request : Request)
+    (fault : SubmitFault) → submit_fault o h c.0 ≡ Some fault → StandsAfter o h s
+    → StandsAfter o (h ++ submit_refused c request fault ∷ []) s
+submit_refused_after o h s c request fault refuses after =
+    refused_after o h s (Some c) (calls.Submit request) (number_of_submit_fault fault)
+    (ap (option_map number_of_submit_fault) refuses) after
 
 -- a submit
-counts : (o : Opening) (c : ℕ) (h k : List Entry) (es : List Entry) → AllByRecursion (λ e. is_answer_to o c k e ≡ true) es → (length (filter (λ d. not (is_discovery d)) (filter_map (outcome_of h) es)) ≡ length (filter_map finished_of es)) × (length (filter is_discovery (filter_map (outcome_of h) es)) ≡ length (filter_map answered_of es))
+counts : (o : Opening) (c : ℕ) (h k : List Entry) (es : List Entry)
+    → AllByRecursion (λ e. is_answer_to o c k e ≡ true) es
+    → (length (filter (λ d. not (is_discovery d)) (filter_map (outcome_of h) es)) ≡ length (filter_map finished_of es))
+    × (length (filter is_discovery (filter_map (outcome_of h) es)) ≡ length (filter_map answered_of es))
 counts o c h k [] all = (refl, refl)
 counts o c h k (Finish n status len ∷ es) all = let rest = counts o c h k es all.1 in (ap suc rest.0, rest.1)
 counts o c h k (discovery.Answer n run fault ∷ es) all = let rest = counts o c h k es all.1 in (rest.0, ap suc rest.1)
 counts o c h k (e ∷ es) all = absurd (false≢true all.0)
 
-outstanding_same : (o : Opening) (h : List Entry) (s : QueueState) (c : ℕ) → StandsAfter o h s → outstanding c s ≡ outstanding_requests o c h
+outstanding_same : (o : Opening) (h : List Entry) (s : QueueState) (c : ℕ) → StandsAfter o h s
+    → outstanding c s ≡ outstanding_requests o c h
 unfolding finishes
-outstanding_same o h s c after = rw (outstanding_parts o h (clients_after o h s after) c, after.stands.waiting_are, after.stands.outcomes_are c, (counts o c h h (uncollected o c h) (answers_passed o c h)).0) refl
+outstanding_same o h s c after =
+    rw (
+      outstanding_parts o h (clients_after o h s after) c,
+      after.stands.waiting_are,
+      after.stands.outcomes_are c,
+      (counts o c h h (uncollected o c h) (answers_passed o c h)).0,
+    ) refl
 
-asks_same_after : (o : Opening) (h : List Entry) (s : QueueState) (c : ℕ) → StandsAfter o h s → outstanding_asks c s ≡ outstanding_discoveries o c h
+asks_same_after : (o : Opening) (h : List Entry) (s : QueueState) (c : ℕ) → StandsAfter o h s
+    → outstanding_asks c s ≡ outstanding_discoveries o c h
 unfolding answers
-asks_same_after o h s c after = rw (outstanding_discovery_parts o h (clients_after o h s after) c, after.stands.asked_are, after.stands.outcomes_are c, (counts o c h h (uncollected o c h) (answers_passed o c h)).1) refl
+asks_same_after o h s c after =
+    rw (
+      outstanding_discovery_parts o h (clients_after o h s after) c,
+      after.stands.asked_are,
+      after.stands.outcomes_are c,
+      (counts o c h h (uncollected o c h) (answers_passed o c h)).1,
+    ) refl
 
-pub submit_fault_is : (o : Opening) (h : List Entry) (s : QueueState) (c : ℕ) → StandsAfter o h s → first_submit_fault s c ≡ submit_fault o h c
-submit_fault_is o h s c after = rw (after.stands.closed_is, outstanding_same o h s c after, after.stands.places_are, after.stands.next_request_is) refl
+pub submit_fault_is : (o : Opening) (h : List Entry) (s : QueueState) (c : ℕ) → StandsAfter o h s
+    → first_submit_fault s c ≡ submit_fault o h c
+submit_fault_is o h s c after =
+    rw (after.stands.closed_is, outstanding_same o h s c after, after.stands.places_are, after.stands.next_request_is)
+    refl
 
-pub submit_after : (o : Opening) (h : List Entry) (s : QueueState) (c : ClientId) (n : ℕ) (request : Request) → submit_fault o h c.0 ≡ None → n ≡ s.next_request → StandsAfter o h s → StandsAfter o (h ++ Accept c n request ∷ []) (accepts_request s c.0 request)
+pub submit_after : (o : Opening) (h : List Entry) (s : QueueState) (c : ClientId) (n : ℕ) (request : Request)
+    → submit_fault o h c.0 ≡ None → n ≡ s.next_request → StandsAfter o h s
+    → StandsAfter o (h ++ Accept c n request ∷ []) (accepts_request s c.0 request)
 submit_after o h s c n request passes number after = record {
   legal = accept_keeps o h c n request after.legal passes (number ∙ after.stands.next_request_is);
   goes_on = after.goes_on;
-  stands = stands_accept o h s c n request after.legal.each (after.legal.settled, passes, number ∙ after.stands.next_request_is) (facts_after o h s after) (asks_after o h s after) number after.stands;
+  stands = stands_accept o h s c n request after.legal.each
+      (after.legal.settled, passes, number ∙ after.stands.next_request_is) (facts_after o h s after)
+      (asks_after o h s after) number after.stands;
 }
 
 -- a discover
-pub ask_fault_is : (o : Opening) (h : List Entry) (s : QueueState) (c : ℕ) → StandsAfter o h s → first_ask_fault s c ≡ ask_fault o h c
-ask_fault_is o h s c after = rw (after.stands.closed_is, asks_same_after o h s c after, after.stands.places_are, after.stands.next_ask_is) refl
+pub ask_fault_is : (o : Opening) (h : List Entry) (s : QueueState) (c : ℕ) → StandsAfter o h s
+    → first_ask_fault s c ≡ ask_fault o h c
+ask_fault_is o h s c after =
+    rw (after.stands.closed_is, asks_same_after o h s c after, after.stands.places_are, after.stands.next_ask_is) refl
 
-pub ask_refused_after : (o : Opening) (h : List Entry) (s : QueueState) (c : ClientId) (kind : Kind) (fault : AskFault) → ask_fault o h c.0 ≡ Some fault → StandsAfter o h s → StandsAfter o (h ++ ask_refused c kind fault ∷ []) s
-ask_refused_after o h s c kind fault refuses after = refused_after o h s (Some c) (calls.Discover kind) (number_of_ask_fault fault) (ap (option_map number_of_ask_fault) refuses) after
+pub ask_refused_after : (o : Opening) (h : List Entry) (s : QueueState) (c : ClientId) (kind : Kind) (fault : AskFault)
+    → ask_fault o h c.0 ≡ Some fault → StandsAfter o h s → StandsAfter o (h ++ ask_refused c kind fault ∷ []) s
+ask_refused_after o h s c kind fault refuses after =
+    refused_after o h s (Some c) (calls.Discover kind) (number_of_ask_fault fault)
+    (ap (option_map number_of_ask_fault) refuses) after
 
-pub ask_after : (o : Opening) (h : List Entry) (s : QueueState) (c : ClientId) (n : ℕ) (kind : Kind) → ask_fault o h c.0 ≡ None → n ≡ s.next_ask → StandsAfter o h s → StandsAfter o (h ++ discovery.Ask c n kind ∷ []) (asks_discovery s c.0 kind)
+pub ask_after : (o : Opening) (h : List Entry) (s : QueueState) (c : ClientId) (n : ℕ) (kind : Kind)
+    → ask_fault o h c.0 ≡ None → n ≡ s.next_ask → StandsAfter o h s
+    → StandsAfter o (h ++ discovery.Ask c n kind ∷ []) (asks_discovery s c.0 kind)
 ask_after o h s c n kind passes number after = record {
   legal = ask_keeps o h c n kind after.legal passes (number ∙ after.stands.next_ask_is);
   goes_on = after.goes_on;
-  stands = stands_ask o h s c n kind after.legal.each (after.legal.settled, passes, number ∙ after.stands.next_ask_is) (facts_after o h s after) (asks_after o h s after) number after.stands;
+  stands = stands_ask o h s c n kind after.legal.each (after.legal.settled, passes, number ∙ after.stands.next_ask_is)
+      (facts_after o h s after) (asks_after o h s after) number after.stands;
 }
 
 -- pause and resume
-switch_after : (o : Opening) (h : List Entry) (s : QueueState) (e : Entry) (paused : Bool) → MayFollow o h e → Legal o (h ++ e ∷ []) → SameWork o h (h ++ e ∷ []) → joins (h ++ e ∷ []) ≡ joins h → is_paused o (h ++ e ∷ []) ≡ paused → is_closed o (h ++ e ∷ []) ≡ is_closed o h → StandsAfter o h s → StandsAfter o (h ++ e ∷ []) (record s { paused = paused })
+switch_after : (o : Opening) (h : List Entry) (s : QueueState) (e : Entry) (paused : Bool) → MayFollow o h e
+    → Legal o (h ++ e ∷ []) → SameWork o h (h ++ e ∷ []) → joins (h ++ e ∷ []) ≡ joins h
+    → is_paused o (h ++ e ∷ []) ≡ paused → is_closed o (h ++ e ∷ []) ≡ is_closed o h → StandsAfter o h s
+    → StandsAfter o (h ++ e ∷ []) (record s { paused = paused })
 switch_after o h s e paused may legal work joined paused_is closed after = record {
   legal = legal;
   goes_on = after.goes_on;
-  stands = stands_same o h e s s.places paused s.closed s.owed after.legal.each may work (rw joined after.stands.places_are) (sym paused_is) (after.stands.closed_is ∙ sym closed) (λ c. refl) refl (rw joined after.stands.owed_for_each) after.stands;
+  stands = stands_same o h e s s.places paused s.closed s.owed after.legal.each may work
+      (rw joined after.stands.places_are) (sym paused_is) (after.stands.closed_is ∙ sym closed) (λ c. refl) refl
+      (rw joined after.stands.owed_for_each) after.stands;
 }
 
-pub pause_after : (o : Opening) (h : List Entry) (s : QueueState) → can_pause o h ≡ true → StandsAfter o h s → StandsAfter o (h ++ Pause ∷ []) (record s { paused = true })
-pause_after o h s can after = switch_after o h s Pause true (after.legal.settled, can) (pause_keeps o h after.legal can) (same_work o h Pause refl refl refl refl refl refl) (joins_same h Pause refl) (is_paused-push o h Pause) (is_closed-push o h Pause) after
+pub pause_after : (o : Opening) (h : List Entry) (s : QueueState) → can_pause o h ≡ true → StandsAfter o h s
+    → StandsAfter o (h ++ Pause ∷ []) (record s { paused = true })
+pause_after o h s can after =
+    switch_after o h s Pause true (after.legal.settled, can) (pause_keeps o h after.legal can)
+    (same_work o h Pause refl refl refl refl refl refl) (joins_same h Pause refl) (is_paused-push o h Pause)
+    (is_closed-push o h Pause) after
 
-pub resume_after : (o : Opening) (h : List Entry) (s : QueueState) → can_resume o h ≡ true → StandsAfter o h s → StandsAfter o (h ++ Resume ∷ []) (record s { paused = false })
-resume_after o h s can after = switch_after o h s Resume false (after.legal.settled, can) (resume_keeps o h after.legal can) (same_work o h Resume refl refl refl refl refl refl) (joins_same h Resume refl) (is_paused-push o h Resume) (is_closed-push o h Resume) after
+pub resume_after : (o : Opening) (h : List Entry) (s : QueueState) → can_resume o h ≡ true → StandsAfter o h s
+    → StandsAfter o (h ++ Resume ∷ []) (record s { paused = false })
+resume_after o h s can after =
+    switch_after o h s Resume false (after.legal.settled, can) (resume_keeps o h after.legal can)
+    (same_work o h Resume refl refl refl refl refl refl) (joins_same h Resume refl) (is_paused-push o h Resume)
+    (is_closed-push o h Resume) after
 
 -- a take
-pub pending_flag : (o : Opening) (h : List Entry) (s : QueueState) (w : Option Awaited) → IsPending o h s w → is_some w ≡ awaited h
+pub pending_flag : (o : Opening) (h : List Entry) (s : QueueState) (w : Option Awaited) → IsPending o h s w
+    → is_some w ≡ awaited h
 pending_flag o h s None pending = sym pending
 pending_flag o h s (Some (awaiting.Request sent)) pending = sym pending.last.waits
 pending_flag o h s (Some (awaiting.Run tn)) pending = sym pending.last.waits
@@ -202,10 +284,20 @@ class_back requests.Get = refl
 class_back requests.Set = refl
 
 abbrev sent_of_fields : Fields → Sent
-sent_of_fields f = record { target = f.dest; source = f.source; tn = f.tn; sub_device = f.sub_device; class = if f.class == 0x20 then requests.Get else requests.Set; pid = f.pid }
+sent_of_fields f = record {
+  target = f.dest;
+  source = f.source;
+  tn = f.tn;
+  sub_device = f.sub_device;
+  class = if f.class == 0x20 then requests.Get else requests.Set;
+  pid = f.pid;
+}
 
-pub sent_by_frame : (s : QueueState) (a : Accepted) (frame : List ℕ) → Packet (request_fields a.request s.source s.next_tn) frame → sent_by frame ≡ sent_for s a
-sent_by_frame s a frame is = ap sent_by is.1 ∙ ap sent_of_fields (fields_at-packet (request_fields a.request s.source s.next_tn) is.0) ∙ rw (class_back a.request.class) refl
+pub sent_by_frame : (s : QueueState) (a : Accepted) (frame : List ℕ)
+    → Packet (request_fields a.request s.source s.next_tn) frame → sent_by frame ≡ sent_for s a
+sent_by_frame s a frame is =
+    ap sent_by is.1 ∙ ap sent_of_fields (fields_at-packet (request_fields a.request s.source s.next_tn) is.0)
+    ∙ rw (class_back a.request.class) refl
 
 -- a frame that goes out
 pub record IsSent (o : Opening) (h : List Entry) (owner : Owner) (frame : ArrayVec ℕ) (new : QueueState) : Type 0 where
@@ -213,7 +305,9 @@ pub record IsSent (o : Opening) (h : List Entry) (owner : Owner) (frame : ArrayV
   pub after : StandsAfter o (h ++ Send owner frame ∷ []) new
 
 -- a collect: the oldest owed is the oldest answer's
-told_first : (o : Opening) (c : ℕ) (h k : List Entry) (es : List Entry) (outcome : OutcomeValue) → AllByRecursion (λ e. is_answer_to o c k e ≡ true) es → slice_get (filter_map (outcome_of h) es) 0 ≡ Some outcome → (e : Entry) × (slice_get es 0 ≡ Some e) × (outcome_of h e ≡ Some outcome)
+told_first : (o : Opening) (c : ℕ) (h k : List Entry) (es : List Entry) (outcome : OutcomeValue)
+    → AllByRecursion (λ e. is_answer_to o c k e ≡ true) es → slice_get (filter_map (outcome_of h) es) 0 ≡ Some outcome
+    → (e : Entry) × (slice_get es 0 ≡ Some e) × (outcome_of h e ≡ Some outcome)
 told_first o c h k [] outcome all first = absurd (no first)
   where
     no : None ≡ Some outcome → ⊥
@@ -222,9 +316,12 @@ told_first o c h k (Finish n status len ∷ es) outcome all first = (Finish n st
 told_first o c h k (discovery.Answer n run fault ∷ es) outcome all first = (discovery.Answer n run fault, refl, first)
 told_first o c h k (e ∷ es) outcome all first = absurd (false≢true all.0)
 
-pub oldest_after : (o : Opening) (h : List Entry) (s : QueueState) (c : ClientId) (outcome : Outcome) → option_map outcome_value (Some outcome) ≡ slice_get (owed_to c.0 s) 0 → StandsAfter o h s → IsOldest o h c.0 outcome
+pub oldest_after : (o : Opening) (h : List Entry) (s : QueueState) (c : ClientId) (outcome : Outcome)
+    → option_map outcome_value (Some outcome) ≡ slice_get (owed_to c.0 s) 0 → StandsAfter o h s
+    → IsOldest o h c.0 outcome
 oldest_after o h s c outcome told after =
-    let found = told_first o c.0 h h (uncollected o c.0 h) (outcome_value outcome) (answers_passed o c.0 h) (sym (ap (λ l. slice_get l 0) (after.stands.outcomes_are c.0)) ∙ sym told) in
+    let found = told_first o c.0 h h (uncollected o c.0 h) (outcome_value outcome) (answers_passed o c.0 h)
+    (sym (ap (λ l. slice_get l 0) (after.stands.outcomes_are c.0)) ∙ sym told) in
     record { entry = found.0; oldest = found.1; told = found.2 }
 
 some_list : {X : Type 0} (xs : List X) (x : X) → slice_get xs 0 ≡ Some x → xs ≢ []
@@ -233,25 +330,41 @@ some_list xs x first none = no (rw none at first)
     no : None ≡ Some x → ⊥
     no h = cc
 
-pub collect_after : (o : Opening) (h : List Entry) (s : QueueState) (c : ClientId) (outcome : Outcome) → option_map outcome_value (Some outcome) ≡ slice_get (owed_to c.0 s) 0 → StandsAfter o h s → StandsAfter o (h ++ Collect c ∷ []) (collects_oldest s c.0)
+pub collect_after : (o : Opening) (h : List Entry) (s : QueueState) (c : ClientId) (outcome : Outcome)
+    → option_map outcome_value (Some outcome) ≡ slice_get (owed_to c.0 s) 0 → StandsAfter o h s
+    → StandsAfter o (h ++ Collect c ∷ []) (collects_oldest s c.0)
 collect_after o h s c outcome told after =
     let oldest = oldest_after o h s c outcome told after in
     let some = some_list (uncollected o c.0 h) oldest.entry oldest.oldest in
-    record { legal = collect_keeps o h c after.legal some; goes_on = after.goes_on; stands = stands_collect o h s c (outcome_value outcome) after.legal.each (after.legal.settled, some) (sym told) after.stands }
+    record {
+      legal = collect_keeps o h c after.legal some;
+      goes_on = after.goes_on;
+      stands = stands_collect o h s c (outcome_value outcome) after.legal.each (after.legal.settled, some) (sym told)
+          after.stands;
+    }
 
-pub none_owed_after : (o : Opening) (h : List Entry) (s : QueueState) (c : ℕ) → ◌≡◌ {A = Option OutcomeValue} None (slice_get (owed_to c s) 0) → StandsAfter o h s → uncollected o c h ≡ []
-none_owed_after o h s c none after = none_told (uncollected o c h) (answers_passed o c h) (ap (λ l. slice_get l 0) (sym (after.stands.outcomes_are c)) ∙ sym none)
+pub none_owed_after : (o : Opening) (h : List Entry) (s : QueueState) (c : ℕ)
+    → ◌≡◌ {A = Option OutcomeValue} None (slice_get (owed_to c s) 0) → StandsAfter o h s → uncollected o c h ≡ []
+none_owed_after o h s c none after =
+    none_told (uncollected o c h) (answers_passed o c h)
+    (ap (λ l. slice_get l 0) (sym (after.stands.outcomes_are c)) ∙ sym none)
   where
-    none_told : (es : List Entry) → AllByRecursion (λ e. is_answer_to o c h e ≡ true) es → slice_get (filter_map (outcome_of h) es) 0 ≡ None → es ≡ []
+    none_told : (es : List Entry) → AllByRecursion (λ e. is_answer_to o c h e ≡ true) es
+        → slice_get (filter_map (outcome_of h) es) 0 ≡ None → es ≡ []
     none_told [] all first = refl
     none_told (Finish n status len ∷ es) all first = absurd (none-some _ (sym first))
     none_told (discovery.Answer n run fault ∷ es) all first = absurd (none-some _ (sym first))
     none_told (e ∷ es) all first = absurd (false≢true all.0)
 
-pub kind_after : (o : Opening) (h : List Entry) (s : QueueState) (c : ℕ) → StandsAfter o h s → first_kind c s ≡ oldest_kind o h c
-kind_after o h s c after = ap (λ l. option_map kind_of_value (slice_get l 0)) (after.stands.outcomes_are c) ∙ kind_told (uncollected o c h) (answers_passed o c h)
+pub kind_after : (o : Opening) (h : List Entry) (s : QueueState) (c : ℕ) → StandsAfter o h s
+    → first_kind c s ≡ oldest_kind o h c
+kind_after o h s c after =
+    ap (λ l. option_map kind_of_value (slice_get l 0)) (after.stands.outcomes_are c)
+    ∙ kind_told (uncollected o c h) (answers_passed o c h)
   where
-    kind_told : (es : List Entry) → AllByRecursion (λ e. is_answer_to o c h e ≡ true) es → option_map kind_of_value (slice_get (filter_map (outcome_of h) es) 0) ≡ option_and_then kind_of_answer (slice_get es 0)
+    kind_told : (es : List Entry) → AllByRecursion (λ e. is_answer_to o c h e ≡ true) es
+        → option_map kind_of_value (slice_get (filter_map (outcome_of h) es) 0)
+        ≡ option_and_then kind_of_answer (slice_get es 0)
     kind_told [] all = refl
     kind_told (Finish n status len ∷ es) all = refl
     kind_told (discovery.Answer n run fault ∷ es) all = refl

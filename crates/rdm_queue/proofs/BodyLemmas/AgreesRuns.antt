@@ -1,5 +1,6 @@
 -- A queue goes on with the log through the frames, replies and answers of a run.
-use Rattle.std.proofs.Common.{◌≡◌, ℕ, ◌+◌, ◌≤◌, ◌<◌, ◌%◌, Bool, true, false, List, [], ◌∷◌, ◌++◌, length, drop, Option, Some, None, slice_get, refl, sym, ap, ◌∙◌, subst, inl, inr, length-append, arith}
+use Rattle.std.proofs.Common.{◌≡◌, ℕ, ◌+◌, ◌≤◌, ◌<◌, ◌%◌, Bool, true, false, List, [], ◌∷◌, ◌++◌, length, drop, Option}
+use Rattle.std.proofs.Common.{Some, None, slice_get, refl, sym, ap, ◌∙◌, subst, inl, inr, length-append, arith}
 use Rattle.std.specs.Prelude.{◌⊎◌, ◌≢◌, ◌||◌}
 use Rattle.std.specs.List.{list_any}
 use Rattle.std.proofs.lemmas.Bool.{cases_Bool, eq-eqb, false≢true}
@@ -20,7 +21,9 @@ use Rattle.rdm_log.specs.log.Runs.{last_run}
 use Rattle.rdm_log.specs.log.Legal.{MayFollow}
 use Rattle.rdm_queue.specs.body.State.{QueueState, RunState}
 use Rattle.rdm_queue.specs.body.Agrees.{IsNotRunning, RunIs, oldest_number, Agrees}
-use Rattle.rdm_log.proofs.LogLemmas.PushLemmas.{joins_same, accepts_same, asks_same, answered_same, sends_same, sends_more, cames_same, finishes_same, collectors_same, awaited-push, is_paused-push, is_closed-push, unfinished_same}
+use Rattle.rdm_log.proofs.LogLemmas.PushLemmas.{joins_same, accepts_same, asks_same, answered_same, sends_same}
+use Rattle.rdm_log.proofs.LogLemmas.PushLemmas.{sends_more, cames_same, finishes_same, collectors_same, awaited-push}
+use Rattle.rdm_log.proofs.LogLemmas.PushLemmas.{is_paused-push, is_closed-push, unfinished_same}
 use Rattle.rdm_log.proofs.LogLemmas.ExchangeLemmas.{IsUnanswered, verdicts_same, verdicts_sent, verdicts_came_other}
 use Rattle.rdm_log.proofs.LogLemmas.LegalFacts.{LogFacts}
 use Rattle.rdm_log.proofs.LogLemmas.AskFacts.{AskFacts}
@@ -45,7 +48,9 @@ use Rattle.rdm_agent.specs.declared.fault.AgentFault.{AgentFault}
 use Rattle.rdm_agent.proofs.CallLemmas.{next_asked, hears-has_run, aborted_ends}
 use Rattle.rdm_log.specs.declared.entry.Entry.TheVariants.{Answer}
 use Rattle.rdm_log.specs.log.Clients.{client_of_discovery}
-use Rattle.rdm_log.specs.log.Runs.{has_begun, is_answered, run_exchanges, run_kind, known_at_run, known_devices, last_run_without_fault, if_without_fault, devices_of, devices_run, run_devices, answer_devices}
+use Rattle.rdm_log.specs.log.Runs.{has_begun, is_answered, run_exchanges, run_kind, known_at_run, known_devices}
+use Rattle.rdm_log.specs.log.Runs.{last_run_without_fault, if_without_fault, devices_of, devices_run, run_devices}
+use Rattle.rdm_log.specs.log.Runs.{answer_devices}
 use Rattle.rdm_queue.specs.body.Sending.{begun, kind_of, hears_run}
 use Rattle.rdm_queue.specs.body.Sending.{sends_run as gives_run}
 use Rattle.rdm_queue.specs.body.Ending.{answer_of, answer_value, answers_oldest, devices_after, devices_run_after}
@@ -53,7 +58,8 @@ use Rattle.rdm_queue.specs.body.Agrees.{AwaitsRun, IsRunning, IsPending}
 use Rattle.rdm_log.proofs.LogLemmas.PushLemmas.{answered_more, unanswered_answer}
 use Rattle.rdm_log.proofs.LogLemmas.AskFacts.{unanswered_place}
 use Rattle.rdm_log.proofs.LogLemmas.ClientLemmas.{answers_answer_own, answers_answer_other, client_of_unanswered}
-use Rattle.rdm_log.proofs.LogLemmas.RunLemmas.{last_begun, served_stays, entries_before_run_stays, no_exchanges, run_exchanges_sent, run_exchanges_came_own, run_exchanges_same}
+use Rattle.rdm_log.proofs.LogLemmas.RunLemmas.{last_begun, served_stays, entries_before_run_stays, no_exchanges}
+use Rattle.rdm_log.proofs.LogLemmas.RunLemmas.{run_exchanges_sent, run_exchanges_came_own, run_exchanges_same}
 use Rattle.rdm_log.proofs.LogLemmas.RunFacts.{RunFacts, never_named}
 use Rattle.rdm_log.proofs.PromiseLemmas.OutcomeLemmas.{some_at}
 use Rattle.rdm_queue.proofs.BodyLemmas.AgreesWork.{unanswered_of, count_more, owed_more}
@@ -61,13 +67,19 @@ use Rattle.rdm_log.proofs.LogLemmas.RunningLemmas.{asked_stays}
 use Rattle.rdm_log.proofs.LogLemmas.BegunLemmas.{before_begun, begins_now, all_unserved}
 
 -- an agent that asks for more wasn't stopped
-pub not_stopped : {search : Search} (kind : Kind) (known : List ℕ) (budget : ℕ) (aborted : Bool) (x : List Seen) (a : AgentState) → HasRunBy search kind known budget aborted x a → next_op a ≢ End → HasRunBy search kind known budget false x a
+pub not_stopped : {search : Search} (kind : Kind) (known : List ℕ) (budget : ℕ) (aborted : Bool) (x : List Seen)
+    (a : AgentState) → HasRunBy search kind known budget aborted x a → next_op a ≢ End
+    → HasRunBy search kind known budget false x a
 not_stopped kind known budget false x a is goes = is
 not_stopped kind known budget true x a is goes = absurd (goes (rw is.is.1 (aborted_ends is.before)))
 
 -- a run's frame is no request's
-way_same : (n r : ℕ) (ss : List Sending) (frame : ArrayVec ℕ) → list_any (λ (x : Sending). is_request n x.owner) (ss ++ record { owner = owners.Run r; frame = frame } ∷ []) ≡ list_any (λ (x : Sending). is_request n x.owner) ss
-way_same n r ss frame = list_any-append (λ (x : Sending). is_request n x.owner) ss (record { owner = owners.Run r; frame = frame } ∷ []) ∙ or_false (list_any (λ (x : Sending). is_request n x.owner) ss)
+way_same : (n r : ℕ) (ss : List Sending) (frame : ArrayVec ℕ)
+    → list_any (λ (x : Sending). is_request n x.owner) (ss ++ record { owner = owners.Run r; frame = frame } ∷ [])
+    ≡ list_any (λ (x : Sending). is_request n x.owner) ss
+way_same n r ss frame =
+    list_any-append (λ (x : Sending). is_request n x.owner) ss (record { owner = owners.Run r; frame = frame } ∷ [])
+    ∙ or_false (list_any (λ (x : Sending). is_request n x.owner) ss)
   where
     or_false : (b : Bool) → (b || false) ≡ b
     or_false true = refl
@@ -77,7 +89,11 @@ counted : (n m : ℕ) → ((n + m) % 256 + 1) % 256 ≡ (n + (m + 1)) % 256
 counted n m = omega arith
 
 -- the frame of the open run's next operation is sent
-pub stands_run_send : (o : Opening) (h : List Entry) (s : QueueState) (r : RunState) (frame : ArrayVec ℕ) → EachAfter (MayFollow o) h → MayFollow o h (Send (owners.Run r.number) frame) → length (sends h) ≡ length (cames h) → s.run ≡ Some r → next_op s.agent ≢ End → frame.items ≡ op_frame (next_op s.agent) s.source s.next_tn → asked_in frame.items ≡ asked_by (next_op s.agent) → Agrees o h s → Agrees o (h ++ Send (owners.Run r.number) frame ∷ []) (gives_run s)
+pub stands_run_send : (o : Opening) (h : List Entry) (s : QueueState) (r : RunState) (frame : ArrayVec ℕ)
+    → EachAfter (MayFollow o) h → MayFollow o h (Send (owners.Run r.number) frame) → length (sends h) ≡ length (cames h)
+    → s.run ≡ Some r → next_op s.agent ≢ End → frame.items ≡ op_frame (next_op s.agent) s.source s.next_tn
+    → asked_in frame.items ≡ asked_by (next_op s.agent) → Agrees o h s
+    → Agrees o (h ++ Send (owners.Run r.number) frame ∷ []) (gives_run s)
 stands_run_send o h s r frame each may even is goes frame_is asks_is stands = record {
   source_is = stands.source_is;
   greatest_is = stands.greatest_is;
@@ -86,20 +102,39 @@ stands_run_send o h s r frame each may even is goes frame_is asks_is stands = re
   paused_is = stands.paused_is ∙ sym (is_paused-push o h e);
   closed_is = stands.closed_is ∙ sym (is_closed-push o h e);
   next_request_is = rw (accepts_same h e refl) stands.next_request_is;
-  next_tn_is = rw (sends_more h e x refl, length-append (sends h) (x ∷ [])) (rw stands.next_tn_is (counted o.next_tn (length (sends h))));
+  next_tn_is =
+      rw (sends_more h e x refl, length-append (sends h) (x ∷ []))
+      (rw stands.next_tn_is (counted o.next_tn (length (sends h))));
   waiting_are = stands.waiting_are ∙ sym (unfinished_same h k (accepts_same h e refl) (finishes_same h e refl));
-  awaited_is = record { run = r; run_is = is; frame = frame; last = record { waits = awaited-push h e; earlier = sends h; sends_are = sends_more h e x refl }; goes_on = goes; asks = asks_is; same = rw (← stands.source_is) frame_is };
-  under_way_is = rw (sends_more h e x refl, finishes_same h e refl) (stands.under_way_is ∙ sym (way_same (oldest_number o h) r.number (sends h) frame));
-  progress = rw (finishes_same h e refl, verdicts_sent h (owners.Run r.number) frame (oldest_number o h) even) stands.progress;
+  awaited_is = record {
+    run = r;
+    run_is = is;
+    frame = frame;
+    last = record { waits = awaited-push h e; earlier = sends h; sends_are = sends_more h e x refl };
+    goes_on = goes;
+    asks = asks_is;
+    same = rw (← stands.source_is) frame_is;
+  };
+  under_way_is =
+      rw (sends_more h e x refl, finishes_same h e refl)
+      (stands.under_way_is ∙ sym (way_same (oldest_number o h) r.number (sends h) frame));
+  progress = rw (finishes_same h e refl, verdicts_sent h (owners.Run r.number) frame (oldest_number o h) even)
+      stands.progress;
   next_ask_is = rw (asks_same h e refl) stands.next_ask_is;
   next_run_is = rw (last_run_sent h (owners.Run r.number) frame) (stands.next_run_is ∙ rw before.last refl);
   asked_are = rw (asks_same h e refl, answered_same h e refl) stands.asked_are;
   run_is = subst (λ q. RunIs o k new q) (sym is) (record {
     last = last_run_sent h (owners.Run r.number) frame;
     aborted = false;
-    has_run = rw (run_exchanges_sent h (owners.Run r.number) frame r.number even, served_stays r.number h (e ∷ []) started, entries_before_run_stays r.number h (e ∷ []) started) (not_stopped _ _ _ before.aborted _ s.agent before.has_run goes);
+    has_run = rw (
+      run_exchanges_sent h (owners.Run r.number) frame r.number even,
+      served_stays r.number h (e ∷ []) started,
+      entries_before_run_stays r.number h (e ∷ []) started,
+    )
+        (not_stopped _ _ _ before.aborted _ s.agent before.has_run goes);
     stopped = λ no. absurd (false≢true no);
-    left = rw (last_run_sent h (owners.Run r.number) frame, answered_same h e refl) (asked_stays h e (Some r.number) before.last ∙ (rw before.last at before.left));
+    left = rw (last_run_sent h (owners.Run r.number) frame, answered_same h e refl)
+        (asked_stays h e (Some r.number) before.last ∙ (rw before.last at before.left));
     some = before.some;
     earlier = rw (entries_before_run_stays r.number h (e ∷ []) started, answered_same h e refl) before.earlier;
     ended = rw (answered_same h e refl) before.ended;
@@ -109,7 +144,9 @@ stands_run_send o h s r frame each may even is goes frame_is asks_is stands = re
   devices_are = stands.devices_are ∙ sym (known_step o h e each may (answered_same h e refl));
   devices_run_is = devices_run_same o h k s.devices_run (answered_same h e refl) stands.devices_run_is;
   owed_for_each = rw (joins_same h e refl) stands.owed_for_each;
-  outcomes_are = λ c. rw (answers_same o c h e refl refl, collectors_same h e refl) (stands.outcomes_are c ∙ sym (outcomes_step o h e each may c));
+  outcomes_are =
+      λ c. rw (answers_same o c h e refl refl, collectors_same h e refl)
+      (stands.outcomes_are c ∙ sym (outcomes_step o h e each may c));
   all_outcomes = rw (collectors_same h e refl, finishes_same h e refl, answered_same h e refl) stands.all_outcomes;
   first_run = stands.first_run;
 }
@@ -133,43 +170,82 @@ stands_run_send o h s r frame each may even is goes frame_is asks_is stands = re
     started = last_begun r.number h before.last
 
 -- a run begins with its first frame
-pub stands_begin : (o : Opening) (h : List Entry) (s : QueueState) (frame : ArrayVec ℕ) → EachAfter (MayFollow o) h → MayFollow o h (Send (owners.Run s.next_run) frame) → RunFacts o h → AskFacts o h → length (sends h) ≡ length (cames h) → s.run ≡ None → s.under_way ≡ false → 1 ≤ length s.asked → 1 ≤ s.next_run → HasRunBy s.search (kind_of s.asked) (uids_of s.devices) s.budget false [] (begun s).agent → next_op (begun s).agent ≢ End
-    → frame.items ≡ op_frame (next_op (begun s).agent) s.source s.next_tn → asked_in frame.items ≡ asked_by (next_op (begun s).agent) → Agrees o h s → Agrees o (h ++ Send (owners.Run s.next_run) frame ∷ []) (gives_run (begun s))
-stands_begin o h s frame each may run_facts ask_facts even none way some from starts goes frame_is asks_is stands = record {
-  source_is = stands.source_is;
-  greatest_is = stands.greatest_is;
-  budget_is = stands.budget_is;
-  places_are = rw (joins_same h e refl) stands.places_are;
-  paused_is = stands.paused_is ∙ sym (is_paused-push o h e);
-  closed_is = stands.closed_is ∙ sym (is_closed-push o h e);
-  next_request_is = rw (accepts_same h e refl) stands.next_request_is;
-  next_tn_is = rw (sends_more h e x refl, length-append (sends h) (x ∷ [])) (rw stands.next_tn_is (counted o.next_tn (length (sends h))));
-  waiting_are = stands.waiting_are ∙ sym (unfinished_same h k (accepts_same h e refl) (finishes_same h e refl));
-  awaited_is = record { run = r; run_is = refl; frame = frame; last = record { waits = awaited-push h e; earlier = sends h; sends_are = sends_more h e x refl }; goes_on = goes; asks = asks_is; same = rw (← stands.source_is) frame_is };
-  under_way_is = rw (sends_more h e x refl, finishes_same h e refl) (stands.under_way_is ∙ sym (way_same (oldest_number o h) r.number (sends h) frame));
-  progress = rw (finishes_same h e refl, verdicts_sent h (owners.Run r.number) frame (oldest_number o h) even) stands.progress;
-  next_ask_is = rw (asks_same h e refl) stands.next_ask_is;
-  next_run_is = rw (last_run_sent h (owners.Run s.next_run) frame) refl;
-  asked_are = rw (asks_same h e refl, answered_same h e refl) stands.asked_are;
-  run_is = record {
-    last = last_run_sent h (owners.Run s.next_run) frame;
-    aborted = false;
-    has_run = rw (run_exchanges_sent h (owners.Run s.next_run) frame s.next_run even, no_exchanges s.next_run h unbegun, begins_now s.next_run h frame unbegun, before_begun s.next_run h frame unbegun, all_unserved h before.none_left, ← stands.asked_are, ← stands.devices_are, ← stands.budget_is) starts;
-    stopped = λ no. absurd (false≢true no);
-    left = rw (last_run_sent h (owners.Run s.next_run) frame, before_begun s.next_run h frame unbegun, answered_same h e refl, stands.asked_are) (let long = length-drop (length (answers h)) (asks h) in let within = ask_facts.answered_within in omega arith);
-    some = some;
-    earlier = rw (before_begun s.next_run h frame unbegun, answered_same h e refl) before.none_left;
-    ended = λ named. absurd (false≢true (sym unnamed ∙ rw (answered_same h e refl) at named));
-    alike = λ i b at own. absurd (false≢true (sym unnamed ∙ some_at s.next_run (answers h) i b (rw (answered_same h e refl) at at) own));
-    no_request = way;
-  };
-  devices_are = stands.devices_are ∙ sym (known_step o h e each may (answered_same h e refl));
-  devices_run_is = devices_run_same o h k s.devices_run (answered_same h e refl) stands.devices_run_is;
-  owed_for_each = rw (joins_same h e refl) stands.owed_for_each;
-  outcomes_are = λ c. rw (answers_same o c h e refl refl, collectors_same h e refl) (stands.outcomes_are c ∙ sym (outcomes_step o h e each may c));
-  all_outcomes = rw (collectors_same h e refl, finishes_same h e refl, answered_same h e refl) stands.all_outcomes;
-  first_run = stands.first_run;
-}
+pub stands_begin : (o : Opening) (h : List Entry) (s : QueueState) (frame : ArrayVec ℕ) → EachAfter (MayFollow o) h
+    → MayFollow o h (Send (owners.Run s.next_run) frame) → RunFacts o h → AskFacts o h
+    → length (sends h) ≡ length (cames h) → s.run ≡ None → s.under_way ≡ false → 1 ≤ length s.asked → 1 ≤ s.next_run
+    → HasRunBy s.search (kind_of s.asked) (uids_of s.devices) s.budget false [] (begun s).agent
+    → next_op (begun s).agent ≢ End
+    → frame.items ≡ op_frame (next_op (begun s).agent) s.source s.next_tn
+    → asked_in frame.items ≡ asked_by (next_op (begun s).agent) → Agrees o h s
+    → Agrees o (h ++ Send (owners.Run s.next_run) frame ∷ []) (gives_run (begun s))
+stands_begin o h s frame each may run_facts ask_facts even none way some from starts goes frame_is asks_is stands =
+    record {
+      source_is = stands.source_is;
+      greatest_is = stands.greatest_is;
+      budget_is = stands.budget_is;
+      places_are = rw (joins_same h e refl) stands.places_are;
+      paused_is = stands.paused_is ∙ sym (is_paused-push o h e);
+      closed_is = stands.closed_is ∙ sym (is_closed-push o h e);
+      next_request_is = rw (accepts_same h e refl) stands.next_request_is;
+      next_tn_is =
+          rw (sends_more h e x refl, length-append (sends h) (x ∷ []))
+          (rw stands.next_tn_is (counted o.next_tn (length (sends h))));
+      waiting_are = stands.waiting_are ∙ sym (unfinished_same h k (accepts_same h e refl) (finishes_same h e refl));
+      awaited_is = record {
+        run = r;
+        run_is = refl;
+        frame = frame;
+        last = record { waits = awaited-push h e; earlier = sends h; sends_are = sends_more h e x refl };
+        goes_on = goes;
+        asks = asks_is;
+        same = rw (← stands.source_is) frame_is;
+      };
+      under_way_is =
+          rw (sends_more h e x refl, finishes_same h e refl)
+          (stands.under_way_is ∙ sym (way_same (oldest_number o h) r.number (sends h) frame));
+      progress = rw (finishes_same h e refl, verdicts_sent h (owners.Run r.number) frame (oldest_number o h) even)
+          stands.progress;
+      next_ask_is = rw (asks_same h e refl) stands.next_ask_is;
+      next_run_is = rw (last_run_sent h (owners.Run s.next_run) frame) refl;
+      asked_are = rw (asks_same h e refl, answered_same h e refl) stands.asked_are;
+      run_is = record {
+        last = last_run_sent h (owners.Run s.next_run) frame;
+        aborted = false;
+        has_run = rw (
+          run_exchanges_sent h (owners.Run s.next_run) frame s.next_run even,
+          no_exchanges s.next_run h unbegun,
+          begins_now s.next_run h frame unbegun,
+          before_begun s.next_run h frame unbegun,
+          all_unserved h before.none_left,
+          ← stands.asked_are,
+          ← stands.devices_are,
+          ← stands.budget_is,
+        ) starts;
+        stopped = λ no. absurd (false≢true no);
+        left = rw (
+          last_run_sent h (owners.Run s.next_run) frame,
+          before_begun s.next_run h frame unbegun,
+          answered_same h e refl,
+          stands.asked_are,
+        )
+            (let long = length-drop (length (answers h)) (asks h) in let within = ask_facts.answered_within in
+            omega arith);
+        some = some;
+        earlier = rw (before_begun s.next_run h frame unbegun, answered_same h e refl) before.none_left;
+        ended = λ named. absurd (false≢true (sym unnamed ∙ rw (answered_same h e refl) at named));
+        alike = λ i b at own. absurd (false≢true
+            (sym unnamed ∙ some_at s.next_run (answers h) i b (rw (answered_same h e refl) at at) own));
+        no_request = way;
+      };
+      devices_are = stands.devices_are ∙ sym (known_step o h e each may (answered_same h e refl));
+      devices_run_is = devices_run_same o h k s.devices_run (answered_same h e refl) stands.devices_run_is;
+      owed_for_each = rw (joins_same h e refl) stands.owed_for_each;
+      outcomes_are =
+          λ c. rw (answers_same o c h e refl refl, collectors_same h e refl)
+          (stands.outcomes_are c ∙ sym (outcomes_step o h e each may c));
+      all_outcomes = rw (collectors_same h e refl, finishes_same h e refl, answered_same h e refl) stands.all_outcomes;
+      first_run = stands.first_run;
+    }
   where
     e : Entry
     e = Send (owners.Run s.next_run) frame
@@ -203,7 +279,9 @@ stands_begin o h s frame each may run_facts ask_facts even none way some from st
     unnamed = never_named o h s.next_run run_facts from (let same = stands.next_run_is in omega arith)
 
 -- the reply to a run's frame is heard
-pub stands_run_came : (o : Opening) (h : List Entry) (s : QueueState) (tn : ℕ) (event : LineEvent) → EachAfter (MayFollow o) h → MayFollow o h (Came event) → LogFacts o h → s.awaited ≡ Some (awaiting.Run tn) → Agrees o h s → Agrees o (h ++ Came event ∷ []) (hears_run tn event s)
+pub stands_run_came : (o : Opening) (h : List Entry) (s : QueueState) (tn : ℕ) (event : LineEvent)
+    → EachAfter (MayFollow o) h → MayFollow o h (Came event) → LogFacts o h → s.awaited ≡ Some (awaiting.Run tn)
+    → Agrees o h s → Agrees o (h ++ Came event ∷ []) (hears_run tn event s)
 stands_run_came o h s tn event each may facts was stands = record {
   source_is = stands.source_is;
   greatest_is = stands.greatest_is;
@@ -223,19 +301,30 @@ stands_run_came o h s tn event each may facts was stands = record {
   run_is = subst (λ q. RunIs o k new q) (sym w.run_is) (record {
     last = last_run_same h k (sends_same h e refl) ∙ before.last;
     aborted = false;
-    has_run = rw (run_exchanges_came_own h _ event w.run.number x (eq-eqb w.run.number w.run.number refl), served_stays w.run.number h (e ∷ []) started, entries_before_run_stays w.run.number h (e ∷ []) started) (subst (λ n. HasRunBy s.search (run_kind w.run.number h) (known_at_run o w.run.number h) o.budget false (run_exchanges w.run.number h ++ seen ∷ []) (fed s.agent (heard_in (op_frame (next_op s.agent) n tn) (bytes_heard event)))) (sym stands.source_is) heard);
+    has_run = rw (
+      run_exchanges_came_own h _ event w.run.number x (eq-eqb w.run.number w.run.number refl),
+      served_stays w.run.number h (e ∷ []) started,
+      entries_before_run_stays w.run.number h (e ∷ []) started,
+    )
+        (subst (λ n. HasRunBy s.search (run_kind w.run.number h) (known_at_run o w.run.number h) o.budget false
+        (run_exchanges w.run.number h ++ seen ∷ [])
+        (fed s.agent (heard_in (op_frame (next_op s.agent) n tn) (bytes_heard event)))) (sym stands.source_is) heard);
     stopped = λ no. absurd (false≢true no);
-    left = rw (last_run_same h k (sends_same h e refl), answered_same h e refl) (asked_stays h e (last_run h) refl ∙ before.left);
+    left = rw (last_run_same h k (sends_same h e refl), answered_same h e refl)
+        (asked_stays h e (last_run h) refl ∙ before.left);
     some = before.some;
     earlier = rw (entries_before_run_stays w.run.number h (e ∷ []) started, answered_same h e refl) before.earlier;
     ended = λ named. absurd (w.goes_on (before.ended (rw (answered_same h e refl) at named)));
-    alike = λ i b at own. absurd (w.goes_on (before.ended (some_at w.run.number (answers h) i b (rw (answered_same h e refl) at at) own)));
+    alike = λ i b at own. absurd (w.goes_on
+        (before.ended (some_at w.run.number (answers h) i b (rw (answered_same h e refl) at at) own)));
     no_request = before.no_request;
   });
   devices_are = stands.devices_are ∙ sym (known_step o h e each may (answered_same h e refl));
   devices_run_is = devices_run_same o h k s.devices_run (answered_same h e refl) stands.devices_run_is;
   owed_for_each = rw (joins_same h e refl) stands.owed_for_each;
-  outcomes_are = λ c. rw (answers_same o c h e refl refl, collectors_same h e refl) (stands.outcomes_are c ∙ sym (outcomes_step o h e each may c));
+  outcomes_are =
+      λ c. rw (answers_same o c h e refl refl, collectors_same h e refl)
+      (stands.outcomes_are c ∙ sym (outcomes_step o h e each may c));
   all_outcomes = rw (collectors_same h e refl, finishes_same h e refl, answered_same h e refl) stands.all_outcomes;
   first_run = stands.first_run;
 }
@@ -264,60 +353,104 @@ stands_run_came o h s tn event each may facts was stands = record {
     seen : Seen
     seen = record { asked = asked_in w.frame.items; heard = heard_in w.frame.items (bytes_heard event) }
 
-    heard : HasRunBy s.search (run_kind w.run.number h) (known_at_run o w.run.number h) o.budget false (run_exchanges w.run.number h ++ seen ∷ []) (fed s.agent (heard_in (op_frame (next_op s.agent) o.source tn) (bytes_heard event)))
-    heard = hears-has_run s.agent _ seen (next_asked s.agent w.goes_on ∙ ap Some (sym w.asks)) (ap (λ b. fed s.agent (heard_in b (bytes_heard event))) (sym w.same)) _ _ _ before.aborted _ before.has_run
+    heard : HasRunBy s.search (run_kind w.run.number h) (known_at_run o w.run.number h) o.budget false
+        (run_exchanges w.run.number h ++ seen ∷ [])
+        (fed s.agent (heard_in (op_frame (next_op s.agent) o.source tn) (bytes_heard event)))
+    heard = hears-has_run s.agent _ seen (next_asked s.agent w.goes_on ∙ ap Some (sym w.asks))
+        (ap (λ b. fed s.agent (heard_in b (bytes_heard event))) (sym w.same)) _ _ _ before.aborted _ before.has_run
 
 -- what an Answer leaves of a run's exchanges, and which devices are known after it
-pub exchanges_answered : (h : List Entry) (n q : ℕ) (f : Option AgentFault) (r : ℕ) → run_exchanges r (h ++ Answer n q f ∷ []) ≡ run_exchanges r h
-exchanges_answered h n q f r = run_exchanges_same h (h ++ Answer n q f ∷ []) r (sends_same h (Answer n q f) refl) (cames_same h (Answer n q f) refl)
+pub exchanges_answered : (h : List Entry) (n q : ℕ) (f : Option AgentFault) (r : ℕ)
+    → run_exchanges r (h ++ Answer n q f ∷ []) ≡ run_exchanges r h
+exchanges_answered h n q f r =
+    run_exchanges_same h (h ++ Answer n q f ∷ []) r (sends_same h (Answer n q f) refl)
+    (cames_same h (Answer n q f) refl)
 
-devices_same : (o : Opening) (h : List Entry) (n q : ℕ) (f : Option AgentFault) (last : Option ℕ) → devices_of o.devices last (h ++ Answer n q f ∷ []) ≡ devices_of o.devices last h
+devices_same : (o : Opening) (h : List Entry) (n q : ℕ) (f : Option AgentFault) (last : Option ℕ)
+    → devices_of o.devices last (h ++ Answer n q f ∷ []) ≡ devices_of o.devices last h
 devices_same o h n q f None = refl
 devices_same o h n q f (Some r) = rw (exchanges_answered h n q f r) refl
 
-without_fault_after : (h : List Entry) (n q : ℕ) (f : Option AgentFault) → last_run_without_fault (h ++ Answer n q f ∷ []) ≡ if_without_fault (last_run_without_fault h) (record { number = n; run = q; fault = f })
-without_fault_after h n q f = rw (answered_more h (Answer n q f) _ refl) (fold_push if_without_fault None (answers h) (record { number = n; run = q; fault = f }))
+without_fault_after : (h : List Entry) (n q : ℕ) (f : Option AgentFault)
+    → last_run_without_fault (h ++ Answer n q f ∷ []) ≡ if_without_fault (last_run_without_fault h) (record {
+      number = n;
+      run = q;
+      fault = f;
+    })
+without_fault_after h n q f =
+    rw (answered_more h (Answer n q f) _ refl) (fold_push if_without_fault None (answers h) (record {
+      number = n;
+      run = q;
+      fault = f;
+    }))
 
-pub known_kept : (o : Opening) (h : List Entry) (n q : ℕ) (fault : AgentFault) → known_devices o h ≡ known_devices o (h ++ Answer n q (Some fault) ∷ [])
-known_kept o h n q fault = sym (rw (without_fault_after h n q (Some fault)) (devices_same o h n q (Some fault) (last_run_without_fault h)))
+pub known_kept : (o : Opening) (h : List Entry) (n q : ℕ) (fault : AgentFault)
+    → known_devices o h ≡ known_devices o (h ++ Answer n q (Some fault) ∷ [])
+known_kept o h n q fault =
+    sym (rw (without_fault_after h n q (Some fault)) (devices_same o h n q (Some fault) (last_run_without_fault h)))
 
-pub known_after : (o : Opening) (h : List Entry) (n q : ℕ) (f : Option AgentFault) (found : List Device) → found ≡ run_devices q h → devices_after f found (known_devices o h) ≡ known_devices o (h ++ Answer n q f ∷ [])
+pub known_after : (o : Opening) (h : List Entry) (n q : ℕ) (f : Option AgentFault) (found : List Device)
+    → found ≡ run_devices q h → devices_after f found (known_devices o h) ≡ known_devices o (h ++ Answer n q f ∷ [])
 known_after o h n q None found is = is ∙ sym (rw (without_fault_after h n q None, exchanges_answered h n q None q) refl)
 known_after o h n q (Some fault) found is = known_kept o h n q fault
 
-pub run_after : (o : Opening) (h : List Entry) (n q : ℕ) (f : Option AgentFault) → devices_run_after f q (devices_run o h) ≡ devices_run o (h ++ Answer n q f ∷ [])
+pub run_after : (o : Opening) (h : List Entry) (n q : ℕ) (f : Option AgentFault)
+    → devices_run_after f q (devices_run o h) ≡ devices_run o (h ++ Answer n q f ∷ [])
 run_after o h n q None = sym (rw (without_fault_after h n q None) refl)
 run_after o h n q (Some fault) = sym (rw (without_fault_after h n q (Some fault)) refl)
 
 -- the oldest discovery is answered
-pub stands_answer : (o : Opening) (h : List Entry) (s : QueueState) (a : AskedDiscovery) (q : ℕ) (f : Option AgentFault) (found : List Device) (run : Option RunState) (agent : AgentState) (devices : List Device) (devices_from : ℕ) → EachAfter (MayFollow o) h → MayFollow o h (answer_of a q f) → AskFacts o h → ClientFacts o h → slice_get (unanswered h) 0 ≡ Some a → found ≡ answer_devices q h → s.awaited ≡ None
-    → devices ≡ known_devices o (h ++ answer_of a q f ∷ []) → devices_from ≡ devices_run o (h ++ answer_of a q f ∷ []) → RunIs o (h ++ answer_of a q f ∷ []) (record (answers_oldest s a q f found) { run = run; agent = agent; devices = devices; devices_run = devices_from }) run → Agrees o h s
-    → Agrees o (h ++ answer_of a q f ∷ []) (record (answers_oldest s a q f found) { run = run; agent = agent; devices = devices; devices_run = devices_from })
-stands_answer o h s a q f found run agent devices devices_from each may asked_facts clients oldest is idle known from runs stands = record {
-  source_is = stands.source_is;
-  greatest_is = stands.greatest_is;
-  budget_is = stands.budget_is;
-  places_are = rw (joins_same h e refl) stands.places_are;
-  paused_is = stands.paused_is ∙ sym (is_paused-push o h e);
-  closed_is = stands.closed_is ∙ sym (is_closed-push o h e);
-  next_request_is = rw (accepts_same h e refl) stands.next_request_is;
-  next_tn_is = rw (sends_same h e refl) stands.next_tn_is;
-  waiting_are = stands.waiting_are ∙ sym (unfinished_same h k (accepts_same h e refl) (finishes_same h e refl));
-  awaited_is = rw idle (awaited-push h e ∙ rw idle at stands.awaited_is);
-  under_way_is = rw (sends_same h e refl, finishes_same h e refl) stands.under_way_is;
-  progress = rw (finishes_same h e refl, verdicts_same h k (oldest_number o h) (sends_same h e refl) (cames_same h e refl)) stands.progress;
-  next_ask_is = rw (asks_same h e refl) stands.next_ask_is;
-  next_run_is = rw (last_run_same h k (sends_same h e refl)) stands.next_run_is;
-  asked_are = rw (unanswered_answer h e _ refl refl) (ap (drop 1) stands.asked_are);
-  run_is = runs;
-  devices_are = known;
-  devices_run_is = from;
-  owed_for_each = length-set s.owed a.client _ ∙ rw (joins_same h e refl) stands.owed_for_each;
-  outcomes_are = owed_more o h k e s a.client (answer_value a q f found) within (λ c own. answers_answer_own o c h a.number q f a.client client_is own) (λ c other. answers_answer_other o c h a.number q f a.client client_is other) (collectors_same h e refl) clients.collected_within
-      (rw (exchanges_answered h a.number q f q, is) refl) (λ c. stands.outcomes_are c ∙ sym (outcomes_step o h e each may c));
-  all_outcomes = rw (collectors_same h e refl, finishes_same h e refl, answered_more h e _ refl, length-append (answers h) _) (let more = count_more s.owed a.client (answer_value a q f found) within in let all = stands.all_outcomes in omega arith);
-  first_run = stands.first_run;
-}
+pub stands_answer : (o : Opening) (h : List Entry) (s : QueueState) (a : AskedDiscovery) (q : ℕ) (f : Option AgentFault)
+    (found : List Device) (run : Option RunState) (agent : AgentState) (devices : List Device) (devices_from : ℕ)
+    → EachAfter (MayFollow o) h → MayFollow o h (answer_of a q f) → AskFacts o h → ClientFacts o h
+    → slice_get (unanswered h) 0 ≡ Some a → found ≡ answer_devices q h → s.awaited ≡ None
+    → devices ≡ known_devices o (h ++ answer_of a q f ∷ []) → devices_from ≡ devices_run o (h ++ answer_of a q f ∷ [])
+    → RunIs o (h ++ answer_of a q f ∷ [])
+    (record (answers_oldest s a q f found)
+    { run = run; agent = agent; devices = devices; devices_run = devices_from }) run → Agrees o h s
+    → Agrees o (h ++ answer_of a q f ∷ []) (record (answers_oldest s a q f found) {
+      run = run;
+      agent = agent;
+      devices = devices;
+      devices_run = devices_from;
+    })
+stands_answer o h s a q f found run agent devices devices_from each may asked_facts clients oldest is idle known from
+    runs stands = record {
+      source_is = stands.source_is;
+      greatest_is = stands.greatest_is;
+      budget_is = stands.budget_is;
+      places_are = rw (joins_same h e refl) stands.places_are;
+      paused_is = stands.paused_is ∙ sym (is_paused-push o h e);
+      closed_is = stands.closed_is ∙ sym (is_closed-push o h e);
+      next_request_is = rw (accepts_same h e refl) stands.next_request_is;
+      next_tn_is = rw (sends_same h e refl) stands.next_tn_is;
+      waiting_are = stands.waiting_are ∙ sym (unfinished_same h k (accepts_same h e refl) (finishes_same h e refl));
+      awaited_is = rw idle (awaited-push h e ∙ rw idle at stands.awaited_is);
+      under_way_is = rw (sends_same h e refl, finishes_same h e refl) stands.under_way_is;
+      progress = rw (
+        finishes_same h e refl,
+        verdicts_same h k (oldest_number o h) (sends_same h e refl) (cames_same h e refl),
+      ) stands.progress;
+      next_ask_is = rw (asks_same h e refl) stands.next_ask_is;
+      next_run_is = rw (last_run_same h k (sends_same h e refl)) stands.next_run_is;
+      asked_are = rw (unanswered_answer h e _ refl refl) (ap (drop 1) stands.asked_are);
+      run_is = runs;
+      devices_are = known;
+      devices_run_is = from;
+      owed_for_each = length-set s.owed a.client _ ∙ rw (joins_same h e refl) stands.owed_for_each;
+      outcomes_are =
+          owed_more o h k e s a.client (answer_value a q f found) within
+          (λ c own. answers_answer_own o c h a.number q f a.client client_is own)
+          (λ c other. answers_answer_other o c h a.number q f a.client client_is other) (collectors_same h e refl)
+          clients.collected_within
+          (rw (exchanges_answered h a.number q f q, is) refl)
+          (λ c. stands.outcomes_are c ∙ sym (outcomes_step o h e each may c));
+      all_outcomes =
+          rw (collectors_same h e refl, finishes_same h e refl, answered_more h e _ refl, length-append (answers h) _)
+          (let more = count_more s.owed a.client (answer_value a q f found) within in let all = stands.all_outcomes in
+          omega arith);
+      first_run = stands.first_run;
+    }
   where
     e : Entry
     e = answer_of a q f
@@ -326,7 +459,12 @@ stands_answer o h s a q f found run agent devices devices_from each may asked_fa
     k = h ++ e ∷ []
 
     new : QueueState
-    new = record (answers_oldest s a q f found) { run = run; agent = agent; devices = devices; devices_run = devices_from }
+    new = record (answers_oldest s a q f found) {
+      run = run;
+      agent = agent;
+      devices = devices;
+      devices_run = devices_from;
+    }
 
     within : a.client < length s.owed
     within = rw stands.owed_for_each (asked_facts.askers (length (answers h) + 0) a (unanswered_place h 0 a oldest))

@@ -1,9 +1,12 @@
 -- A queue goes on with the log, entry by entry.
-use Rattle.std.proofs.Common.{◌≡◌, ℕ, ◌+◌, ◌≤◌, ◌<◌, ◌%◌, Bool, true, false, List, [], ◌∷◌, ◌++◌, length, drop, filter, map, sum, set, get_or, Option, Some, None, slice_get, refl, sym, ap, ◌∙◌, inl, inr, zero, suc, length-append, append-nil, arith, filter_map, if◌then◌else◌}
+use Rattle.std.proofs.Common.{◌≡◌, ℕ, ◌+◌, ◌≤◌, ◌<◌, ◌%◌, Bool, true, false, List, [], ◌∷◌, ◌++◌, length, drop, filter}
+use Rattle.std.proofs.Common.{map, sum, set, get_or, Option, Some, None, slice_get, refl, sym, ap, ◌∙◌, inl, inr, zero}
+use Rattle.std.proofs.Common.{suc, length-append, append-nil, arith, filter_map, if◌then◌else◌}
 use Rattle.std.specs.Prelude.{◌⊎◌, ◌==◌, ◌||◌}
 use Rattle.std.specs.List.{list_any}
 use Rattle.std.proofs.lemmas.Bool.{cases_Bool, cases_eq, cases_lt, ne_eqb, eq-eqb, false≢true}
-use Rattle.std.proofs.lemmas.List.{same_from_push, length-set, length-drop, drop-drop, get_or-set_same, get_or-set_other, get_or_past}
+use Rattle.std.proofs.lemmas.List.{same_from_push, length-set, length-drop, drop-drop, get_or-set_same}
+use Rattle.std.proofs.lemmas.List.{get_or-set_other, get_or_past}
 use Rattle.std.proofs.lemmas.List.Folds.{list_any-append}
 use Rattle.std.proofs.lemmas.List.Sums.{sum_by-cons}
 use Rattle.std.proofs.lemmas.List.Elements.{filter-append, filter_map-append}
@@ -22,31 +25,42 @@ use Rattle.rdm_log.specs.declared.entry.Opening.{Opening}
 use Rattle.rdm_log.specs.declared.entry.Entry.{Entry}
 use Rattle.rdm_log.specs.declared.entry.Entry.TheVariants.{Accept, Ask, Send, Came, Collect}
 use Rattle.rdm_queue.specs.declared.pending.Awaited.TheVariants as awaiting
-use Rattle.rdm_log.specs.log.Entries.{Accepted, AskedDiscovery, Sending, accepts, asks, sends, cames, finishes, collectors, verdicts, result, is_request, is_run}
+use Rattle.rdm_log.specs.log.Entries.{Accepted, AskedDiscovery, Sending, accepts, asks, sends, cames, finishes}
+use Rattle.rdm_log.specs.log.Entries.{collectors, verdicts, result, is_request, is_run}
 use Rattle.rdm_log.specs.log.History.{awaited, unfinished}
 use Rattle.rdm_log.specs.log.Clients.{answers_to, collects_by, uncollected, client_of_request}
 use Rattle.rdm_log.specs.log.Runs.{last_run}
 use Rattle.rdm_log.specs.log.Legal.{MayFollow}
 use Rattle.rdm_log.specs.promises.Outcomes.{OutcomeValue, outcome_of, completion_of}
-use Rattle.rdm_queue.specs.body.State.{QueueState, owed_for, owed_to, owed_value, owes, accepts_request, asks_discovery, collects_oldest, finishes_oldest, finish_of, IsProgress}
+use Rattle.rdm_queue.specs.body.State.{QueueState, owed_for, owed_to, owed_value, owes, accepts_request, asks_discovery}
+use Rattle.rdm_queue.specs.body.State.{collects_oldest, finishes_oldest, finish_of, IsProgress}
 use Rattle.rdm_queue.specs.body.Sending.{sends_request, sent_for}
 use Rattle.rdm_queue.specs.body.Agrees.{IsLast, AwaitsRequest, IsNotRunning, oldest_number, Agrees}
-use Rattle.rdm_log.proofs.LogLemmas.PushLemmas.{joins_same, accepts_same, accepts_more, asks_same, asks_more, answered_same, sends_same, sends_more, cames_same, finishes_same, finishes_more, collectors_same, collectors_more, awaited-push, is_paused-push, is_closed-push, unfinished_same, unfinished_accept, unfinished_finish, unanswered_ask}
+use Rattle.rdm_log.proofs.LogLemmas.PushLemmas.{joins_same, accepts_same, accepts_more, asks_same, asks_more}
+use Rattle.rdm_log.proofs.LogLemmas.PushLemmas.{answered_same, sends_same, sends_more, cames_same, finishes_same}
+use Rattle.rdm_log.proofs.LogLemmas.PushLemmas.{finishes_more, collectors_same, collectors_more, awaited-push}
+use Rattle.rdm_log.proofs.LogLemmas.PushLemmas.{is_paused-push, is_closed-push, unfinished_same, unfinished_accept}
+use Rattle.rdm_log.proofs.LogLemmas.PushLemmas.{unfinished_finish, unanswered_ask}
 use Rattle.rdm_log.proofs.LogLemmas.Places.{place_within}
-use Rattle.rdm_log.proofs.LogLemmas.ExchangeLemmas.{IsUnanswered, verdicts_same, verdicts_sent, verdicts_came_own, verdicts_unsent, result_same}
+use Rattle.rdm_log.proofs.LogLemmas.ExchangeLemmas.{IsUnanswered, verdicts_same, verdicts_sent, verdicts_came_own}
+use Rattle.rdm_log.proofs.LogLemmas.ExchangeLemmas.{verdicts_unsent, result_same}
 use Rattle.rdm_log.proofs.LogLemmas.LegalFacts.{LogFacts, unfinished_number, unfinished_place}
 use Rattle.rdm_log.proofs.LogLemmas.AskFacts.{AskFacts}
-use Rattle.rdm_log.proofs.LogLemmas.ClientLemmas.{answers_same, answers_accept, answers_ask, answers_finish_own, answers_finish_other, client_of_accepted}
+use Rattle.rdm_log.proofs.LogLemmas.ClientLemmas.{answers_same, answers_accept, answers_ask, answers_finish_own}
+use Rattle.rdm_log.proofs.LogLemmas.ClientLemmas.{answers_finish_other, client_of_accepted}
 use Rattle.rdm_log.proofs.LogLemmas.ClientFacts.{ClientFacts}
 use Rattle.rdm_log.proofs.LogLemmas.RunLemmas.{last_run_same, last_run_sent, SameRuns, same_runs_sent}
-use Rattle.rdm_log.proofs.PromiseLemmas.OutcomeLemmas.{outcomes_step, known_step, uncollected_more, outcomes_rest, answers_passed}
+use Rattle.rdm_log.proofs.PromiseLemmas.OutcomeLemmas.{outcomes_step, known_step, uncollected_more, outcomes_rest}
+use Rattle.rdm_log.proofs.PromiseLemmas.OutcomeLemmas.{answers_passed}
 use Rattle.rdm_queue.proofs.BodyLemmas.OutstandingLemmas.{owes-own, owes-other}
 use Rattle.rdm_log.proofs.LogLemmas.RunningLemmas.{same_running, same_running_came, asked_stays}
 use Rattle.rdm_queue.proofs.BodyLemmas.RunningLemmas.{run_same}
 use Rattle.rdm_queue.proofs.BodyLemmas.AgreesSame.{pending_same, devices_run_same}
 
 -- a request is accepted
-pub stands_accept : (o : Opening) (h : List Entry) (s : QueueState) (c : ClientId) (n : ℕ) (request : Request) → EachAfter (MayFollow o) h → MayFollow o h (Accept c n request) → LogFacts o h → AskFacts o h → n ≡ s.next_request → Agrees o h s → Agrees o (h ++ Accept c n request ∷ []) (accepts_request s c.0 request)
+pub stands_accept : (o : Opening) (h : List Entry) (s : QueueState) (c : ClientId) (n : ℕ) (request : Request)
+    → EachAfter (MayFollow o) h → MayFollow o h (Accept c n request) → LogFacts o h → AskFacts o h → n ≡ s.next_request
+    → Agrees o h s → Agrees o (h ++ Accept c n request ∷ []) (accepts_request s c.0 request)
 stands_accept o h s c n request each may facts ask_facts number stands = record {
   source_is = stands.source_is;
   greatest_is = stands.greatest_is;
@@ -54,12 +68,20 @@ stands_accept o h s c n request each may facts ask_facts number stands = record 
   places_are = rw (joins_same h e refl) stands.places_are;
   paused_is = stands.paused_is ∙ sym (is_paused-push o h e);
   closed_is = stands.closed_is ∙ sym (is_closed-push o h e);
-  next_request_is = rw (accepts_more h e a refl, length-append (accepts h) (a ∷ [])) (omega (arith, stands.next_request_is));
+  next_request_is =
+      rw (accepts_more h e a refl, length-append (accepts h) (a ∷ [])) (omega (arith, stands.next_request_is));
   next_tn_is = rw (sends_same h e refl) stands.next_tn_is;
-  waiting_are = rw (unfinished_accept h c n request facts.finished_within, number) (ap (λ l. l ++ record { client = c.0; number = s.next_request; request = request } ∷ []) stands.waiting_are);
-  awaited_is = pending_same o h k s new s.awaited (sends_same h e refl) (awaited-push h e) (finishes_same h e refl) refl refl stands.awaited_is;
+  waiting_are =
+      rw (unfinished_accept h c n request facts.finished_within, number)
+      (ap (λ l. l ++ record { client = c.0; number = s.next_request; request = request } ∷ []) stands.waiting_are);
+  awaited_is =
+      pending_same o h k s new s.awaited (sends_same h e refl) (awaited-push h e) (finishes_same h e refl) refl refl
+      stands.awaited_is;
   under_way_is = rw (sends_same h e refl, finishes_same h e refl) stands.under_way_is;
-  progress = rw (finishes_same h e refl, verdicts_same h k (oldest_number o h) (sends_same h e refl) (cames_same h e refl)) stands.progress;
+  progress = rw (
+    finishes_same h e refl,
+    verdicts_same h k (oldest_number o h) (sends_same h e refl) (cames_same h e refl),
+  ) stands.progress;
   next_ask_is = rw (asks_same h e refl) stands.next_ask_is;
   next_run_is = rw (last_run_same h k (sends_same h e refl)) stands.next_run_is;
   asked_are = rw (asks_same h e refl, answered_same h e refl) stands.asked_are;
@@ -67,7 +89,9 @@ stands_accept o h s c n request each may facts ask_facts number stands = record 
   devices_are = stands.devices_are ∙ sym (known_step o h e each may (answered_same h e refl));
   devices_run_is = devices_run_same o h k s.devices_run (answered_same h e refl) stands.devices_run_is;
   owed_for_each = rw (joins_same h e refl) stands.owed_for_each;
-  outcomes_are = λ client. rw (answers_accept o client h facts ask_facts c n request, collectors_same h e refl) (stands.outcomes_are client ∙ sym (outcomes_step o h e each may client));
+  outcomes_are =
+      λ client. rw (answers_accept o client h facts ask_facts c n request, collectors_same h e refl)
+      (stands.outcomes_are client ∙ sym (outcomes_step o h e each may client));
   all_outcomes = rw (collectors_same h e refl, finishes_same h e refl, answered_same h e refl) stands.all_outcomes;
   first_run = stands.first_run;
 }
@@ -85,7 +109,9 @@ stands_accept o h s c n request each may facts ask_facts number stands = record 
     a = record { client = c.0; number = n; request = request }
 
 -- a discovery is asked
-pub stands_ask : (o : Opening) (h : List Entry) (s : QueueState) (c : ClientId) (n : ℕ) (kind : Kind) → EachAfter (MayFollow o) h → MayFollow o h (Ask c n kind) → LogFacts o h → AskFacts o h → n ≡ s.next_ask → Agrees o h s → Agrees o (h ++ Ask c n kind ∷ []) (asks_discovery s c.0 kind)
+pub stands_ask : (o : Opening) (h : List Entry) (s : QueueState) (c : ClientId) (n : ℕ) (kind : Kind)
+    → EachAfter (MayFollow o) h → MayFollow o h (Ask c n kind) → LogFacts o h → AskFacts o h → n ≡ s.next_ask
+    → Agrees o h s → Agrees o (h ++ Ask c n kind ∷ []) (asks_discovery s c.0 kind)
 stands_ask o h s c n kind each may facts ask_facts number stands = record {
   source_is = stands.source_is;
   greatest_is = stands.greatest_is;
@@ -96,17 +122,25 @@ stands_ask o h s c n kind each may facts ask_facts number stands = record {
   next_request_is = rw (accepts_same h e refl) stands.next_request_is;
   next_tn_is = rw (sends_same h e refl) stands.next_tn_is;
   waiting_are = stands.waiting_are ∙ sym (unfinished_same h k (accepts_same h e refl) (finishes_same h e refl));
-  awaited_is = pending_same o h k s new s.awaited (sends_same h e refl) (awaited-push h e) (finishes_same h e refl) refl refl stands.awaited_is;
+  awaited_is =
+      pending_same o h k s new s.awaited (sends_same h e refl) (awaited-push h e) (finishes_same h e refl) refl refl
+      stands.awaited_is;
   under_way_is = rw (sends_same h e refl, finishes_same h e refl) stands.under_way_is;
-  progress = rw (finishes_same h e refl, verdicts_same h k (oldest_number o h) (sends_same h e refl) (cames_same h e refl)) stands.progress;
+  progress = rw (
+    finishes_same h e refl,
+    verdicts_same h k (oldest_number o h) (sends_same h e refl) (cames_same h e refl),
+  ) stands.progress;
   next_ask_is = rw (asks_more h e a refl, length-append (asks h) (a ∷ [])) (omega (arith, stands.next_ask_is));
   next_run_is = rw (last_run_same h k (sends_same h e refl)) stands.next_run_is;
-  asked_are = rw (unanswered_ask h e a refl refl ask_facts.answered_within, number) (ap (λ l. l ++ record { client = c.0; number = s.next_ask; kind = kind } ∷ []) stands.asked_are);
+  asked_are = rw (unanswered_ask h e a refl refl ask_facts.answered_within, number)
+      (ap (λ l. l ++ record { client = c.0; number = s.next_ask; kind = kind } ∷ []) stands.asked_are);
   run_is = run_same o h k s new s.run (same_running o h e refl refl refl) refl refl (inl refl) stands.run_is;
   devices_are = stands.devices_are ∙ sym (known_step o h e each may (answered_same h e refl));
   devices_run_is = devices_run_same o h k s.devices_run (answered_same h e refl) stands.devices_run_is;
   owed_for_each = rw (joins_same h e refl) stands.owed_for_each;
-  outcomes_are = λ client. rw (answers_ask o client h facts ask_facts c n kind, collectors_same h e refl) (stands.outcomes_are client ∙ sym (outcomes_step o h e each may client));
+  outcomes_are =
+      λ client. rw (answers_ask o client h facts ask_facts c n kind, collectors_same h e refl)
+      (stands.outcomes_are client ∙ sym (outcomes_step o h e each may client));
   all_outcomes = rw (collectors_same h e refl, finishes_same h e refl, answered_same h e refl) stands.all_outcomes;
   first_run = stands.first_run;
 }
@@ -124,14 +158,21 @@ stands_ask o h s c n kind each may facts ask_facts number stands = record {
     a = record { client = c.0; number = n; kind = kind }
 
 -- a request's frame is sent
-pub was_sent_own : (n : ℕ) (ss : List Sending) (frame : ArrayVec ℕ) → list_any (λ (x : Sending). is_request n x.owner) (ss ++ record { owner = owners.Request n; frame = frame } ∷ []) ≡ true
-was_sent_own n ss frame = list_any-append (λ (x : Sending). is_request n x.owner) ss (record { owner = owners.Request n; frame = frame } ∷ []) ∙ rw (eq-eqb n n refl) (or_true (list_any (λ (x : Sending). is_request n x.owner) ss))
+pub was_sent_own : (n : ℕ) (ss : List Sending) (frame : ArrayVec ℕ)
+    → list_any (λ (x : Sending). is_request n x.owner) (ss ++ record { owner = owners.Request n; frame = frame } ∷ [])
+    ≡ true
+was_sent_own n ss frame =
+    list_any-append (λ (x : Sending). is_request n x.owner) ss (record { owner = owners.Request n; frame = frame } ∷ [])
+    ∙ rw (eq-eqb n n refl) (or_true (list_any (λ (x : Sending). is_request n x.owner) ss))
   where
     or_true : (c : Bool) → (c || true) ≡ true
     or_true true = refl
     or_true false = refl
 
-pub stands_send : (o : Opening) (h : List Entry) (s : QueueState) (a : Accepted) (frame : ArrayVec ℕ) → EachAfter (MayFollow o) h → MayFollow o h (Send (owners.Request a.number) frame) → length (sends h) ≡ length (cames h) → a.number ≡ oldest_number o h → sent_by frame.items ≡ sent_for s a → s.run ≡ None → Agrees o h s → Agrees o (h ++ Send (owners.Request a.number) frame ∷ []) (sends_request s a)
+pub stands_send : (o : Opening) (h : List Entry) (s : QueueState) (a : Accepted) (frame : ArrayVec ℕ)
+    → EachAfter (MayFollow o) h → MayFollow o h (Send (owners.Request a.number) frame)
+    → length (sends h) ≡ length (cames h) → a.number ≡ oldest_number o h → sent_by frame.items ≡ sent_for s a
+    → s.run ≡ None → Agrees o h s → Agrees o (h ++ Send (owners.Request a.number) frame ∷ []) (sends_request s a)
 stands_send o h s a frame each may even number sent none stands = record {
   source_is = stands.source_is;
   greatest_is = stands.greatest_is;
@@ -140,19 +181,40 @@ stands_send o h s a frame each may even number sent none stands = record {
   paused_is = stands.paused_is ∙ sym (is_paused-push o h e);
   closed_is = stands.closed_is ∙ sym (is_closed-push o h e);
   next_request_is = rw (accepts_same h e refl) stands.next_request_is;
-  next_tn_is = rw (sends_more h e x refl, length-append (sends h) (x ∷ [])) (rw stands.next_tn_is (counted o.next_tn (length (sends h))));
+  next_tn_is =
+      rw (sends_more h e x refl, length-append (sends h) (x ∷ []))
+      (rw stands.next_tn_is (counted o.next_tn (length (sends h))));
   waiting_are = stands.waiting_are ∙ sym (unfinished_same h k (accepts_same h e refl) (finishes_same h e refl));
-  awaited_is = record { frame = frame; last = record { waits = awaited-push h e; earlier = sends h; sends_are = rw (finishes_same h e refl, ← number) (sends_more h e x refl) }; same = sent };
-  under_way_is = rw (sends_more h e x refl, finishes_same h e refl, ← number) (sym (was_sent_own a.number (sends h) frame));
-  progress = rw (finishes_same h e refl, verdicts_sent h (owners.Request a.number) frame (oldest_number o h) even) stands.progress;
+  awaited_is = record {
+    frame = frame;
+    last = record {
+      waits = awaited-push h e;
+      earlier = sends h;
+      sends_are = rw (finishes_same h e refl, ← number) (sends_more h e x refl);
+    };
+    same = sent;
+  };
+  under_way_is =
+      rw (sends_more h e x refl, finishes_same h e refl, ← number) (sym (was_sent_own a.number (sends h) frame));
+  progress = rw (finishes_same h e refl, verdicts_sent h (owners.Request a.number) frame (oldest_number o h) even)
+      stands.progress;
   next_ask_is = rw (asks_same h e refl) stands.next_ask_is;
   next_run_is = rw (last_run_sent h (owners.Request a.number) frame) stands.next_run_is;
   asked_are = rw (asks_same h e refl, answered_same h e refl) stands.asked_are;
-  run_is = rw none (record { none_open = runs.same_open ∙ before.none_open; none_left = rw (last_run_sent h (owners.Request a.number) frame, asked_stays h e (last_run h) refl, answered_same h e refl) before.none_left });
+  run_is = rw none (record {
+    none_open = runs.same_open ∙ before.none_open;
+    none_left = rw (
+      last_run_sent h (owners.Request a.number) frame,
+      asked_stays h e (last_run h) refl,
+      answered_same h e refl,
+    ) before.none_left;
+  });
   devices_are = stands.devices_are ∙ sym (known_step o h e each may (answered_same h e refl));
   devices_run_is = devices_run_same o h k s.devices_run (answered_same h e refl) stands.devices_run_is;
   owed_for_each = rw (joins_same h e refl) stands.owed_for_each;
-  outcomes_are = λ c. rw (answers_same o c h e refl refl, collectors_same h e refl) (stands.outcomes_are c ∙ sym (outcomes_step o h e each may c));
+  outcomes_are =
+      λ c. rw (answers_same o c h e refl refl, collectors_same h e refl)
+      (stands.outcomes_are c ∙ sym (outcomes_step o h e each may c));
   all_outcomes = rw (collectors_same h e refl, finishes_same h e refl, answered_same h e refl) stands.all_outcomes;
   first_run = stands.first_run;
 }
@@ -179,19 +241,31 @@ stands_send o h s a frame each may even number sent none stands = record {
     counted n m = omega arith
 
 -- a request's reply is heard
-came_verdicts : (o : Opening) (h : List Entry) (sent : Sent) (event : LineEvent) → LogFacts o h → (w : AwaitsRequest o h sent) → (x : IsUnanswered h (record { owner = owners.Request (oldest_number o h); frame = w.frame })) → verdicts (oldest_number o h) (h ++ Came event ∷ []) ≡ verdicts (oldest_number o h) h ++ verdict sent event ∷ []
+came_verdicts : (o : Opening) (h : List Entry) (sent : Sent) (event : LineEvent) → LogFacts o h
+    → (w : AwaitsRequest o h sent)
+    → (x : IsUnanswered h (record { owner = owners.Request (oldest_number o h); frame = w.frame }))
+    → verdicts (oldest_number o h) (h ++ Came event ∷ []) ≡ verdicts (oldest_number o h) h ++ verdict sent event ∷ []
 came_verdicts o h sent event facts w x =
     verdicts_came_own h _ event (oldest_number o h) x (eq-eqb (oldest_number o h) (oldest_number o h) refl)
     ∙ ap (λ (v : Sent). verdicts (oldest_number o h) h ++ verdict v event ∷ []) w.same
 
 pub unanswered_of : (o : Opening) (h : List Entry) (x : Sending) → LogFacts o h → IsLast h x → IsUnanswered h x
-unanswered_of o h x facts is = record { earlier = is.earlier; last = is.sends_are; answered = let count = facts.exchanges in let long = ap (λ l. length l) is.sends_are ∙ length-append is.earlier (x ∷ []) in even (awaited h) is.waits count long }
+unanswered_of o h x facts is = record {
+  earlier = is.earlier;
+  last = is.sends_are;
+  answered = let count = facts.exchanges in
+      let long = ap (λ l. length l) is.sends_are ∙ length-append is.earlier (x ∷ []) in
+      even (awaited h) is.waits count long;
+}
   where
     even : {n m k : ℕ} (b : Bool) → b ≡ true → n ≡ m + (if b then 1 else 0) → n ≡ k + 1 → k ≡ m
     even true is p q = omega arith
     even false is p q = absurd (false≢true is)
 
-pub stands_came : (o : Opening) (h : List Entry) (s : QueueState) (sent : Sent) (event : LineEvent) (decided : Option Joined) (joiner : JoinerStanding) → EachAfter (MayFollow o) h → MayFollow o h (Came event) → LogFacts o h → s.awaited ≡ Some (awaiting.Request sent) → IsProgress (verdicts (oldest_number o h) h ++ verdict sent event ∷ []) decided joiner → Agrees o h s
+pub stands_came : (o : Opening) (h : List Entry) (s : QueueState) (sent : Sent) (event : LineEvent)
+    (decided : Option Joined) (joiner : JoinerStanding) → EachAfter (MayFollow o) h → MayFollow o h (Came event)
+    → LogFacts o h → s.awaited ≡ Some (awaiting.Request sent)
+    → IsProgress (verdicts (oldest_number o h) h ++ verdict sent event ∷ []) decided joiner → Agrees o h s
     → Agrees o (h ++ Came event ∷ []) (record s { awaited = None; joiner = joiner; decided = decided })
 stands_came o h s sent event decided joiner each may facts was progress stands = record {
   source_is = stands.source_is;
@@ -209,11 +283,14 @@ stands_came o h s sent event decided joiner each may facts was progress stands =
   next_ask_is = rw (asks_same h e refl) stands.next_ask_is;
   next_run_is = rw (last_run_same h k (sends_same h e refl)) stands.next_run_is;
   asked_are = rw (asks_same h e refl, answered_same h e refl) stands.asked_are;
-  run_is = run_same o h k s new s.run (same_running_came o h (oldest_number o h) w.frame event x) refl refl (inl refl) stands.run_is;
+  run_is = run_same o h k s new s.run (same_running_came o h (oldest_number o h) w.frame event x) refl refl (inl refl)
+      stands.run_is;
   devices_are = stands.devices_are ∙ sym (known_step o h e each may (answered_same h e refl));
   devices_run_is = devices_run_same o h k s.devices_run (answered_same h e refl) stands.devices_run_is;
   owed_for_each = rw (joins_same h e refl) stands.owed_for_each;
-  outcomes_are = λ c. rw (answers_same o c h e refl refl, collectors_same h e refl) (stands.outcomes_are c ∙ sym (outcomes_step o h e each may c));
+  outcomes_are =
+      λ c. rw (answers_same o c h e refl refl, collectors_same h e refl)
+      (stands.outcomes_are c ∙ sym (outcomes_step o h e each may c));
   all_outcomes = rw (collectors_same h e refl, finishes_same h e refl, answered_same h e refl) stands.all_outcomes;
   first_run = stands.first_run;
 }
@@ -234,23 +311,44 @@ stands_came o h s sent event decided joiner each may facts was progress stands =
     x = unanswered_of o h _ facts w.last
 
 -- an outcome is collected
-taken_rest : (lists : List (List OutcomeValue)) (c n : ℕ) → get_or (set lists c (drop 1 (get_or lists c []))) n [] ≡ (if n == c then drop 1 (get_or lists n []) else get_or lists n [])
+taken_rest : (lists : List (List OutcomeValue)) (c n : ℕ)
+    → get_or (set lists c (drop 1 (get_or lists c []))) n []
+    ≡ (if n == c then drop 1 (get_or lists n []) else get_or lists n [])
 taken_rest lists c n = by_client (cases_eq n c) (cases_lt c (length lists))
   where
     none : {ds es : List OutcomeValue} → ds ≡ [] → es ≡ [] → ds ≡ drop 1 es
     none p q = p ∙ ap (drop 1) (sym q)
 
-    by_client : (n ≡ c) ⊎ (n ≡ c → ⊥) → (c < length lists) ⊎ (length lists ≤ c) → get_or (set lists c (drop 1 (get_or lists c []))) n [] ≡ (if n == c then drop 1 (get_or lists n []) else get_or lists n [])
-    by_client (inl same) (inl within) = rw (eq-eqb n c same, same) (get_or-set_same lists c (drop 1 (get_or lists c [])) [] within)
-    by_client (inl same) (inr past) = rw (eq-eqb n c same, same) (none (get_or_past (set lists c (drop 1 (get_or lists c []))) c [] (let long = length-set lists c (drop 1 (get_or lists c [])) in omega arith)) (get_or_past lists c [] past))
-    by_client (inr other) within = rw (ne_eqb n c other) (get_or-set_other lists c n (drop 1 (get_or lists c [])) [] other)
+    by_client : (n ≡ c) ⊎ (n ≡ c → ⊥) → (c < length lists) ⊎ (length lists ≤ c)
+        → get_or (set lists c (drop 1 (get_or lists c []))) n []
+        ≡ (if n == c then drop 1 (get_or lists n []) else get_or lists n [])
+    by_client (inl same) (inl within) =
+        rw (eq-eqb n c same, same) (get_or-set_same lists c (drop 1 (get_or lists c [])) [] within)
+    by_client (inl same) (inr past) =
+        rw (eq-eqb n c same, same)
+        (none (get_or_past (set lists c (drop 1 (get_or lists c []))) c []
+        (let long = length-set lists c (drop 1 (get_or lists c [])) in omega arith)) (get_or_past lists c [] past))
+    by_client (inr other) within =
+        rw (ne_eqb n c other) (get_or-set_other lists c n (drop 1 (get_or lists c [])) [] other)
 
-count_less : (lists : List (List OutcomeValue)) (c : ℕ) (d : OutcomeValue) → slice_get (get_or lists c []) 0 ≡ Some d → sum (map (λ (ds : List OutcomeValue). length ds) (set lists c (drop 1 (get_or lists c [])))) + 1 ≡ sum (map (λ (ds : List OutcomeValue). length ds) lists)
+count_less : (lists : List (List OutcomeValue)) (c : ℕ) (d : OutcomeValue) → slice_get (get_or lists c []) 0 ≡ Some d
+    → sum (map (λ (ds : List OutcomeValue). length ds) (set lists c (drop 1 (get_or lists c [])))) + 1
+    ≡ sum (map (λ (ds : List OutcomeValue). length ds) lists)
 count_less [] c d at = cc
-count_less (ds ∷ lists) zero d at = let rest = sum_by-cons (λ (n : ℕ). n) (length (drop 1 ds)) (map (λ (es : List OutcomeValue). length es) lists) in let whole = sum_by-cons (λ (n : ℕ). n) (length ds) (map (λ (es : List OutcomeValue). length es) lists) in let one = length-drop 1 ds in let some = place_within ds 0 d at in omega arith
-count_less (ds ∷ lists) (suc c) d at = let later = count_less lists c d at in let rest = sum_by-cons (λ (n : ℕ). n) (length ds) (map (λ (es : List OutcomeValue). length es) (set lists c (drop 1 (get_or lists c [])))) in let whole = sum_by-cons (λ (n : ℕ). n) (length ds) (map (λ (es : List OutcomeValue). length es) lists) in omega arith
+count_less (ds ∷ lists) zero d at =
+    let rest = sum_by-cons (λ (n : ℕ). n) (length (drop 1 ds)) (map (λ (es : List OutcomeValue). length es) lists) in
+    let whole = sum_by-cons (λ (n : ℕ). n) (length ds) (map (λ (es : List OutcomeValue). length es) lists) in
+    let one = length-drop 1 ds in let some = place_within ds 0 d at in omega arith
+count_less (ds ∷ lists) (suc c) d at =
+    let later = count_less lists c d at in
+    let rest = sum_by-cons (λ (n : ℕ). n) (length ds)
+    (map (λ (es : List OutcomeValue). length es) (set lists c (drop 1 (get_or lists c [])))) in
+    let whole = sum_by-cons (λ (n : ℕ). n) (length ds) (map (λ (es : List OutcomeValue). length es) lists) in
+    omega arith
 
-pub stands_collect : (o : Opening) (h : List Entry) (s : QueueState) (c : ClientId) (d : OutcomeValue) → EachAfter (MayFollow o) h → MayFollow o h (Collect c) → slice_get (owed_to c.0 s) 0 ≡ Some d → Agrees o h s → Agrees o (h ++ Collect c ∷ []) (collects_oldest s c.0)
+pub stands_collect : (o : Opening) (h : List Entry) (s : QueueState) (c : ClientId) (d : OutcomeValue)
+    → EachAfter (MayFollow o) h → MayFollow o h (Collect c) → slice_get (owed_to c.0 s) 0 ≡ Some d → Agrees o h s
+    → Agrees o (h ++ Collect c ∷ []) (collects_oldest s c.0)
 stands_collect o h s c d each may first stands = record {
   source_is = stands.source_is;
   greatest_is = stands.greatest_is;
@@ -261,9 +359,14 @@ stands_collect o h s c d each may first stands = record {
   next_request_is = rw (accepts_same h e refl) stands.next_request_is;
   next_tn_is = rw (sends_same h e refl) stands.next_tn_is;
   waiting_are = stands.waiting_are ∙ sym (unfinished_same h k (accepts_same h e refl) (finishes_same h e refl));
-  awaited_is = pending_same o h k s new s.awaited (sends_same h e refl) (awaited-push h e) (finishes_same h e refl) refl refl stands.awaited_is;
+  awaited_is =
+      pending_same o h k s new s.awaited (sends_same h e refl) (awaited-push h e) (finishes_same h e refl) refl refl
+      stands.awaited_is;
   under_way_is = rw (sends_same h e refl, finishes_same h e refl) stands.under_way_is;
-  progress = rw (finishes_same h e refl, verdicts_same h k (oldest_number o h) (sends_same h e refl) (cames_same h e refl)) stands.progress;
+  progress = rw (
+    finishes_same h e refl,
+    verdicts_same h k (oldest_number o h) (sends_same h e refl) (cames_same h e refl),
+  ) stands.progress;
   next_ask_is = rw (asks_same h e refl) stands.next_ask_is;
   next_run_is = rw (last_run_same h k (sends_same h e refl)) stands.next_run_is;
   asked_are = rw (asks_same h e refl, answered_same h e refl) stands.asked_are;
@@ -272,7 +375,14 @@ stands_collect o h s c d each may first stands = record {
   devices_run_is = devices_run_same o h k s.devices_run (answered_same h e refl) stands.devices_run_is;
   owed_for_each = length-set s.owed c.0 _ ∙ rw (joins_same h e refl) stands.owed_for_each;
   outcomes_are = outcomes;
-  all_outcomes = rw (collectors_more h e c.0 refl, finishes_same h e refl, answered_same h e refl, length-append (collectors h) (c.0 ∷ [])) (let less = count_less s.owed c.0 d first in let all = stands.all_outcomes in omega arith);
+  all_outcomes =
+      rw (
+        collectors_more h e c.0 refl,
+        finishes_same h e refl,
+        answered_same h e refl,
+        length-append (collectors h) (c.0 ∷ []),
+      )
+      (let less = count_less s.owed c.0 d first in let all = stands.all_outcomes in omega arith);
   first_run = stands.first_run;
 }
   where
@@ -286,51 +396,95 @@ stands_collect o h s c d each may first stands = record {
     new = collects_oldest s c.0
 
     collects : (client : ℕ) → collects_by client k ≡ collects_by client h ++ filter (λ b. client == b) (c.0 ∷ [])
-    collects client = ap (λ l. filter (λ b. client == b) l) (collectors_more h e c.0 refl) ∙ filter-append (λ b. client == b) (collectors h) (c.0 ∷ [])
+    collects client =
+        ap (λ l. filter (λ b. client == b) l) (collectors_more h e c.0 refl)
+        ∙ filter-append (λ b. client == b) (collectors h) (c.0 ∷ [])
 
-    outcomes : (client : ℕ) → owed_to client (collects_oldest s c.0) ≡ filter_map (outcome_of k) (uncollected o client k)
+    outcomes : (client : ℕ)
+        → owed_to client (collects_oldest s c.0) ≡ filter_map (outcome_of k) (uncollected o client k)
     outcomes client = taken_rest s.owed c.0 client ∙ by_client (cases_Bool (client == c.0))
       where
         agree : owed_to client s ≡ filter_map (outcome_of k) (uncollected o client h)
         agree = stands.outcomes_are client ∙ sym (outcomes_step o h e each may client)
 
-        by_client : ((client == c.0) ≡ true) ⊎ ((client == c.0) ≡ false) → (if client == c.0 then drop 1 (owed_to client s) else owed_to client s) ≡ filter_map (outcome_of k) (uncollected o client k)
+        by_client : ((client == c.0) ≡ true) ⊎ ((client == c.0) ≡ false)
+            → (if client == c.0 then drop 1 (owed_to client s) else owed_to client s)
+            ≡ filter_map (outcome_of k) (uncollected o client k)
         by_client (inl own) =
-            rw (collects client, own, length-append (collects_by client h) (c.0 ∷ []), answers_same o client h e refl refl, ← drop-drop 1 (length (collects_by client h)) (answers_to o client h))
+            rw (
+              collects client,
+              own,
+              length-append (collects_by client h) (c.0 ∷ []),
+              answers_same o client h e refl refl,
+              ← drop-drop 1 (length (collects_by client h)) (answers_to o client h),
+            )
             (ap (drop 1) agree ∙ sym (outcomes_rest o client k h (uncollected o client h) (answers_passed o client h)))
-        by_client (inr other) = rw (collects client, other, append-nil (collects_by client h), answers_same o client h e refl refl) agree
+        by_client (inr other) =
+            rw (collects client, other, append-nil (collects_by client h), answers_same o client h e refl refl) agree
 
 -- the last frame has one owner
-pub last_owner : (ss xs ys : List Sending) (n r : ℕ) (frame other : ArrayVec ℕ) → ss ≡ xs ++ record { owner = owners.Request n; frame = frame } ∷ [] → ss ≡ ys ++ record { owner = owners.Run r; frame = other } ∷ [] → ⊥
-last_owner ss xs ys n r frame other is also = no (same_from_push xs ys (record { owner = owners.Request n; frame = frame }) (record { owner = owners.Run r; frame = other }) (sym is ∙ also)).1
+pub last_owner : (ss xs ys : List Sending) (n r : ℕ) (frame other : ArrayVec ℕ)
+    → ss ≡ xs ++ record { owner = owners.Request n; frame = frame } ∷ []
+    → ss ≡ ys ++ record { owner = owners.Run r; frame = other } ∷ [] → ⊥
+last_owner ss xs ys n r frame other is also =
+    no (same_from_push xs ys (record { owner = owners.Request n; frame = frame })
+    (record { owner = owners.Run r; frame = other }) (sym is ∙ also)).1
   where
-    no : ◌≡◌ {A = Sending} (record { owner = owners.Request n; frame = frame }) (record { owner = owners.Run r; frame = other }) → ⊥
+    no : ◌≡◌ {A = Sending} (record { owner = owners.Request n; frame = frame })
+        (record { owner = owners.Run r; frame = other }) → ⊥
     no h = false≢true (ap (λ (x : Sending). is_run r x.owner) h ∙ eq-eqb r r refl)
 
 -- an outcome more
-pub count_more : (lists : List (List OutcomeValue)) (c : ℕ) (d : OutcomeValue) → c < length lists → sum (map (λ (ds : List OutcomeValue). length ds) (set lists c (get_or lists c [] ++ d ∷ []))) ≡ sum (map (λ (ds : List OutcomeValue). length ds) lists) + 1
+pub count_more : (lists : List (List OutcomeValue)) (c : ℕ) (d : OutcomeValue) → c < length lists
+    → sum (map (λ (ds : List OutcomeValue). length ds) (set lists c (get_or lists c [] ++ d ∷ [])))
+    ≡ sum (map (λ (ds : List OutcomeValue). length ds) lists) + 1
 count_more [] c d within = absurd (omega arith)
-count_more (ds ∷ lists) zero d within = let rest = sum_by-cons (λ (n : ℕ). n) (length (ds ++ d ∷ [])) (map (λ (es : List OutcomeValue). length es) lists) in let whole = sum_by-cons (λ (n : ℕ). n) (length ds) (map (λ (es : List OutcomeValue). length es) lists) in let one = length-append ds (d ∷ []) in omega arith
-count_more (ds ∷ lists) (suc c) d within = let later = count_more lists c d (omega arith) in let rest = sum_by-cons (λ (n : ℕ). n) (length ds) (map (λ (es : List OutcomeValue). length es) (set lists c (get_or lists c [] ++ d ∷ []))) in let whole = sum_by-cons (λ (n : ℕ). n) (length ds) (map (λ (es : List OutcomeValue). length es) lists) in omega arith
+count_more (ds ∷ lists) zero d within =
+    let rest = sum_by-cons (λ (n : ℕ). n) (length (ds ++ d ∷ [])) (map (λ (es : List OutcomeValue). length es) lists) in
+    let whole = sum_by-cons (λ (n : ℕ). n) (length ds) (map (λ (es : List OutcomeValue). length es) lists) in
+    let one = length-append ds (d ∷ []) in omega arith
+count_more (ds ∷ lists) (suc c) d within =
+    let later = count_more lists c d (omega arith) in
+    let rest = sum_by-cons (λ (n : ℕ). n) (length ds)
+    (map (λ (es : List OutcomeValue). length es) (set lists c (get_or lists c [] ++ d ∷ []))) in
+    let whole = sum_by-cons (λ (n : ℕ). n) (length ds) (map (λ (es : List OutcomeValue). length es) lists) in
+    omega arith
 
-pub owed_more : (o : Opening) (h k : List Entry) (e : Entry) (s : QueueState) (client : ℕ) (d : OutcomeValue) → client < length s.owed → ((c : ℕ) → (c == client) ≡ true → answers_to o c k ≡ answers_to o c h ++ e ∷ []) → ((c : ℕ) → (c == client) ≡ false → answers_to o c k ≡ answers_to o c h) → collectors k ≡ collectors h
-    → ((c : ℕ) → length (collects_by c h) ≤ length (answers_to o c h)) → outcome_of k e ≡ Some d → ((c : ℕ) → owed_to c s ≡ filter_map (outcome_of k) (uncollected o c h)) → (c : ℕ) → get_or (owes client d s) c [] ≡ filter_map (outcome_of k) (uncollected o c k)
+pub owed_more : (o : Opening) (h k : List Entry) (e : Entry) (s : QueueState) (client : ℕ) (d : OutcomeValue)
+    → client < length s.owed → ((c : ℕ) → (c == client) ≡ true → answers_to o c k ≡ answers_to o c h ++ e ∷ [])
+    → ((c : ℕ) → (c == client) ≡ false → answers_to o c k ≡ answers_to o c h) → collectors k ≡ collectors h
+    → ((c : ℕ) → length (collects_by c h) ≤ length (answers_to o c h)) → outcome_of k e ≡ Some d
+    → ((c : ℕ) → owed_to c s ≡ filter_map (outcome_of k) (uncollected o c h)) → (c : ℕ)
+    → get_or (owes client d s) c [] ≡ filter_map (outcome_of k) (uncollected o c k)
 owed_more o h k e s client d within own other same few told before c = by_client (cases_eq c client)
   where
-    by_client : (c ≡ client) ⊎ (c ≡ client → ⊥) → get_or (owes client d s) c [] ≡ filter_map (outcome_of k) (uncollected o c k)
+    by_client : (c ≡ client) ⊎ (c ≡ client → ⊥)
+        → get_or (owes client d s) c [] ≡ filter_map (outcome_of k) (uncollected o c k)
     by_client (inl is) = rw (is, owes-own s client d within) (more client (own client (eq-eqb client client refl)))
       where
-        more : (c : ℕ) → answers_to o c k ≡ answers_to o c h ++ e ∷ [] → owed_to c s ++ d ∷ [] ≡ filter_map (outcome_of k) (uncollected o c k)
-        more c grows = rw (uncollected_more o c h k e (ap (λ l. filter (λ b. c == b) l) same) (few c) grows, filter_map-append (outcome_of k) (uncollected o c h) (e ∷ []), ← before c, told) refl
+        more : (c : ℕ) → answers_to o c k ≡ answers_to o c h ++ e ∷ []
+            → owed_to c s ++ d ∷ [] ≡ filter_map (outcome_of k) (uncollected o c k)
+        more c grows =
+            rw (
+              uncollected_more o c h k e (ap (λ l. filter (λ b. c == b) l) same) (few c) grows,
+              filter_map-append (outcome_of k) (uncollected o c h) (e ∷ []),
+              ← before c,
+              told,
+            ) refl
     by_client (inr not) = owes-other s client c d not ∙ rw (other c (ne_eqb c client not), same) (before c)
 
 -- no frame of a request was sent
-pub none_sent : (n : ℕ) (ss : List Sending) → ((i : ℕ) (x : Sending) → slice_get ss i ≡ Some x → is_request n x.owner ≡ false) → list_any (λ (x : Sending). is_request n x.owner) ss ≡ false
+pub none_sent : (n : ℕ) (ss : List Sending)
+    → ((i : ℕ) (x : Sending) → slice_get ss i ≡ Some x → is_request n x.owner ≡ false)
+    → list_any (λ (x : Sending). is_request n x.owner) ss ≡ false
 none_sent n [] none = refl
 none_sent n (x ∷ ss) none = rw (none 0 x refl) (none_sent n ss (λ i y at. none (suc i) y at))
 
 -- the oldest request is finished
-pub stands_finish : (o : Opening) (h : List Entry) (s : QueueState) (a : Accepted) (rest : List Accepted) (done : Joined) → EachAfter (MayFollow o) h → MayFollow o h (finish_of (owed_for done a)) → LogFacts o h → ClientFacts o h → unfinished h ≡ a ∷ rest → done ≡ completion_of done.status (result a.number h) → s.awaited ≡ None → s.run ≡ None → Agrees o h s
+pub stands_finish : (o : Opening) (h : List Entry) (s : QueueState) (a : Accepted) (rest : List Accepted)
+    (done : Joined) → EachAfter (MayFollow o) h → MayFollow o h (finish_of (owed_for done a)) → LogFacts o h
+    → ClientFacts o h → unfinished h ≡ a ∷ rest → done ≡ completion_of done.status (result a.number h)
+    → s.awaited ≡ None → s.run ≡ None → Agrees o h s
     → Agrees o (h ++ finish_of (owed_for done a) ∷ []) (finishes_oldest s (owed_for done a))
 stands_finish o h s a rest done each may facts clients oldest completes idle none stands = record {
   source_is = stands.source_is;
@@ -352,9 +506,18 @@ stands_finish o h s a rest done each may facts clients oldest completes idle non
   devices_are = stands.devices_are ∙ sym (known_step o h e each may (answered_same h e refl));
   devices_run_is = devices_run_same o h k s.devices_run (answered_same h e refl) stands.devices_run_is;
   owed_for_each = length-set s.owed a.client _ ∙ rw (joins_same h e refl) stands.owed_for_each;
-  outcomes_are = owed_more o h k e s a.client (owed_value (owed_for done a)) within (λ c own. answers_finish_own o c h a.number done.status (length done.data_) a.client client_is own) (λ c other. answers_finish_other o c h a.number done.status (length done.data_) a.client client_is other) (collectors_same h e refl) clients.collected_within
-      (ap (λ (j : Joined). Some (owed_value (owed_for j a))) (ap (λ q. completion_of done.status q) (result_same h k a.number (sends_same h e refl) (cames_same h e refl)) ∙ sym completes)) (λ c. stands.outcomes_are c ∙ sym (outcomes_step o h e each may c));
-  all_outcomes = rw (collectors_same h e refl, finishes_more h e _ refl, answered_same h e refl, length-append (finishes h) _) (let more = count_more s.owed a.client (owed_value (owed_for done a)) within in let all = stands.all_outcomes in omega arith);
+  outcomes_are =
+      owed_more o h k e s a.client (owed_value (owed_for done a)) within
+      (λ c own. answers_finish_own o c h a.number done.status (length done.data_) a.client client_is own)
+      (λ c other. answers_finish_other o c h a.number done.status (length done.data_) a.client client_is other)
+      (collectors_same h e refl) clients.collected_within
+      (ap (λ (j : Joined). Some (owed_value (owed_for j a)))
+      (ap (λ q. completion_of done.status q) (result_same h k a.number (sends_same h e refl) (cames_same h e refl))
+      ∙ sym completes)) (λ c. stands.outcomes_are c ∙ sym (outcomes_step o h e each may c));
+  all_outcomes =
+      rw (collectors_same h e refl, finishes_more h e _ refl, answered_same h e refl, length-append (finishes h) _)
+      (let more = count_more s.owed a.client (owed_value (owed_for done a)) within in
+      let all = stands.all_outcomes in omega arith);
   first_run = stands.first_run;
 }
   where
@@ -379,9 +542,12 @@ stands_finish o h s a rest done each may facts clients oldest completes idle non
     unsent : (i : ℕ) (x : Sending) → slice_get (sends k) i ≡ Some x → is_request (oldest_number o k) x.owner ≡ false
     unsent i x at = by_test (cases_Bool (is_request (oldest_number o k) x.owner))
       where
-        by_test : (is_request (oldest_number o k) x.owner ≡ true) ⊎ (is_request (oldest_number o k) x.owner ≡ false) → is_request (oldest_number o k) x.owner ≡ false
+        by_test : (is_request (oldest_number o k) x.owner ≡ true) ⊎ (is_request (oldest_number o k) x.owner ≡ false)
+            → is_request (oldest_number o k) x.owner ≡ false
         by_test (inr other) = other
-        by_test (inl own) = absurd (past (facts.sent_oldest i x (rw (sends_same h e refl) at at) (oldest_number o k) own) (ap length (finishes_more h e _ refl) ∙ length-append (finishes h) _))
+        by_test (inl own) =
+            absurd (past (facts.sent_oldest i x (rw (sends_same h e refl) at at) (oldest_number o k) own)
+            (ap length (finishes_more h e _ refl) ∙ length-append (finishes h) _))
           where
             past : {n : ℕ} → o.next_request + n ≤ oldest_number o h → n ≡ length (finishes h) + 1 → ⊥
             past p q = omega arith

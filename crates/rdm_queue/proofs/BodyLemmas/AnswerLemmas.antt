@@ -1,5 +1,6 @@
 -- The oldest discovery is answered: its client has room, and what all clients' rings are then.
-use Rattle.std.proofs.Common.{◌≡◌, ℕ, ◌+◌, ◌<◌, ◌≤◌, ◌-◌, Bool, true, false, List, [], ◌∷◌, length, get_or, set, Option, Some, None, slice_get, refl, sym, ap, ◌∙◌, subst, map, arith}
+use Rattle.std.proofs.Common.{◌≡◌, ℕ, ◌+◌, ◌<◌, ◌≤◌, ◌-◌, Bool, true, false, List, [], ◌∷◌, length, get_or, set, Option}
+use Rattle.std.proofs.Common.{Some, None, slice_get, refl, sym, ap, ◌∙◌, subst, map, arith}
 use Rattle.std.specs.Prelude.{◌==◌, MatchOption, nat_lt, if◌then◌else◌}
 use Rattle.std.specs.VecDeque.{deque_len, deque_capacity}
 use Rattle.std.proofs.lemmas.Bool.{ltb-true, ltb-false, false≢true}
@@ -26,8 +27,10 @@ nonempty [] is = absurd (false≢true (sym is))
 nonempty (x ∷ xs) is = omega arith
 
 -- the discovery at the front
-pub front_asked : (c : Inside) (x : Asked) → 0 < length c.asked.items → x ≡ get_or c.asked.items 0 x → slice_get (state_of c).asked 0 ≡ Some (asked_is x)
-front_asked c x some is = first_mapped c.asked.items (slice_get-get_or c.asked.items 0 x some ∙ ap (λ y. Some y) (sym is))
+pub front_asked : (c : Inside) (x : Asked) → 0 < length c.asked.items → x ≡ get_or c.asked.items 0 x
+    → slice_get (state_of c).asked 0 ≡ Some (asked_is x)
+front_asked c x some is =
+    first_mapped c.asked.items (slice_get-get_or c.asked.items 0 x some ∙ ap (λ y. Some y) (sym is))
   where
     first_mapped : (xs : List Asked) → slice_get xs 0 ≡ Some x → slice_get (map asked_is xs) 0 ≡ Some (asked_is x)
     first_mapped [] at = cc
@@ -40,13 +43,20 @@ pub record CanAnswer (s : QueueState) (clients : List Client) (a : AskedDiscover
   pub room : deque_len k.outcomes < deque_capacity k.outcomes
   pub set_room : length k.sets.items < k.sets.room
 
-pub asked_within : (s : QueueState) (clients : List Client) (a : AskedDiscovery) → QueueInvariant s clients → s.places ≡ places_of clients → slice_get s.asked 0 ≡ Some a → a.client < length clients
-asked_within s clients a held same oldest = let joined = asked_joined s a held.state oldest in let long = ap (λ ns. length ns) same ∙ length-map clients (λ k. k.places) in omega arith
+pub asked_within : (s : QueueState) (clients : List Client) (a : AskedDiscovery) → QueueInvariant s clients
+    → s.places ≡ places_of clients → slice_get s.asked 0 ≡ Some a → a.client < length clients
+asked_within s clients a held same oldest =
+    let joined = asked_joined s a held.state oldest in
+    let long = ap (λ ns. length ns) same ∙ length-map clients (λ k. k.places) in omega arith
 
-pub can_answer : (s : QueueState) (clients ys : List Client) (a : AskedDiscovery) (i : ℕ) (d : Client) → QueueInvariant s clients → s.places ≡ places_of clients → s.owed ≡ owed_rings clients → slice_get s.asked 0 ≡ Some a → i ≡ a.client → ys ≡ clients → CanAnswer s clients a (get_or ys i d)
+pub can_answer : (s : QueueState) (clients ys : List Client) (a : AskedDiscovery) (i : ℕ) (d : Client)
+    → QueueInvariant s clients → s.places ≡ places_of clients → s.owed ≡ owed_rings clients
+    → slice_get s.asked 0 ≡ Some a → i ≡ a.client → ys ≡ clients → CanAnswer s clients a (get_or ys i d)
 can_answer s clients ys a i d held same owed oldest place read =
     let one = first_counts (λ (b : AskedDiscovery). b.client) s.asked a oldest in
-    let at : slice_get clients a.client ≡ Some (get_or ys i d) = ap (λ n. slice_get clients n) (sym place) ∙ read_at clients ys i d read (subst (λ n. n < length clients) (sym place) (asked_within s clients a held same oldest)) in
+    let at : slice_get clients a.client ≡ Some (get_or ys i d) = ap (λ n. slice_get clients n) (sym place)
+    ∙ read_at clients ys i d read
+    (subst (λ n. n < length clients) (sym place) (asked_within s clients a held same oldest)) in
     record {
       at = at;
       sets = all_at HasSets clients held.rings.sets a.client (get_or ys i d) at;
@@ -55,11 +65,17 @@ can_answer s clients ys a i d held same owed oldest place read =
     }
 
 -- the queue afterwards
-pub kept-answer : (s : QueueState) (clients : List Client) (k l : Client) (a : AskedDiscovery) (r : ℕ) (f : Option AgentFault) (found : List Device) (run : Option RunState) → QueueInvariant s clients → CanAnswer s clients a k → ClientAnswers k a.number r f found l → slice_get s.asked 0 ≡ Some a
-    → MatchOption run (Unit {0}) (λ q. 1 ≤ q.left) → served_by s.run ≤ served_by run + 1 → served_by run ≤ served_by s.run → served_by run + 1 ≤ length s.asked → QueueInvariant (record (answers_oldest s a r f found) { run = run }) (set clients a.client l)
+pub kept-answer : (s : QueueState) (clients : List Client) (k l : Client) (a : AskedDiscovery) (r : ℕ)
+    (f : Option AgentFault) (found : List Device) (run : Option RunState) → QueueInvariant s clients
+    → CanAnswer s clients a k → ClientAnswers k a.number r f found l → slice_get s.asked 0 ≡ Some a
+    → MatchOption run (Unit {0}) (λ q. 1 ≤ q.left) → served_by s.run ≤ served_by run + 1
+    → served_by run ≤ served_by s.run → served_by run + 1 ≤ length s.asked
+    → QueueInvariant (record (answers_oldest s a r f found) { run = run }) (set clients a.client l)
 kept-answer s clients k l a r f found run held can answers oldest serves less most within = record {
-  state = held-answers s a (answer_value a r f found) run held.state oldest refl serves less most within (record (answers_oldest s a r f found) { run = run }) refl;
-  rings = rings-answer s (record (answers_oldest s a r f found) { run = run }) clients a.client k l a.number r f found refl held.rings can.at answers;
+  state = held-answers s a (answer_value a r f found) run held.state oldest refl serves less most within
+      (record (answers_oldest s a r f found) { run = run }) refl;
+  rings = rings-answer s (record (answers_oldest s a r f found) { run = run }) clients a.client k l a.number r f found
+      refl held.rings can.at answers;
 }
 
 -- a run that serves one less, and no run
@@ -69,7 +85,8 @@ pub record ServesLess (s : QueueState) (run : Option RunState) : Type 0 where
   pub most : served_by run ≤ served_by s.run
   pub within : served_by run + 1 ≤ length s.asked
 
-pub serves_less : (s : QueueState) (clients : List Client) (r : RunState) → QueueInvariant s clients → s.run ≡ Some r → ServesLess s (one_less r)
+pub serves_less : (s : QueueState) (clients : List Client) (r : RunState) → QueueInvariant s clients → s.run ≡ Some r
+    → ServesLess s (one_less r)
 serves_less s clients r held is = by_left _ refl
   where
     serves : 1 ≤ r.left
@@ -84,12 +101,23 @@ serves_less s clients r held is = by_left _ refl
     most : nat_lt 1 r.left ≡ false → r.left ≤ 1
     most t = ltb-false 1 r.left t
 
-    by_left : (b : Bool) → nat_lt 1 r.left ≡ b → ServesLess s (if b then Some (record { number = r.number; left = r.left - 1 }) else None)
-    by_left true t = let some = more t in let left = serves in let all = within in rw is (record { serves = omega arith; less = omega arith; most = omega arith; within = omega arith })
-    by_left false t = let last = most t in let left = serves in let all = within in rw is (record { serves = tt; less = omega arith; most = omega arith; within = omega arith })
+    by_left : (b : Bool) → nat_lt 1 r.left ≡ b
+        → ServesLess s (if b then Some (record { number = r.number; left = r.left - 1 }) else None)
+    by_left true t =
+        let some = more t in let left = serves in let all = within in
+        rw is (record { serves = omega arith; less = omega arith; most = omega arith; within = omega arith })
+    by_left false t =
+        let last = most t in let left = serves in let all = within in
+        rw is (record { serves = tt; less = omega arith; most = omega arith; within = omega arith })
 
-pub serves_none : (s : QueueState) (a : AskedDiscovery) → s.run ≡ None → slice_get s.asked 0 ≡ Some a → ServesLess s None
-serves_none s a none oldest = rw none (record { serves = tt; less = omega arith; most = omega arith; within = some s.asked oldest })
+pub serves_none : (s : QueueState) (a : AskedDiscovery) → s.run ≡ None → slice_get s.asked 0 ≡ Some a
+    → ServesLess s None
+serves_none s a none oldest = rw none (record {
+  serves = tt;
+  less = omega arith;
+  most = omega arith;
+  within = some s.asked oldest;
+})
   where
     some : (xs : List AskedDiscovery) → slice_get xs 0 ≡ Some a → 1 ≤ length xs
     some [] at = cc

@@ -1,5 +1,6 @@
 -- What a queue's calls say for each log that it stands after.
-use Rattle.std.proofs.Common.{◌≡◌, ℕ, ◌∙◌, ◌<◌, Bool, true, false, List, [], ◌∷◌, ◌++◌, length, Option, Some, None, Result, Ok, Err, refl, sym, ap, append-nil, append_assoc}
+use Rattle.std.proofs.Common.{◌≡◌, ℕ, ◌∙◌, ◌<◌, Bool, true, false, List, [], ◌∷◌, ◌++◌, length, Option, Some, None}
+use Rattle.std.proofs.Common.{Result, Ok, Err, refl, sym, ap, append-nil, append_assoc}
 use Rattle.std.specs.Prelude.{◌≢◌, IfOk, IfErr, IfSome, IfNone, OnErr, OnSome, option_map, slice_get}
 use Rattle.arrayvec.specs.ArrayVec.{ArrayVec}
 use Rattle.rdm_wire.specs.declared.request.Request.{Request}
@@ -20,8 +21,12 @@ use Rattle.rdm_log.specs.declared.outcome.Completion.{Completion}
 use Rattle.rdm_log.specs.declared.outcome.DiscoveryEnd.{DiscoveryEnd}
 use Rattle.rdm_log.specs.log.Refusals.{join_fault}
 use Rattle.rdm_log.specs.promises.Outcomes.{outcome_value, request_outcome, discovery_outcome, oldest_kind}
-use Rattle.rdm_log.specs.promises.Blocks.{RefusesJoin, join_refused, submit_refused, ask_refused, JoinAdds, SubmitAdds, DiscoverAdds, SwitchAdds, CloseAdds, CollectAdds, IsWithResults, is_result, AllResults}
-use Rattle.rdm_queue.specs.body.State.{QueueState, first_join_fault, first_submit_fault, first_ask_fault, joins_client, accepts_request, asks_discovery, collects_oldest, owed_to, unended, OwedOutcome, owed_next, end_of_oldest, TakesOldest, first_kind}
+use Rattle.rdm_log.specs.promises.Blocks.{RefusesJoin, join_refused, submit_refused, ask_refused, JoinAdds, SubmitAdds}
+use Rattle.rdm_log.specs.promises.Blocks.{DiscoverAdds, SwitchAdds, CloseAdds, CollectAdds, IsWithResults, is_result}
+use Rattle.rdm_log.specs.promises.Blocks.{AllResults}
+use Rattle.rdm_queue.specs.body.State.{QueueState, first_join_fault, first_submit_fault, first_ask_fault, joins_client}
+use Rattle.rdm_queue.specs.body.State.{accepts_request, asks_discovery, collects_oldest, owed_to, unended, OwedOutcome}
+use Rattle.rdm_queue.specs.body.State.{owed_next, end_of_oldest, TakesOldest, first_kind}
 use Rattle.rdm_queue.specs.body.Ending.{IsEnded, HasNothingDue}
 use Rattle.rdm_log.specs.promises.InBound.{FaultNeedsClose, AnswersInBound}
 use Rattle.rdm_log.proofs.BoundLemmas.{block_more}
@@ -40,96 +45,157 @@ use Rattle.std.specs.Prelude.{is_some}
 use Rattle.rdm_queue.proofs.BodyLemmas.RingLemmas.{all_push}
 use Rattle.rdm_queue.proofs.BodyLemmas.SearchLemmas.{given_same, ended_same}
 use Rattle.rdm_queue.proofs.BodyLemmas.TakeLemmas.{take_after, none_after}
-use Rattle.rdm_queue.proofs.BodyLemmas.AfterLemmas.{join_fault_is, join_after, join_refused_after, submit_fault_is, submit_after, submit_refused_after, ask_fault_is, ask_after, ask_refused_after, oldest_after, collect_after, none_owed_after, kind_after}
+use Rattle.rdm_queue.proofs.BodyLemmas.AfterLemmas.{join_fault_is, join_after, join_refused_after, submit_fault_is}
+use Rattle.rdm_queue.proofs.BodyLemmas.AfterLemmas.{submit_after, submit_refused_after, ask_fault_is, ask_after}
+use Rattle.rdm_queue.proofs.BodyLemmas.AfterLemmas.{ask_refused_after, oldest_after, collect_after, none_owed_after}
+use Rattle.rdm_queue.proofs.BodyLemmas.AfterLemmas.{kind_after}
 
 -- a call that adds nothing
-pub adds_nothing : (k : LogState) (Adds : List Entry → Type 0) (s : QueueState) → Adds [] → StandsAfter k.opening k.entries s → StandsWith k Adds s
+pub adds_nothing : (k : LogState) (Adds : List Entry → Type 0) (s : QueueState) → Adds []
+    → StandsAfter k.opening k.entries s → StandsWith k Adds s
 adds_nothing k Adds s none after = record { block = []; adds = none; after = rw append-nil after }
 
-pub join_adds : (r : Result ClientId JoinFault) (s new : QueueState) (n : ℕ) → IfOk r (λ c. (first_join_fault s n ≡ None) × (c.0 ≡ length s.places) × (new ≡ joins_client s n))
-    → IfErr r (λ fault. RefusesJoin (first_join_fault s n) fault) → OnErr r (new ≡ s) → AddsToEach s (λ k. JoinAdds k.opening k.entries n r) new
+pub join_adds : (r : Result ClientId JoinFault) (s new : QueueState) (n : ℕ)
+    → IfOk r (λ c. (first_join_fault s n ≡ None) × (c.0 ≡ length s.places) × (new ≡ joins_client s n))
+    → IfErr r (λ fault. RefusesJoin (first_join_fault s n) fault) → OnErr r (new ≡ s)
+    → AddsToEach s (λ k. JoinAdds k.opening k.entries n r) new
 join_adds (Ok c) s new n joined refused same = record {
   search = ap (λ (q : QueueState). q.search) joined.2;
   each = λ k at after.
       let passes = sym (join_fault_is k.opening k.entries s n after.stands) ∙ joined.0 in
-      record { block = Join c n ∷ []; adds = (passes, joined.1 ∙ ap length after.stands.places_are, refl); after = rw joined.2 (join_after k.opening k.entries s c n passes joined.1 after) };
+      record {
+        block = Join c n ∷ [];
+        adds = (passes, joined.1 ∙ ap length after.stands.places_are, refl);
+        after = rw joined.2 (join_after k.opening k.entries s c n passes joined.1 after);
+      };
 }
 join_adds (Err fault) s new n joined refused same = record {
   search = ap (λ (q : QueueState). q.search) same;
   each = λ k at after.
-      let refuses : RefusesJoin (join_fault k.opening k.entries n) fault = rw (join_fault_is k.opening k.entries s n after.stands) at refused in
-      record { block = join_refused n fault ∷ []; adds = (refuses, refl); after = rw same (join_refused_after k.opening k.entries s n fault refuses after) };
+      let refuses : RefusesJoin (join_fault k.opening k.entries n)
+      fault = rw (join_fault_is k.opening k.entries s n after.stands) at refused in
+      record {
+        block = join_refused n fault ∷ [];
+        adds = (refuses, refl);
+        after = rw same (join_refused_after k.opening k.entries s n fault refuses after);
+      };
 }
 
-pub submit_adds : (r : Result ℕ (SubmitFault × Request)) (s new : QueueState) (c : ClientId) (request : Request) → IfOk r (λ n. (first_submit_fault s c.0 ≡ None) × (n ≡ s.next_request) × (new ≡ accepts_request s c.0 request))
-    → IfErr r (λ e. (first_submit_fault s c.0 ≡ Some e.0) × (e.1 ≡ request)) → OnErr r (new ≡ s) → AddsToEach s (λ k. SubmitAdds k.opening k.entries c request r) new
+pub submit_adds : (r : Result ℕ (SubmitFault × Request)) (s new : QueueState) (c : ClientId) (request : Request)
+    → IfOk r (λ n. (first_submit_fault s c.0 ≡ None) × (n ≡ s.next_request) × (new ≡ accepts_request s c.0 request))
+    → IfErr r (λ e. (first_submit_fault s c.0 ≡ Some e.0) × (e.1 ≡ request)) → OnErr r (new ≡ s)
+    → AddsToEach s (λ k. SubmitAdds k.opening k.entries c request r) new
 submit_adds (Ok n) s new c request accepted refused same = record {
   search = ap (λ (q : QueueState). q.search) accepted.2;
   each = λ k at after.
       let passes = sym (submit_fault_is k.opening k.entries s c.0 after) ∙ accepted.0 in
-      record { block = Accept c n request ∷ []; adds = (passes, accepted.1 ∙ after.stands.next_request_is, refl); after = rw accepted.2 (submit_after k.opening k.entries s c n request passes accepted.1 after) };
+      record {
+        block = Accept c n request ∷ [];
+        adds = (passes, accepted.1 ∙ after.stands.next_request_is, refl);
+        after = rw accepted.2 (submit_after k.opening k.entries s c n request passes accepted.1 after);
+      };
 }
 submit_adds (Err e) s new c request accepted refused same = record {
   search = ap (λ (q : QueueState). q.search) same;
   each = λ k at after.
       let refuses = sym (submit_fault_is k.opening k.entries s c.0 after) ∙ refused.0 in
-      record { block = submit_refused c request e.0 ∷ []; adds = (refuses, refused.1, refl); after = rw same (submit_refused_after k.opening k.entries s c request e.0 refuses after) };
+      record {
+        block = submit_refused c request e.0 ∷ [];
+        adds = (refuses, refused.1, refl);
+        after = rw same (submit_refused_after k.opening k.entries s c request e.0 refuses after);
+      };
 }
 
-pub ask_adds : (r : Result ℕ AskFault) (s new : QueueState) (c : ClientId) (kind : Kind) → IfOk r (λ n. (first_ask_fault s c.0 ≡ None) × (n ≡ s.next_ask) × (new ≡ asks_discovery s c.0 kind)) → IfErr r (λ fault. first_ask_fault s c.0 ≡ Some fault) → OnErr r (new ≡ s) → AddsToEach s (λ k. DiscoverAdds k.opening k.entries c kind r) new
+pub ask_adds : (r : Result ℕ AskFault) (s new : QueueState) (c : ClientId) (kind : Kind)
+    → IfOk r (λ n. (first_ask_fault s c.0 ≡ None) × (n ≡ s.next_ask) × (new ≡ asks_discovery s c.0 kind))
+    → IfErr r (λ fault. first_ask_fault s c.0 ≡ Some fault) → OnErr r (new ≡ s)
+    → AddsToEach s (λ k. DiscoverAdds k.opening k.entries c kind r) new
 ask_adds (Ok n) s new c kind accepted refused same = record {
   search = ap (λ (q : QueueState). q.search) accepted.2;
   each = λ k at after.
       let passes = sym (ask_fault_is k.opening k.entries s c.0 after) ∙ accepted.0 in
-      record { block = Ask c n kind ∷ []; adds = (passes, accepted.1 ∙ after.stands.next_ask_is, refl); after = rw accepted.2 (ask_after k.opening k.entries s c n kind passes accepted.1 after) };
+      record {
+        block = Ask c n kind ∷ [];
+        adds = (passes, accepted.1 ∙ after.stands.next_ask_is, refl);
+        after = rw accepted.2 (ask_after k.opening k.entries s c n kind passes accepted.1 after);
+      };
 }
 ask_adds (Err fault) s new c kind accepted refused same = record {
   search = ap (λ (q : QueueState). q.search) same;
   each = λ k at after.
       let refuses = sym (ask_fault_is k.opening k.entries s c.0 after) ∙ refused in
-      record { block = ask_refused c kind fault ∷ []; adds = (refuses, refl); after = rw same (ask_refused_after k.opening k.entries s c kind fault refuses after) };
+      record {
+        block = ask_refused c kind fault ∷ [];
+        adds = (refuses, refl);
+        after = rw same (ask_refused_after k.opening k.entries s c kind fault refuses after);
+      };
 }
 
-pub given_each : (r : Option (Owner × ArrayVec ℕ)) (s new : QueueState) → IfSome r (λ given. IsGiven s given.0 given.1 new)
-    → IfSome r (λ given. AddsToEach s (λ k block. MaySend k.opening k.entries given.0 given.1 × (block ≡ Send given.0 given.1 ∷ [])) new)
+pub given_each : (r : Option (Owner × ArrayVec ℕ)) (s new : QueueState)
+    → IfSome r (λ given. IsGiven s given.0 given.1 new)
+    → IfSome r (λ given. AddsToEach s
+    (λ k block. MaySend k.opening k.entries given.0 given.1 × (block ≡ Send given.0 given.1 ∷ [])) new)
 given_each None s new given = tt
 given_each (Some g) s new given = record {
   search = given_same s new g.0 g.1 given.which;
-  each = λ k at after. let sent = take_after k.opening k.entries s g.0 g.1 new given after in record { block = Send g.0 g.1 ∷ []; adds = (sent.may, refl); after = sent.after };
+  each = λ k at after. let sent = take_after k.opening k.entries s g.0 g.1 new given after in
+      record { block = Send g.0 g.1 ∷ []; adds = (sent.may, refl); after = sent.after };
 }
 
-pub none_each : (r : Option (Owner × ArrayVec ℕ)) (s new : QueueState) → IfNone r ((to_send s ≡ None) × (new ≡ s)) → IfNone r (ForEachLog s (λ o h. NoSend o h) × (new ≡ s))
+pub none_each : (r : Option (Owner × ArrayVec ℕ)) (s new : QueueState) → IfNone r ((to_send s ≡ None) × (new ≡ s))
+    → IfNone r (ForEachLog s (λ o h. NoSend o h) × (new ≡ s))
 none_each (Some g) s new none = tt
 none_each None s new none = ((λ o h after. none_after o h s none.0 after), none.1)
 
 -- a switch
-pub switch_adds : (k : LogState) (e : Entry) (b : Bool) (s new : QueueState) → (b ≡ true → StandsAfter k.opening (k.entries ++ e ∷ []) new) → (b ≡ false → StandsAfter k.opening k.entries new) → StandsWith k (SwitchAdds b e) new
+pub switch_adds : (k : LogState) (e : Entry) (b : Bool) (s new : QueueState)
+    → (b ≡ true → StandsAfter k.opening (k.entries ++ e ∷ []) new) → (b ≡ false → StandsAfter k.opening k.entries new)
+    → StandsWith k (SwitchAdds b e) new
 switch_adds k e true s new turned stays = record { block = e ∷ []; adds = refl; after = turned refl }
 switch_adds k e false s new turned stays = adds_nothing k (SwitchAdds false e) new refl (stays refl)
 
 -- a collect
-pub takes_adds : (s new : QueueState) (c : ClientId) (outcome : Outcome) → TakesOldest s c.0 (outcome_value outcome) new → AddsToEach s (λ k. CollectAdds k.opening k.entries c (Some outcome)) new
+pub takes_adds : (s new : QueueState) (c : ClientId) (outcome : Outcome) → TakesOldest s c.0 (outcome_value outcome) new
+    → AddsToEach s (λ k. CollectAdds k.opening k.entries c (Some outcome)) new
 takes_adds s new c outcome takes = record {
   search = ap (λ (q : QueueState). q.search) takes.new_is;
-  each = λ k at after. record { block = Collect c ∷ []; adds = (oldest_after k.opening k.entries s c outcome (sym takes.oldest) after, refl); after = rw takes.new_is (collect_after k.opening k.entries s c outcome (sym takes.oldest) after) };
+  each = λ k at after. record {
+    block = Collect c ∷ [];
+    adds = (oldest_after k.opening k.entries s c outcome (sym takes.oldest) after, refl);
+    after = rw takes.new_is (collect_after k.opening k.entries s c outcome (sym takes.oldest) after);
+  };
 }
 
-pub collect_adds : (r : Option Outcome) (s new : QueueState) (c : ClientId) → option_map outcome_value r ≡ slice_get (owed_to c.0 s) 0 → OnSome r (new ≡ collects_oldest s c.0) → IfNone r (new ≡ s) → AddsToEach s (λ k. CollectAdds k.opening k.entries c r) new
+pub collect_adds : (r : Option Outcome) (s new : QueueState) (c : ClientId)
+    → option_map outcome_value r ≡ slice_get (owed_to c.0 s) 0 → OnSome r (new ≡ collects_oldest s c.0)
+    → IfNone r (new ≡ s) → AddsToEach s (λ k. CollectAdds k.opening k.entries c r) new
 collect_adds None s new c told taken same = record {
   search = ap (λ (q : QueueState). q.search) same;
-  each = λ k at after. record { block = []; adds = (none_owed_after k.opening k.entries s c.0 told after, refl); after = rw (same, append-nil) after };
+  each = λ k at after. record {
+    block = [];
+    adds = (none_owed_after k.opening k.entries s c.0 told after, refl);
+    after = rw (same, append-nil) after;
+  };
 }
-collect_adds (Some outcome) s new c told taken same = takes_adds s new c outcome (record { oldest = sym told; new_is = taken })
+collect_adds (Some outcome) s new c told taken same = takes_adds s new c outcome (record {
+  oldest = sym told;
+  new_is = taken;
+})
 
-pub completion_adds : (r : Option (ℕ × Completion)) (s new : QueueState) (c : ClientId) → IfSome r (λ x. TakesOldest s c.0 (outcome_value (request_outcome x)) new) → IfSome r (λ x. AddsToEach s (λ k. CollectAdds k.opening k.entries c (Some (request_outcome x))) new)
+pub completion_adds : (r : Option (ℕ × Completion)) (s new : QueueState) (c : ClientId)
+    → IfSome r (λ x. TakesOldest s c.0 (outcome_value (request_outcome x)) new)
+    → IfSome r (λ x. AddsToEach s (λ k. CollectAdds k.opening k.entries c (Some (request_outcome x))) new)
 completion_adds None s new c takes = tt
 completion_adds (Some x) s new c takes = takes_adds s new c (request_outcome x) takes
 
-pub discovery_adds : (r : Option DiscoveryEnd) (set : List Device) (s new : QueueState) (c : ClientId) → IfSome r (λ end. TakesOldest s c.0 (outcome_value (discovery_outcome end set)) new) → IfSome r (λ end. AddsToEach s (λ k. CollectAdds k.opening k.entries c (Some (discovery_outcome end set))) new)
+pub discovery_adds : (r : Option DiscoveryEnd) (set : List Device) (s new : QueueState) (c : ClientId)
+    → IfSome r (λ end. TakesOldest s c.0 (outcome_value (discovery_outcome end set)) new)
+    → IfSome r (λ end. AddsToEach s (λ k. CollectAdds k.opening k.entries c (Some (discovery_outcome end set))) new)
 discovery_adds None set s new c takes = tt
 discovery_adds (Some end) set s new c takes = takes_adds s new c (discovery_outcome end set) takes
 
-pub not_kind : {X : Type 0} (r : Option X) (s : QueueState) (c : ℕ) (kind : OutcomeKind) → IfNone r (first_kind c s ≢ Some kind) → IfNone r (ForEachLog s (λ o h. oldest_kind o h c ≢ Some kind))
+pub not_kind : {X : Type 0} (r : Option X) (s : QueueState) (c : ℕ) (kind : OutcomeKind)
+    → IfNone r (first_kind c s ≢ Some kind) → IfNone r (ForEachLog s (λ o h. oldest_kind o h c ≢ Some kind))
 not_kind (Some x) s c kind other = tt
 not_kind None s c kind other = λ o h after is. other (kind_after o h s c after ∙ is)
 
@@ -138,57 +204,82 @@ less_first : {X : Type 0} (xs : List X) (x : X) → slice_get xs 0 ≡ Some x �
 less_first [] x at = cc
 less_first (y ∷ xs) x at = omega arith
 
-less_due : (end : Option Joined) (waiting : List Accepted) (d : OwedOutcome) → owed_next end waiting ≡ Some d → length (drop 1 waiting) < length waiting
+less_due : (end : Option Joined) (waiting : List Accepted) (d : OwedOutcome) → owed_next end waiting ≡ Some d
+    → length (drop 1 waiting) < length waiting
 less_due (Some done) (a ∷ waiting) d is = omega arith
 less_due (Some done) [] d is = absurd (none-some d is)
 less_due None waiting d is = absurd (none-some d is)
 
-pub ends_fewer : (r : Option Entry) (s new : QueueState) → IfSome r (λ entry. IsEnded s entry new) → OnSome r (unended new < unended s)
+pub ends_fewer : (r : Option Entry) (s new : QueueState) → IfSome r (λ entry. IsEnded s entry new)
+    → OnSome r (unended new < unended s)
 ends_fewer None s new is = tt
 ends_fewer (Some entry) s new is = by_kind is
   where
     by_kind : IsEnded s entry new → unended new < unended s
-    by_kind (ByRun e) = rw e.answers.new_is (let less = less_first s.asked e.answers.asked e.answers.oldest in omega arith)
-    by_kind (ByResult e) = rw e.finishes.new_is (let less = less_due (end_of_oldest s) s.waiting e.finishes.owed e.finishes.was_due in omega arith)
-    by_kind (ByClose e) = rw e.answers.new_is (let less = less_first s.asked e.answers.asked e.answers.oldest in omega arith)
+    by_kind (ByRun e) =
+        rw e.answers.new_is (let less = less_first s.asked e.answers.asked e.answers.oldest in omega arith)
+    by_kind (ByResult e) =
+        rw e.finishes.new_is
+        (let less = less_due (end_of_oldest s) s.waiting e.finishes.owed e.finishes.was_due in omega arith)
+    by_kind (ByClose e) =
+        rw e.answers.new_is (let less = less_first s.asked e.answers.asked e.answers.oldest in omega arith)
 
 is_end : (s new : QueueState) (entry : Entry) → IsEnded s entry new → is_result entry ≡ true
 is_end s new entry (ByRun e) = rw e.answers.entry_is refl
 is_end s new entry (ByResult e) = rw e.finishes.entry_is refl
 is_end s new entry (ByClose e) = rw e.answers.entry_is refl
 
-pub ends_each : (r : Option Entry) (s new : QueueState) → IfSome r (λ entry. IsEnded s entry new) → IfSome r (λ entry. Ends s entry new)
+pub ends_each : (r : Option Entry) (s new : QueueState) → IfSome r (λ entry. IsEnded s entry new)
+    → IfSome r (λ entry. Ends s entry new)
 ends_each None s new is = tt
 ends_each (Some entry) s new is = record {
   is = is_end s new entry is;
   search = ended_same s new entry is;
-  each = λ k same amid. (ends_in_bound_amid k s new entry same is amid, ends_amid k.opening k.entries s new entry is amid);
+  each = λ k same amid.
+      (ends_in_bound_amid k s new entry same is amid, ends_amid k.opening k.entries s new entry is amid);
 }
 
-pub settled_each : (r : Option Entry) (s new : QueueState) → IfNone r (HasNothingDue s × (new ≡ s)) → IfNone r (ForEachBlock s (λ o h. StandsAfter o h s) × (new ≡ s))
+pub settled_each : (r : Option Entry) (s new : QueueState) → IfNone r (HasNothingDue s × (new ≡ s))
+    → IfNone r (ForEachBlock s (λ o h. StandsAfter o h s) × (new ≡ s))
 settled_each (Some entry) s new is = tt
 settled_each None s new is = ((λ o h amid. settled_after o h s is.0 amid), is.1)
 
 -- an entry that is no Answer, and the Finishes and Answers that are due then
-pub with_results : (k : LogState) (e : Entry) (new : QueueState) → FaultNeedsClose k e → FinishesAll (grown k (e ∷ [])) new → StandsWith k (λ block. IsWithResults e block × AnswersInBound k block) new
+pub with_results : (k : LogState) (e : Entry) (new : QueueState) → FaultNeedsClose k e
+    → FinishesAll (grown k (e ∷ [])) new → StandsWith k (λ block. IsWithResults e block × AnswersInBound k block) new
 with_results k e new none all =
     let after : StandsAfter k.opening ((k.entries ++ e ∷ []) ++ all.results) new = all.after in
-    record { block = e ∷ all.results; adds = (record { results = all.results; whole = refl; each = all.each }, (none, all.in_bound)); after = rw (append_assoc k.entries (e ∷ []) all.results) at after }
+    record {
+      block = e ∷ all.results;
+      adds = (record { results = all.results; whole = refl; each = all.each }, (none, all.in_bound));
+      after = rw (append_assoc k.entries (e ∷ []) all.results) at after;
+    }
 
-pub close_adds : (k : LogState) (new : QueueState) → is_closed k.opening k.entries ≡ false → FinishesAll (grown k (Close ∷ [])) new → StandsWith k (CloseAdds k.opening k.entries) new
-close_adds k new open_ all = let with = with_results k Close new tt all in record { block = with.block; adds = rw open_ with.adds.0; after = with.after }
+pub close_adds : (k : LogState) (new : QueueState) → is_closed k.opening k.entries ≡ false
+    → FinishesAll (grown k (Close ∷ [])) new → StandsWith k (CloseAdds k.opening k.entries) new
+close_adds k new open_ all =
+    let with = with_results k Close new tt all in
+    record { block = with.block; adds = rw open_ with.adds.0; after = with.after }
 
 -- what holds amid a log with some results more
 abbrev pub EndedSoFar : LogState → QueueState → Type 0
-EndedSoFar k s = (results : List Entry) × AllResults results × AnswersInBound k results × StandsAmid k.opening (k.entries ++ results) s
+EndedSoFar k s =
+    (results : List Entry) × AllResults results × AnswersInBound k results
+    × StandsAmid k.opening (k.entries ++ results) s
 
 -- an entry more of what was due
-pub one_more_ended : (k : LogState) (r : Option Entry) (s new : QueueState) → is_some r ≡ true → IfSome r (λ entry. Ends s entry new) → s.search ≡ k.search → EndedSoFar k s → EndedSoFar k new
+pub one_more_ended : (k : LogState) (r : Option Entry) (s new : QueueState) → is_some r ≡ true
+    → IfSome r (λ entry. Ends s entry new) → s.search ≡ k.search → EndedSoFar k s → EndedSoFar k new
 one_more_ended k None s new some ends same so_far = absurd (false≢true some)
 one_more_ended k (Some entry) s new some ends same so_far =
-    let here = ends.each (grown k so_far.0) same so_far.3 in
-    (so_far.0 ++ entry ∷ [], all_push (λ r. is_result r ≡ true) so_far.0 entry so_far.1 ends.is, block_more k so_far.0 entry so_far.2 here.0, rw (← append_assoc k.entries so_far.0 (entry ∷ [])) here.1)
+    let here = ends.each (grown k so_far.0) same so_far.3 in (
+      so_far.0 ++ entry ∷ [],
+      all_push (λ r. is_result r ≡ true) so_far.0 entry so_far.1 ends.is,
+      block_more k so_far.0 entry so_far.2 here.0,
+      rw (← append_assoc k.entries so_far.0 (entry ∷ [])) here.1,
+    )
 
-pub ends_search : (r : Option Entry) (s new : QueueState) → is_some r ≡ true → IfSome r (λ entry. Ends s entry new) → new.search ≡ s.search
+pub ends_search : (r : Option Entry) (s new : QueueState) → is_some r ≡ true → IfSome r (λ entry. Ends s entry new)
+    → new.search ≡ s.search
 ends_search None s new some ends = absurd (false≢true some)
 ends_search (Some entry) s new some ends = ends.search

@@ -1,5 +1,6 @@
 -- A decided result, and what a request with it is finished with.
-use Rattle.std.proofs.Common.{◌≡◌, ◌<◌, Bool, true, false, List, [], ◌∷◌, ◌++◌, length, Option, Some, None, refl, ap, ◌∙◌, inl, inr, arith}
+use Rattle.std.proofs.Common.{◌≡◌, ◌<◌, Bool, true, false, List, [], ◌∷◌, ◌++◌, length, Option, Some, None, refl, ap}
+use Rattle.std.proofs.Common.{◌∙◌, inl, inr, arith}
 use Rattle.std.specs.Prelude.{◌≢◌, if◌then◌else◌}
 use Rattle.rdm_join.specs.declared.status.Status.{Status}
 use Rattle.rdm_join.specs.declared.status.Status.TheVariants.{Completed, InvalidResponse}
@@ -18,7 +19,8 @@ ended_complete : (s : Status) → IsComplete (ended s)
 ended_complete Completed = refl
 ended_complete s = refl
 
-chosen_complete : (b : Bool) (j k : Joined) → IsComplete k → (if b then Some (ended InvalidResponse) else Some k) ≡ Some j → IsComplete j
+chosen_complete : (b : Bool) (j k : Joined) → IsComplete k
+    → (if b then Some (ended InvalidResponse) else Some k) ≡ Some j → IsComplete j
 chosen_complete true j k complete is = let same : ended InvalidResponse ≡ j = cc in rw (← same) refl
 chosen_complete false j k complete is = let same : k ≡ j = cc in rw (← same) complete
 
@@ -31,7 +33,9 @@ part_complete false j is = absurd (no is)
 
 decided_complete : (before : List Judged) (v : Judged) (j : Joined) → decides before v ≡ Some j → IsComplete j
 decided_complete before (Ended s) j is = let same : ended s ≡ j = cc in rw (← same) (ended_complete s)
-decided_complete before (Whole r) j is = chosen_complete _ j (record { status = Completed; data_ = joined_data before ++ r.param.items; head = Some (head_of r) }) refl is
+decided_complete before (Whole r) j is =
+    chosen_complete _ j
+    (record { status = Completed; data_ = joined_data before ++ r.param.items; head = Some (head_of r) }) refl is
 decided_complete before (Part r) j is = part_complete _ j is
 
 after_complete : (before vs : List Judged) (j : Joined) → result_after before vs ≡ Some j → IsComplete j
@@ -41,7 +45,8 @@ after_complete before [] j is = absurd (no is)
     no h = cc
 after_complete before (v ∷ vs) j is = by_first (decides before v) refl is (after_complete (before ++ v ∷ []) vs j)
   where
-    by_first : (o : Option Joined) → decides before v ≡ o → or_if_open o (result_after (before ++ v ∷ []) vs) ≡ Some j → (result_after (before ++ v ∷ []) vs ≡ Some j → IsComplete j) → IsComplete j
+    by_first : (o : Option Joined) → decides before v ≡ o → or_if_open o (result_after (before ++ v ∷ []) vs) ≡ Some j
+        → (result_after (before ++ v ∷ []) vs ≡ Some j → IsComplete j) → IsComplete j
     by_first (Some k) here at rest = decided_complete before v j (here ∙ at)
     by_first None here at rest = rest at
 
@@ -66,9 +71,17 @@ has_data j complete some = by_status j.status complete
     by_status Completed is = refl
     by_status s is = absurd (empty s is)
 
-pub gives_fits : (closing : Type 0) (j done : Joined) → IsComplete j → GivesResult j done → FitsResult closing (Some j) done.status (length done.data_)
-gives_fits closing j done complete (inl same) = inl (ap (λ (k : Joined). k.status) same, ap (λ (k : Joined). length k.data_) same)
-gives_fits closing j done complete (inr wanted) = inr (ap (λ (k : Joined). k.status) wanted.0, has_data j complete wanted.1, some, ap (λ (k : Joined). length k.data_) wanted.0)
+pub gives_fits : (closing : Type 0) (j done : Joined) → IsComplete j → GivesResult j done
+    → FitsResult closing (Some j) done.status (length done.data_)
+gives_fits closing j done complete (inl same) =
+    inl (ap (λ (k : Joined). k.status) same, ap (λ (k : Joined). length k.data_) same)
+gives_fits closing j done complete (inr wanted) =
+    inr (
+      ap (λ (k : Joined). k.status) wanted.0,
+      has_data j complete wanted.1,
+      some,
+      ap (λ (k : Joined). length k.data_) wanted.0,
+    )
   where
     some : j.data_ ≢ []
     some none = no (ap length none) wanted.1

@@ -1,5 +1,6 @@
 -- The oldest discovery is answered by its run, or at a close.
-use Rattle.std.proofs.Common.{◌≡◌, ℕ, ◌+◌, ◌-◌, ◌<◌, ◌≤◌, Bool, true, false, not, List, [], ◌∷◌, ◌++◌, length, Option, Some, None, slice_get, refl, sym, ap, ◌∙◌, subst, inl, inr, length-append, arith}
+use Rattle.std.proofs.Common.{◌≡◌, ℕ, ◌+◌, ◌-◌, ◌<◌, ◌≤◌, Bool, true, false, not, List, [], ◌∷◌, ◌++◌, length, Option}
+use Rattle.std.proofs.Common.{Some, None, slice_get, refl, sym, ap, ◌∙◌, subst, inl, inr, length-append, arith}
 use Rattle.std.specs.Prelude.{◌⊎◌, ◌==◌, ◌&&◌, ◌||◌, is_some, nat_lt, if◌then◌else◌}
 use Rattle.std.specs.List.{list_any}
 use Rattle.std.proofs.lemmas.Bool.{false≢true, eq-eqb, ne_eqb, ltb-true, ltb-false}
@@ -18,14 +19,19 @@ use Rattle.rdm_queue.specs.declared.pending.Awaited.{Awaited}
 use Rattle.rdm_queue.specs.declared.pending.Awaited.TheVariants as awaiting
 use Rattle.rdm_log.specs.log.Entries.{AskedDiscovery, Answered, asks, answers}
 use Rattle.rdm_log.specs.log.History.{is_closed, unanswered, was_sent}
-use Rattle.rdm_log.specs.log.Runs.{has_begun, entries_before_run, last_run, is_answered, asked_before, unserved, served, run_exchanges, run_devices, run_kind, known_at_run, answer_devices}
+use Rattle.rdm_log.specs.log.Runs.{has_begun, entries_before_run, last_run, is_answered, asked_before, unserved, served}
+use Rattle.rdm_log.specs.log.Runs.{run_exchanges, run_devices, run_kind, known_at_run, answer_devices}
 use Rattle.rdm_log.specs.log.MayAnswer.{MayAnswer}
 use Rattle.rdm_queue.specs.body.State.{QueueState, RunState, is_closing}
-use Rattle.rdm_queue.specs.body.Ending.{stopped_at, agent_at_end, answer_of, answers_oldest, one_less, answers_by_run, devices_after, devices_run_after}
-use Rattle.rdm_queue.specs.body.Agrees.{AwaitsRequest, AwaitsRun, IsPending, IsRunning, RunIs, oldest_number, Agrees, StandsAmid}
+use Rattle.rdm_queue.specs.body.Ending.{stopped_at, agent_at_end, answer_of, answers_oldest, one_less, answers_by_run}
+use Rattle.rdm_queue.specs.body.Ending.{devices_after, devices_run_after}
+use Rattle.rdm_queue.specs.body.Agrees.{AwaitsRequest, AwaitsRun, IsPending, IsRunning, RunIs, oldest_number, Agrees}
+use Rattle.rdm_queue.specs.body.Agrees.{StandsAmid}
 use Rattle.rdm_log.proofs.LogLemmas.Grows.{pushed}
-use Rattle.rdm_log.proofs.LogLemmas.Places.{all_from_places, slice_get-push, IsPushed, slice_get-drop, slice_get_append_within}
-use Rattle.rdm_log.proofs.LogLemmas.PushLemmas.{asks-append, answered-append, answered_more, sends_same, is_closed-push, awaited-push}
+use Rattle.rdm_log.proofs.LogLemmas.Places.{all_from_places, slice_get-push, IsPushed, slice_get-drop}
+use Rattle.rdm_log.proofs.LogLemmas.Places.{slice_get_append_within}
+use Rattle.rdm_log.proofs.LogLemmas.PushLemmas.{asks-append, answered-append, answered_more, sends_same, is_closed-push}
+use Rattle.rdm_log.proofs.LogLemmas.PushLemmas.{awaited-push}
 use Rattle.rdm_log.proofs.LogLemmas.AskFacts.{ask_facts, unanswered_place}
 use Rattle.rdm_log.proofs.LogLemmas.ClientFacts.{client_facts}
 use Rattle.rdm_log.proofs.LogLemmas.RunFacts.{run_facts}
@@ -34,7 +40,8 @@ use Rattle.rdm_log.proofs.LogLemmas.AgentLemmas.{agent_shows, agent_found}
 use Rattle.rdm_queue.proofs.BodyLemmas.AfterLemmas.{pending_flag}
 use Rattle.rdm_log.proofs.PromiseLemmas.OutcomeLemmas.{some_at}
 use Rattle.rdm_queue.proofs.BodyLemmas.AgreesWork.{was_sent_own}
-use Rattle.rdm_queue.proofs.BodyLemmas.AgreesRuns.{not_stopped, stands_answer, known_after, run_after, exchanges_answered}
+use Rattle.rdm_queue.proofs.BodyLemmas.AgreesRuns.{not_stopped, stands_answer, known_after, run_after}
+use Rattle.rdm_queue.proofs.BodyLemmas.AgreesRuns.{exchanges_answered}
 use Rattle.rdm_queue.proofs.BodyLemmas.TakeLemmas.{running}
 use Rattle.rdm_log.proofs.LogLemmas.RunningLemmas.{asked_stays}
 use Rattle.rdm_log.proofs.LogLemmas.BegunLemmas.{before_front}
@@ -42,7 +49,8 @@ use Rattle.rdm_log.proofs.LogLemmas.BegunLemmas.{before_front}
 -- the agent at the end stands after the run's exchanges
 pub record AtEnd (o : Opening) (h : List Entry) (s : QueueState) (r : RunState) : Type 0 where
   pub aborted : Bool
-  pub has_run : HasRunBy s.search (run_kind r.number h) (known_at_run o r.number h) o.budget aborted (run_exchanges r.number h) (agent_at_end s)
+  pub has_run : HasRunBy s.search (run_kind r.number h) (known_at_run o r.number h) o.budget aborted
+      (run_exchanges r.number h) (agent_at_end s)
   pub closed : aborted ≡ true → is_closed o h ≡ true
 
 pub and_left : (a b : Bool) → (a && b) ≡ true → a ≡ true
@@ -53,19 +61,30 @@ pub and_right : (a b : Bool) → (a && b) ≡ true → b ≡ true
 and_right true b is = is
 and_right false b is = absurd (false≢true is)
 
-pub at_end : (o : Opening) (h : List Entry) (s : QueueState) (r : RunState) → IsRunning o h s r → Agrees o h s → AtEnd o h s r
+pub at_end : (o : Opening) (h : List Entry) (s : QueueState) (r : RunState) → IsRunning o h s r → Agrees o h s
+    → AtEnd o h s r
 at_end o h s r run stands = by_closing (is_closing s) refl
   where
     Ends : AgentState → Type 0
-    Ends a = (aborted : Bool) × HasRunBy s.search (run_kind r.number h) (known_at_run o r.number h) o.budget aborted (run_exchanges r.number h) a × (aborted ≡ true → is_closed o h ≡ true)
+    Ends a = (aborted : Bool)
+        × HasRunBy s.search (run_kind r.number h) (known_at_run o r.number h) o.budget aborted
+        (run_exchanges r.number h) a × (aborted ≡ true → is_closed o h ≡ true)
 
     stays : Ends s.agent
     stays = (run.aborted, run.has_run, λ is. (run.stopped is).0)
 
     stops : (next_op s.agent ≡ ops.End → ⊥) → is_closed o h ≡ true → Ends (ended_by_abort s.agent)
     stops goes closed =
-        let own = not_stopped _ _ _ run.aborted _ s.agent run.has_run goes in
-        (true, record { devices = own.devices; before = s.agent; runs = runs-own _ _ _ _ s.agent own; is = (goes, refl) }, λ is. closed)
+        let own = not_stopped _ _ _ run.aborted _ s.agent run.has_run goes in (
+          true,
+          record {
+            devices = own.devices;
+            before = s.agent;
+            runs = runs-own _ _ _ _ s.agent own;
+            is = (goes, refl);
+          },
+          λ is. closed,
+        )
 
     by_op : (op : Op) → next_op s.agent ≡ op → is_closed o h ≡ true → Ends (stopped_at op s.agent)
     by_op ops.End is closed = stays
@@ -83,10 +102,18 @@ at_end o h s r run stands = by_closing (is_closing s) refl
         apart e = cc
 
     shown : (a : AgentState) → agent_at_end s ≡ a → Ends a → AtEnd o h s r
-    shown a is ends = record { aborted = ends.0; has_run = subst (λ b. HasRunBy s.search (run_kind r.number h) (known_at_run o r.number h) o.budget ends.0 (run_exchanges r.number h) b) (sym is) ends.1; closed = ends.2 }
+    shown a is ends = record {
+      aborted = ends.0;
+      has_run = subst
+          (λ b. HasRunBy s.search (run_kind r.number h) (known_at_run o r.number h) o.budget ends.0
+          (run_exchanges r.number h) b) (sym is) ends.1;
+      closed = ends.2;
+    }
 
     by_closing : (b : Bool) → is_closing s ≡ b → AtEnd o h s r
-    by_closing true is = shown (stopped_at (next_op s.agent) s.agent) (rw is refl) (by_op (next_op s.agent) refl (sym stands.closed_is ∙ and_left s.closed (not (is_some s.awaited)) is))
+    by_closing true is =
+        shown (stopped_at (next_op s.agent) s.agent) (rw is refl)
+        (by_op (next_op s.agent) refl (sym stands.closed_is ∙ and_left s.closed (not (is_some s.awaited)) is))
     by_closing false is = shown s.agent (rw is refl) stays
 
 -- an agent that has ended is the same at the end
@@ -102,7 +129,8 @@ and_false : (a : Bool) → (a && false) ≡ false
 and_false true = refl
 and_false false = refl
 
-pub idle_by_run : (o : Opening) (h : List Entry) (s : QueueState) (r : RunState) → IsRunning o h s r → Agrees o h s → next_op (agent_at_end s) ≡ ops.End → s.awaited ≡ None
+pub idle_by_run : (o : Opening) (h : List Entry) (s : QueueState) (r : RunState) → IsRunning o h s r → Agrees o h s
+    → next_op (agent_at_end s) ≡ ops.End → s.awaited ≡ None
 idle_by_run o h s r run stands end = by_awaited s.awaited refl
   where
     no_way : (sent : Sent) → AwaitsRequest o h sent → was_sent (oldest_number o h) h ≡ true
@@ -110,15 +138,23 @@ idle_by_run o h s r run stands end = by_awaited s.awaited refl
 
     by_awaited : (w : Option Awaited) → s.awaited ≡ w → s.awaited ≡ None
     by_awaited None is = is
-    by_awaited (Some (awaiting.Request sent)) is = absurd (false≢true (sym run.no_request ∙ (stands.under_way_is ∙ no_way sent (subst (λ q. IsPending o h s q) is stands.awaited_is))))
+    by_awaited (Some (awaiting.Request sent)) is =
+        absurd (false≢true
+        (sym run.no_request
+        ∙ (stands.under_way_is ∙ no_way sent (subst (λ q. IsPending o h s q) is stands.awaited_is))))
     by_awaited (Some (awaiting.Run tn)) is =
         let w : AwaitsRun o h s tn = subst (λ q. IsPending o h s q) is stands.awaited_is in
         let open_ : is_closing s ≡ false = ap (λ q. s.closed && not (is_some q)) is ∙ and_false s.closed in
         absurd (w.goes_on (rw open_ at end))
 
 -- the oldest unanswered discovery is served by the run
-pub serves_oldest : (o : Opening) (h : List Entry) (s : QueueState) (r : RunState) (a : AskedDiscovery) → IsRunning o h s r → slice_get (unanswered h) 0 ≡ Some a → list_any (λ b. b.number == a.number) (served r.number h) ≡ true
-serves_oldest o h s r a run oldest = rw (last_begun r.number h run.last) (any_passes_from_place (λ (b : AskedDiscovery). b.number == a.number) (unserved early) place a at (eq-eqb a.number a.number refl))
+pub serves_oldest : (o : Opening) (h : List Entry) (s : QueueState) (r : RunState) (a : AskedDiscovery)
+    → IsRunning o h s r → slice_get (unanswered h) 0 ≡ Some a
+    → list_any (λ b. b.number == a.number) (served r.number h) ≡ true
+serves_oldest o h s r a run oldest =
+    rw (last_begun r.number h run.last)
+    (any_passes_from_place (λ (b : AskedDiscovery). b.number == a.number) (unserved early) place
+    a at (eq-eqb a.number a.number refl))
   where
     early : List Entry
     early = entries_before_run r.number h
@@ -130,7 +166,9 @@ serves_oldest o h s r a run oldest = rw (last_begun r.number h run.last) (any_pa
     asked = ap (λ l. asks l) rest.1 ∙ asks-append early rest.0
 
     fewer : length (answers early) ≤ length (answers h)
-    fewer = let all = ap (λ l. length (answers l)) rest.1 ∙ (ap (λ l. length l) (answered-append early rest.0) ∙ length-append (answers early) (answers rest.0)) in omega arith
+    fewer = let all = ap (λ l. length (answers l)) rest.1
+        ∙ (ap (λ l. length l) (answered-append early rest.0) ∙ length-append (answers early) (answers rest.0)) in
+        omega arith
 
     skipped : ℕ
     skipped = asked_before (last_run early) early - length (answers early)
@@ -139,43 +177,66 @@ serves_oldest o h s r a run oldest = rw (last_begun r.number h run.last) (any_pa
     place = length (answers h) - (length (answers early) + skipped)
 
     within : length (answers h) < length (asks early)
-    within = let left : length (asks early) ≡ length (answers h) + r.left = rw run.last at run.left in let some = run.some in omega arith
+    within = let left : length (asks early) ≡ length (answers h) + r.left = rw run.last at run.left in
+        let some = run.some in omega arith
 
     early_at : slice_get (asks early) (length (answers h)) ≡ Some a
-    early_at = sym (slice_get_append_within (asks early) (asks rest.0) (length (answers h)) within) ∙ (ap (λ l. slice_get l (length (answers h))) (sym asked) ∙ (ap (λ n. slice_get (asks h) n) (omega arith) ∙ unanswered_place h 0 a oldest))
+    early_at = sym (slice_get_append_within (asks early) (asks rest.0) (length (answers h)) within)
+        ∙ (ap (λ l. slice_get l (length (answers h))) (sym asked)
+        ∙ (ap (λ n. slice_get (asks h) n) (omega arith) ∙ unanswered_place h 0 a oldest))
 
     counted : length (answers early) + (skipped + place) ≡ length (answers h)
     counted = let before = run.earlier in let first = fewer in omega arith
 
     at : slice_get (unserved early) place ≡ Some a
-    at = slice_get-drop skipped (unanswered early) place ∙ (slice_get-drop (length (answers early)) (asks early) (skipped + place) ∙ (ap (λ n. slice_get (asks early) n) counted ∙ early_at))
+    at = slice_get-drop skipped (unanswered early) place
+        ∙ (slice_get-drop (length (answers early)) (asks early) (skipped + place)
+        ∙ (ap (λ n. slice_get (asks early) n) counted ∙ early_at))
 
 -- all its Answers say the same
-pub alike_at_end : (o : Opening) (h : List Entry) (s : QueueState) (r : RunState) → IsRunning o h s r → (i : ℕ) (b : Answered) → slice_get (answers h) i ≡ Some b → b.run ≡ r.number → b.fault ≡ fault_of (agent_at_end s).phase
-alike_at_end o h s r run i b at own = run.alike i b at own ∙ ap (λ (a : AgentState). fault_of a.phase) (sym (ended_same s (run.ended (some_at r.number (answers h) i b at own))))
+pub alike_at_end : (o : Opening) (h : List Entry) (s : QueueState) (r : RunState) → IsRunning o h s r
+    → (i : ℕ) (b : Answered) → slice_get (answers h) i ≡ Some b → b.run ≡ r.number
+    → b.fault ≡ fault_of (agent_at_end s).phase
+alike_at_end o h s r run i b at own =
+    run.alike i b at own
+    ∙ ap (λ (a : AgentState). fault_of a.phase)
+    (sym (ended_same s (run.ended (some_at r.number (answers h) i b at own))))
 
-pub may_answer : (o : Opening) (h : List Entry) (s : QueueState) (r : RunState) (a : AskedDiscovery) → IsRunning o h s r → StandsAmid o h s → next_op (agent_at_end s) ≡ ops.End → slice_get (unanswered h) 0 ≡ Some a → MayAnswer o h a.number r.number (fault_of (agent_at_end s).phase)
+pub may_answer : (o : Opening) (h : List Entry) (s : QueueState) (r : RunState) (a : AskedDiscovery) → IsRunning o h s r
+    → StandsAmid o h s → next_op (agent_at_end s) ≡ ops.End → slice_get (unanswered h) 0 ≡ Some a
+    → MayAnswer o h a.number r.number (fault_of (agent_at_end s).phase)
 may_answer o h s r a run amid end oldest = record {
   asked = a;
   oldest = oldest;
   number = refl;
   by_run = λ some. record {
-    not_awaited = sym (pending_flag o h s s.awaited amid.stands.awaited_is) ∙ ap (λ q. is_some q) (idle_by_run o h s r run amid.stands end);
+    not_awaited =
+        sym (pending_flag o h s s.awaited amid.stands.awaited_is)
+        ∙ ap (λ q. is_some q) (idle_by_run o h s r run amid.stands end);
     serves = serves_oldest o h s r a run oldest;
-    agrees = all_from_places (λ b. (b.run ≡ r.number) → b.fault ≡ fault_of (agent_at_end s).phase) (answers h) (λ i b at own. alike_at_end o h s r run i b at own);
+    agrees = all_from_places (λ b. (b.run ≡ r.number) → b.fault ≡ fault_of (agent_at_end s).phase) (answers h)
+        (λ i b at own. alike_at_end o h s r run i b at own);
     shows = agent_shows o h r.number (agent_at_end s) ends.aborted ends.has_run ends.closed end;
   };
-  unserved = λ none. absurd (omega (arith, none, ((run_facts o h amid.each).begun_below r.number (last_begun r.number h run.last)).0));
+  unserved = λ none. absurd (omega (
+    arith,
+    none,
+    ((run_facts o h amid.each).begun_below r.number (last_begun r.number h run.last)).0,
+  ));
 }
   where
     ends : AtEnd o h s r
     ends = at_end o h s r run amid.stands
 
-pub answer_amid : (o : Opening) (h : List Entry) (s : QueueState) (r : RunState) (a : AskedDiscovery) → s.run ≡ Some r → next_op (agent_at_end s) ≡ ops.End → slice_get s.asked 0 ≡ Some a → StandsAmid o h s → StandsAmid o (h ++ answer_of a r.number (fault_of (agent_at_end s).phase) ∷ []) (answers_by_run s r a)
+pub answer_amid : (o : Opening) (h : List Entry) (s : QueueState) (r : RunState) (a : AskedDiscovery) → s.run ≡ Some r
+    → next_op (agent_at_end s) ≡ ops.End → slice_get s.asked 0 ≡ Some a → StandsAmid o h s
+    → StandsAmid o (h ++ answer_of a r.number (fault_of (agent_at_end s).phase) ∷ []) (answers_by_run s r a)
 answer_amid o h s r a is end first amid = record {
   each = pushed o h e amid.each may;
-  stands = stands_answer o h s a r.number f (agent_at_end s).found (one_less r) (agent_at_end s) _ _ amid.each may (ask_facts o h amid.each) (client_facts o h amid.each) oldest found (idle_by_run o h s r run amid.stands end)
-      (rw amid.stands.devices_are (known_after o h a.number r.number f (agent_at_end s).found found_run)) (rw amid.stands.devices_run_is (run_after o h a.number r.number f)) left_over amid.stands;
+  stands = stands_answer o h s a r.number f (agent_at_end s).found (one_less r) (agent_at_end s) _ _ amid.each may
+      (ask_facts o h amid.each) (client_facts o h amid.each) oldest found (idle_by_run o h s r run amid.stands end)
+      (rw amid.stands.devices_are (known_after o h a.number r.number f (agent_at_end s).found found_run))
+      (rw amid.stands.devices_run_is (run_after o h a.number r.number f)) left_over amid.stands;
 }
   where
     f : Option AgentFault
@@ -206,7 +267,8 @@ answer_amid o h s r a is end first amid = record {
     found_run = agent_found o h r.number (agent_at_end s) ends.aborted ends.has_run
 
     found : (agent_at_end s).found ≡ answer_devices r.number h
-    found = rw (ne_eqb r.number 0 (λ none. absurd (omega (arith, none, ((run_facts o h amid.each).begun_below r.number begun).0)))) found_run
+    found = rw (ne_eqb r.number 0
+        (λ none. absurd (omega (arith, none, ((run_facts o h amid.each).begun_below r.number begun).0)))) found_run
 
     same_last : last_run k ≡ last_run h
     same_last = last_run_same h k (sends_same h e refl)
@@ -218,34 +280,54 @@ answer_amid o h s r a is end first amid = record {
     more = ap (λ l. length l) (answered_more h e _ refl) ∙ length-append (answers h) _
 
     named : is_answered r.number k ≡ true
-    named = rw (answered_more h e _ refl) (list_any-append (λ (b : Answered). b.run == r.number) (answers h) _ ∙ rw (eq-eqb r.number r.number refl) (or_true (list_any (λ (b : Answered). b.run == r.number) (answers h))))
+    named = rw (answered_more h e _ refl)
+        (list_any-append (λ (b : Answered). b.run == r.number) (answers h) _
+        ∙ rw (eq-eqb r.number r.number refl) (or_true (list_any (λ (b : Answered). b.run == r.number) (answers h))))
       where
         or_true : (b : Bool) → (b || true) ≡ true
         or_true true = refl
         or_true false = refl
 
     new : Option RunState → QueueState
-    new q = record (answers_oldest s a r.number f (agent_at_end s).found) { run = q; agent = agent_at_end s; devices = devices_after f (agent_at_end s).found s.devices; devices_run = devices_run_after f r.number s.devices_run }
+    new q = record (answers_oldest s a r.number f (agent_at_end s).found) {
+      run = q;
+      agent = agent_at_end s;
+      devices = devices_after f (agent_at_end s).found s.devices;
+      devices_run = devices_run_after f r.number s.devices_run;
+    }
 
     alike : (i : ℕ) (b : Answered) → slice_get (answers k) i ≡ Some b → b.run ≡ r.number → b.fault ≡ f
     alike i b at own = by_place (slice_get-push (answers h) _ i b (rw (answered_more h e _ refl) at at))
       where
-        by_place : (slice_get (answers h) i ≡ Some b) ⊎ IsPushed (answers h) (record { number = a.number; run = r.number; fault = f }) i b → b.fault ≡ f
+        by_place : (slice_get (answers h) i ≡ Some b)
+            ⊎ IsPushed (answers h) (record { number = a.number; run = r.number; fault = f }) i b → b.fault ≡ f
         by_place (inl before) = alike_at_end o h s r run i b before own
         by_place (inr pushed_) = ap (λ (x : Answered). x.fault) pushed_.is
 
     left_over : RunIs o k (new (one_less r)) (one_less r)
     left_over = by_left (nat_lt 1 r.left) refl
       where
-        by_left : (b : Bool) → nat_lt 1 r.left ≡ b → RunIs o k (new (if b then Some (record { number = r.number; left = r.left - 1 }) else None)) (if b then Some (record { number = r.number; left = r.left - 1 }) else None)
+        by_left : (b : Bool) → nat_lt 1 r.left ≡ b
+            → RunIs o k (new (if b then Some (record { number = r.number; left = r.left - 1 }) else None))
+            (if b then Some (record { number = r.number; left = r.left - 1 }) else None)
         by_left true t = record {
           last = same_last ∙ run.last;
           aborted = ends.aborted;
-          has_run = rw (served_stays r.number h (e ∷ []) begun, entries_before_run_stays r.number h (e ∷ []) begun, exchanges_answered h a.number r.number f r.number) ends.has_run;
-          stopped = λ no. (is_closed-push o h e ∙ ends.closed no, awaited-push h e ∙ (sym (pending_flag o h s s.awaited amid.stands.awaited_is) ∙ ap (λ q. is_some q) (idle_by_run o h s r run amid.stands end)));
+          has_run = rw (
+            served_stays r.number h (e ∷ []) begun,
+            entries_before_run_stays r.number h (e ∷ []) begun,
+            exchanges_answered h a.number r.number f r.number,
+          ) ends.has_run;
+          stopped = λ no. (
+            is_closed-push o h e ∙ ends.closed no,
+            awaited-push h e
+                ∙ (sym (pending_flag o h s s.awaited amid.stands.awaited_is)
+                ∙ ap (λ q. is_some q) (idle_by_run o h s r run amid.stands end)),
+          );
           left = asked_same ∙ (let many = ltb-true 1 r.left t in let grown = more in omega arith);
           some = let many = ltb-true 1 r.left t in omega arith;
-          earlier = rw (entries_before_run_stays r.number h (e ∷ []) begun) (let before = run.earlier in let grown = more in omega arith);
+          earlier = rw (entries_before_run_stays r.number h (e ∷ []) begun)
+              (let before = run.earlier in let grown = more in omega arith);
           ended = λ is_named. end;
           alike = alike;
           no_request = run.no_request;

@@ -1,5 +1,6 @@
 -- The clients' rings, as the lists of a queue's state.
-use Rattle.std.proofs.Common.{◌≡◌, ℕ, ◌+◌, ◌-◌, ◌<◌, map, sum, ◌≤◌, true, false, List, [], ◌∷◌, ◌++◌, length, take, set, get_or, Some, None, slice_get, refl, sym, ap, ◌∙◌, inl, inr, arith}
+use Rattle.std.proofs.Common.{◌≡◌, ℕ, ◌+◌, ◌-◌, ◌<◌, map, sum, ◌≤◌, true, false, List, [], ◌∷◌, ◌++◌, length, take, set}
+use Rattle.std.proofs.Common.{get_or, Some, None, slice_get, refl, sym, ap, ◌∙◌, inl, inr, arith}
 use Rattle.std.specs.Prelude.{◌⊎◌, ◌==◌, ◌||◌, nat_le, if◌then◌else◌}
 use Rattle.std.specs.List.{refill, sum_by, list_any}
 use Rattle.std.specs.VecDeque.{deque_len}
@@ -18,9 +19,11 @@ use Rattle.rdm_log.specs.log.Config.{IsConfig}
 use Rattle.rdm_log.specs.promises.Outcomes.{OutcomeValue}
 use Rattle.rdm_queue.specs.body.Rings.{owed_values}
 use Rattle.rdm_queue.specs.body.Merged.{merged}
-use Rattle.rdm_queue.specs.body.Fields.{accepted_is, asked_is, waiting_ring, rings_from, waiting_rings, owed_rings, places_of}
+use Rattle.rdm_queue.specs.body.Fields.{accepted_is, asked_is, waiting_ring, rings_from, waiting_rings, owed_rings}
+use Rattle.rdm_queue.specs.body.Fields.{places_of}
 use Rattle.rdm_queue.specs.body.QueueInvariant.{StateInvariant, QueueInvariant}
-use Rattle.rdm_queue.specs.body.State.{QueueState, first_state, first_submit_fault, first_ask_fault, asked_of, uncollected}
+use Rattle.rdm_queue.specs.body.State.{QueueState, first_state, first_submit_fault, first_ask_fault, asked_of}
+use Rattle.rdm_queue.specs.body.State.{uncollected}
 use Rattle.rdm_queue.proofs.BodyLemmas.InvariantLemmas.{waiting_rises, has_place}
 use Rattle.rdm_queue.proofs.BodyLemmas.MergedLemmas.{merged_shares, length-put_all}
 use Rattle.rdm_queue.proofs.BodyLemmas.OutstandingLemmas.{waiting-le, uncollected-le}
@@ -28,8 +31,11 @@ use Rattle.rdm_queue.proofs.BodyLemmas.ValueLemmas.{length-values}
 use Rattle.rdm_log.proofs.LogLemmas.Places.{place_within}
 use Rattle.rdm_queue.proofs.BodyLemmas.RingSteps.{outstanding_count, sets_count, places_at}
 
-pub waiting_are : (s : QueueState) (clients : List Client) → QueueInvariant s clients → merged (λ a. a.number) (waiting_rings clients) ≡ s.waiting
-waiting_are s clients held = merged_shares (λ a. a.client) (λ a. a.number) (waiting_rings clients) s.waiting (waiting_rises s held.state) held.rings.waiting
+pub waiting_are : (s : QueueState) (clients : List Client) → QueueInvariant s clients
+    → merged (λ a. a.number) (waiting_rings clients) ≡ s.waiting
+waiting_are s clients held =
+    merged_shares (λ a. a.client) (λ a. a.number) (waiting_rings clients) s.waiting (waiting_rises s held.state)
+    held.rings.waiting
 
 -- without clients
 pub first_kept : (setup : Setup) → IsConfig setup.config → QueueInvariant (first_state setup) []
@@ -59,27 +65,38 @@ pub written : {X : Type 0} (xs ys : List X) (i : ℕ) (x : X) → ys ≡ xs → 
 written xs ys i x same =
     let long : length (set ys i x) ≡ length xs = length-set ys i x ∙ ap (λ l. length l) same in
     ap (λ n. take (length xs) (set ys i x ++ n)) (drop_all (length (set ys i x)) xs (omega arith))
-    ∙ (ap (λ l. take (length xs) l) (append-nil (set ys i x)) ∙ (take_all (length xs) (set ys i x) (omega arith) ∙ ap (λ l. set l i x) same))
+    ∙ (ap (λ l. take (length xs) l) (append-nil (set ys i x))
+    ∙ (take_all (length xs) (set ys i x) (omega arith) ∙ ap (λ l. set l i x) same))
 
 -- where an element was read
-pub read_at : {X : Type 0} (xs ys : List X) (i : ℕ) (d : X) → ys ≡ xs → i < length xs → slice_get xs i ≡ Some (get_or ys i d)
+pub read_at : {X : Type 0} (xs ys : List X) (i : ℕ) (d : X) → ys ≡ xs → i < length xs
+    → slice_get xs i ≡ Some (get_or ys i d)
 read_at xs ys i d same within = slice_get-get_or xs i d within ∙ ap (λ l. Some (get_or l i d)) (sym same)
 
 -- where an element was found
-pub found_at : {X : Type 0} (xs ys : List X) (i : ℕ) (x : X) → ys ≡ xs → i < length ys → x ≡ get_or ys i x → slice_get xs i ≡ Some x
-found_at xs ys i x same within is = ap (λ l. slice_get l i) (sym same) ∙ (slice_get-get_or ys i x within ∙ ap (λ y. Some y) (sym is))
+pub found_at : {X : Type 0} (xs ys : List X) (i : ℕ) (x : X) → ys ≡ xs → i < length ys → x ≡ get_or ys i x
+    → slice_get xs i ≡ Some x
+found_at xs ys i x same within is =
+    ap (λ l. slice_get l i) (sym same) ∙ (slice_get-get_or ys i x within ∙ ap (λ y. Some y) (sym is))
 
 -- of a client that has joined, a submit's first fault but for a close
-pub fault_of : (s : QueueState) (clients : List Client) (c : ℕ) (k : Client) → QueueInvariant s clients → s.places ≡ places_of clients → s.owed ≡ owed_rings clients → slice_get clients c ≡ Some k → s.closed ≡ false
-    → first_submit_fault s c ≡ (if nat_le k.places (deque_len k.waiting + (deque_len k.outcomes - length k.sets.items)) || nat_le 18446744073709551615 s.next_request then Some submit_faults.Full else None)
+pub fault_of : (s : QueueState) (clients : List Client) (c : ℕ) (k : Client) → QueueInvariant s clients
+    → s.places ≡ places_of clients → s.owed ≡ owed_rings clients → slice_get clients c ≡ Some k → s.closed ≡ false
+    → first_submit_fault s c
+    ≡ (if nat_le k.places (deque_len k.waiting + (deque_len k.outcomes - length k.sets.items))
+    || nat_le 18446744073709551615 s.next_request then Some submit_faults.Full else None)
 fault_of s clients c k held same owed at open_ =
     rw (open_, known, outstanding_count s clients c k owed held.rings at, ← places_at clients c k at, ← same) refl
   where
     known : nat_le (length s.places) c ≡ false
-    known = let within = place_within clients c k at in let long = ap (λ ns. length ns) same ∙ length-map clients (λ l. l.places) in lt-leb (length s.places) c (omega arith)
+    known = let within = place_within clients c k at in
+        let long = ap (λ ns. length ns) same ∙ length-map clients (λ l. l.places) in
+        lt-leb (length s.places) c (omega arith)
 
 -- how many stand in all rings
-length-merged : {X : Type 0} (number : X → ℕ) (ring : ℕ → Client → List X) (count : Client → ℕ) → ((i : ℕ) (k : Client) → length (ring i k) ≡ count k) → (from : ℕ) (clients : List Client) → sum_by count clients ≡ length (merged number (rings_from ring from clients))
+length-merged : {X : Type 0} (number : X → ℕ) (ring : ℕ → Client → List X) (count : Client → ℕ)
+    → ((i : ℕ) (k : Client) → length (ring i k) ≡ count k) → (from : ℕ) (clients : List Client)
+    → sum_by count clients ≡ length (merged number (rings_from ring from clients))
 unfolding merged rings_from
 length-merged number ring count counts from [] = refl
 length-merged number ring count counts from (k ∷ clients) =
@@ -88,12 +105,20 @@ length-merged number ring count counts from (k ∷ clients) =
     let whole = length-put_all number (ring from k) (merged number (rings_from ring (from + 1) clients)) in
     sum_by-cons count k clients ∙ omega arith
 
-pub waiting_sum : (clients : List Client) → sum_by (λ k. deque_len k.waiting) clients ≡ length (merged (λ a. a.number) (waiting_rings clients))
-waiting_sum clients = length-merged (λ a. a.number) waiting_ring (λ k. deque_len k.waiting) (λ i k. length-map k.waiting.items (accepted_is i) ∙ sym k.waiting.ok.0) 0 clients
+pub waiting_sum : (clients : List Client)
+    → sum_by (λ k. deque_len k.waiting) clients ≡ length (merged (λ a. a.number) (waiting_rings clients))
+waiting_sum clients =
+    length-merged (λ a. a.number) waiting_ring (λ k. deque_len k.waiting)
+    (λ i k. length-map k.waiting.items (accepted_is i) ∙ sym k.waiting.ok.0) 0 clients
 
-pub outcomes_sum : (clients : List Client) → sum_by (λ k. deque_len k.outcomes) clients ≡ sum (map (λ ds. length ds) (owed_rings clients))
+pub outcomes_sum : (clients : List Client)
+    → sum_by (λ k. deque_len k.outcomes) clients ≡ sum (map (λ ds. length ds) (owed_rings clients))
 outcomes_sum [] = refl
-outcomes_sum (k ∷ clients) = sum_by-cons (λ l. deque_len l.outcomes) k clients ∙ let rest = outcomes_sum clients in let here = k.outcomes.ok.0 ∙ sym (length-values k.outcomes.items k.sets.items) in let whole = sum_by-cons (λ (m : ℕ). m) (length (owed_values k)) (map (λ (ds : List OutcomeValue). length ds) (owed_rings clients)) in omega arith
+outcomes_sum (k ∷ clients) =
+    sum_by-cons (λ l. deque_len l.outcomes) k clients ∙ let rest = outcomes_sum clients in
+    let here = k.outcomes.ok.0 ∙ sym (length-values k.outcomes.items k.sets.items) in
+    let whole = sum_by-cons (λ (m : ℕ). m) (length (owed_values k))
+    (map (λ (ds : List OutcomeValue). length ds) (owed_rings clients)) in omega arith
 
 -- all of them are few
 pub waiting_fit : (s : QueueState) → StateInvariant s → length s.waiting < 18446744073709551616
@@ -103,32 +128,44 @@ pub outcomes_fit : (s : QueueState) → StateInvariant s → uncollected s < 184
 outcomes_fit s held = let all = uncollected-le s held in omega (arith, held.few_places, held.greatest, held.few_clients)
 
 -- a client whose submit isn't refused has joined
-pub known_client : (s : QueueState) (clients : List Client) (c : ℕ) → s.places ≡ places_of clients → first_submit_fault s c ≡ None → c < length clients
+pub known_client : (s : QueueState) (clients : List Client) (c : ℕ) → s.places ≡ places_of clients
+    → first_submit_fault s c ≡ None → c < length clients
 known_client s clients c same passes =
     let known : c < length s.places = (has_place s c passes).joined in
     let long = ap (λ ns. length ns) same ∙ length-map clients (λ k. k.places) in
     omega arith
 
 -- whether a submit finds its client's places taken, or the numbers run out
-pub full_by_places : (places count next : ℕ) → places ≤ count → (nat_le places count || nat_le 18446744073709551615 next) ≡ true
+pub full_by_places : (places count next : ℕ) → places ≤ count
+    → (nat_le places count || nat_le 18446744073709551615 next) ≡ true
 full_by_places places count next full = rw (le-leb places count full) refl
 
-pub full_by_number : (places count next : ℕ) → count < places → next < 18446744073709551616 → (nat_le places count || nat_le 18446744073709551615 next) ≡ (next == 18446744073709551615)
-full_by_number places count next free fits = rw (lt-leb places count free) (by_case (cases_eq next 18446744073709551615))
+pub full_by_number : (places count next : ℕ) → count < places → next < 18446744073709551616
+    → (nat_le places count || nat_le 18446744073709551615 next) ≡ (next == 18446744073709551615)
+full_by_number places count next free fits =
+    rw (lt-leb places count free) (by_case (cases_eq next 18446744073709551615))
   where
-    by_case : (next ≡ 18446744073709551615) ⊎ (next ≡ 18446744073709551615 → ⊥) → nat_le 18446744073709551615 next ≡ (next == 18446744073709551615)
+    by_case : (next ≡ 18446744073709551615) ⊎ (next ≡ 18446744073709551615 → ⊥)
+        → nat_le 18446744073709551615 next ≡ (next == 18446744073709551615)
     by_case (inl last) = rw (eq-eqb next 18446744073709551615 last) (le-leb 18446744073709551615 next (omega arith))
     by_case (inr other) = rw (ne_eqb next 18446744073709551615 other) (lt-leb 18446744073709551615 next (omega arith))
 
 -- one of the discoveries that are asked is full
-pub any_asked : (xs : List Asked) → list_any (λ (a : AskedDiscovery). is_full_kind a.kind) (map asked_is xs) ≡ list_any (λ (a : Asked). is_full_kind a.kind) xs
+pub any_asked : (xs : List Asked)
+    → list_any (λ (a : AskedDiscovery). is_full_kind a.kind) (map asked_is xs)
+    ≡ list_any (λ (a : Asked). is_full_kind a.kind) xs
 any_asked [] = refl
 any_asked (a ∷ xs) = ap (λ b. is_full_kind a.kind || b) (any_asked xs)
 
 -- of a client that has joined, a discover's first fault but for a close
-pub ask_fault_of : (s : QueueState) (clients : List Client) (c : ℕ) (k : Client) → QueueInvariant s clients → s.places ≡ places_of clients → s.owed ≡ owed_rings clients → slice_get clients c ≡ Some k → s.closed ≡ false
-    → first_ask_fault s c ≡ (if nat_le 4 (length (asked_of c s) + length k.sets.items) || nat_le 18446744073709551614 s.next_ask then Some ask_faults.Full else None)
+pub ask_fault_of : (s : QueueState) (clients : List Client) (c : ℕ) (k : Client) → QueueInvariant s clients
+    → s.places ≡ places_of clients → s.owed ≡ owed_rings clients → slice_get clients c ≡ Some k → s.closed ≡ false
+    → first_ask_fault s c
+    ≡ (if nat_le 4 (length (asked_of c s) + length k.sets.items)
+    || nat_le 18446744073709551614 s.next_ask then Some ask_faults.Full else None)
 ask_fault_of s clients c k held same owed at open_ = rw (open_, known, sets_count s clients c k owed held.rings at) refl
   where
     known : nat_le (length s.places) c ≡ false
-    known = let within = place_within clients c k at in let long = ap (λ ns. length ns) same ∙ length-map clients (λ l. l.places) in lt-leb (length s.places) c (omega arith)
+    known = let within = place_within clients c k at in
+        let long = ap (λ ns. length ns) same ∙ length-map clients (λ l. l.places) in
+        lt-leb (length s.places) c (omega arith)

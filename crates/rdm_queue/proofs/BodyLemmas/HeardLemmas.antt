@@ -10,22 +10,28 @@ use Rattle.rdm_join.specs.JoinerStanding.{JoinerStanding, step_of, head_of_stand
 use Rattle.rdm_join.specs.body.Standing.{StandsAt, standing_at}
 use Rattle.rdm_log.specs.declared.entry.Entry.{Entry}
 use Rattle.rdm_log.specs.log.Entries.{Accepted}
-use Rattle.rdm_queue.specs.body.State.{QueueState, fresh_joiner, GivesResult, ProgressAt, IsProgress, end_of_oldest, owed_next, owed_for, finish_of, finishes_oldest, IsFinished}
+use Rattle.rdm_queue.specs.body.State.{QueueState, fresh_joiner, GivesResult, ProgressAt, IsProgress, end_of_oldest}
+use Rattle.rdm_queue.specs.body.State.{owed_next, owed_for, finish_of, finishes_oldest, IsFinished}
 
 -- the completion of a joiner that stands at a result
 abbrev pub CompletesAs : Status → JoinerStanding → Joined → Type 0
 CompletesAs status s done =
-    (done ≡ record { status = status; data_ = s.data_; head = head_of_standing s }) ⊎ ((done ≡ ended NoMemory) × (0 < length s.data_))
+    (done ≡ record { status = status; data_ = s.data_; head = head_of_standing s })
+    ⊎ ((done ≡ ended NoMemory) × (0 < length s.data_))
 
-gives : (status : Status) (j done : Joined) (s : JoinerStanding) (vs : List Judged) → status ≡ j.status → s ≡ standing_at (Some j) vs → CompletesAs status s done → GivesResult j done
+gives : (status : Status) (j done : Joined) (s : JoinerStanding) (vs : List Judged) → status ≡ j.status
+    → s ≡ standing_at (Some j) vs → CompletesAs status s done → GivesResult j done
 gives status j done s vs same at (inl own) = inl (own ∙ rw (same, at) refl)
 gives status j done s vs same at (inr wanted) = inr (wanted.0, rw at at wanted.1)
 
 -- decided, with this completion
-pub heard_done : (vs : List Judged) (status : Status) (s : JoinerStanding) (done : Joined) → Done status ≡ step_of (result_of vs) → StandsAt vs s → CompletesAs status s done → IsProgress vs (Some done) fresh_joiner
+pub heard_done : (vs : List Judged) (status : Status) (s : JoinerStanding) (done : Joined)
+    → Done status ≡ step_of (result_of vs) → StandsAt vs s → CompletesAs status s done
+    → IsProgress vs (Some done) fresh_joiner
 heard_done vs status s done step at completes = by_result (result_of vs) step at
   where
-    by_result : (o : Option Joined) → Done status ≡ step_of o → s ≡ standing_at o vs → ProgressAt o vs (Some done) fresh_joiner
+    by_result : (o : Option Joined) → Done status ≡ step_of o → s ≡ standing_at o vs
+        → ProgressAt o vs (Some done) fresh_joiner
     by_result None h p = absurd (no h)
       where
         no : Done status ≡ More → ⊥
@@ -36,7 +42,8 @@ heard_done vs status s done step at completes = by_result (result_of vs) step at
         of_done h = cc
 
 -- still open
-pub heard_more : (vs : List Judged) (s : JoinerStanding) → More ≡ step_of (result_of vs) → StandsAt vs s → IsProgress vs None s
+pub heard_more : (vs : List Judged) (s : JoinerStanding) → More ≡ step_of (result_of vs) → StandsAt vs s
+    → IsProgress vs None s
 heard_more vs s step at = by_result (result_of vs) refl step
   where
     by_result : (o : Option Joined) → result_of vs ≡ o → More ≡ step_of o → ProgressAt o vs None s
@@ -47,7 +54,9 @@ heard_more vs s step at = by_result (result_of vs) refl step
         no h = cc
 
 -- the oldest request finished so, once its end was taken out
-pub finished_so : (s taken new : QueueState) (done : Joined) (entry : Entry) → end_of_oldest s ≡ Some done → taken ≡ record s { decided = None } → (a : Accepted) × (slice_get taken.waiting 0 ≡ Some a) × (entry ≡ finish_of (owed_for done a)) × (new ≡ finishes_oldest taken (owed_for done a)) → IsFinished s entry new
+pub finished_so : (s taken new : QueueState) (done : Joined) (entry : Entry) → end_of_oldest s ≡ Some done
+    → taken ≡ record s { decided = None } → (a : Accepted) × (slice_get taken.waiting 0 ≡ Some a)
+    × (entry ≡ finish_of (owed_for done a)) × (new ≡ finishes_oldest taken (owed_for done a)) → IsFinished s entry new
 finished_so s taken new done entry end is finished = record {
   owed = owed_for done finished.0;
   was_due = rw end (of_first s.waiting (rw is at finished.1));
@@ -55,6 +64,7 @@ finished_so s taken new done entry end is finished = record {
   new_is = finished.3 ∙ rw is refl;
 }
   where
-    of_first : (ws : List Accepted) → slice_get ws 0 ≡ Some finished.0 → owed_next (Some done) ws ≡ Some (owed_for done finished.0)
+    of_first : (ws : List Accepted) → slice_get ws 0 ≡ Some finished.0
+        → owed_next (Some done) ws ≡ Some (owed_for done finished.0)
     of_first [] at = cc
     of_first (w ∷ ws) at = let same : w ≡ finished.0 = cc in rw same refl

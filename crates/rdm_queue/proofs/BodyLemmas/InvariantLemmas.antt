@@ -1,9 +1,12 @@
 -- What a queue's state keeps, through its calls.
-use Rattle.std.proofs.Common.{◌≡◌, ℕ, zero, suc, ◌+◌, ◌-◌, ◌≤◌, ◌<◌, Bool, true, false, cond, not, List, [], ◌∷◌, ◌++◌, length, drop, get_or, set, filter, map, sum, Option, Some, None, slice_get, refl, sym, ap, ◌∙◌, subst, inl, inr, length-append, arith}
+use Rattle.std.proofs.Common.{◌≡◌, ℕ, zero, suc, ◌+◌, ◌-◌, ◌≤◌, ◌<◌, Bool, true, false, cond, not, List, [], ◌∷◌, ◌++◌}
+use Rattle.std.proofs.Common.{length, drop, get_or, set, filter, map, sum, Option, Some, None, slice_get, refl, sym, ap}
+use Rattle.std.proofs.Common.{◌∙◌, subst, inl, inr, length-append, arith}
 use Rattle.std.specs.List.{AllByRecursion}
 use Rattle.std.specs.Prelude.{◌⊎◌, ◌==◌, ◌||◌, nat_le, nat_lt, slice_index, if◌then◌else◌, MatchOption}
 use Rattle.std.proofs.lemmas.Bool.{eqb-true, eq-eqb, leb-false, ltb-false, or_parts, cases_lt, cases_eq}
-use Rattle.std.proofs.lemmas.List.{map-append, get_or_append_left, get_or_past, get_or-set_same, get_or-set_other, length-set, length-map, length-drop}
+use Rattle.std.proofs.lemmas.List.{map-append, get_or_append_left, get_or_past, get_or-set_same, get_or-set_other}
+use Rattle.std.proofs.lemmas.List.{length-set, length-map, length-drop}
 use Rattle.std.proofs.lemmas.List.Sums.{sum_by-append}
 use Rattle.rdm_wire.specs.Uid.{IsAscending}
 use Rattle.rdm_wire.specs.declared.request.Request.{Request}
@@ -16,7 +19,10 @@ use Rattle.rdm_log.specs.declared.fault.AskFault.TheVariants as ask_faults
 use Rattle.rdm_log.specs.log.Entries.{Accepted, AskedDiscovery}
 use Rattle.rdm_log.specs.promises.Outcomes.{OutcomeValue}
 use Rattle.rdm_queue.specs.body.QueueInvariant.{StateInvariant, numbers, served_by}
-use Rattle.rdm_queue.specs.body.State.{QueueState, RunState, outstanding, outstanding_asks, owes, is_discovery, owed_for, finishes_oldest, accepts_request, accepted_as, asks_discovery, asked_as, joins_client, collects_oldest, first_join_fault, first_submit_fault, first_ask_fault}
+use Rattle.rdm_queue.specs.body.State.{QueueState, RunState, outstanding, outstanding_asks, owes, is_discovery}
+use Rattle.rdm_queue.specs.body.State.{owed_for, finishes_oldest, accepts_request, accepted_as, asks_discovery}
+use Rattle.rdm_queue.specs.body.State.{asked_as, joins_client, collects_oldest, first_join_fault, first_submit_fault}
+use Rattle.rdm_queue.specs.body.State.{first_ask_fault}
 use Rattle.rdm_queue.specs.body.Sending.{begun}
 use Rattle.rdm_log.proofs.LogLemmas.RefusalLemmas.{none_stands}
 use Rattle.rdm_log.proofs.LogLemmas.Places.{slice_get_first}
@@ -44,24 +50,38 @@ some_place ns c some fits = by_length (cases_lt c (length ns))
     by_length (inl here) = here
     by_length (inr past) = absurd (no (get_or_past ns c 0 past) (omega (arith, some, fits)))
 
-pub first_counts : {X : Type 0} (client : X → ℕ) (xs : List X) (x : X) → slice_get xs 0 ≡ Some x → 1 ≤ length (filter (λ y. client x == client y) xs)
-first_counts {X} client xs x at = let all = without_first client (client x) xs x at in let same = eq-eqb (client x) (client x) refl in counted _ _ (client x == client x) same all
+pub first_counts : {X : Type 0} (client : X → ℕ) (xs : List X) (x : X) → slice_get xs 0 ≡ Some x
+    → 1 ≤ length (filter (λ y. client x == client y) xs)
+first_counts {X} client xs x at =
+    let all = without_first client (client x) xs x at in let same = eq-eqb (client x) (client x) refl in
+    counted _ _ (client x == client x) same all
   where
     counted : (n m : ℕ) (b : Bool) → b ≡ true → n + cond b 1 0 ≡ m → 1 ≤ m
     counted n m true is e = omega arith
     counted n m false is e = cc
 
-pub waiting_joined : (s : QueueState) (a : Accepted) → StateInvariant s → slice_get s.waiting 0 ≡ Some a → a.client < length s.places
-waiting_joined s a held at = some_place s.places a.client (first_counts (λ (b : Accepted). b.client) s.waiting a at) (let few = held.few a.client in omega arith)
+pub waiting_joined : (s : QueueState) (a : Accepted) → StateInvariant s → slice_get s.waiting 0 ≡ Some a
+    → a.client < length s.places
+waiting_joined s a held at =
+    some_place s.places a.client (first_counts (λ (b : Accepted). b.client) s.waiting a at)
+    (let few = held.few a.client in omega arith)
 
-pub asked_joined : (s : QueueState) (a : AskedDiscovery) → StateInvariant s → slice_get s.asked 0 ≡ Some a → a.client < length s.places
-asked_joined s a held at = subst (λ n. a.client < n) (length-map s.places (λ (n : ℕ). 4)) (some_place (map (λ (n : ℕ). 4) s.places) a.client (first_counts (λ (b : AskedDiscovery). b.client) s.asked a at) (let few = held.few_asks a.client in omega arith))
+pub asked_joined : (s : QueueState) (a : AskedDiscovery) → StateInvariant s → slice_get s.asked 0 ≡ Some a
+    → a.client < length s.places
+asked_joined s a held at =
+    subst (λ n. a.client < n) (length-map s.places (λ (n : ℕ). 4))
+    (some_place (map (λ (n : ℕ). 4) s.places) a.client
+    (first_counts (λ (b : AskedDiscovery). b.client) s.asked a at)
+    (let few = held.few_asks a.client in omega arith))
 
 -- the oldest request may be finished
-rest_rises : (a : Accepted) (rest : List Accepted) (n : ℕ) → IsAscending (map (λ (b : Accepted). b.number) (a ∷ rest) ++ n ∷ []) → IsAscending (map (λ (b : Accepted). b.number) rest ++ n ∷ [])
+rest_rises : (a : Accepted) (rest : List Accepted) (n : ℕ)
+    → IsAscending (map (λ (b : Accepted). b.number) (a ∷ rest) ++ n ∷ [])
+    → IsAscending (map (λ (b : Accepted). b.number) rest ++ n ∷ [])
 rest_rises a rest n rising = rising.1
 
-pub held-finishes : (s : QueueState) (j : Joined) (a : Accepted) → StateInvariant s → slice_get s.waiting 0 ≡ Some a → StateInvariant (finishes_oldest s (owed_for j a))
+pub held-finishes : (s : QueueState) (j : Joined) (a : Accepted) → StateInvariant s → slice_get s.waiting 0 ≡ Some a
+    → StateInvariant (finishes_oldest s (owed_for j a))
 held-finishes s j a held at = record {
   source = held.source;
   greatest = held.greatest;
@@ -69,9 +89,13 @@ held-finishes s j a held at = record {
   few_places = held.few_places;
   few_clients = held.few_clients;
   owed_for_each = length-set s.owed a.client _ ∙ held.owed_for_each;
-  few = λ c. moves _ _ _ _ _ (c == a.client) (owes-count (λ d. not (is_discovery d)) s a.client c _ within) (without_first (λ (b : Accepted). b.client) c s.waiting a at) (held.few c);
-  few_asks = λ c. let owed = owes-count is_discovery s a.client c _ within in let few = held.few_asks c in fewer _ _ _ _ (c == a.client) owed few;
-  rising = rest_rises a (drop 1 s.waiting) s.next_request (subst (λ ws. IsAscending (map (λ (b : Accepted). b.number) ws ++ s.next_request ∷ [])) (slice_get_first s.waiting a at) held.rising);
+  few = λ c. moves _ _ _ _ _ (c == a.client) (owes-count (λ d. not (is_discovery d)) s a.client c _ within)
+      (without_first (λ (b : Accepted). b.client) c s.waiting a at) (held.few c);
+  few_asks = λ c. let owed = owes-count is_discovery s a.client c _ within in let few = held.few_asks c in
+      fewer _ _ _ _ (c == a.client) owed few;
+  rising = rest_rises a (drop 1 s.waiting) s.next_request
+      (subst (λ ws. IsAscending (map (λ (b : Accepted). b.number) ws ++ s.next_request ∷ []))
+      (slice_get_first s.waiting a at) held.rising);
   open_ = tt;
   asks_numbered = held.asks_numbered;
   served = held.served;
@@ -91,8 +115,18 @@ held-finishes s j a held at = record {
     fewer n m k t false p q = omega arith
 
 -- the oldest discovery may be answered
-pub held-answers : (s : QueueState) (a : AskedDiscovery) (d : OutcomeValue) (run : Option RunState) → StateInvariant s → slice_get s.asked 0 ≡ Some a → is_discovery d ≡ true → MatchOption run (Unit {0}) (λ r. 1 ≤ r.left) → served_by s.run ≤ served_by run + 1 → served_by run ≤ served_by s.run → served_by run + 1 ≤ length s.asked
-    → (new : QueueState) → new ≡ record s { asked = drop 1 s.asked; owed = owes a.client d s; run = run; agent = new.agent; devices = new.devices; devices_run = new.devices_run } → StateInvariant new
+pub held-answers : (s : QueueState) (a : AskedDiscovery) (d : OutcomeValue) (run : Option RunState) → StateInvariant s
+    → slice_get s.asked 0 ≡ Some a → is_discovery d ≡ true → MatchOption run (Unit {0}) (λ r. 1 ≤ r.left)
+    → served_by s.run ≤ served_by run + 1 → served_by run ≤ served_by s.run → served_by run + 1 ≤ length s.asked
+    → (new : QueueState)
+    → new ≡ record s {
+      asked = drop 1 s.asked;
+      owed = owes a.client d s;
+      run = run;
+      agent = new.agent;
+      devices = new.devices;
+      devices_run = new.devices_run;
+    } → StateInvariant new
 held-answers s a d run held at discovery serves less most within new is = rw is (record {
   source = held.source;
   greatest = held.greatest;
@@ -100,14 +134,18 @@ held-answers s a d run held at discovery serves less most within new is = rw is 
   few_places = held.few_places;
   few_clients = held.few_clients;
   owed_for_each = length-set s.owed a.client _ ∙ held.owed_for_each;
-  few = λ c. let owed = owes-count (λ e. not (is_discovery e)) s a.client c d inside in let few = held.few c in fewer _ _ _ _ (c == a.client) (rw discovery at owed) few;
-  few_asks = λ c. let moved = without_first (λ (b : AskedDiscovery). b.client) c s.asked a at in let owed = owes-count is_discovery s a.client c d inside in let few = held.few_asks c in same _ _ _ _ _ (c == a.client) (rw discovery at owed) moved few;
+  few = λ c. let owed = owes-count (λ e. not (is_discovery e)) s a.client c d inside in let few = held.few c in
+      fewer _ _ _ _ (c == a.client) (rw discovery at owed) few;
+  few_asks = λ c. let moved = without_first (λ (b : AskedDiscovery). b.client) c s.asked a at in
+      let owed = owes-count is_discovery s a.client c d inside in let few = held.few_asks c in
+      same _ _ _ _ _ (c == a.client) (rw discovery at owed) moved few;
   rising = held.rising;
   open_ = held.open_;
   asks_numbered = held.asks_numbered;
   served = let long = length-drop 1 s.asked in omega arith;
   serves = serves;
-  runs_numbered = let long = length-drop 1 s.asked in let numbered = held.runs_numbered in let kept = held.served in omega arith;
+  runs_numbered =
+      let long = length-drop 1 s.asked in let numbered = held.runs_numbered in let kept = held.served in omega arith;
 })
   where
     inside : a.client < length s.owed
@@ -129,10 +167,14 @@ pub record HasPlace (s : QueueState) (c : ℕ) : Type 0 where
 
 pub has_place : (s : QueueState) (c : ℕ) → first_submit_fault s c ≡ None → HasPlace s c
 has_place s c passes =
-    let closed = none_stands s.closed submit_faults.Closed (if nat_le (length s.places) c then Some submit_faults.UnknownClient else (if is_full then Some submit_faults.Full else None)) passes in
-    let unknown = none_stands (nat_le (length s.places) c) submit_faults.UnknownClient (if is_full then Some submit_faults.Full else None) closed.1 in
+    let closed = none_stands s.closed submit_faults.Closed
+    (if nat_le (length s.places) c then Some submit_faults.UnknownClient else
+    (if is_full then Some submit_faults.Full else None)) passes in
+    let unknown = none_stands (nat_le (length s.places) c) submit_faults.UnknownClient
+    (if is_full then Some submit_faults.Full else None) closed.1 in
     let full = none_stands is_full submit_faults.Full None unknown.1 in
-    let parts = or_parts (nat_le (slice_index s.places c) (outstanding c s)) (nat_le 18446744073709551615 s.next_request) full.0 in
+    let parts = or_parts (nat_le (slice_index s.places c) (outstanding c s))
+    (nat_le 18446744073709551615 s.next_request) full.0 in
     record { joined = leb-false _ _ unknown.0; free = leb-false _ _ parts.0; number = leb-false _ _ parts.1 }
   where
     is_full : Bool
@@ -143,18 +185,26 @@ rising_push : (ns : List ℕ) (n m : ℕ) → IsAscending (ns ++ n ∷ []) → n
 rising_push [] n m rising less = ((less, tt), (tt, tt))
 rising_push (k ∷ ns) n m rising less = (all_more ns rising.0, rising_push ns n m rising.1 less)
   where
-    all_more : (ks : List ℕ) → AllByRecursion (λ v. k < v) (ks ++ n ∷ []) → AllByRecursion (λ v. k < v) ((ks ++ n ∷ []) ++ m ∷ [])
+    all_more : (ks : List ℕ) → AllByRecursion (λ v. k < v) (ks ++ n ∷ [])
+        → AllByRecursion (λ v. k < v) ((ks ++ n ∷ []) ++ m ∷ [])
     all_more [] all = let p : k < n = all.0 in (all.0, (omega arith, tt))
     all_more (j ∷ ks) all = (all.0, all_more ks all.1)
 
-rising-accepts : (s : QueueState) (c : ℕ) (request : Request) → IsAscending (numbers s) → IsAscending (numbers (accepts_request s c request))
-rising-accepts s c request rising = subst IsAscending (sym (ap (λ ns. ns ++ (s.next_request + 1) ∷ []) (map-append (λ (a : Accepted). a.number) s.waiting (accepted_as s c request ∷ [])))) (rising_push (map (λ (a : Accepted). a.number) s.waiting) s.next_request (s.next_request + 1) rising (omega arith))
+rising-accepts : (s : QueueState) (c : ℕ) (request : Request) → IsAscending (numbers s)
+    → IsAscending (numbers (accepts_request s c request))
+rising-accepts s c request rising =
+    subst IsAscending
+    (sym (ap (λ ns. ns ++ (s.next_request + 1) ∷ [])
+    (map-append (λ (a : Accepted). a.number) s.waiting (accepted_as s c request ∷ []))))
+    (rising_push (map (λ (a : Accepted). a.number) s.waiting) s.next_request (s.next_request + 1) rising
+    (omega arith))
 
 more_fits : (w v k t : ℕ) (b : Bool) → v ≡ w + cond b 1 0 → w + k ≤ t → (b ≡ true → w + k < t) → v + k ≤ t
 more_fits w v k t true p q r = let less = r refl in omega arith
 more_fits w v k t false p q r = omega arith
 
-pub held-accepts : (s : QueueState) (c : ℕ) (request : Request) → StateInvariant s → first_submit_fault s c ≡ None → StateInvariant (accepts_request s c request)
+pub held-accepts : (s : QueueState) (c : ℕ) (request : Request) → StateInvariant s → first_submit_fault s c ≡ None
+    → StateInvariant (accepts_request s c request)
 held-accepts s c request held passes = record {
   source = held.source;
   greatest = held.greatest;
@@ -162,7 +212,9 @@ held-accepts s c request held passes = record {
   few_places = held.few_places;
   few_clients = held.few_clients;
   owed_for_each = held.owed_for_each;
-  few = λ client. more_fits _ _ _ _ (client == c) (one_more (λ (a : Accepted). a.client) client s.waiting (accepted_as s c request)) (held.few client) (λ own. rw (eqb-true client c own) (has_place s c passes).free);
+  few = λ client. more_fits _ _ _ _ (client == c)
+      (one_more (λ (a : Accepted). a.client) client s.waiting (accepted_as s c request)) (held.few client)
+      (λ own. rw (eqb-true client c own) (has_place s c passes).free);
   few_asks = held.few_asks;
   rising = rising-accepts s c request held.rising;
   open_ = held.open_;
@@ -180,8 +232,11 @@ pub record HasAsk (s : QueueState) (c : ℕ) : Type 0 where
 
 pub has_ask : (s : QueueState) (c : ℕ) → first_ask_fault s c ≡ None → HasAsk s c
 has_ask s c passes =
-    let closed = none_stands s.closed ask_faults.Closed (if nat_le (length s.places) c then Some ask_faults.UnknownClient else (if is_full then Some ask_faults.Full else None)) passes in
-    let unknown = none_stands (nat_le (length s.places) c) ask_faults.UnknownClient (if is_full then Some ask_faults.Full else None) closed.1 in
+    let closed = none_stands s.closed ask_faults.Closed
+    (if nat_le (length s.places) c then Some ask_faults.UnknownClient else
+    (if is_full then Some ask_faults.Full else None)) passes in
+    let unknown = none_stands (nat_le (length s.places) c) ask_faults.UnknownClient
+    (if is_full then Some ask_faults.Full else None) closed.1 in
     let full = none_stands is_full ask_faults.Full None unknown.1 in
     let parts = or_parts (nat_le 4 (outstanding_asks c s)) (nat_le 18446744073709551614 s.next_ask) full.0 in
     record { joined = leb-false _ _ unknown.0; free = leb-false _ _ parts.0; number = leb-false _ _ parts.1 }
@@ -189,7 +244,8 @@ has_ask s c passes =
     is_full : Bool
     is_full = nat_le 4 (outstanding_asks c s) || nat_le 18446744073709551614 s.next_ask
 
-pub held-asks : (s : QueueState) (c : ℕ) (kind : Kind) → StateInvariant s → first_ask_fault s c ≡ None → StateInvariant (asks_discovery s c kind)
+pub held-asks : (s : QueueState) (c : ℕ) (kind : Kind) → StateInvariant s → first_ask_fault s c ≡ None
+    → StateInvariant (asks_discovery s c kind)
 held-asks s c kind held passes = record {
   source = held.source;
   greatest = held.greatest;
@@ -198,13 +254,17 @@ held-asks s c kind held passes = record {
   few_clients = held.few_clients;
   owed_for_each = held.owed_for_each;
   few = held.few;
-  few_asks = λ client. more_fits _ _ _ _ (client == c) (one_more (λ (a : AskedDiscovery). a.client) client s.asked (asked_as s c kind)) (held.few_asks client) (λ own. rw (eqb-true client c own, four s.places c has.joined) has.free);
+  few_asks = λ client. more_fits _ _ _ _ (client == c)
+      (one_more (λ (a : AskedDiscovery). a.client) client s.asked (asked_as s c kind)) (held.few_asks client)
+      (λ own. rw (eqb-true client c own, four s.places c has.joined) has.free);
   rising = held.rising;
   open_ = held.open_;
   asks_numbered = let less = has.number in omega arith;
   served = let long = length-append s.asked (asked_as s c kind ∷ []) in let kept = held.served in omega arith;
   serves = held.serves;
-  runs_numbered = let long = length-append s.asked (asked_as s c kind ∷ []) in let kept = held.served in let numbered = held.runs_numbered in omega arith;
+  runs_numbered =
+      let long = length-append s.asked (asked_as s c kind ∷ []) in let kept = held.served in
+      let numbered = held.runs_numbered in omega arith;
 }
   where
     has : HasAsk s c
@@ -233,12 +293,16 @@ held-begun s held none some = record {
   asks_numbered = held.asks_numbered;
   served = omega arith;
   serves = some;
-  runs_numbered = let numbered : s.next_run + (length s.asked - 0) ≤ s.next_ask + 1 = rw none at held.runs_numbered in omega arith;
+  runs_numbered =
+      let numbered : s.next_run + (length s.asked - 0) ≤ s.next_ask + 1 = rw none at held.runs_numbered in omega arith;
 }
 
 -- and its number is below the greatest
-pub run_number : (s : QueueState) → StateInvariant s → s.run ≡ None → 0 < length s.asked → s.next_run + 1 < 18446744073709551616
-run_number s held none some = let numbered : s.next_run + (length s.asked - 0) ≤ s.next_ask + 1 = rw none at held.runs_numbered in let most = held.asks_numbered in omega arith
+pub run_number : (s : QueueState) → StateInvariant s → s.run ≡ None → 0 < length s.asked
+    → s.next_run + 1 < 18446744073709551616
+run_number s held none some =
+    let numbered : s.next_run + (length s.asked - 0) ≤ s.next_ask + 1 = rw none at held.runs_numbered in
+    let most = held.asks_numbered in omega arith
 
 -- an outcome less
 fewer_left : (p : OutcomeValue → Bool) (ds : List OutcomeValue) → length (filter p (drop 1 ds)) ≤ length (filter p ds)
@@ -249,15 +313,21 @@ fewer_left p (d ∷ ds) = by_test (p d)
     by_test true = omega arith
     by_test false = omega arith
 
-set_fewer : (p : OutcomeValue → Bool) (lists : List (List OutcomeValue)) (c n : ℕ) → length (filter p (get_or (set lists c (drop 1 (get_or lists c []))) n [])) ≤ length (filter p (get_or lists n []))
+set_fewer : (p : OutcomeValue → Bool) (lists : List (List OutcomeValue)) (c n : ℕ)
+    → length (filter p (get_or (set lists c (drop 1 (get_or lists c []))) n [])) ≤ length (filter p (get_or lists n []))
 set_fewer p lists c n = by_client (cases_eq n c) (cases_lt c (length lists))
   where
     none : {ds : List OutcomeValue} (m : ℕ) → ds ≡ [] → length (filter p ds) ≤ m
     none m is = rw is (omega arith)
 
-    by_client : (n ≡ c) ⊎ (n ≡ c → ⊥) → (c < length lists) ⊎ (length lists ≤ c) → length (filter p (get_or (set lists c (drop 1 (get_or lists c []))) n [])) ≤ length (filter p (get_or lists n []))
-    by_client (inl same) (inl within) = rw (same, get_or-set_same lists c (drop 1 (get_or lists c [])) [] within) (fewer_left p (get_or lists c []))
-    by_client (inl same) (inr past) = none _ (get_or_past (set lists c (drop 1 (get_or lists c []))) n [] (let long = length-set lists c (drop 1 (get_or lists c [])) in omega arith))
+    by_client : (n ≡ c) ⊎ (n ≡ c → ⊥) → (c < length lists) ⊎ (length lists ≤ c)
+        → length (filter p (get_or (set lists c (drop 1 (get_or lists c []))) n [])) ≤ length
+        (filter p (get_or lists n []))
+    by_client (inl same) (inl within) =
+        rw (same, get_or-set_same lists c (drop 1 (get_or lists c [])) [] within) (fewer_left p (get_or lists c []))
+    by_client (inl same) (inr past) =
+        none _ (get_or_past (set lists c (drop 1 (get_or lists c []))) n []
+        (let long = length-set lists c (drop 1 (get_or lists c [])) in omega arith))
     by_client (inr other) within = rw (get_or-set_other lists c n (drop 1 (get_or lists c [])) [] other) (omega arith)
 
 fewer_fit : (n m k t : ℕ) → n + m ≤ t → k ≤ m → n + k ≤ t
@@ -298,16 +368,20 @@ room_more ns n c t fits = at (cases_lt c (length ns))
     at (inl here) = rw (get_or_append_left ns (n ∷ []) 0 c here) fits
     at (inr past) = none _ fits (get_or_past ns c 0 past)
 
-pub held-joins : (s : QueueState) (places : ℕ) → StateInvariant s → length s.places < 16 → sum s.places + places ≤ s.greatest → StateInvariant (joins_client s places)
+pub held-joins : (s : QueueState) (places : ℕ) → StateInvariant s → length s.places < 16
+    → sum s.places + places ≤ s.greatest → StateInvariant (joins_client s places)
 held-joins s places held few fits = record {
   source = held.source;
   greatest = held.greatest;
   budget = held.budget;
   few_places = more _ _ _ (sum_by-append (λ n. n) s.places (places ∷ [])) fits;
   few_clients = let long = length-append s.places (places ∷ []) in omega arith;
-  owed_for_each = let long = length-append s.places (places ∷ []) in let owed = length-append s.owed ([] ∷ []) in let same = held.owed_for_each in omega arith;
+  owed_for_each =
+      let long = length-append s.places (places ∷ []) in let owed = length-append s.owed ([] ∷ []) in
+      let same = held.owed_for_each in omega arith;
   few = λ c. rw (none_owed_more s.owed c) (room_more s.places places c (outstanding c s) (held.few c));
-  few_asks = λ c. rw (none_owed_more s.owed c, map-append {B = ℕ} (λ (n : ℕ). 4) s.places (places ∷ [])) (room_more (map (λ (n : ℕ). 4) s.places) 4 c (outstanding_asks c s) (held.few_asks c));
+  few_asks = λ c. rw (none_owed_more s.owed c, map-append {B = ℕ} (λ (n : ℕ). 4) s.places (places ∷ []))
+      (room_more (map (λ (n : ℕ). 4) s.places) 4 c (outstanding_asks c s) (held.few_asks c));
   rising = held.rising;
   open_ = held.open_;
   asks_numbered = held.asks_numbered;
@@ -320,9 +394,13 @@ held-joins s places held few fits = record {
     more n m t p q = omega arith
 
 -- a join that isn't refused finds its places, and fewer than sixteen clients
-pub has_room : (s : QueueState) (n : ℕ) → first_join_fault s n ≡ None → (length s.places < 16) × (sum s.places + n ≤ s.greatest)
+pub has_room : (s : QueueState) (n : ℕ) → first_join_fault s n ≡ None → (length s.places < 16)
+    × (sum s.places + n ≤ s.greatest)
 has_room s n e =
-    let closed = none_stands s.closed join_faults.Closed (if nat_le 16 (length s.places) then Some join_faults.TooManyClients else (if nat_lt s.greatest (sum s.places + n) then Some join_faults.NoPlaces else None)) e in
-    let many = none_stands (nat_le 16 (length s.places)) join_faults.TooManyClients (if nat_lt s.greatest (sum s.places + n) then Some join_faults.NoPlaces else None) closed.1 in
+    let closed = none_stands s.closed join_faults.Closed
+    (if nat_le 16 (length s.places) then Some join_faults.TooManyClients else
+    (if nat_lt s.greatest (sum s.places + n) then Some join_faults.NoPlaces else None)) e in
+    let many = none_stands (nat_le 16 (length s.places)) join_faults.TooManyClients
+    (if nat_lt s.greatest (sum s.places + n) then Some join_faults.NoPlaces else None) closed.1 in
     let places = none_stands (nat_lt s.greatest (sum s.places + n)) join_faults.NoPlaces None many.1 in
     (leb-false 16 (length s.places) many.0, ltb-false s.greatest (sum s.places + n) places.0)

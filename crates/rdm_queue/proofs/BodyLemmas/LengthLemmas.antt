@@ -21,20 +21,30 @@ use Rattle.rdm_queue.specs.body.Lengths.{length_owed, first_length_owed, first_l
 use Rattle.rdm_queue.specs.body.Agrees.{StandsAfter}
 use Rattle.rdm_queue.proofs.BodyLemmas.RingSteps.{values_at}
 
-length_first : (ds : List Owed) (sets : List (List Device)) → option_map length_of_value (slice_get (values ds sets) 0) ≡ option_map (length_owed sets) (slice_get ds 0)
+length_first : (ds : List Owed) (sets : List (List Device))
+    → option_map length_of_value (slice_get (values ds sets) 0) ≡ option_map (length_owed sets) (slice_get ds 0)
 unfolding values
 length_first [] sets = refl
 length_first (owed.Request number done ∷ ds) sets = refl
 length_first (owed.Discovery number run fault ∷ ds) [] = refl
 length_first (owed.Discovery number run fault ∷ ds) (set ∷ sets) = refl
 
-pub length_is : (s : QueueState) (clients : List Client) (c : ℕ) (k : Client) → s.owed ≡ owed_rings clients → slice_get clients c ≡ Some k → first_length c s ≡ first_length_owed k
-length_is s clients c k owed at = ap (λ lists. option_map length_of_value (slice_get (get_or lists c []) 0)) owed ∙ (ap (λ ds. option_map length_of_value (slice_get ds 0)) (values_at clients c k at) ∙ length_first k.outcomes.items k.sets.items)
+pub length_is : (s : QueueState) (clients : List Client) (c : ℕ) (k : Client) → s.owed ≡ owed_rings clients
+    → slice_get clients c ≡ Some k → first_length c s ≡ first_length_owed k
+length_is s clients c k owed at =
+    ap (λ lists. option_map length_of_value (slice_get (get_or lists c []) 0)) owed
+    ∙ (ap (λ ds. option_map length_of_value (slice_get ds 0)) (values_at clients c k at)
+    ∙ length_first k.outcomes.items k.sets.items)
 
-pub length_after : (o : Opening) (h : List Entry) (s : QueueState) (c : ℕ) → StandsAfter o h s → first_length c s ≡ oldest_length o h c
-length_after o h s c after = ap (λ l. option_map length_of_value (slice_get l 0)) (after.stands.outcomes_are c) ∙ length_told (uncollected o c h) (answers_passed o c h)
+pub length_after : (o : Opening) (h : List Entry) (s : QueueState) (c : ℕ) → StandsAfter o h s
+    → first_length c s ≡ oldest_length o h c
+length_after o h s c after =
+    ap (λ l. option_map length_of_value (slice_get l 0)) (after.stands.outcomes_are c)
+    ∙ length_told (uncollected o c h) (answers_passed o c h)
   where
-    length_told : (es : List Entry) → AllByRecursion (λ e. is_answer_to o c h e ≡ true) es → option_map length_of_value (slice_get (filter_map (outcome_of h) es) 0) ≡ option_and_then (answer_length h) (slice_get es 0)
+    length_told : (es : List Entry) → AllByRecursion (λ e. is_answer_to o c h e ≡ true) es
+        → option_map length_of_value (slice_get (filter_map (outcome_of h) es) 0)
+        ≡ option_and_then (answer_length h) (slice_get es 0)
     length_told [] all = refl
     length_told (Finish n status len ∷ es) all = refl
     length_told (Answer n run fault ∷ es) all = refl

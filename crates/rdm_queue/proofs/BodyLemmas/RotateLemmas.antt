@@ -1,6 +1,8 @@
 -- An idle queue stands after what its log leaves, and no entries.
 use Rattle.rdm_log.proofs.PromiseLemmas.LogInBoundLemmas.{empty_in_bound}
-use Rattle.std.proofs.Common.{◌≡◌, ℕ, zero, suc, ◌≤◌, Bool, true, false, List, [], ◌∷◌, length, map, sum, get_or, Option, Some, None, slice_get, refl, sym, ap, ◌∙◌, append-nil, inl, inr, arith, if◌then◌else◌}
+use Rattle.std.proofs.Common.{◌≡◌, ℕ, zero, suc, ◌≤◌, Bool, true, false, List, [], ◌∷◌, length, map, sum, get_or}
+use Rattle.std.proofs.Common.{Option, Some, None, slice_get, refl, sym, ap, ◌∙◌, append-nil, inl, inr, arith}
+use Rattle.std.proofs.Common.{if◌then◌else◌}
 use Rattle.std.specs.Prelude.{◌⊎◌, ◌&&◌, ◌==◌}
 use Rattle.std.proofs.lemmas.Bool.{cases_Bool, eq-eqb, eqb-true, false≢true}
 use Rattle.std.proofs.lemmas.Option.{none-some}
@@ -11,7 +13,8 @@ use Rattle.rdm_log.specs.declared.entry.Opening.{Opening}
 use Rattle.rdm_log.specs.declared.entry.Entry.{Entry}
 use Rattle.rdm_queue.specs.declared.pending.Awaited.{Awaited}
 use Rattle.rdm_queue.specs.declared.pending.Awaited.TheVariants as awaiting
-use Rattle.rdm_log.specs.log.Entries.{Sending, joins, accepts, asks, sends, cames, finishes, answers, collectors, traded, of_request, verdicts, is_request}
+use Rattle.rdm_log.specs.log.Entries.{Sending, joins, accepts, asks, sends, cames, finishes, answers, collectors}
+use Rattle.rdm_log.specs.log.Entries.{traded, of_request, verdicts, is_request}
 use Rattle.rdm_log.specs.log.History.{awaited, is_paused, is_closed, is_idle, unfinished, unanswered, uncollected_count}
 use Rattle.rdm_log.specs.log.Clients.{answers_to}
 use Rattle.rdm_log.specs.log.Runs.{last_run, number_after, open_run}
@@ -38,10 +41,16 @@ no_items [] none = refl
 no_items (x ∷ xs) none = absurd (omega arith)
 
 pub at_rest : (h : List Entry) → is_idle h ≡ true → IsAtRest h
-at_rest h idle = by_parts (length (unfinished h) == 0) (length (unanswered h) == 0) (uncollected_count h == 0) refl refl refl idle
+at_rest h idle =
+    by_parts (length (unfinished h) == 0) (length (unanswered h) == 0) (uncollected_count h == 0) refl refl refl idle
   where
-    by_parts : (a b c : Bool) → (length (unfinished h) == 0) ≡ a → (length (unanswered h) == 0) ≡ b → (uncollected_count h == 0) ≡ c → (a && b && c) ≡ true → IsAtRest h
-    by_parts true true true p q r all = record { finished = no_items (unfinished h) (eqb-true _ _ p); answered = no_items (unanswered h) (eqb-true _ _ q); collected = eqb-true _ _ r }
+    by_parts : (a b c : Bool) → (length (unfinished h) == 0) ≡ a → (length (unanswered h) == 0) ≡ b
+        → (uncollected_count h == 0) ≡ c → (a && b && c) ≡ true → IsAtRest h
+    by_parts true true true p q r all = record {
+      finished = no_items (unfinished h) (eqb-true _ _ p);
+      answered = no_items (unanswered h) (eqb-true _ _ q);
+      collected = eqb-true _ _ r;
+    }
     by_parts true true false p q r all = absurd (false≢true all)
     by_parts true false c p q r all = absurd (false≢true all)
     by_parts false b c p q r all = absurd (false≢true all)
@@ -52,7 +61,9 @@ no_run o h s rest stands = by_run s.run refl stands.run_is
   where
     by_run : (run : Option RunState) → s.run ≡ run → RunIs o h s run → s.run ≡ None
     by_run None is running = is
-    by_run (Some r) is running = absurd (let few = asked_fewer h in let long = length-drop (length (answers h)) (asks h) in let none = ap (λ l. length l) rest.answered in omega (arith, running.left, running.some))
+    by_run (Some r) is running =
+        absurd (let few = asked_fewer h in let long = length-drop (length (answers h)) (asks h) in
+        let none = ap (λ l. length l) rest.answered in omega (arith, running.left, running.some))
 
 -- no reply is awaited
 not_awaited : (o : Opening) (h : List Entry) (s : QueueState) → IsAtRest h → StandsAfter o h s → awaited h ≡ true → ⊥
@@ -63,7 +74,11 @@ not_awaited o h s rest after waits = by_owner ((legal_facts o h after.legal.each
 
     by_owner : IsAwaited h ⊎ IsRunAwaited h → ⊥
     by_owner (inl w) = none-some w.accepted (ap (λ l. slice_get l 0) (sym rest.finished) ∙ w.oldest)
-    by_owner (inr w) = none-some w.run (sym none_open ∙ (run_facts o h after.legal.each).waits waits (record { owner = owners.Run w.run; frame = w.frame }) w.unanswered w.run (eq-eqb w.run w.run refl))
+    by_owner (inr w) =
+        none-some w.run
+        (sym none_open
+        ∙ (run_facts o h after.legal.each).waits waits (record { owner = owners.Run w.run; frame = w.frame })
+        w.unanswered w.run (eq-eqb w.run w.run refl))
 
 pub none_awaited : (o : Opening) (h : List Entry) (s : QueueState) → IsAtRest h → StandsAfter o h s → s.awaited ≡ None
 none_awaited o h s rest after = by_awaited s.awaited refl after.stands.awaited_is
@@ -74,18 +89,29 @@ none_awaited o h s rest after = by_awaited s.awaited refl after.stands.awaited_i
     by_awaited (Some (awaiting.Run tn)) is pending = absurd (not_awaited o h s rest after pending.last.waits)
 
 -- no frame of the next request was sent
-unsent : (o : Opening) (h : List Entry) → LogFacts o h → IsAtRest h → (i : ℕ) (x : Sending) → slice_get (sends h) i ≡ Some x → is_request (oldest_number o h) x.owner ≡ false
+unsent : (o : Opening) (h : List Entry) → LogFacts o h → IsAtRest h → (i : ℕ) (x : Sending)
+    → slice_get (sends h) i ≡ Some x → is_request (oldest_number o h) x.owner ≡ false
 unsent o h facts rest i x at = by_test (cases_Bool (is_request (oldest_number o h) x.owner))
   where
-    by_test : (is_request (oldest_number o h) x.owner ≡ true) ⊎ (is_request (oldest_number o h) x.owner ≡ false) → is_request (oldest_number o h) x.owner ≡ false
+    by_test : (is_request (oldest_number o h) x.owner ≡ true) ⊎ (is_request (oldest_number o h) x.owner ≡ false)
+        → is_request (oldest_number o h) x.owner ≡ false
     by_test (inr other) = other
-    by_test (inl own) = absurd (let below = facts.sent_accepted i x at (oldest_number o h) own in let long = length-drop (length (finishes h)) (accepts h) in let none = ap (λ l. length l) rest.finished in omega arith)
+    by_test (inl own) =
+        absurd (let below = facts.sent_accepted i x at (oldest_number o h) own in
+        let long = length-drop (length (finishes h)) (accepts h) in let none = ap (λ l. length l) rest.finished in
+        omega arith)
 
 -- no client is owed an outcome
-none_in : (lists : List (List OutcomeValue)) (c : ℕ) → sum (map (λ (ds : List OutcomeValue). length ds) lists) ≡ 0 → get_or lists c [] ≡ []
+none_in : (lists : List (List OutcomeValue)) (c : ℕ) → sum (map (λ (ds : List OutcomeValue). length ds) lists) ≡ 0
+    → get_or lists c [] ≡ []
 none_in [] c none = refl
-none_in (ds ∷ lists) zero none = no_items ds (let whole = sum_by-cons (λ (n : ℕ). n) (length ds) (map (λ (es : List OutcomeValue). length es) lists) in omega arith)
-none_in (ds ∷ lists) (suc c) none = none_in lists c (let whole = sum_by-cons (λ (n : ℕ). n) (length ds) (map (λ (es : List OutcomeValue). length es) lists) in omega arith)
+none_in (ds ∷ lists) zero none =
+    no_items ds (let whole = sum_by-cons (λ (n : ℕ). n) (length ds)
+    (map (λ (es : List OutcomeValue). length es) lists) in omega arith)
+none_in (ds ∷ lists) (suc c) none =
+    none_in lists c
+    (let whole = sum_by-cons (λ (n : ℕ). n) (length ds) (map (λ (es : List OutcomeValue). length es) lists) in
+    omega arith)
 
 none_owed : (o : Opening) (h : List Entry) (s : QueueState) → IsAtRest h → Agrees o h s → uncollected s ≡ 0
 none_owed o h s rest stands = let all = stands.all_outcomes in let none = rest.collected in omega arith
@@ -95,8 +121,10 @@ from_one : (first : ℕ) (last : Option ℕ) → 1 ≤ first → 1 ≤ number_af
 from_one first None some = some
 from_one first (Some r) some = omega arith
 
-pub rotated : (o : Opening) (h : List Entry) (s : QueueState) → is_idle h ≡ true → StandsAfter o h s → StandsAfter (opening_after o h) [] s
-unfolding joins accepts asks sends cames finishes answers collectors traded of_request verdicts awaited is_paused is_closed answers_to last_run
+pub rotated : (o : Opening) (h : List Entry) (s : QueueState) → is_idle h ≡ true → StandsAfter o h s
+    → StandsAfter (opening_after o h) [] s
+unfolding joins accepts asks sends cames finishes answers collectors traded of_request verdicts awaited is_paused
+    is_closed answers_to last_run
 rotated o h s idle after = record {
   legal = empty (opening_after o h);
   goes_on = rw none tt;
@@ -139,9 +167,20 @@ rotated o h s idle after = record {
     none = no_run o h s rest stands
 
 -- and a session keeps its room
-pub session_rotated : (o : Opening) (h : List Entry) (s : QueueState) (room : ℕ) → 1 ≤ room → is_idle h ≡ true → StandsAfter o h s → SessionInvariant s (record { opening = opening_after o h; entries = []; room = room; search = s.search })
+pub session_rotated : (o : Opening) (h : List Entry) (s : QueueState) (room : ℕ) → 1 ≤ room → is_idle h ≡ true
+    → StandsAfter o h s → SessionInvariant s (record {
+      opening = opening_after o h;
+      entries = [];
+      room = room;
+      search = s.search;
+    })
 unfolding accepts asks finishes answers collectors awaited is_closed
-session_rotated o h s room some idle after = record { after = rotated o h s idle after; search_is = refl; in_bound = empty_in_bound (record { opening = opening_after o h; entries = []; room = room; search = s.search }) refl; room = let close = at_most_one (is_closed o h) in omega arith }
+session_rotated o h s room some idle after = record {
+  after = rotated o h s idle after;
+  search_is = refl;
+  in_bound = empty_in_bound (record { opening = opening_after o h; entries = []; room = room; search = s.search }) refl;
+  room = let close = at_most_one (is_closed o h) in omega arith;
+}
   where
     at_most_one : (closed : Bool) → (if closed then 0 else 1) ≤ 1
     at_most_one true = omega arith
@@ -149,4 +188,18 @@ session_rotated o h s room some idle after = record { after = rotated o h s idle
 
 -- the opening that goes on from where a queue stands
 pub opening_is : (o : Opening) (h : List Entry) (s : QueueState) → Agrees o h s → opening_of s ≡ opening_after o h
-opening_is o h s stands = rw (stands.source_is, stands.greatest_is, stands.budget_is, stands.places_are, stands.paused_is, stands.closed_is, stands.devices_are, stands.devices_run_is, stands.next_request_is, stands.next_ask_is, stands.next_run_is, stands.next_tn_is) refl
+opening_is o h s stands =
+    rw (
+      stands.source_is,
+      stands.greatest_is,
+      stands.budget_is,
+      stands.places_are,
+      stands.paused_is,
+      stands.closed_is,
+      stands.devices_are,
+      stands.devices_run_is,
+      stands.next_request_is,
+      stands.next_ask_is,
+      stands.next_run_is,
+      stands.next_tn_is,
+    ) refl

@@ -9,12 +9,23 @@ use Rattle.rdm_log.specs.log.Runs.{has_begun}
 use Rattle.rdm_log.proofs.LogLemmas.RunLemmas.{last_begun}
 use Rattle.rdm_log.proofs.LogLemmas.RunningLemmas.{SameRunning, open_same, kind_same, known_at_same}
 
-pub run_same : (o : Opening) (h k : List Entry) (s new : QueueState) (run : Option RunState) → SameRunning o h k → new.agent ≡ s.agent → new.search ≡ s.search → (new.under_way ≡ s.under_way) ⊎ (new.under_way ≡ false) → RunIs o h s run → RunIs o k new run
-run_same o h k s new None same agent search way is = record { none_open = open_same o h k same ∙ is.none_open; none_left = rw (same.same_asked, same.same_answers) is.none_left }
+pub run_same : (o : Opening) (h k : List Entry) (s new : QueueState) (run : Option RunState) → SameRunning o h k
+    → new.agent ≡ s.agent → new.search ≡ s.search → (new.under_way ≡ s.under_way) ⊎ (new.under_way ≡ false)
+    → RunIs o h s run → RunIs o k new run
+run_same o h k s new None same agent search way is = record {
+  none_open = open_same o h k same ∙ is.none_open;
+  none_left = rw (same.same_asked, same.same_answers) is.none_left;
+}
 run_same o h k s new (Some r) same agent search way is = record {
   last = same.same_last ∙ is.last;
   aborted = is.aborted;
-  has_run = rw (agent, search, kind_same o h k r.number same begun, known_at_same o h k r.number same begun, same.same_exchanges r.number) is.has_run;
+  has_run = rw (
+    agent,
+    search,
+    kind_same o h k r.number same begun,
+    known_at_same o h k r.number same begun,
+    same.same_exchanges r.number,
+  ) is.has_run;
   stopped = λ a. let was = is.stopped a in (same.closes was.0, same.idle was.1);
   left = rw (same.same_asked, same.same_answers) is.left;
   some = is.some;

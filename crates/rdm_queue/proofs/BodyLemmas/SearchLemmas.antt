@@ -13,7 +13,8 @@ use Rattle.rdm_queue.specs.body.Ending.IsEnded.{ByRun, ByResult, ByClose}
 abbrev pub SameSearch : QueueState → QueueState → Type 0
 SameSearch s new = new.search ≡ s.search
 
-pub given_same : (s new : QueueState) (owner : Owner) (frame : ArrayVec ℕ) → WhichGives s owner frame new → SameSearch s new
+pub given_same : (s new : QueueState) (owner : Owner) (frame : ArrayVec ℕ) → WhichGives s owner frame new
+    → SameSearch s new
 given_same s new owner frame (Opened g) = ap (λ (q : QueueState). q.search) g.gives.new_is
 given_same s new owner frame (Turned g) = ap (λ (q : QueueState). q.search) g.gives.new_is
 given_same s new owner frame (Began g) = ap (λ (q : QueueState). q.search) g.gives.new_is

@@ -1,5 +1,6 @@
 -- A session's log keeps its room, and its controller stands after it.
-use Rattle.std.proofs.Common.{◌≡◌, ℕ, ◌+◌, ◌≤◌, Bool, true, false, List, [], ◌∷◌, ◌++◌, length, append_assoc, append-nil, length-append, refl, sym, ap, arith, ◌∙◌}
+use Rattle.std.proofs.Common.{◌≡◌, ℕ, ◌+◌, ◌≤◌, Bool, true, false, List, [], ◌∷◌, ◌++◌, length, append_assoc}
+use Rattle.std.proofs.Common.{append-nil, length-append, refl, sym, ap, arith, ◌∙◌}
 use Rattle.std.proofs.lemmas.Bool.{ltb-false}
 use Rattle.std.specs.Prelude.{Ok}
 use Rattle.rdm_join.specs.declared.event.LineEvent.{LineEvent}
@@ -9,7 +10,8 @@ use Rattle.rdm_log.specs.declared.entry.Entry.TheVariants.{Came, Finish, Answer,
 use Rattle.rdm_log.specs.log.Entries.{accepts, asks, finishes, answers, collectors}
 use Rattle.rdm_log.specs.log.History.{is_closed, awaited, reserved}
 use Rattle.rdm_log.specs.log.LogState.{LogState, grown, free_entries, is_full_log, opened}
-use Rattle.rdm_log.specs.promises.Blocks.{UnlessFull, is_result, AllResults, IsWithResults, CloseAdds, DeliverAdds, GrowsBy}
+use Rattle.rdm_log.specs.promises.Blocks.{UnlessFull, is_result, AllResults, IsWithResults, CloseAdds, DeliverAdds}
+use Rattle.rdm_log.specs.promises.Blocks.{GrowsBy}
 use Rattle.rdm_log.specs.promises.InBound.{FaultNeedsClose, AnswersInBound}
 use Rattle.rdm_queue.specs.body.State.{QueueState}
 use Rattle.rdm_queue.specs.body.Agrees.{StandsAfter, StandsAmid}
@@ -22,20 +24,43 @@ use Rattle.rdm_queue.specs.promises.EachLog.{IsSetUp}
 use Rattle.rdm_log.proofs.LogLemmas.RoomLemmas.{added, added_by, taken_block}
 
 -- a block within the free entries
-room_grown : (k : LogState) (block : List Entry) → HasRoom k → EachAfter (MayFollow k.opening) (k.entries ++ block) → added_by block ≤ free_entries k → HasRoom (grown k block)
+room_grown : (k : LogState) (block : List Entry) → HasRoom k → EachAfter (MayFollow k.opening) (k.entries ++ block)
+    → added_by block ≤ free_entries k → HasRoom (grown k block)
 room_grown k block room each free = within (taken_block k.opening k.entries block each) room
   where
-    within : {n : ℕ} → n ≡ length k.entries + reserved k.opening k.entries + added_by block → length k.entries + reserved k.opening k.entries ≤ k.room → n ≤ k.room
+    within : {n : ℕ} → n ≡ length k.entries + reserved k.opening k.entries + added_by block
+        → length k.entries + reserved k.opening k.entries ≤ k.room → n ≤ k.room
     within e r = omega arith
 
-pub session_grown : (s new : QueueState) (k : LogState) (block : List Entry) → SessionInvariant s k → StandsAfter k.opening (k.entries ++ block) new → new.search ≡ s.search → AnswersInBound k block → added_by block ≤ free_entries k → SessionInvariant new (grown k block)
-session_grown s new k block kept after same bound free = record { after = after; search_is = same ∙ kept.search_is; in_bound = in_bound_grows k block kept.in_bound bound; room = room_grown k block kept.room after.legal.each free }
+pub session_grown : (s new : QueueState) (k : LogState) (block : List Entry) → SessionInvariant s k
+    → StandsAfter k.opening (k.entries ++ block) new → new.search ≡ s.search → AnswersInBound k block
+    → added_by block ≤ free_entries k → SessionInvariant new (grown k block)
+session_grown s new k block kept after same bound free = record {
+  after = after;
+  search_is = same ∙ kept.search_is;
+  in_bound = in_bound_grows k block kept.in_bound bound;
+  room = room_grown k block kept.room after.legal.each free;
+}
 
-pub amid_grown : (s new : QueueState) (k : LogState) (e : Entry) → SessionAmid s k → StandsAmid k.opening (k.entries ++ e ∷ []) new → new.search ≡ s.search → FaultNeedsClose k e → added e ≡ 0 → SessionAmid new (grown k (e ∷ []))
-amid_grown s new k e before amid same bound none = record { amid = amid; search_is = same ∙ before.search_is; in_bound = in_bound_grows k (e ∷ []) before.in_bound (bound, tt); room = room_grown k (e ∷ []) before.room amid.each (omega (arith, none)) }
+pub amid_grown : (s new : QueueState) (k : LogState) (e : Entry) → SessionAmid s k
+    → StandsAmid k.opening (k.entries ++ e ∷ []) new → new.search ≡ s.search → FaultNeedsClose k e → added e ≡ 0
+    → SessionAmid new (grown k (e ∷ []))
+amid_grown s new k e before amid same bound none = record {
+  amid = amid;
+  search_is = same ∙ before.search_is;
+  in_bound = in_bound_grows k (e ∷ []) before.in_bound (bound, tt);
+  room = room_grown k (e ∷ []) before.room amid.each (omega (arith, none));
+}
 
-pub amid_begun : (s new : QueueState) (k : LogState) (e : Entry) → SessionInvariant s k → StandsAmid k.opening (k.entries ++ e ∷ []) new → new.search ≡ s.search → FaultNeedsClose k e → added e ≡ 0 → SessionAmid new (grown k (e ∷ []))
-amid_begun s new k e kept amid same bound none = record { amid = amid; search_is = same ∙ kept.search_is; in_bound = in_bound_grows k (e ∷ []) kept.in_bound (bound, tt); room = room_grown k (e ∷ []) kept.room amid.each (omega (arith, none)) }
+pub amid_begun : (s new : QueueState) (k : LogState) (e : Entry) → SessionInvariant s k
+    → StandsAmid k.opening (k.entries ++ e ∷ []) new → new.search ≡ s.search → FaultNeedsClose k e → added e ≡ 0
+    → SessionAmid new (grown k (e ∷ []))
+amid_begun s new k e kept amid same bound none = record {
+  amid = amid;
+  search_is = same ∙ kept.search_is;
+  in_bound = in_bound_grows k (e ∷ []) kept.in_bound (bound, tt);
+  room = room_grown k (e ∷ []) kept.room amid.each (omega (arith, none));
+}
 
 -- what stands has its room
 pub room_for : (k : LogState) (e : Entry) → HasRoom (grown k (e ∷ [])) → length k.entries + 1 ≤ k.room
@@ -75,25 +100,49 @@ grown_none k = ap (λ (l : List Entry). record k { entries = l }) (sym (append-n
 pub grown_twice : (k : LogState) (a b : List Entry) → grown (grown k a) b ≡ grown k (a ++ b)
 grown_twice k a b = ap (λ (l : List Entry). record k { entries = l }) (append_assoc k.entries a b)
 
-pub all_results_more : (block : List Entry) (e : Entry) → AllResults block → is_result e ≡ true → AllResults (block ++ e ∷ [])
+pub all_results_more : (block : List Entry) (e : Entry) → AllResults block → is_result e ≡ true
+    → AllResults (block ++ e ∷ [])
 all_results_more [] e all is = (is, tt)
 all_results_more (x ∷ block) e all is = (all.0, all_results_more block e all.1 is)
 
 -- a session that begins
-pub session_first : (s : QueueState) (setup : Setup) (room : ℕ) → 1 ≤ room → IsSetUp setup s → SessionInvariant s (record { opening = opened setup.config; entries = []; room = room; search = setup.search })
+pub session_first : (s : QueueState) (setup : Setup) (room : ℕ) → 1 ≤ room → IsSetUp setup s
+    → SessionInvariant s (record { opening = opened setup.config; entries = []; room = room; search = setup.search })
 unfolding accepts asks finishes answers collectors awaited is_closed
-session_first s setup room some is = record { after = is.after; search_is = is.search; room = omega (arith, some); in_bound = empty_in_bound (record { opening = opened setup.config; entries = []; room = room; search = setup.search }) refl }
+session_first s setup room some is = record {
+  after = is.after;
+  search_is = is.search;
+  room = omega (arith, some);
+  in_bound = empty_in_bound (record {
+    opening = opened setup.config;
+    entries = [];
+    room = room;
+    search = setup.search;
+  }) refl;
+}
 
 -- an entry that is no Answer, and then what was due
-pub then_due : (old log new : LogState) (e : Entry) (s : QueueState) → FaultNeedsClose old e → log ≡ grown old (e ∷ []) → FinishesDue log s new → GrowsBy old (λ block. IsWithResults e block × AnswersInBound old block) new
+pub then_due : (old log new : LogState) (e : Entry) (s : QueueState) → FaultNeedsClose old e → log ≡ grown old (e ∷ [])
+    → FinishesDue log s new → GrowsBy old (λ block. IsWithResults e block × AnswersInBound old block) new
 then_due old log new e s none is due = record {
   block = e ∷ due.results;
-  adds = (record { results = due.results; whole = refl; each = due.each }, (none, after_growth old log (e ∷ []) due.results is due.in_bound));
+  adds = (
+    record { results = due.results; whole = refl; each = due.each },
+    (none, after_growth old log (e ∷ []) due.results is due.in_bound),
+  );
   grows = due.grows ∙ ap (λ k. grown k due.results) is ∙ grown_twice old (e ∷ []) due.results;
 }
 
-pub close_adds : (old new : LogState) → is_closed old.opening old.entries ≡ false → GrowsBy old (λ block. IsWithResults Close block × AnswersInBound old block) new → GrowsBy old (CloseAdds old.opening old.entries) new
+pub close_adds : (old new : LogState) → is_closed old.opening old.entries ≡ false
+    → GrowsBy old (λ block. IsWithResults Close block × AnswersInBound old block) new
+    → GrowsBy old (CloseAdds old.opening old.entries) new
 close_adds old new open_ is = record { block = is.block; adds = rw open_ is.adds.0; grows = is.grows }
 
-pub deliver_adds : (old new : LogState) (event : LineEvent) → awaited old.entries ≡ true → GrowsBy old (λ block. IsWithResults (Came event) block × AnswersInBound old block) new → GrowsBy old (DeliverAdds old event (Ok tt)) new
-deliver_adds old new event waits is = record { block = is.block; adds = (waits, is.adds.0, is.adds.1); grows = is.grows }
+pub deliver_adds : (old new : LogState) (event : LineEvent) → awaited old.entries ≡ true
+    → GrowsBy old (λ block. IsWithResults (Came event) block × AnswersInBound old block) new
+    → GrowsBy old (DeliverAdds old event (Ok tt)) new
+deliver_adds old new event waits is = record {
+  block = is.block;
+  adds = (waits, is.adds.0, is.adds.1);
+  grows = is.grows;
+}

@@ -1,5 +1,6 @@
 -- A client's outcomes as it sees them, as its rings change.
-use Rattle.std.proofs.Common.{◌≡◌, ℕ, suc, ◌≤◌, Bool, true, false, cond, List, [], ◌∷◌, ◌++◌, length, Option, Some, refl, sym, ap, ◌∙◌, filter, length-append, arith}
+use Rattle.std.proofs.Common.{◌≡◌, ℕ, suc, ◌≤◌, Bool, true, false, cond, List, [], ◌∷◌, ◌++◌, length, Option, Some}
+use Rattle.std.proofs.Common.{refl, sym, ap, ◌∙◌, filter, length-append, arith}
 use Rattle.std.specs.Prelude.{option_map, slice_get}
 use Rattle.std.specs.VecDeque.{deque_capacity}
 use Rattle.std.proofs.lemmas.List.Elements.{filter-append}
@@ -13,7 +14,8 @@ use Rattle.rdm_log.specs.declared.outcome.Completion.{Completion}
 use Rattle.rdm_log.specs.promises.Outcomes.{completion_value}
 use Rattle.rdm_log.specs.promises.Outcomes.OutcomeValue.{RequestValue, DiscoveryValue}
 use Rattle.rdm_queue.specs.body.State.{is_discovery, kind_of_value}
-use Rattle.rdm_queue.specs.body.Rings.{owes_discovery, HasSets, values, owed_values, IsNewClient, ClientFinishes, ClientAnswers, ClientCollects, kind_of_owed}
+use Rattle.rdm_queue.specs.body.Rings.{owes_discovery, HasSets, values, owed_values, IsNewClient, ClientFinishes}
+use Rattle.rdm_queue.specs.body.Rings.{ClientAnswers, ClientCollects, kind_of_owed}
 
 -- as many as its ring holds, and as many discoveries
 pub length-values : (ds : List Owed) (sets : List (List Device)) → length (values ds sets) ≡ length ds
@@ -23,7 +25,8 @@ length-values (owed.Request number done ∷ ds) sets = ap suc (length-values ds 
 length-values (owed.Discovery number run fault ∷ ds) [] = ap suc (length-values ds [])
 length-values (owed.Discovery number run fault ∷ ds) (s ∷ sets) = ap suc (length-values ds sets)
 
-pub discoveries-values : (ds : List Owed) (sets : List (List Device)) → length (filter is_discovery (values ds sets)) ≡ length (filter owes_discovery ds)
+pub discoveries-values : (ds : List Owed) (sets : List (List Device))
+    → length (filter is_discovery (values ds sets)) ≡ length (filter owes_discovery ds)
 unfolding values
 discoveries-values [] sets = refl
 discoveries-values (owed.Request number done ∷ ds) sets = discoveries-values ds sets
@@ -31,34 +34,63 @@ discoveries-values (owed.Discovery number run fault ∷ ds) [] = ap suc (discove
 discoveries-values (owed.Discovery number run fault ∷ ds) (s ∷ sets) = ap suc (discoveries-values ds sets)
 
 -- one more of a request, and of a discovery with its set
-pub values-request : (ds : List Owed) (sets : List (List Device)) (n : ℕ) (done : Completion) → values (ds ++ owed.Request n done ∷ []) sets ≡ values ds sets ++ RequestValue (Some n) (completion_value done) ∷ []
+pub values-request : (ds : List Owed) (sets : List (List Device)) (n : ℕ) (done : Completion)
+    → values (ds ++ owed.Request n done ∷ []) sets ≡ values ds sets
+    ++ RequestValue (Some n) (completion_value done) ∷ []
 unfolding values
 values-request [] sets n done = refl
-values-request (owed.Request number own ∷ ds) sets n done = ap (λ l. RequestValue (Some number) (completion_value own) ∷ l) (values-request ds sets n done)
-values-request (owed.Discovery number run fault ∷ ds) [] n done = ap (λ l. DiscoveryValue (Some number) (record { run = run; fault = fault; devices = [] }) ∷ l) (values-request ds [] n done)
-values-request (owed.Discovery number run fault ∷ ds) (s ∷ sets) n done = ap (λ l. DiscoveryValue (Some number) (record { run = run; fault = fault; devices = s }) ∷ l) (values-request ds sets n done)
+values-request (owed.Request number own ∷ ds) sets n done =
+    ap (λ l. RequestValue (Some number) (completion_value own) ∷ l) (values-request ds sets n done)
+values-request (owed.Discovery number run fault ∷ ds) [] n done =
+    ap (λ l. DiscoveryValue (Some number) (record { run = run; fault = fault; devices = [] }) ∷ l)
+    (values-request ds [] n done)
+values-request (owed.Discovery number run fault ∷ ds) (s ∷ sets) n done =
+    ap (λ l. DiscoveryValue (Some number) (record { run = run; fault = fault; devices = s }) ∷ l)
+    (values-request ds sets n done)
 
-pub values-discovery : (ds : List Owed) (sets : List (List Device)) (n r : ℕ) (f : Option AgentFault) (found : List Device) → length sets ≡ length (filter owes_discovery ds) → values (ds ++ owed.Discovery n r f ∷ []) (sets ++ found ∷ []) ≡ values ds sets ++ DiscoveryValue (Some n) (record { run = r; fault = f; devices = found }) ∷ []
+pub values-discovery : (ds : List Owed) (sets : List (List Device)) (n r : ℕ) (f : Option AgentFault)
+    (found : List Device) → length sets ≡ length (filter owes_discovery ds)
+    → values (ds ++ owed.Discovery n r f ∷ []) (sets ++ found ∷ []) ≡ values ds sets
+    ++ DiscoveryValue (Some n) (record { run = r; fault = f; devices = found }) ∷ []
 unfolding values
 values-discovery [] [] n r f found same = refl
 values-discovery [] (s ∷ sets) n r f found same = absurd (omega arith)
-values-discovery (owed.Request number own ∷ ds) sets n r f found same = ap (λ l. RequestValue (Some number) (completion_value own) ∷ l) (values-discovery ds sets n r f found same)
+values-discovery (owed.Request number own ∷ ds) sets n r f found same =
+    ap (λ l. RequestValue (Some number) (completion_value own) ∷ l) (values-discovery ds sets n r f found same)
 values-discovery (owed.Discovery number run fault ∷ ds) [] n r f found same = absurd (omega arith)
-values-discovery (owed.Discovery number run fault ∷ ds) (s ∷ sets) n r f found same = ap (λ l. DiscoveryValue (Some number) (record { run = run; fault = fault; devices = s }) ∷ l) (values-discovery ds sets n r f found (omega arith))
+values-discovery (owed.Discovery number run fault ∷ ds) (s ∷ sets) n r f found same =
+    ap (λ l. DiscoveryValue (Some number) (record { run = run; fault = fault; devices = s }) ∷ l)
+    (values-discovery ds sets n r f found (omega arith))
 
 -- and the sets go with them
-pub sets-finish : (k l : Client) (done : Completion) (entry : Entry) (finishes : ClientFinishes k done entry l) → HasSets k → HasSets l
-sets-finish k l done entry finishes has = rw (finishes.outcomes, finishes.sets, filter-append owes_discovery k.outcomes.items (owed.Request finishes.oldest.number done ∷ []), length-append (filter owes_discovery k.outcomes.items) []) (omega (arith, has))
+pub sets-finish : (k l : Client) (done : Completion) (entry : Entry) (finishes : ClientFinishes k done entry l)
+    → HasSets k → HasSets l
+sets-finish k l done entry finishes has =
+    rw (
+      finishes.outcomes,
+      finishes.sets,
+      filter-append owes_discovery k.outcomes.items (owed.Request finishes.oldest.number done ∷ []),
+      length-append (filter owes_discovery k.outcomes.items) [],
+    ) (omega (arith, has))
 
-pub sets-answer : (k l : Client) (n r : ℕ) (f : Option AgentFault) (found : List Device) → ClientAnswers k n r f found l → HasSets k → HasSets l
-sets-answer k l n r f found answers has = rw (answers.outcomes, answers.sets, filter-append owes_discovery k.outcomes.items (owed.Discovery n r f ∷ []), length-append (filter owes_discovery k.outcomes.items) (owed.Discovery n r f ∷ []), length-append k.sets.items (found ∷ [])) (omega (arith, has))
+pub sets-answer : (k l : Client) (n r : ℕ) (f : Option AgentFault) (found : List Device) → ClientAnswers k n r f found l
+    → HasSets k → HasSets l
+sets-answer k l n r f found answers has =
+    rw (
+      answers.outcomes,
+      answers.sets,
+      filter-append owes_discovery k.outcomes.items (owed.Discovery n r f ∷ []),
+      length-append (filter owes_discovery k.outcomes.items) (owed.Discovery n r f ∷ []),
+      length-append k.sets.items (found ∷ []),
+    ) (omega (arith, has))
 
 -- no more sets than outcomes
 pub few_discoveries : (ds : List Owed) → length (filter owes_discovery ds) ≤ length ds
 few_discoveries [] = omega arith
 few_discoveries (d ∷ ds) = by_test (owes_discovery d) (few_discoveries ds)
   where
-    by_test : (b : Bool) → length (filter owes_discovery ds) ≤ length ds → length (cond b (d ∷ filter owes_discovery ds) (filter owes_discovery ds)) ≤ suc (length ds)
+    by_test : (b : Bool) → length (filter owes_discovery ds) ≤ length ds
+        → length (cond b (d ∷ filter owes_discovery ds) (filter owes_discovery ds)) ≤ suc (length ds)
     by_test true fewer = omega arith
     by_test false fewer = omega arith
 
@@ -68,21 +100,37 @@ unfolding values
 values-fresh k places fresh = ap (λ ds. values ds k.sets.items) fresh.none_owed
 
 -- the oldest taken out: a request's, or a discovery's
-pub collects-request : (k l : Client) (n : ℕ) (done : Completion) → k.outcomes.items ≡ owed.Request n done ∷ l.outcomes.items → l.waiting ≡ k.waiting → l.sets ≡ k.sets → l.places ≡ k.places → deque_capacity l.outcomes ≡ deque_capacity k.outcomes → HasSets k → ClientCollects k (RequestValue (Some n) (completion_value done)) l
+pub collects-request : (k l : Client) (n : ℕ) (done : Completion)
+    → k.outcomes.items ≡ owed.Request n done ∷ l.outcomes.items → l.waiting ≡ k.waiting → l.sets ≡ k.sets
+    → l.places ≡ k.places → deque_capacity l.outcomes ≡ deque_capacity k.outcomes → HasSets k
+    → ClientCollects k (RequestValue (Some n) (completion_value done)) l
 unfolding values
 collects-request k l n done items waits sets places room has = record {
   waiting = ap (λ w. w.items) waits;
   outcomes = rw (items, sets) refl;
   has_sets = rw sets (has ∙ rw items refl);
-  rings = record { places = places; waiting = ap (λ w. deque_capacity w) waits; outcomes = room; sets = ap (λ w. w.room) sets };
+  rings = record {
+    places = places;
+    waiting = ap (λ w. deque_capacity w) waits;
+    outcomes = room;
+    sets = ap (λ w. w.room) sets;
+  };
 }
 
-pub collects-discovery : (k l : Client) (n r : ℕ) (f : Option AgentFault) (found : List Device) → k.outcomes.items ≡ owed.Discovery n r f ∷ l.outcomes.items → k.sets.items ≡ found ∷ l.sets.items → l.waiting ≡ k.waiting → l.places ≡ k.places → deque_capacity l.outcomes ≡ deque_capacity k.outcomes → l.sets.room ≡ k.sets.room → HasSets k → ClientCollects k (DiscoveryValue (Some n) (record { run = r; fault = f; devices = found })) l
+pub collects-discovery : (k l : Client) (n r : ℕ) (f : Option AgentFault) (found : List Device)
+    → k.outcomes.items ≡ owed.Discovery n r f ∷ l.outcomes.items → k.sets.items ≡ found ∷ l.sets.items
+    → l.waiting ≡ k.waiting → l.places ≡ k.places → deque_capacity l.outcomes ≡ deque_capacity k.outcomes
+    → l.sets.room ≡ k.sets.room → HasSets k → ClientCollects k (DiscoveryValue (Some n) (record {
+      run = r;
+      fault = f;
+      devices = found;
+    })) l
 unfolding values
 collects-discovery k l n r f found items set waits places room set_room has = record {
   waiting = ap (λ w. w.items) waits;
   outcomes = rw (items, set) refl;
-  has_sets = fewer (length l.sets.items) (length (filter owes_discovery l.outcomes.items)) (ap (λ l. length l) (sym set) ∙ (has ∙ rw items refl));
+  has_sets = fewer (length l.sets.items) (length (filter owes_discovery l.outcomes.items))
+      (ap (λ l. length l) (sym set) ∙ (has ∙ rw items refl));
   rings = record { places = places; waiting = ap (λ w. deque_capacity w) waits; outcomes = room; sets = set_room };
 }
   where
@@ -90,7 +138,8 @@ collects-discovery k l n r f found items set waits places room set_room has = re
     fewer n m same = omega arith
 
 -- of which kind the oldest is
-pub kind_first : (ds : List Owed) (sets : List (List Device)) → option_map kind_of_value (slice_get (values ds sets) 0) ≡ option_map kind_of_owed (slice_get ds 0)
+pub kind_first : (ds : List Owed) (sets : List (List Device))
+    → option_map kind_of_value (slice_get (values ds sets) 0) ≡ option_map kind_of_owed (slice_get ds 0)
 unfolding values
 kind_first [] sets = refl
 kind_first (owed.Request number done ∷ ds) sets = refl

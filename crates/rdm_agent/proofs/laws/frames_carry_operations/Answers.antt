@@ -8,5 +8,6 @@ pub returns : goal.returns
 returns c = record {
   asked = λ op s tn goes can. op_asks op s tn can goes;
   goes_on = λ a s tn answer goes can run stands.
-      hears-has_run a _ _ (next_asked a goes ∙ ap Some (sym (op_asks (next_op a) s tn can goes))) refl run.kind run.known run.budget run.aborted run.exchanges stands;
+      hears-has_run a _ _ (next_asked a goes ∙ ap Some (sym (op_asks (next_op a) s tn can goes))) refl run.kind
+      run.known run.budget run.aborted run.exchanges stands;
 }

@@ -5,7 +5,25 @@ use Rattle.rdm_agent.proofs.laws.honest_lines.Goals as goal
 pub returns : goal.returns
 returns c = record {
   colliding = colliding_honest;
-  both_found = (refl, (refl, (refl, (refl, (refl, (refl, (refl, (refl, (refl, (refl, (refl, (refl, (refl, (refl, (refl, (refl, (refl, (refl, refl))))))))))))))))));
+  both_found = (
+    refl,
+    (
+      refl,
+      (
+        refl,
+        (
+          refl,
+          (
+            refl,
+            (
+              refl,
+              (refl, (refl, (refl, (refl, (refl, (refl, (refl, (refl, (refl, (refl, (refl, (refl, refl)))))))))))),
+            ),
+          ),
+        ),
+      ),
+    ),
+  );
   failing = failed_honest;
   failed = (refl, (refl, (refl, (refl, refl))));
   to_one = garbled_to_one;

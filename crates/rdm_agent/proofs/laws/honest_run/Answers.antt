@@ -4,4 +4,8 @@ use Rattle.rdm_agent.proofs.SampleCertificate.{certified}
 use Rattle.rdm_agent.proofs.laws.honest_run.Goals as goal
 
 pub returns : goal.returns
-returns c = record { honest = lossy_honest 0 0 (omega arith) (omega arith); certified = certified; ends = (refl, (refl, (refl, (refl, (refl, (refl, (refl, (refl, (refl, (refl, refl)))))))))) }
+returns c = record {
+  honest = lossy_honest 0 0 (omega arith) (omega arith);
+  certified = certified;
+  ends = (refl, (refl, (refl, (refl, (refl, (refl, (refl, (refl, (refl, (refl, refl))))))))));
+}

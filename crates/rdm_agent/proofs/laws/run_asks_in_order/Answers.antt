@@ -1,4 +1,5 @@
-use Rattle.rdm_agent.proofs.Runs.{asks_in_order_by, ends_at_failure_by, ends_at_budget_by, goes_on_soundly_by, finds_acknowledged_by, few_open_ranges_by}
+use Rattle.rdm_agent.proofs.Runs.{asks_in_order_by, ends_at_failure_by, ends_at_budget_by, goes_on_soundly_by}
+use Rattle.rdm_agent.proofs.Runs.{finds_acknowledged_by, few_open_ranges_by}
 use Rattle.rdm_agent.proofs.laws.run_asks_in_order.Goals as goal
 
 pub returns : goal.returns

@@ -5,7 +5,11 @@ use Rattle.rdm_agent.proofs.laws.undisturbed_run.Goals as goal
 pub returns : goal.returns
 returns c = record {
   undisturbed = record {
-    calm = record { honest = lossy_honest 0 0 (omega arith) (omega arith); few = omega arith; no_failure = sample-not_failed };
+    calm = record {
+      honest = lossy_honest 0 0 (omega arith) (omega arith);
+      few = omega arith;
+      no_failure = sample-not_failed;
+    };
     not_aborted = refl;
     budgeted = omega arith;
   };

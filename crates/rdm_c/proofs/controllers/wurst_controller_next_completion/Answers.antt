@@ -2,4 +2,5 @@ use Rattle.rdm_c.proofs.controllers.wurst_controller_next_completion.Goals as go
 
 pub returns-clause-collected : goal.returns-clause-collected
 returns-clause-collected c is_open done =
-    rw (← c.in-Some.ensures.some.1, ← c.deref_mut.ensures.value, c.put.ensures.value, c.deref_mut.ensures.writes_back) (c.next_completion-status.ensures.collected done)
+    rw (← c.in-Some.ensures.some.1, ← c.deref_mut.ensures.value, c.put.ensures.value, c.deref_mut.ensures.writes_back)
+    (c.next_completion-status.ensures.collected done)

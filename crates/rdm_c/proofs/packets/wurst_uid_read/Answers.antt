@@ -23,7 +23,8 @@ returns-in-Err-clause-all c u utf8 text = absurd (no ((c.in-Err.ensures.ok u).1 
 pub returns-in-Err-clause-statuses : goal.returns-in-Err-clause-statuses
 returns-in-Err-clause-statuses c = named c.in-Err.fault c.status_of_text.result c.status_of_text.ensures
   where
-    named : (f : UidFault) (s : ℕ) → s ≡ uid_fault_status f → (s ≡ status.done) ⊎ ((s ≡ status.not_text) ⊎ ((s ≡ status.uid_length) ⊎ ((s ≡ status.uid_separator) ⊎ (s ≡ status.uid_digit))))
+    named : (f : UidFault) (s : ℕ) → s ≡ uid_fault_status f → (s ≡ status.done)
+        ⊎ ((s ≡ status.not_text) ⊎ ((s ≡ status.uid_length) ⊎ ((s ≡ status.uid_separator) ⊎ (s ≡ status.uid_digit))))
     named texts.Length s is = inr (inr (inl is))
     named texts.Separator s is = inr (inr (inr (inl is)))
     named texts.Digit s is = inr (inr (inr (inr is)))

@@ -14,4 +14,5 @@ returns-clause-heard c done =
     let d : Discovery = c.args.discovery.now in
     let a : AgentState = d.agent in
     c.hear.ensures.state ∙ (c.read_reply-reply.ensures.fed a (sym c.next-op.ensures.value)
-    ∙ ap (λ (op : Op). fed a (heard_in (op_frame op d.source d.tn) (option_copied c.args.answer))) c.next-op.ensures.value)
+    ∙ ap (λ (op : Op). fed a (heard_in (op_frame op d.source d.tn) (option_copied c.args.answer)))
+    c.next-op.ensures.value)

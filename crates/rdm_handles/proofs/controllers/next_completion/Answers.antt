@@ -16,9 +16,13 @@ returns-clause-collected c done = (
       let k : LogState = record { opening = o; entries = h; room = 0; search = c.args.controller.now.search } in
       let outcome : Outcome = request_outcome (c.in-Some.number, c.in-Some.done) in
       let is : IsOldest o h c.args.client outcome = (c.in-Some.ensures.adds.each k refl after).adds.0 in
-      let needs : c.unwrap_or-needed.result ≡ length c.in-Some.done.bytes.items = c.unwrap_or-needed.ensures ∙ needed_is o h c.args.client outcome c.oldest_length.result (c.oldest_length.ensures o h after) is in
-      let same : length c.deref.result.now ≡ length c.in-Some.done.bytes.items = ap (λ bytes. length bytes) c.deref.ensures.value in
-      let fits : length c.deref.result.now ≤ length c.args.buffer.now = omega (arith, needs, same, c.if-needed-buffer.false) in
-      let len : c.completion_for_c.result.len ≡ c.put_bytes.result = ap (λ form. form.len) c.completion_for_c.ensures ∙ (completion_len c.in-Some.number c.in-Some.done ∙ (sym same ∙ sym (c.put_bytes.ensures.all fits))) in
+      let needs : c.unwrap_or-needed.result ≡ length c.in-Some.done.bytes.items = c.unwrap_or-needed.ensures
+      ∙ needed_is o h c.args.client outcome c.oldest_length.result (c.oldest_length.ensures o h after) is in
+      let same : length c.deref.result.now
+      ≡ length c.in-Some.done.bytes.items = ap (λ bytes. length bytes) c.deref.ensures.value in
+      let fits : length c.deref.result.now ≤ length
+      c.args.buffer.now = omega (arith, needs, same, c.if-needed-buffer.false) in
+      let len : c.completion_for_c.result.len ≡ c.put_bytes.result = ap (λ form. form.len) c.completion_for_c.ensures
+      ∙ (completion_len c.in-Some.number c.in-Some.done ∙ (sym same ∙ sym (c.put_bytes.ensures.all fits))) in
       ap (λ n. take n c.put_bytes.new.buffer) len ∙ (c.put_bytes.ensures.front fits ∙ c.deref.ensures.value),
 )

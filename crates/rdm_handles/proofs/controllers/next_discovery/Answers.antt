@@ -17,8 +17,12 @@ returns-clause-collected c done = (
       let k : LogState = record { opening = o; entries = h; room = 0; search = c.args.controller.now.search } in
       let outcome : Outcome = discovery_outcome c.in-Some.ended c.next_discovery.new.set in
       let is : IsOldest o h c.args.client outcome = (c.in-Some.ensures.adds.each k refl after).adds.0 in
-      let needs : c.unwrap_or-needed.result ≡ length c.next_discovery.new.set = c.unwrap_or-needed.ensures ∙ needed_is o h c.args.client outcome c.oldest_length.result (c.oldest_length.ensures o h after) is in
-      let same : length c.as_slice.result.now ≡ length c.next_discovery.new.set = ap (λ devices. length devices) c.as_slice.ensures.value in
-      let fits : length c.as_slice.result.now ≤ length c.args.devices.now = omega (arith, needs, same, c.if-needed-devices.false) in
-      ap (λ n. take n c.put_devices.new.buffer) (sym same) ∙ (c.put_devices.ensures.front fits ∙ ap (λ devices. map form_of_device devices) c.as_slice.ensures.value),
+      let needs : c.unwrap_or-needed.result ≡ length c.next_discovery.new.set = c.unwrap_or-needed.ensures
+      ∙ needed_is o h c.args.client outcome c.oldest_length.result (c.oldest_length.ensures o h after) is in
+      let same : length c.as_slice.result.now
+      ≡ length c.next_discovery.new.set = ap (λ devices. length devices) c.as_slice.ensures.value in
+      let fits : length c.as_slice.result.now ≤ length
+      c.args.devices.now = omega (arith, needs, same, c.if-needed-devices.false) in
+      ap (λ n. take n c.put_devices.new.buffer) (sym same)
+      ∙ (c.put_devices.ensures.front fits ∙ ap (λ devices. map form_of_device devices) c.as_slice.ensures.value),
 )

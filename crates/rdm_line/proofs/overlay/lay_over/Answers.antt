@@ -17,7 +17,12 @@ bytes-preserved c = elim c.if-i-len.branch [
   | else-i-len w ↦
       let items = ap (λ (v : ArrayVec ℕ). v.items) w.all-is ∙ w.push.ensures.items in
       record {
-        laid = one_pushed c.args.all.now.items c.args.reply.now c.bytes.i c.bytes.all.items c.if-i-len.all.items c.bytes-test.true c.bytes.invariant.laid (omega arith) items;
-        few = omega (arith, ap length items, length-append c.bytes.all.items (get_or c.args.reply.now c.bytes.i 0 ∷ []));
+        laid = one_pushed c.args.all.now.items c.args.reply.now c.bytes.i c.bytes.all.items c.if-i-len.all.items
+            c.bytes-test.true c.bytes.invariant.laid (omega arith) items;
+        few = omega (
+          arith,
+          ap length items,
+          length-append c.bytes.all.items (get_or c.args.reply.now c.bytes.i 0 ∷ []),
+        );
       }
 ]

@@ -5,7 +5,12 @@ use Rattle.clap.proofs.WalkLemmas.{first_value-rows}
 use Rattle.rdm_port.proofs.job.has_flag.Goals as goal
 
 pub returns-in-Some : goal.returns-in-Some
-returns-in-Some c = c.eq.ensures ∙ ap (λ o. option_map_or (λ text. bytes_eq text (codes "true")) o false) (c.in-Some.ensures ∙ first_value-rows (found_of c.args.given.now) c.args.flag.now)
+returns-in-Some c =
+    c.eq.ensures
+    ∙ ap (λ o. option_map_or (λ text. bytes_eq text (codes "true")) o false)
+    (c.in-Some.ensures ∙ first_value-rows (found_of c.args.given.now) c.args.flag.now)
 
 pub returns-in-None : goal.returns-in-None
-returns-in-None c = ap (λ o. option_map_or (λ text. bytes_eq text (codes "true")) o false) (c.in-None.ensures ∙ first_value-rows (found_of c.args.given.now) c.args.flag.now)
+returns-in-None c =
+    ap (λ o. option_map_or (λ text. bytes_eq text (codes "true")) o false)
+    (c.in-None.ensures ∙ first_value-rows (found_of c.args.given.now) c.args.flag.now)

@@ -7,7 +7,12 @@ use Rattle.rdm_serving.specs.declared.port_kind.PortKind.TheVariants.{Locked}
 use Rattle.rdm_port.proofs.job.port_of.Goals as goal
 
 pub returns-in-Some : goal.returns-in-Some
-returns-in-Some c = c.port_named.ensures ∙ ap (λ o. option_map_or port_named o (Some Locked)) (c.in-Some.ensures ∙ first_value-rows (found_of c.args.given.now) (codes "port"))
+returns-in-Some c =
+    c.port_named.ensures
+    ∙ ap (λ o. option_map_or port_named o (Some Locked))
+    (c.in-Some.ensures ∙ first_value-rows (found_of c.args.given.now) (codes "port"))
 
 pub returns-in-None : goal.returns-in-None
-returns-in-None c = ap (λ o. option_map_or port_named o (Some Locked)) (c.in-None.ensures ∙ first_value-rows (found_of c.args.given.now) (codes "port"))
+returns-in-None c =
+    ap (λ o. option_map_or port_named o (Some Locked))
+    (c.in-None.ensures ∙ first_value-rows (found_of c.args.given.now) (codes "port"))

@@ -6,5 +6,6 @@ use Rattle.rdm_port.proofs.job.run.Goals as goal
 
 pub returns-clause-app : goal.returns-clause-app
 returns-clause-app c = IfOk-weaker c.with_log.result _ _
-    (λ r is. is ∙ ap with_log (c.in_ok-run.ensures.app ∙ ap (λ (a : App). with_option a (codes "port")) c.in_ok-command.ensures.app))
+    (λ r is. is ∙ ap with_log
+    (c.in_ok-run.ensures.app ∙ ap (λ (a : App). with_option a (codes "port")) c.in_ok-command.ensures.app))
     c.with_log.ensures.app

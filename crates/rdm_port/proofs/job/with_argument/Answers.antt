@@ -6,4 +6,5 @@ pub returns-clause-app : goal.returns-clause-app
 returns-clause-app c = IfOk-weaker c.arg.result _ _ (λ r adds. adds.shape c.requires.own) c.arg.ensures
 
 pub returns-clause-local : goal.returns-clause-local
-returns-clause-local c = IfOk-weaker c.arg.result _ _ (λ r adds. adds.globals ∙ rw (c.requires.local, c.requires.own) refl) c.arg.ensures
+returns-clause-local c =
+    IfOk-weaker c.arg.result _ _ (λ r adds. adds.globals ∙ rw (c.requires.local, c.requires.own) refl) c.arg.ensures

@@ -6,5 +6,6 @@ use Rattle.rdm_port.proofs.job.with_option.Goals as goal
 
 pub returns-clause-app : goal.returns-clause-app
 returns-clause-app c = IfOk-weaker c.with_argument.result _ _
-    (λ r is. is ∙ ap (with_rule (app_of c.args.command)) (long_rule c.new.result c.long.result c.args.name c.long.ensures c.new.ensures.rule))
+    (λ r is. is ∙ ap (with_rule (app_of c.args.command))
+    (long_rule c.new.result c.long.result c.args.name c.long.ensures c.new.ensures.rule))
     c.with_argument.ensures.app

@@ -1,4 +1,5 @@
-use Rattle.rdm_port.proofs.WordsLemmas.{asks_decode, asks_encode, asks_after_hyphens, nothing_asked, no_argument, help_refused, help_of_command_refused}
+use Rattle.rdm_port.proofs.WordsLemmas.{asks_decode, asks_encode, asks_after_hyphens, nothing_asked, no_argument}
+use Rattle.rdm_port.proofs.WordsLemmas.{help_refused, help_of_command_refused}
 use Rattle.rdm_port.proofs.laws.what_words_ask.Goals as goal
 
 pub returns : goal.returns

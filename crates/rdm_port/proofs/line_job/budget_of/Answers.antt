@@ -7,11 +7,15 @@ use Rattle.rdm_port.proofs.line_job.budget_of.Goals as goal
 
 pub returns-in-Some-clause-some : goal.returns-in-Some-clause-some
 returns-in-Some-clause-some c =
-    subst (λ o. IfSome c.budget_named.result (IsBudget o)) (c.in-Some.ensures ∙ first_value-rows (found_of c.args.given.now) (codes "budget")) c.budget_named.ensures.some
+    subst (λ o. IfSome c.budget_named.result (IsBudget o))
+    (c.in-Some.ensures ∙ first_value-rows (found_of c.args.given.now) (codes "budget")) c.budget_named.ensures.some
 
 pub returns-in-Some-clause-none : goal.returns-in-Some-clause-none
 returns-in-Some-clause-none c =
-    subst (λ o. IfNone c.budget_named.result ((budget : ℕ) → IsBudget o budget → ⊥)) (c.in-Some.ensures ∙ first_value-rows (found_of c.args.given.now) (codes "budget")) c.budget_named.ensures.none
+    subst (λ o. IfNone c.budget_named.result ((budget : ℕ) → IsBudget o budget → ⊥))
+    (c.in-Some.ensures ∙ first_value-rows (found_of c.args.given.now) (codes "budget")) c.budget_named.ensures.none
 
 pub returns-in-None-clause-some : goal.returns-in-None-clause-some
-returns-in-None-clause-some c = subst (λ o. IsBudget o 384008) (c.in-None.ensures ∙ first_value-rows (found_of c.args.given.now) (codes "budget")) refl
+returns-in-None-clause-some c =
+    subst (λ o. IsBudget o 384008) (c.in-None.ensures ∙ first_value-rows (found_of c.args.given.now) (codes "budget"))
+    refl

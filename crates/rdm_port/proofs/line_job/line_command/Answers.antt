@@ -5,6 +5,8 @@ use Rattle.rdm_port.proofs.line_job.line_command.Goals as goal
 
 pub returns : goal.returns
 returns c = IfOk-weaker c.with_command-2.result _ _
-    (λ r is. is ∙ ap₂ with_subcommand (c.in_ok-command.ensures ∙ ap₂ with_subcommand c.bare.ensures.app (ap (λ (a : App). a.top) c.in_ok-discover.ensures.app))
+    (λ r is. is ∙ ap₂ with_subcommand
+    (c.in_ok-command.ensures
+    ∙ ap₂ with_subcommand c.bare.ensures.app (ap (λ (a : App). a.top) c.in_ok-discover.ensures.app))
     (ap (λ (a : App). a.top) c.in_ok-run.ensures.app))
     c.with_command-2.ensures

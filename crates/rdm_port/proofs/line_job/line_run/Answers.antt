@@ -8,5 +8,7 @@ use Rattle.rdm_port.proofs.line_job.line_run.Goals as goal
 pub returns-clause-app : goal.returns-clause-app
 returns-clause-app c = IfOk-weaker c.with_log.result _ _
     (λ r is. is ∙ ap with_log (c.in_ok-run.ensures.app ∙ ap (λ (a : App). with_option a (codes "port"))
-    (c.in_ok-command.ensures.app ∙ ap₂ with_rule c.in_ok-line_streams.ensures.app (needed_rule c.new.result c.required-file.result _ c.required-file.ensures c.new.ensures.rule))))
+    (c.in_ok-command.ensures.app
+    ∙ ap₂ with_rule c.in_ok-line_streams.ensures.app
+    (needed_rule c.new.result c.required-file.result _ c.required-file.ensures c.new.ensures.rule))))
     c.with_log.ensures.app

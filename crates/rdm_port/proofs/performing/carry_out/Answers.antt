@@ -7,7 +7,8 @@ use Rattle.rdm_port.proofs.performing.carry_out.Goals as goal
 
 pub returns : goal.returns
 returns g c = printed_after c.answer-answer.result
-    (λ text logged status. (j : Job) × (c.args.job ≡ Ok j) × Answers j (g.R.Read.remaining c.args.reader.now) text logged status)
+    (λ text logged status. (j : Job) × (c.args.job ≡ Ok j)
+    × Answers j (g.R.Read.remaining c.args.reader.now) text logged status)
     (λ f. IsFaultOf c.args.job (g.R.Read.remaining c.args.reader.now) f)
     (λ f logged. IsLoggedWith c.args.job (g.R.Read.remaining c.args.reader.now) f logged) (has_log c.args.job)
     c.args.log.now c.answer-answer.new.log _ _ _ c.answer-answer.ensures.ok c.answer-answer.ensures.fault

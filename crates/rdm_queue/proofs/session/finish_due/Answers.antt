@@ -15,6 +15,14 @@ loop-entry-preserved c =
     let here = ends.each c.loop-entry.log amid.search_is amid.amid in
     let bound : FaultNeedsClose (grown old so_far.0) e = rw so_far.3 at here.0 in
     record {
-      amid = rw c.append.ensures (amid_grown c.loop-entry.controller c.finish_next.new.self c.loop-entry.log e amid here.1 ends.search here.0 (result_added e ends.is));
-      grows = (so_far.0 ++ e ∷ [], all_results_more so_far.0 e so_far.1 ends.is, block_more old so_far.0 e so_far.2 bound, c.append.ensures ∙ ap (λ k. grown k (e ∷ [])) so_far.3 ∙ grown_twice old so_far.0 (e ∷ []));
+      amid = rw c.append.ensures
+          (amid_grown c.loop-entry.controller c.finish_next.new.self c.loop-entry.log e amid here.1 ends.search here.0
+          (result_added e ends.is));
+      grows = (
+        so_far.0 ++ e ∷ [],
+        all_results_more so_far.0 e so_far.1 ends.is,
+        block_more old so_far.0 e so_far.2 bound,
+        c.append.ensures ∙ ap (λ k. grown k (e ∷ [])) so_far.3
+            ∙ grown_twice old so_far.0 (e ∷ []),
+      );
     }

@@ -22,21 +22,26 @@ exchanges-preserved g c =
 
 pub end-requires : goal.end-requires
 end-requires g c = elim c.exchanges-test.branch [
-  | else-exchanges-test w ↦ all_driven _ g.L.Line.step c.args.source c.args.search c.args.kind c.args.known.now c.args.budget c.args.line.now c.exchanges.line c.exchanges.agent
+  | else-exchanges-test w ↦ all_driven _ g.L.Line.step c.args.source c.args.search c.args.kind c.args.known.now
+      c.args.budget c.args.line.now c.exchanges.line c.exchanges.agent
       (let full : c.exchanges.made ≡ c.args.budget = omega arith in
-      subst (λ n. HasDriven _ g.L.Line.step c.args.source c.args.search c.args.kind c.args.known.now c.args.budget c.args.line.now n c.exchanges.agent c.exchanges.line) full c.exchanges.invariant.0)
+      subst (λ n. HasDriven _ g.L.Line.step c.args.source c.args.search c.args.kind c.args.known.now c.args.budget
+      c.args.line.now n c.exchanges.agent c.exchanges.line) full c.exchanges.invariant.0)
   | then-exchanges-test+then-eq w ↦ search rules
 ]
 
 pub returns-clause-logged : goal.returns-clause-logged
 returns-clause-logged g c =
     let ended : next_op c.exchanges.agent ≡ End = elim c.exchanges-test.branch [
-      | else-exchanges-test w ↦ all_driven _ g.L.Line.step c.args.source c.args.search c.args.kind c.args.known.now c.args.budget c.args.line.now c.exchanges.line c.exchanges.agent
+      | else-exchanges-test w ↦ all_driven _ g.L.Line.step c.args.source c.args.search c.args.kind c.args.known.now
+          c.args.budget c.args.line.now c.exchanges.line c.exchanges.agent
           (let full : c.exchanges.made ≡ c.args.budget = omega arith in
-          subst (λ n. HasDriven _ g.L.Line.step c.args.source c.args.search c.args.kind c.args.known.now c.args.budget c.args.line.now n c.exchanges.agent c.exchanges.line) full c.exchanges.invariant.0)
+          subst (λ n. HasDriven _ g.L.Line.step c.args.source c.args.search c.args.kind c.args.known.now c.args.budget
+          c.args.line.now n c.exchanges.agent c.exchanges.line) full c.exchanges.invariant.0)
       | then-exchanges-test+then-eq w ↦ search rules
     ] in
-    reported_logged _ g.L.Line.step c.args.source c.args.search c.args.kind c.args.known.now c.args.budget c.exchanges.made
+    reported_logged _ g.L.Line.step c.args.source c.args.search c.args.kind c.args.known.now c.args.budget
+    c.exchanges.made
     c.frames.result c.args.line.now c.exchanges.line c.exchanges.agent c.end.result c.args.log.now c.exchanges.log
     c.exchanges.invariant ended c.end.ensures.value c.frames.ensures.counted
 

@@ -3,4 +3,5 @@ use Rattle.rdm_serving.specs.SessionReport.{numbered, discovery_line}
 use Rattle.rdm_serving.proofs.outcomes.write_discoveries.Given as goal
 
 abbrev pub invariant-discoveries : goal.invariant-discoveries
-invariant-discoveries l = l.text.items ≡ l.initial.text.items ++ numbered (discovery_line l.client) 0 (take l.number l.discoveries)
+invariant-discoveries l =
+    l.text.items ≡ l.initial.text.items ++ numbered (discovery_line l.client) 0 (take l.number l.discoveries)

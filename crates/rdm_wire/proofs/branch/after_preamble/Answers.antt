@@ -20,13 +20,17 @@ returns-then-preamble-from c = preamble_too_long _ c.args.bytes.now (omega arith
 
 pub returns-in_err-separator : goal.returns-in_err-separator
 returns-in_err-separator c =
-    rw c.from_residual.ensures (after _ _ _ c.preamble_len-preamble.ensures.value (omega arith) ∙ none_after _ c.in_err-separator.ensures.cases)
+    rw c.from_residual.ensures
+    (after _ _ _ c.preamble_len-preamble.ensures.value (omega arith)
+    ∙ none_after _ c.in_err-separator.ensures.cases)
 
 pub returns-then-separator : goal.returns-then-separator
 returns-then-separator c =
-    after _ _ _ c.preamble_len-preamble.ensures.value (omega arith) ∙ ap after_separator c.in_ok-separator.ensures.cases.0 ∙ rw c.if-separator.true refl
+    after _ _ _ c.preamble_len-preamble.ensures.value (omega arith)
+    ∙ ap after_separator c.in_ok-separator.ensures.cases.0 ∙ rw c.if-separator.true refl
 
 pub returns-else-separator : goal.returns-else-separator
 returns-else-separator c =
-    after _ _ _ c.preamble_len-preamble.ensures.value (omega arith) ∙ ap after_separator c.in_ok-separator.ensures.cases.0
+    after _ _ _ c.preamble_len-preamble.ensures.value (omega arith)
+    ∙ ap after_separator c.in_ok-separator.ensures.cases.0
     ∙ rw (ne_eqb c.in_ok-separator.separator.now 0xaa c.if-separator.false) refl

@@ -19,6 +19,7 @@ returns-in-None-clause-one c u = (
 
 pub returns-in-None-clause-reads : goal.returns-in-None-clause-reads
 returns-in-None-clause-reads c = (
-  λ none. let empty = c.if-is_empty.ensures in let zero_long = ap length none in absurd (true≢false (ap (λ (n : ℕ). n == 0) (sym zero_long) ∙ sym empty)),
+  λ none. let empty = c.if-is_empty.ensures in let zero_long = ap length none in
+      absurd (true≢false (ap (λ (n : ℕ). n == 0) (sym zero_long) ∙ sym empty)),
   λ u text. let read = text_read-of c.args.bytes.now u text in cc,
 )

@@ -9,8 +9,10 @@ returns-then-bytes-lt-LEAST_FRAME_BYTES-clause-none c =
     none_unless_long c.args.bytes.now (λ i. omega (arith, c.type_inv.bytes i))
     (λ size few. elim c.then-bytes-lt-LEAST_FRAME_BYTES.branch [
       | then-bytes-lt-LEAST_FRAME_BYTES-via-then-bytes-lt-LEAST_FRAME_BYTES w ↦ omega arith
-      | then-bytes-lt-LEAST_FRAME_BYTES-via-else-bytes-lt-LEAST_FRAME_BYTES+then-bytes-gt-MOST_FRAME_BYTES w ↦ omega arith
+      | then-bytes-lt-LEAST_FRAME_BYTES-via-else-bytes-lt-LEAST_FRAME_BYTES+then-bytes-gt-MOST_FRAME_BYTES w
+          ↦ omega arith
     ])
 
 pub returns-else-length-bytes-clause-none : goal.returns-else-length-bytes-clause-none
-returns-else-length-bytes-clause-none c = none_unless_long c.args.bytes.now (λ i. omega (arith, c.type_inv.bytes i)) (λ size few. omega arith)
+returns-else-length-bytes-clause-none c =
+    none_unless_long c.args.bytes.now (λ i. omega (arith, c.type_inv.bytes i)) (λ size few. omega arith)

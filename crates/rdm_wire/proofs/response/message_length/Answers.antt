@@ -20,5 +20,8 @@ returns-clause-packet c =
       pdl = omega arith;
       sum = subst HasSum is (sym c.u16_at.ensures ∙ c.if-u16_at-sum.false ∙ c.checksum-sum.ensures);
     } in
-    decoded-form b form ∙ ap (λ n. response_of b (class_of_code n) (ack_of_code (slice_index b 16))) (sym (number_of-one 20 b (omega arith)))
-    ∙ ap (λ n. response_of b (class_of_code (number_at 20 1 b)) (ack_of_code n)) (sym (number_of-one 16 b (omega arith)))
+    decoded-form b form
+    ∙ ap (λ n. response_of b (class_of_code n) (ack_of_code (slice_index b 16)))
+    (sym (number_of-one 20 b (omega arith)))
+    ∙ ap (λ n. response_of b (class_of_code (number_at 20 1 b)) (ack_of_code n))
+    (sym (number_of-one 16 b (omega arith)))

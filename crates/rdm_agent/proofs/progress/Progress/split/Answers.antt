@@ -6,5 +6,7 @@ pub push-requires : goal.push-requires
 push-requires c = (IsStack-halves c.args.top c.args.self.now.below _ c.in-Some.ensures.value c.requires).1
 
 pub returns-in-Some-clause-sound : goal.returns-in-Some-clause-sound
-returns-in-Some-clause-sound c =
-    (omega arith, rw c.push.ensures (IsStack-halves c.args.top c.args.self.now.below _ c.in-Some.ensures.value c.requires).0)
+returns-in-Some-clause-sound c = (
+  omega arith,
+  rw c.push.ensures (IsStack-halves c.args.top c.args.self.now.below _ c.in-Some.ensures.value c.requires).0,
+)

@@ -10,5 +10,8 @@ returns-in_err-sub_device c = passed c.from_residual-in_err-sub_device.result c.
     (λ other. no_sub c.args.key.now c.args.class (view c.args.value.now) (c.in_err-sub_device.ensures other))
 
 pub returns-in_err-param : goal.returns-in_err-param
-returns-in_err-param c = passed c.from_residual-in_err-param.result c.in_err-param.field-0.0 (IsRequest c.args.key.now c.args.class (view c.args.value.now)) c.from_residual-in_err-param.ensures.1
-    (λ other. no_param c.args.key.now c.args.class (view c.args.value.now) c.new.result c.new.ensures (c.in_err-param.ensures other))
+returns-in_err-param c =
+    passed c.from_residual-in_err-param.result c.in_err-param.field-0.0
+    (IsRequest c.args.key.now c.args.class (view c.args.value.now)) c.from_residual-in_err-param.ensures.1
+    (λ other. no_param c.args.key.now c.args.class (view c.args.value.now) c.new.result c.new.ensures
+    (c.in_err-param.ensures other))

@@ -23,4 +23,5 @@ keyless false p s = tt
 
 pub send : IsSend the_row
 send = let O = the_type in let ps : IsSend RawPtr = search sendable in let bs : IsSend bool = search sendable in
-    owning_send O (ps, (bs, tt)) (λ d. keyless d.is_open d.at d.value) (λ k. quiet (to O) (exits_of k (fields O)) ((struct_send (shape O) (ps, (bs, tt))).leaving k))
+    owning_send O (ps, (bs, tt)) (λ d. keyless d.is_open d.at d.value)
+    (λ k. quiet (to O) (exits_of k (fields O)) ((struct_send (shape O) (ps, (bs, tt))).leaving k))

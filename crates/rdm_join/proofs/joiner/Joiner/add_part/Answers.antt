@@ -31,5 +31,6 @@ returns c =
     let fits : HasRoom old c.args.part.now = rw c.deref.ensures.0 at has_room in
     let items = joined_items c.try_extend_from_slice.result _ c.try_extend_from_slice.ensures.ok no_error in
     let stage : stage_with_part old.stage (head_of c.args.part.now) ≡ Some c.in-Some.stage = cc in
-    let moves = part_taken old c.args.part.now c.in-Some.stage (subst IsOpen (sym c.self.view_is) c.requires) stage fits in
+    let moves = part_taken old c.args.part.now c.in-Some.stage (subst IsOpen (sym c.self.view_is) c.requires) stage
+    fits in
     rw (items, c.deref.ensures.0, ← c.self.view_is) moves

@@ -7,8 +7,11 @@ use Rattle.rdm_lanes.proofs.opening.steps.open_client.Goals as goal
 
 pub invariant_of-client : goal.invariant_of-client
 invariant_of-client g c = record {
-  counted = counted_new c.in-Ok-new.calls c.in-Ok-new-2.replies c.in-Ok-new.ensures.producer.0 c.in-Ok-new-2.ensures.consumer.0;
+  counted = counted_new c.in-Ok-new.calls c.in-Ok-new-2.replies c.in-Ok-new.ensures.producer.0
+      c.in-Ok-new-2.ensures.consumer.0;
   held = rw c.in-Ok-new-3.ensures refl;
-  own = rw c.in-Ok-new-3.ensures (own_nothing (pushed c.in-Ok-new.calls) (popped c.in-Ok-new-2.replies) [] [] c.in-Ok-new.ensures.producer.0 c.in-Ok-new-2.ensures.consumer.0 refl refl);
+  own = rw c.in-Ok-new-3.ensures
+      (own_nothing (pushed c.in-Ok-new.calls) (popped c.in-Ok-new-2.replies) [] [] c.in-Ok-new.ensures.producer.0
+      c.in-Ok-new-2.ensures.consumer.0 refl refl);
   last = rw c.in-Ok-new-2.ensures.consumer.0 (c.in-Some.ensures ∙ sym nothing_found);
 }

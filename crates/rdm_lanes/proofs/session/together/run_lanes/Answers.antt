@@ -12,37 +12,52 @@ pub end-session-requires : goal.end-session-requires
 end-session-requires g c =
     let first = c.args.lanes.worker.server.lanes.items in
     let news = c.run_together-worker.result.0.server.lanes.items in
-    let seats = subst (λ (rings : List Rings). RingsPair first rings) (sym c.seated-taken.ensures.rings) c.requires.pairs in
-    let kept = pairs_kept first news c.seated-taken.result.items c.run_together-worker.result.1.items seats (rw c.without_operator-alone.ensures.same.1 at c.run_together-worker.ensures.lanes) c.run_together-worker.ensures.seats in
+    let seats = subst (λ (rings : List Rings). RingsPair first rings) (sym c.seated-taken.ensures.rings)
+    c.requires.pairs in
+    let kept = pairs_kept first news c.seated-taken.result.items c.run_together-worker.result.1.items seats
+    (rw c.without_operator-alone.ensures.same.1 at c.run_together-worker.ensures.lanes)
+    c.run_together-worker.ensures.seats in
     record { pairs = subst (λ (rings : List Rings). RingsPair news rings) (sym c.unseated-bodies.ensures.ends) kept }
 
 pub returns-clause-exchanged : goal.returns-clause-exchanged
-returns-clause-exchanged g c = rw c.end-session.ensures.log (rw c.without_operator-alone.ensures.same.0 at c.run_together-worker.ensures.exchanged)
+returns-clause-exchanged g c =
+    rw c.end-session.ensures.log (rw c.without_operator-alone.ensures.same.0 at c.run_together-worker.ensures.exchanged)
 
 pub returns-clause-fits : goal.returns-clause-fits
 returns-clause-fits g c =
-    let news = c.run_together-worker.result.0.server.lanes.items in
-    (news, c.run_together-worker.ensures.lanes.long ∙ ap (λ v. length v.items) c.without_operator-alone.ensures.same.1, rw (sym c.end-session.ensures.log) at c.end-session.ensures.fits)
+    let news = c.run_together-worker.result.0.server.lanes.items in (
+      news,
+      c.run_together-worker.ensures.lanes.long ∙ ap (λ v. length v.items) c.without_operator-alone.ensures.same.1,
+      rw (sym c.end-session.ensures.log) at c.end-session.ensures.fits,
+    )
 
 pub returns-clause-ended : goal.returns-clause-ended
 returns-clause-ended g c =
     let seats = c.run_together-worker.ensures.seats.long ∙ c.seated-taken.ensures.one_each in
-    let rings = sym (length-map c.unseated-bodies.result.1.items end_rings) ∙ ap length c.unseated-bodies.ensures.ends ∙ length-map c.run_together-worker.result.1.items seat_rings in
+    let rings = sym (length-map c.unseated-bodies.result.1.items end_rings) ∙ ap length c.unseated-bodies.ensures.ends
+    ∙ length-map c.run_together-worker.result.1.items seat_rings in
     record {
       agree = rw c.end-session.ensures.log c.end-session.ensures.agree;
-      all_left = λ is. let left = c.run_together-worker.ensures.all_left is in (c.end-session.ensures.read left.0, rw c.end-session.ensures.log left.1);
+      all_left = λ is. let left = c.run_together-worker.ensures.all_left is in
+          (c.end-session.ensures.read left.0, rw c.end-session.ensures.log left.1);
       full = λ is. rw c.end-session.ensures.log (c.run_together-worker.ensures.full is);
       one_each = (c.end-session.ensures.told.long ∙ (rings ∙ seats), c.unseated-bodies.ensures.bodies ∙ seats);
       unspent = c.end-session.ensures.unspent;
       matched = c.end-session.ensures.matched;
       published = rw c.end-session.ensures.log c.end-session.ensures.published;
-      all_published = λ not. c.end-session.ensures.shown ∙ c.run_together-worker.ensures.published not ∙ ap (λ (k : LogState). all_views k.entries) (sym c.end-session.ensures.log);
+      all_published =
+          λ not. c.end-session.ensures.shown ∙ c.run_together-worker.ensures.published not
+          ∙ ap (λ (k : LogState). all_views k.entries) (sym c.end-session.ensures.log);
       views = c.end-session.ensures.views;
       shown_first = c.end-session.ensures.shown_first;
     }
 
 pub returns-clause-turns : goal.returns-clause-turns
-returns-clause-turns g c = rw c.end-session.ensures.log (rw c.without_operator-alone.ensures.same.0 at c.run_together-worker.ensures.turns)
+returns-clause-turns g c =
+    rw c.end-session.ensures.log (rw c.without_operator-alone.ensures.same.0 at c.run_together-worker.ensures.turns)
 
 pub returns-clause-switches : goal.returns-clause-switches
-returns-clause-switches g c = rw c.end-session.ensures.log (rw c.without_operator-alone.ensures.same.0 at (c.run_together-worker.ensures.switches c.without_operator-alone.ensures.left))
+returns-clause-switches g c =
+    rw c.end-session.ensures.log
+    (rw c.without_operator-alone.ensures.same.0 at (c.run_together-worker.ensures.switches
+    c.without_operator-alone.ensures.left))

@@ -7,4 +7,9 @@ loop-at-init c = moves_nothing c.args.self.now
 pub loop-at-preserved : goal.loop-at-preserved
 loop-at-preserved c =
     let more = c.move_for.ensures in
-    moves_on c.args.self.now c.loop-at.self c.move_for.new.self c.loop-at.invariant (record { collects = more.collects; lanes = more.lanes; operator = more.operator; ring = more.ring })
+    moves_on c.args.self.now c.loop-at.self c.move_for.new.self c.loop-at.invariant (record {
+      collects = more.collects;
+      lanes = more.lanes;
+      operator = more.operator;
+      ring = more.ring;
+    })

@@ -9,24 +9,33 @@ use Rattle.rdm_lanes.proofs.worker.Worker.move_for.Goals as goal
 pub move_outcomes-requires-clause-fits : goal.move_outcomes-requires-clause-fits
 move_outcomes-requires-clause-fits c =
     let me = c.args.self.now in
-    me.fits.each c.args.at c.index_mut.result.now (slice_get_read me.lanes.items (length me.lanes.items) c.args.at c.index_mut.result.now refl (omega (arith, c.requires, me.lanes.ok.0)) c.index_mut.ensures.value)
+    me.fits.each c.args.at c.index_mut.result.now
+    (slice_get_read me.lanes.items (length me.lanes.items) c.args.at c.index_mut.result.now refl
+    (omega (arith, c.requires, me.lanes.ok.0)) c.index_mut.ensures.value)
 
 pub invariant_of-self-clause-fits : goal.invariant_of-self-clause-fits
 invariant_of-self-clause-fits c =
     let me = c.args.self.now in
     let lane = c.index_mut.result.now in
-    let here = slice_get_read me.lanes.items (length me.lanes.items) c.args.at lane refl (omega (arith, c.requires, me.lanes.ok.0)) c.index_mut.ensures.value in
-    all_set c.args.at me.session c.move_outcomes.new.session me.lanes.items lane c.move_outcomes.new.lane me.fits here c.move_outcomes.ensures.lane c.move_outcomes.ensures.fits (places_stay me.session c.move_outcomes.new.session (collects_line me.session c.move_outcomes.new.session c.move_outcomes.ensures.collects)) c.move_outcomes.ensures.others
+    let here = slice_get_read me.lanes.items (length me.lanes.items) c.args.at lane refl
+    (omega (arith, c.requires, me.lanes.ok.0)) c.index_mut.ensures.value in
+    all_set c.args.at me.session c.move_outcomes.new.session me.lanes.items lane c.move_outcomes.new.lane me.fits here
+    c.move_outcomes.ensures.lane c.move_outcomes.ensures.fits
+    (places_stay me.session c.move_outcomes.new.session
+    (collects_line me.session c.move_outcomes.new.session c.move_outcomes.ensures.collects))
+    c.move_outcomes.ensures.others
 
 pub returns-clause-lanes : goal.returns-clause-lanes
 returns-clause-lanes c =
     let me = c.args.self.now in
     let lane = c.index_mut.result.now in
     same_lanes_set me.lanes.items c.args.at lane c.move_outcomes.new.lane
-    (slice_get_read me.lanes.items (length me.lanes.items) c.args.at lane refl (omega (arith, c.requires, me.lanes.ok.0)) c.index_mut.ensures.value) c.move_outcomes.ensures.lane
+    (slice_get_read me.lanes.items (length me.lanes.items) c.args.at lane refl
+    (omega (arith, c.requires, me.lanes.ok.0)) c.index_mut.ensures.value) c.move_outcomes.ensures.lane
 
 pub invariant_of-self-clause-operated : goal.invariant_of-self-clause-operated
 invariant_of-self-clause-operated c =
     let me = c.args.self.now in
     let next = c.move_outcomes.new.session in
-    operated_quiet me.session next (popped me.operator) (collects_line me.session next c.move_outcomes.ensures.collects) (collects_switches me.session next c.move_outcomes.ensures.collects) me.operated
+    operated_quiet me.session next (popped me.operator) (collects_line me.session next c.move_outcomes.ensures.collects)
+    (collects_switches me.session next c.move_outcomes.ensures.collects) me.operated

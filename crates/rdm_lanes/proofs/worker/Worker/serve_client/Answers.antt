@@ -10,30 +10,39 @@ use Rattle.rdm_lanes.proofs.worker.Worker.serve_client.Goals as goal
 pub serve_call-requires-clause-fits : goal.serve_call-requires-clause-fits
 serve_call-requires-clause-fits c =
     let me = c.args.self.now in
-    me.fits.each c.args.at c.index_mut.result.now (slice_get_read me.lanes.items (length me.lanes.items) c.args.at c.index_mut.result.now refl (omega (arith, c.requires, me.lanes.ok.0)) c.index_mut.ensures.value)
+    me.fits.each c.args.at c.index_mut.result.now
+    (slice_get_read me.lanes.items (length me.lanes.items) c.args.at c.index_mut.result.now refl
+    (omega (arith, c.requires, me.lanes.ok.0)) c.index_mut.ensures.value)
 
 pub invariant_of-self-clause-fits : goal.invariant_of-self-clause-fits
 invariant_of-self-clause-fits c =
     let me = c.args.self.now in
     let lane = c.index_mut.result.now in
-    let here = slice_get_read me.lanes.items (length me.lanes.items) c.args.at lane refl (omega (arith, c.requires, me.lanes.ok.0)) c.index_mut.ensures.value in
-    all_set c.args.at me.session c.serve_call.new.session me.lanes.items lane c.serve_call.new.lane me.fits here c.serve_call.ensures.lane c.serve_call.ensures.fits (places_stay me.session c.serve_call.new.session c.serve_call.ensures.line) c.serve_call.ensures.others
+    let here = slice_get_read me.lanes.items (length me.lanes.items) c.args.at lane refl
+    (omega (arith, c.requires, me.lanes.ok.0)) c.index_mut.ensures.value in
+    all_set c.args.at me.session c.serve_call.new.session me.lanes.items lane c.serve_call.new.lane me.fits here
+    c.serve_call.ensures.lane c.serve_call.ensures.fits
+    (places_stay me.session c.serve_call.new.session c.serve_call.ensures.line) c.serve_call.ensures.others
 
 pub returns-clause-lanes : goal.returns-clause-lanes
 returns-clause-lanes c =
     let me = c.args.self.now in
     let lane = c.index_mut.result.now in
     same_lanes_set me.lanes.items c.args.at lane c.serve_call.new.lane
-    (slice_get_read me.lanes.items (length me.lanes.items) c.args.at lane refl (omega (arith, c.requires, me.lanes.ok.0)) c.index_mut.ensures.value) c.serve_call.ensures.lane
+    (slice_get_read me.lanes.items (length me.lanes.items) c.args.at lane refl
+    (omega (arith, c.requires, me.lanes.ok.0)) c.index_mut.ensures.value) c.serve_call.ensures.lane
 
 pub serve_call-requires-clause-known : goal.serve_call-requires-clause-known
 serve_call-requires-clause-known c =
     let me = c.args.self.now in
     let lane = c.index_mut.result.now in
-    let here = slice_get_read me.lanes.items (length me.lanes.items) c.args.at lane refl (omega (arith, c.requires, me.lanes.ok.0)) c.index_mut.ensures.value in
-    ap (λ (ps : List ℕ). slice_get ps c.args.at) me.fits.clients_are ∙ get_map lane_places me.lanes.items c.args.at lane here
+    let here = slice_get_read me.lanes.items (length me.lanes.items) c.args.at lane refl
+    (omega (arith, c.requires, me.lanes.ok.0)) c.index_mut.ensures.value in
+    ap (λ (ps : List ℕ). slice_get ps c.args.at) me.fits.clients_are
+    ∙ get_map lane_places me.lanes.items c.args.at lane here
 
 pub invariant_of-self-clause-operated : goal.invariant_of-self-clause-operated
 invariant_of-self-clause-operated c =
     let me = c.args.self.now in
-    operated_quiet me.session c.serve_call.new.session (popped me.operator) c.serve_call.ensures.line c.serve_call.ensures.switches me.operated
+    operated_quiet me.session c.serve_call.new.session (popped me.operator) c.serve_call.ensures.line
+    c.serve_call.ensures.switches me.operated

@@ -14,5 +14,7 @@ invariant_of-self-2 c =
       few = me.few;
       served = step.served me.served;
       fits = all_wait me.session next me.lanes.items me.fits (places_stay me.session next step.line) step.wait;
-      operated = subst (λ (calls : List OperatorCall). IsOperated next calls) (ap (λ (calls : List OperatorCall). calls ++ c.pop_known-call.result ∷ []) (sym c.slots.ensures.looked.1) ∙ sym c.pop_known-call.ensures.received.0) (step.operated (popped me.operator) me.operated);
+      operated = subst (λ (calls : List OperatorCall). IsOperated next calls)
+          (ap (λ (calls : List OperatorCall). calls ++ c.pop_known-call.result ∷ []) (sym c.slots.ensures.looked.1)
+          ∙ sym c.pop_known-call.ensures.received.0) (step.operated (popped me.operator) me.operated);
     }

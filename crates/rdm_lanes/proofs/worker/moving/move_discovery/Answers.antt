@@ -6,19 +6,29 @@ use Rattle.rdm_lanes.proofs.worker.moving.move_discovery.Goals as goal
 
 pub overflow_sub-lane : goal.overflow_sub-lane
 overflow_sub-lane c =
-    has_ask c.args.session.now c.next_discovery.new.self c.args.client c.in-Some.end.number (record { run = c.in-Some.end.run; fault = c.in-Some.end.fault; set = c.next_discovery.new.set }) c.args.lane.now c.in-Some.ensures.adds c.in-Some.ensures.legal c.requires.fits
+    has_ask c.args.session.now c.next_discovery.new.self c.args.client c.in-Some.end.number
+    (record { run = c.in-Some.end.run; fault = c.in-Some.end.fault; set = c.next_discovery.new.set })
+    c.args.lane.now c.in-Some.ensures.adds c.in-Some.ensures.legal c.requires.fits
 
 pub returns-clause-fits : goal.returns-clause-fits
 returns-clause-fits c =
-    fits_discovery c.args.session.now c.next_discovery.new.self c.args.client c.in-Some.end.number (record { run = c.in-Some.end.run; fault = c.in-Some.end.fault; set = c.next_discovery.new.set }) _ c.args.lane.now _ c.in-Some.ensures.adds c.in-Some.ensures.legal refl c.requires.fits
+    fits_discovery c.args.session.now c.next_discovery.new.self c.args.client c.in-Some.end.number
+    (record { run = c.in-Some.end.run; fault = c.in-Some.end.fault; set = c.next_discovery.new.set }) _
+    c.args.lane.now _ c.in-Some.ensures.adds c.in-Some.ensures.legal refl c.requires.fits
     (record { calls_are = refl; requests_are = refl; asks_are = refl; left_is = refl }) c.push_reserved.ensures.sent.0
 
 pub returns-clause-served : goal.returns-clause-served
-returns-clause-served c = collect_served c.args.session.now c.next_discovery.new.self c.args.client (discovery_outcome c.in-Some.end c.next_discovery.new.set) c.in-Some.ensures.adds c.requires.served
+returns-clause-served c =
+    collect_served c.args.session.now c.next_discovery.new.self c.args.client
+    (discovery_outcome c.in-Some.end c.next_discovery.new.set) c.in-Some.ensures.adds c.requires.served
 
 pub returns-clause-collects : goal.returns-clause-collects
-returns-clause-collects c = collects c.args.session.now c.next_discovery.new.self c.args.client (discovery_outcome c.in-Some.end c.next_discovery.new.set) c.in-Some.ensures.adds
+returns-clause-collects c =
+    collects c.args.session.now c.next_discovery.new.self c.args.client
+    (discovery_outcome c.in-Some.end c.next_discovery.new.set) c.in-Some.ensures.adds
 
 pub returns-clause-others : goal.returns-clause-others
 returns-clause-others c other apart =
-    others_wait_collect c.args.session.now c.next_discovery.new.self c.args.client (discovery_outcome c.in-Some.end c.next_discovery.new.set) c.in-Some.ensures.adds c.in-Some.ensures.legal other apart
+    others_wait_collect c.args.session.now c.next_discovery.new.self c.args.client
+    (discovery_outcome c.in-Some.end c.next_discovery.new.set) c.in-Some.ensures.adds c.in-Some.ensures.legal other
+    apart

@@ -7,15 +7,27 @@ use Rattle.rdm_lanes.proofs.worker.moving.move_outcomes.Goals as goal
 pub loop-alloc-preserved : goal.loop-alloc-preserved
 loop-alloc-preserved c =
     let more = c.move_outcome.ensures in
-    moves_more c.args.client.0 c.args.session.now c.loop-alloc.session c.move_outcome.new.session c.args.lane.now c.loop-alloc.lane c.move_outcome.new.lane c.loop-alloc.invariant
-    (record { fits = more.fits; served = more.served; others = more.others; collects = more.collects; rings = more.lane })
+    moves_more c.args.client.0 c.args.session.now c.loop-alloc.session c.move_outcome.new.session c.args.lane.now
+    c.loop-alloc.lane c.move_outcome.new.lane c.loop-alloc.invariant
+    (record {
+      fits = more.fits;
+      served = more.served;
+      others = more.others;
+      collects = more.collects;
+      rings = more.lane;
+    })
 
 pub loop-alloc-init : goal.loop-alloc-init
 loop-alloc-init c =
     moves_none c.args.client.0 c.args.session.now c.args.lane.now _
-    (fits_looked c.args.client.0 c.args.session.now c.args.lane.now _ c.requires.fits refl (record { told_are = c.slots.ensures.looked.1; requests_are = refl; asks_are = refl }) refl)
+    (fits_looked c.args.client.0 c.args.session.now c.args.lane.now _ c.requires.fits refl (record {
+      told_are = c.slots.ensures.looked.1;
+      requests_are = refl;
+      asks_are = refl;
+    }) refl)
     c.requires.served (((refl, refl, refl, refl), refl), c.slots.ensures.looked.0, refl)
 
 pub returns-then-not-move_outcome-clause-others : goal.returns-then-not-move_outcome-clause-others
 returns-then-not-move_outcome-clause-others c d apart =
-    waits_join d c.args.session.now c.loop-alloc.session c.move_outcome.new.session (c.loop-alloc.invariant.others d apart) (c.move_outcome.ensures.others d apart)
+    waits_join d c.args.session.now c.loop-alloc.session c.move_outcome.new.session
+    (c.loop-alloc.invariant.others d apart) (c.move_outcome.ensures.others d apart)

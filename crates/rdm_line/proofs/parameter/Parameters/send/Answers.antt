@@ -14,7 +14,11 @@ returns-then-index-len-clause-sent c = ap (λ l. set l c.count_before-index.resu
     c.count_before-index.ensures.value (search rules) (search rules) c.send.ensures.sent
 
 pub returns-else-index-len-clause-value : goal.returns-else-index-len-clause-value
-returns-else-index-len-clause-value c = sends_nothing c.args.pid c.args.self.now c.count_before-index.result c.count_before-index.ensures.value (search rules)
+returns-else-index-len-clause-value c =
+    sends_nothing c.args.pid c.args.self.now c.count_before-index.result c.count_before-index.ensures.value
+    (search rules)
 
 pub returns-else-index-len-clause-sent : goal.returns-else-index-len-clause-sent
-returns-else-index-len-clause-sent c = sym (sends_none c.args.pid c.args.self.now c.count_before-index.result c.count_before-index.ensures.value (search rules)).1
+returns-else-index-len-clause-sent c =
+    sym (sends_none c.args.pid c.args.self.now c.count_before-index.result c.count_before-index.ensures.value
+    (search rules)).1

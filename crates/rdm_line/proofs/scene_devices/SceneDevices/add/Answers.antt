@@ -11,10 +11,15 @@ free c = subst (λ u. IsFreeAt c.in-Some.index u c.args.self.now) c.uid.ensures 
 
 pub invariant_of-self : goal.invariant_of-self
 invariant_of-self c =
-    let own : IsDevice c.args.device.device.uid = record { in_range = rw (← c.uid.ensures) c.free_index.ensures.in_range; own = c.requires.own } in
+    let own : IsDevice c.args.device.device.uid = record {
+      in_range = rw (← c.uid.ensures) c.free_index.ensures.in_range;
+      own = c.requires.own;
+    } in
     let few : length c.args.self.now < 1024 = search rules in
-    scene-inserted (is_ok c.insert.result) c.args.device c.args.self.now c.insert.new.self.items c.in-Some.index (rw c.self.view_is at c.insert.ensures.items)
-    (rw c.self.view_is at c.self.invariant) own (record { preamble = c.requires.preamble; from = c.requires.from }) (free c) few
+    scene-inserted (is_ok c.insert.result) c.args.device c.args.self.now c.insert.new.self.items c.in-Some.index
+    (rw c.self.view_is at c.insert.ensures.items)
+    (rw c.self.view_is at c.self.invariant) own (record { preamble = c.requires.preamble; from = c.requires.from })
+    (free c) few
 
 pub returns-clause-added : goal.returns-clause-added
 returns-clause-added c = elim c.match-insert.branch [

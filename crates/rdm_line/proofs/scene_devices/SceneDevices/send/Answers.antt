@@ -9,13 +9,18 @@ pub returns-in_err-index-clause-sent : goal.returns-in_err-index-clause-sent
 returns-in_err-index-clause-sent c = sym (sent_to_nobody c.args.self.now c.args.uid c.args.pid (search rules))
 
 -- the devices afterwards
-sent : (c : goal.After-self-1) → set c.self.inside.devices.items c.in_ok-index.index (with_params c.index_mut.result.now c.send.new.self) ≡ sent_by c.args.uid c.args.pid c.args.self.now
+sent : (c : goal.After-self-1)
+    → set c.self.inside.devices.items c.in_ok-index.index (with_params c.index_mut.result.now c.send.new.self)
+    ≡ sent_by c.args.uid c.args.pid c.args.self.now
 sent c =
-    ap (λ (ds : List SceneDevice). set ds c.in_ok-index.index (with_params c.index_mut.result.now c.send.new.self)) c.self.view_is
-    ∙ sent_at c.args.self.now c.args.uid c.args.pid c.in_ok-index.index c.index_mut.result.now c.send.new.self c.in_ok-index.ensures.some.1 (search rules) c.send.ensures.sent
+    ap (λ (ds : List SceneDevice). set ds c.in_ok-index.index (with_params c.index_mut.result.now c.send.new.self))
+    c.self.view_is
+    ∙ sent_at c.args.self.now c.args.uid c.args.pid c.in_ok-index.index c.index_mut.result.now c.send.new.self
+    c.in_ok-index.ensures.some.1 (search rules) c.send.ensures.sent
 
 pub invariant_of-self : goal.invariant_of-self
-invariant_of-self c = subst IsScene (sym (sent c)) (scene-sent c.args.uid c.args.pid c.args.self.now c.index_of.ensures.scene)
+invariant_of-self c =
+    subst IsScene (sym (sent c)) (scene-sent c.args.uid c.args.pid c.args.self.now c.index_of.ensures.scene)
 
 pub returns-clause-value : goal.returns-clause-value
 returns-clause-value c =

@@ -11,11 +11,14 @@ with_collisions s cs = record s { collisions = cs }
 pub returns-then-self-saturating_sub-clause-next : goal.returns-then-self-saturating_sub-clause-next
 unfolding with_collisions
 returns-then-self-saturating_sub-clause-next c =
-    ap (with_collisions (the_view c.self.inside)) (later-next c.self.inside.scene.collisions.items c.self.inside.collision (search rules))
+    ap (with_collisions (the_view c.self.inside))
+    (later-next c.self.inside.scene.collisions.items c.self.inside.collision (search rules))
     ∙ ap (λ s. with_collisions s (later_collisions s.collisions)) c.self.view_is
 
 pub returns-else-self-saturating_sub-clause-next : goal.returns-else-self-saturating_sub-clause-next
 unfolding with_collisions
 returns-else-self-saturating_sub-clause-next c =
-    sym c.self.view_is ∙ ap (with_collisions (the_view c.self.inside)) (later-last c.self.inside.scene.collisions.items c.self.inside.collision (search rules))
+    sym c.self.view_is
+    ∙ ap (with_collisions (the_view c.self.inside))
+    (later-last c.self.inside.scene.collisions.items c.self.inside.collision (search rules))
     ∙ ap (λ s. with_collisions s (later_collisions s.collisions)) c.self.view_is

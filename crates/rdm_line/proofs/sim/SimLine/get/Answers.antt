@@ -14,7 +14,8 @@ pub returns : goal.returns
 returns c =
     answered (parameter_at c.args.request.now.target c.args.request.now.pid c.args.self.now.devices) c.send-sent.result
     c.args.self.now _ c.args.request.now c.args.source c.args.tn c.answer_get.result.items
-    (subst (λ (s : SimState). AnswersPart (parameter_at c.args.request.now.target c.args.request.now.pid s.devices) c.send-sent.result) c.self.view_is c.send-sent.ensures.value)
+    (subst (λ (s : SimState). AnswersPart (parameter_at c.args.request.now.target c.args.request.now.pid s.devices)
+    c.send-sent.result) c.self.view_is c.send-sent.ensures.value)
     c.answer_get.ensures
     (ap (λ ds. record (the_view c.self.inside) { devices = ds }) c.send-sent.ensures.sent
     ∙ ap (λ (s : SimState). record s {

@@ -16,7 +16,8 @@ insert-requires c = (device_at_is c.args.exchange c.args.uid c.self.inside.scene
     c.self.invariant.scene (sym c.present.ensures.value
     ∙ ap (option_map (λ (d : Bor SceneDevice). d.now)) c.in-Some.is)).own.own
 
-at : (c : goal.After-encode_response) → IsDeviceAt c.args.exchange c.args.uid c.self.inside.scene.devices c.in-Some.device.now
+at : (c : goal.After-encode_response)
+    → IsDeviceAt c.args.exchange c.args.uid c.self.inside.scene.devices c.in-Some.device.now
 at c = device_at_is c.args.exchange c.args.uid c.self.inside.scene.devices c.in-Some.device.now c.self.invariant.scene
     (sym c.present.ensures.value ∙ ap (option_map (λ (d : Bor SceneDevice). d.now)) c.in-Some.is)
 
@@ -26,15 +27,21 @@ muted c = put_in c.args.uid c.self.inside.muted c.insert.new.self c.insert.resul
     (at c))
 
 pub invariant_of-self : goal.invariant_of-self
-invariant_of-self c = rw (muted c) (sound-muted c.args.uid c.args.exchange c.in-Some.device.now _ _ _ _ _ _ c.self.invariant (at c) (ap (λ (s : SimState). s.exchanges) c.self.view_is ∙ c.requires))
+invariant_of-self c =
+    rw (muted c)
+    (sound-muted c.args.uid c.args.exchange c.in-Some.device.now _ _ _ _ _ _ c.self.invariant (at c)
+    (ap (λ (s : SimState). s.exchanges) c.self.view_is ∙ c.requires))
 
 pub returns : goal.returns
 returns c =
     let found : device_at c.args.exchange c.args.self.now.devices c.args.uid ≡ Some c.in-Some.device.now =
-    ap (λ (s : SimState). device_at c.args.exchange s.devices c.args.uid) (sym c.self.view_is) ∙ sym c.present.ensures.value ∙ ap (option_map (λ (d : Bor SceneDevice). d.now)) c.in-Some.is in
+    ap (λ (s : SimState). device_at c.args.exchange s.devices c.args.uid) (sym c.self.view_is)
+    ∙ sym c.present.ensures.value ∙ ap (option_map (λ (d : Bor SceneDevice). d.now)) c.in-Some.is in
     rw found (record {
       bytes = c.encode_response.ensures.frame ∙ ap (λ r. packet (fields_of r)) c.mute_response-response.ensures;
       mutes =
-          ap (λ us. record (the_view c.self.inside) { muted = us }) (muted c) ∙ ap (λ (s : SimState). record s { muted = with_uid c.args.uid s.muted }) c.self.view_is
+          ap (λ us. record (the_view c.self.inside) { muted = us }) (muted c) ∙ ap (λ (s : SimState). record s {
+            muted = with_uid c.args.uid s.muted;
+          }) c.self.view_is
           ∙ ap (λ u. record c.args.self.now { muted = with_uid u c.args.self.now.muted }) (sym (at c).uid);
     })

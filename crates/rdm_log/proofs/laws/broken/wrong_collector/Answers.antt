@@ -1,5 +1,6 @@
 use Rattle.std.proofs.Common.{refl}
-use Rattle.rdm_log.specs.log.Entries.{joins, accepts, sends, cames, finishes, collectors, traded, of_request, verdicts, result, asks, answers}
+use Rattle.rdm_log.specs.log.Entries.{joins, accepts, sends, cames, finishes, collectors, traded, of_request, verdicts}
+use Rattle.rdm_log.specs.log.Entries.{result, asks, answers}
 use Rattle.rdm_log.specs.log.Runs.{has_begun, entries_before_run, last_run, run_exchanges}
 use Rattle.rdm_log.specs.log.History.{awaited, is_paused, is_closed}
 use Rattle.rdm_log.specs.log.Clients.{answers_to}
@@ -7,8 +8,12 @@ use Rattle.rdm_log.proofs.SampleLemmas.SampleLegal.{some_list}
 use Rattle.rdm_log.proofs.laws.broken.wrong_collector.Goals as goal
 
 pub returns : goal.returns
-unfolding joins accepts finishes collectors sends cames traded of_request verdicts result awaited is_paused is_closed answers_to asks answers has_begun entries_before_run last_run run_exchanges
+unfolding joins accepts finishes collectors sends cames traded of_request verdicts result awaited is_paused is_closed
+    answers_to asks answers has_begun entries_before_run last_run run_exchanges
 returns c = record {
-  own = (record { results_open = tt; runs_answered = tt; run_goes_on = tt; all_closed = λ closed waits. (refl, refl) }, some_list _ _);
+  own = (
+    record { results_open = tt; runs_answered = tt; run_goes_on = tt; all_closed = λ closed waits. (refl, refl) },
+    some_list _ _,
+  );
   other = λ may. may.1 refl;
 }

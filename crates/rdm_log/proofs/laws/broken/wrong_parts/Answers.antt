@@ -1,6 +1,7 @@
 use Rattle.std.proofs.Common.{refl, inl, inr, arith}
 use Rattle.std.proofs.lemmas.Bool.{false≢true}
-use Rattle.rdm_log.specs.log.Entries.{joins, accepts, sends, cames, finishes, collectors, traded, of_request, verdicts, result, asks, answers}
+use Rattle.rdm_log.specs.log.Entries.{joins, accepts, sends, cames, finishes, collectors, traded, of_request, verdicts}
+use Rattle.rdm_log.specs.log.Entries.{result, asks, answers}
 use Rattle.rdm_log.specs.log.Runs.{has_begun, entries_before_run, last_run, run_exchanges}
 use Rattle.rdm_log.specs.log.History.{awaited, is_paused, is_closed}
 use Rattle.rdm_log.specs.log.Clients.{answers_to}
@@ -8,9 +9,15 @@ use Rattle.rdm_log.specs.samples.Sample.{sample_request}
 use Rattle.rdm_log.proofs.laws.broken.wrong_parts.Goals as goal
 
 pub returns : goal.returns
-unfolding joins accepts finishes collectors sends cames traded of_request verdicts result awaited is_paused is_closed answers_to asks answers has_begun entries_before_run last_run run_exchanges
+unfolding joins accepts finishes collectors sends cames traded of_request verdicts result awaited is_paused is_closed
+    answers_to asks answers has_begun entries_before_run last_run run_exchanges
 returns c = record {
-  both = record { accepted = record { client = 0; number = 0; request = sample_request }; oldest = refl; number = refl; fits = inl (refl, refl) };
+  both = record {
+    accepted = record { client = 0; number = 0; request = sample_request };
+    oldest = refl;
+    number = refl;
+    fits = inl (refl, refl);
+  };
   last_alone = λ may. elim may.fits [ inl own ↦ let s = own.1 in omega arith | inr wanted ↦ let s = wanted.0 in cc ];
   first_alone = λ may. false≢true may.fits.0.closed;
 }

@@ -1,12 +1,14 @@
 use Rattle.std.proofs.Common.{refl}
 use Rattle.std.proofs.lemmas.Option.{none-some}
-use Rattle.rdm_log.specs.log.Entries.{accepts, sends, cames, finishes, traded, of_request, verdicts, result, asks, answers}
+use Rattle.rdm_log.specs.log.Entries.{accepts, sends, cames, finishes, traded, of_request, verdicts, result, asks}
+use Rattle.rdm_log.specs.log.Entries.{answers}
 use Rattle.rdm_log.specs.log.Runs.{has_begun, entries_before_run, last_run, run_exchanges}
 use Rattle.rdm_log.specs.log.History.{awaited, is_closed}
 use Rattle.rdm_log.proofs.laws.broken.wrong_results.Goals as goal
 
 pub returns : goal.returns
-unfolding accepts finishes sends cames traded of_request verdicts result awaited is_closed asks answers has_begun entries_before_run last_run run_exchanges
+unfolding accepts finishes sends cames traded of_request verdicts result awaited is_closed asks answers has_begun
+    entries_before_run last_run run_exchanges
 returns c = record {
   twice = λ may. none-some may.accepted may.oldest;
   never = λ legal. let none = (legal.settled.all_closed refl refl).0 in cc;

@@ -1,5 +1,6 @@
 use Rattle.std.proofs.Common.{[], ◌∷◌, Some, refl}
-use Rattle.rdm_log.specs.log.Entries.{joins, accepts, sends, cames, finishes, collectors, traded, of_request, verdicts, result, asks, answers}
+use Rattle.rdm_log.specs.log.Entries.{joins, accepts, sends, cames, finishes, collectors, traded, of_request, verdicts}
+use Rattle.rdm_log.specs.log.Entries.{result, asks, answers}
 use Rattle.rdm_log.specs.log.Runs.{has_begun, entries_before_run, last_run, run_exchanges}
 use Rattle.rdm_log.specs.log.History.{awaited, is_paused, is_closed}
 use Rattle.rdm_log.specs.log.Clients.{answers_to}
@@ -10,12 +11,14 @@ use Rattle.rdm_agent.specs.declared.fault.AgentFault.TheVariants.{LineFailed, Ab
 use Rattle.rdm_log.specs.declared.entry.Owner.TheVariants as owners
 use Rattle.rdm_log.specs.declared.entry.Entry.TheVariants.{Join, Ask, Send, Came, Answer, Collect, Close}
 use Rattle.rdm_log.specs.samples.Sample.{join_only, logged_with}
-use Rattle.rdm_log.specs.samples.SampleRuns.{first_client, source, asked_one, begun_run, asked_during, answered_failed, aborted_log, collected_failed}
+use Rattle.rdm_log.specs.samples.SampleRuns.{first_client, source, asked_one, begun_run, asked_during, answered_failed}
+use Rattle.rdm_log.specs.samples.SampleRuns.{aborted_log, collected_failed}
 use Rattle.rdm_log.proofs.SampleLemmas.RunsLegal.{may_begin}
 use Rattle.rdm_log.proofs.laws.explained.failing_run_is_explained.Goals as goal
 
 pub returns : goal.returns
-unfolding joins accepts finishes sends cames collectors traded of_request verdicts result awaited is_paused is_closed answers_to asks answers has_begun entries_before_run last_run run_exchanges
+unfolding joins accepts finishes sends cames collectors traded of_request verdicts result awaited is_paused is_closed
+    answers_to asks answers has_begun entries_before_run last_run run_exchanges
 returns c = λ set empty. (
   logged_with join_only,
   record { block = Join first_client 1 ∷ []; adds = (refl, refl, refl); grows = refl },
@@ -24,22 +27,42 @@ returns c = λ set empty. (
     record { block = Ask first_client 0 Full ∷ []; adds = (refl, refl, refl); grows = refl },
     (
       logged_with begun_run,
-      record { block = Send (owners.Run 1) (record { items = unmute_frame source 0 }) ∷ []; adds = (refl, (owners.Run 1, may_begin, refl)); grows = refl },
+      record {
+        block = Send (owners.Run 1) (record { items = unmute_frame source 0 }) ∷ [];
+        adds = (refl, (owners.Run 1, may_begin, refl));
+        grows = refl;
+      },
       (
         logged_with asked_during,
         record { block = Ask first_client 1 Incremental ∷ []; adds = (refl, refl, refl); grows = refl },
         (
           logged_with answered_failed,
-          record { block = Came Failed ∷ Answer 0 1 (Some LineFailed) ∷ []; adds = (refl, record { results = Answer 0 1 (Some LineFailed) ∷ []; whole = refl; each = (refl, tt) }, (tt, (λ present calm. absurd (calm.calm.no_failure.0 refl), tt))); grows = refl },
+          record {
+            block = Came Failed ∷ Answer 0 1 (Some LineFailed) ∷ [];
+            adds = (
+              refl,
+              record { results = Answer 0 1 (Some LineFailed) ∷ []; whole = refl; each = (refl, tt) },
+              (tt, (λ present calm. absurd (calm.calm.no_failure.0 refl), tt)),
+            );
+            grows = refl;
+          },
           (
             logged_with aborted_log,
-            record { block = Close ∷ Answer 1 0 (Some Aborted) ∷ []; adds = record { results = Answer 1 0 (Some Aborted) ∷ []; whole = refl; each = (refl, tt) }; grows = refl },
+            record {
+              block = Close ∷ Answer 1 0 (Some Aborted) ∷ [];
+              adds = record { results = Answer 1 0 (Some Aborted) ∷ []; whole = refl; each = (refl, tt) };
+              grows = refl;
+            },
             (
               logged_with aborted_log,
               record { block = []; adds = (refl, refl); grows = refl },
               (
                 logged_with collected_failed,
-                record { block = Collect first_client ∷ []; adds = (record { entry = Answer 0 1 (Some LineFailed); oldest = refl; told = rw empty refl }, refl); grows = refl },
+                record {
+                  block = Collect first_client ∷ [];
+                  adds = (record { entry = Answer 0 1 (Some LineFailed); oldest = refl; told = rw empty refl }, refl);
+                  grows = refl;
+                },
                 refl,
               ),
             ),

@@ -28,16 +28,30 @@ searched : Goes [] (line none_muted 0 0 0) branches
 searched = silent [] none_muted 0 0xffffffffffff 4 [] refl tt
 
 muted : (n : ℕ) → Goes [] (line none_muted 0 0 n) (exchange (Mute sample_uid) Silent ∷ branches)
-muted n = inr (line none_muted 0 0 0, ((λ v other. refl), (refl, refl, counts none_muted 0 0 0 (omega arith) (omega arith))), searched)
+muted n = inr (
+  line none_muted 0 0 0,
+  ((λ v other. refl), (refl, refl, counts none_muted 0 0 0 (omega arith) (omega arith))),
+  searched,
+)
 
 honest : HonestTrace [] wasted
-honest = (record { devices = tt; ascending = tt }, none_muted, unmutes [] 0 3 (exchange (Mute sample_uid) Silent ∷ branches) muted)
+honest = (
+  record { devices = tt; ascending = tt },
+  none_muted,
+  unmutes [] 0 3 (exchange (Mute sample_uid) Silent ∷ branches) muted,
+)
 
 calm_line : IsCalm [] wasted
-calm_line = record { honest = honest; few = omega arith; no_failure = ((λ e. cc), ((λ e. cc), ((λ e. cc), ((λ e. cc), ((λ e. cc), ((λ e. cc), ((λ e. cc), ((λ e. cc), tt)))))))) }
+calm_line = record {
+  honest = honest;
+  few = omega arith;
+  no_failure =
+      ((λ e. cc), ((λ e. cc), ((λ e. cc), ((λ e. cc), ((λ e. cc), ((λ e. cc), ((λ e. cc), ((λ e. cc), tt))))))));
+}
 
 calm : IsCalmRun (wasted_with wasted_run) 1 []
-unfolding joins accepts asks sends cames finishes answers traded awaited is_paused is_closed has_begun entries_before_run last_run run_exchanges
+unfolding joins accepts asks sends cames finishes answers traded awaited is_paused is_closed has_begun
+    entries_before_run last_run run_exchanges
 calm = record { calm = calm_line; budgeted = omega arith }
 
 pub returns : goal.returns
@@ -45,7 +59,10 @@ unfolding is_closed
 returns c = record {
   calm = calm;
   fault = λ is.
-      let block_is : is.1.block ≡ came_with [] ∷ Answer 0 1 (Some Exhausted) ∷ [] = append_cancel_left wasted_sent is.1.block (came_with [] ∷ Answer 0 1 (Some Exhausted) ∷ []) (sym (ap (λ (k : LogState). k.entries) (is.2 ∙ is.1.grows))) in
+      let block_is : is.1.block
+      ≡ came_with [] ∷ Answer 0 1 (Some Exhausted) ∷ [] =
+      append_cancel_left wasted_sent is.1.block (came_with [] ∷ Answer 0 1 (Some Exhausted) ∷ [])
+      (sym (ap (λ (k : LogState). k.entries) (is.2 ∙ is.1.grows))) in
       let bound = rw block_is at is.1.adds.2 in
       false≢true (bound.1.0 [] calm);
 }

@@ -1,13 +1,15 @@
 use Rattle.rdm_log.proofs.SampleLemmas.RunsLegal.{may_abort_first, may_finish_then, may_answer_last}
 use Rattle.std.proofs.Common.{refl}
-use Rattle.rdm_log.specs.log.Entries.{joins, accepts, asks, sends, cames, finishes, answers, collectors, traded, of_request, verdicts, result}
+use Rattle.rdm_log.specs.log.Entries.{joins, accepts, asks, sends, cames, finishes, answers, collectors, traded}
+use Rattle.rdm_log.specs.log.Entries.{of_request, verdicts, result}
 use Rattle.rdm_log.specs.log.History.{awaited, is_paused, is_closed}
 use Rattle.rdm_log.specs.log.Clients.{answers_to}
 use Rattle.rdm_log.specs.log.Runs.{has_begun, entries_before_run, last_run, run_exchanges}
 use Rattle.rdm_log.proofs.laws.runs.order_at_a_close.Goals as goal
 
 pub returns : goal.returns
-unfolding accepts asks sends cames finishes answers collectors traded of_request verdicts result awaited is_paused is_closed answers_to joins has_begun entries_before_run last_run run_exchanges
+unfolding accepts asks sends cames finishes answers collectors traded of_request verdicts result awaited is_paused
+    is_closed answers_to joins has_begun entries_before_run last_run run_exchanges
 returns c = record {
   first = may_abort_first;
   then = may_finish_then;

@@ -3,7 +3,8 @@ use Rattle.std.specs.Prelude.{◌≢◌}
 use Rattle.std.proofs.lemmas.Bool.{false≢true}
 use Rattle.rdm_log.proofs.SampleLemmas.RunsLegal.{may_abort, may_answer_first, goes_on_9}
 use Rattle.rdm_agent.proofs.SampleCertificate.{certified}
-use Rattle.rdm_log.specs.log.Entries.{joins, accepts, asks, sends, cames, finishes, answers, collectors, traded, of_request, verdicts, result}
+use Rattle.rdm_log.specs.log.Entries.{joins, accepts, asks, sends, cames, finishes, answers, collectors, traded}
+use Rattle.rdm_log.specs.log.Entries.{of_request, verdicts, result}
 use Rattle.rdm_log.specs.log.History.{awaited, is_paused, is_closed}
 use Rattle.rdm_log.specs.log.Clients.{answers_to}
 use Rattle.rdm_log.specs.log.Runs.{has_begun, entries_before_run, last_run, run_exchanges}
@@ -14,7 +15,8 @@ not_zero : (r : ℕ) → 1 ≤ r → r ≢ 0
 not_zero r from none = omega (arith, none)
 
 pub returns : goal.returns
-unfolding accepts asks sends cames finishes answers collectors traded of_request verdicts result awaited is_paused is_closed answers_to joins has_begun entries_before_run last_run run_exchanges
+unfolding accepts asks sends cames finishes answers collectors traded of_request verdicts result awaited is_paused
+    is_closed answers_to joins has_begun entries_before_run last_run run_exchanges
 returns c = record {
   asked_during = λ may. false≢true (may.by_run (not_zero 1 (omega arith))).serves;
   aborted = may_abort;

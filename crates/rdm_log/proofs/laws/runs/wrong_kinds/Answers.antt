@@ -6,7 +6,8 @@ use Rattle.rdm_wire.specs.Honest.Heard.{Acked}
 use Rattle.rdm_agent.specs.SampleRun.{sample_ack}
 use Rattle.rdm_log.specs.samples.SampleRuns.{device, known_traffic, second_run}
 use Rattle.rdm_agent.specs.declared.kind.Kind.TheVariants.{Full}
-use Rattle.rdm_log.specs.log.Entries.{joins, accepts, asks, sends, cames, finishes, answers, collectors, traded, of_request, verdicts, result}
+use Rattle.rdm_log.specs.log.Entries.{joins, accepts, asks, sends, cames, finishes, answers, collectors, traded}
+use Rattle.rdm_log.specs.log.Entries.{of_request, verdicts, result}
 use Rattle.rdm_log.specs.log.History.{awaited, is_paused, is_closed}
 use Rattle.rdm_log.specs.log.Clients.{answers_to}
 use Rattle.rdm_log.specs.log.Runs.{has_begun, entries_before_run, last_run, run_exchanges}
@@ -17,10 +18,14 @@ not_zero : (r : ℕ) → 1 ≤ r → r ≢ 0
 not_zero r from none = omega (arith, none)
 
 pub returns : goal.returns
-unfolding accepts asks sends cames finishes answers collectors traded of_request verdicts result awaited is_paused is_closed answers_to joins has_begun entries_before_run last_run run_exchanges
+unfolding accepts asks sends cames finishes answers collectors traded of_request verdicts result awaited is_paused
+    is_closed answers_to joins has_begun entries_before_run last_run run_exchanges
 returns c = record {
   full = λ may.
       let shown = (may.by_run (not_zero 2 (omega arith))).shows in
-      elim (shown.search.read_first (take 3 (run_exchanges 2 (second_run Full known_traffic))) (drop 4 (run_exchanges 2 (second_run Full known_traffic))) (record { asked = Mute device; heard = Acked sample_ack }) refl device refl) [ inl known ↦ false≢true known | inr read ↦ false≢true read ];
+      elim (shown.search.read_first (take 3 (run_exchanges 2 (second_run Full known_traffic)))
+      (drop 4 (run_exchanges 2 (second_run Full known_traffic)))
+      (record { asked = Mute device; heard = Acked sample_ack }) refl device refl)
+      [ inl known ↦ false≢true known | inr read ↦ false≢true read ];
   from_nothing = λ may. false≢true (may.by_run (not_zero 2 (omega arith))).shows.search.known_first.0;
 }

@@ -1,7 +1,8 @@
 use Rattle.std.proofs.Common.{◌≡◌, ℕ, List, refl, sym, ap, inl, inr, get_or, arith}
 use Rattle.std.proofs.lemmas.Bool.{false≢true}
 use Rattle.std.proofs.lemmas.Option.{none-some}
-use Rattle.rdm_log.specs.log.Entries.{joins, accepts, asks, sends, cames, finishes, answers, collectors, traded, of_request, verdicts, result}
+use Rattle.rdm_log.specs.log.Entries.{joins, accepts, asks, sends, cames, finishes, answers, collectors, traded}
+use Rattle.rdm_log.specs.log.Entries.{of_request, verdicts, result}
 use Rattle.rdm_log.specs.log.History.{awaited, is_paused, is_closed}
 use Rattle.rdm_log.specs.log.Clients.{answers_to}
 use Rattle.rdm_log.specs.log.Runs.{has_begun, entries_before_run, last_run, run_exchanges}
@@ -15,14 +16,22 @@ pid_of : (f g : List ℕ) → f ≡ g → get_or f 22 0 ≡ get_or g 22 0
 pid_of f g e = ap (λ l. get_or l 22 0) e
 
 pub returns : goal.returns
-unfolding accepts asks sends cames finishes answers collectors traded of_request verdicts result awaited is_paused is_closed answers_to joins has_begun entries_before_run last_run run_exchanges
+unfolding accepts asks sends cames finishes answers collectors traded of_request verdicts result awaited is_paused
+    is_closed answers_to joins has_begun entries_before_run last_run run_exchanges
 returns c = record {
-  between_parts = λ may. elim may.turn [ inl begins ↦ let none = begins.no_request in cc | inr open_ ↦ none-some 1 open_ ];
+  between_parts =
+      λ may. elim may.turn [ inl begins ↦ let none = begins.no_request in cc | inr open_ ↦ none-some 1 open_ ];
   answered = λ may. elim may.turn [ inl begins ↦ omega (arith, begins.number) | inr open_ ↦ none-some 1 open_ ];
   waits = λ may. elim may.turn [ inl sent ↦ false≢true sent | inr none ↦ (let wrong = none in cc) ];
   skipped = λ may. elim may.turn [ inl begins ↦ omega (arith, begins.number) | inr open_ ↦ none-some 3 open_ ];
   paused = λ may. elim may.turn [ inl begins ↦ false≢true (sym begins.not_paused) | inr open_ ↦ none-some 1 open_ ];
-  goes_on = record { not_awaited = refl; not_closed = refl; turn = inr refl; in_budget = omega arith; packet = record { unmute = λ early. refl; search = λ late. absurd (omega (arith, late)) } };
+  goes_on = record {
+    not_awaited = refl;
+    not_closed = refl;
+    turn = inr refl;
+    in_budget = omega arith;
+    packet = record { unmute = λ early. refl; search = λ late. absurd (omega (arith, late)) };
+  };
   fourth = λ may. elim (may.packet.search (omega arith)) [
     | inl branch ↦ let wrong = length_of _ _ branch.frame_is in omega (arith, wrong)
     | inr mute ↦ let wrong = pid_of _ _ mute.frame_is in omega (arith, wrong)

@@ -12,5 +12,7 @@ pub returns-clause-value : goal.returns-clause-value
 returns-clause-value c =
     rw (← c.self.view_is) (
     count_from_yields_List c.filter.result c.count.result c.count.ensures.ran
-    (YieldsList-from_filter _ (λ (a : Asked). c.args.client.0 == a.client.0) (YieldsList-from_slice c.self.inside.asked.items cc) c.filter.ensures.closure (λ x b q k. search (rules, tests)))
+    (YieldsList-from_filter _ (λ (a : Asked). c.args.client.0 == a.client.0)
+    (YieldsList-from_slice c.self.inside.asked.items cc) c.filter.ensures.closure
+    (λ x b q k. search (rules, tests)))
     ∙ sym (length-filter_map asked_is (λ (a : AskedDiscovery). c.args.client.0 == a.client) c.self.inside.asked.items))

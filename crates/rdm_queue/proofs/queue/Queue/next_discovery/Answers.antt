@@ -18,9 +18,17 @@ invariant_of-self-2 c =
     let clients : List Client = c.self.inside.clients.items in
     let k : Client = c.in_ok-get_mut.field-0.now in
     let l : Client = c.collect_discovery.new.self in
-    let at : slice_get clients c.from.result ≡ Some k = slice_get-get_or clients c.from.result k (c.in_ok-get_mut.ensures.variant.0 refl) ∙ ap (λ m. Some m) (sym c.in_ok-get_mut.ensures.value) in
-    let all = may_collect s clients c.from.result k l c.collect_discovery.result (λ end. outcome_value (discovery_outcome end c.collect_discovery.new.set)) c.self.invariant refl at c.collect_discovery.ensures.taken (if_none c.collect_discovery.result (λ (same : (l ≡ k) × (c.collect_discovery.new.set ≡ c.args.set.now)). same.0) c.collect_discovery.ensures.unchanged) in
-    let places : places_of (set clients c.from.result l) ≡ places_of clients = places_stayed clients c.from.result k l at all.places in
+    let at : slice_get clients c.from.result
+    ≡ Some k = slice_get-get_or clients c.from.result k (c.in_ok-get_mut.ensures.variant.0 refl)
+    ∙ ap (λ m. Some m) (sym c.in_ok-get_mut.ensures.value) in
+    let all = may_collect s clients c.from.result k l c.collect_discovery.result
+    (λ end. outcome_value (discovery_outcome end c.collect_discovery.new.set)) c.self.invariant
+    refl at c.collect_discovery.ensures.taken
+    (if_none c.collect_discovery.result
+    (λ (same : (l ≡ k) × (c.collect_discovery.new.set ≡ c.args.set.now)). same.0)
+    c.collect_discovery.ensures.unchanged) in
+    let places : places_of (set clients c.from.result l)
+    ≡ places_of clients = places_stayed clients c.from.result k l at all.places in
     rw (places, waiting_are _ (set clients c.from.result l) all.kept) all.kept
 
 pub returns-clause-taken : goal.returns-clause-taken
@@ -29,9 +37,17 @@ returns-clause-taken c =
     let clients : List Client = c.self.inside.clients.items in
     let k : Client = c.in_ok-get_mut.field-0.now in
     let l : Client = c.collect_discovery.new.self in
-    let at : slice_get clients c.from.result ≡ Some k = slice_get-get_or clients c.from.result k (c.in_ok-get_mut.ensures.variant.0 refl) ∙ ap (λ m. Some m) (sym c.in_ok-get_mut.ensures.value) in
-    let all = may_collect s clients c.from.result k l c.collect_discovery.result (λ end. outcome_value (discovery_outcome end c.collect_discovery.new.set)) c.self.invariant refl at c.collect_discovery.ensures.taken (if_none c.collect_discovery.result (λ (same : (l ≡ k) × (c.collect_discovery.new.set ≡ c.args.set.now)). same.0) c.collect_discovery.ensures.unchanged) in
-    let places : places_of (set clients c.from.result l) ≡ places_of clients = places_stayed clients c.from.result k l at all.places in
+    let at : slice_get clients c.from.result
+    ≡ Some k = slice_get-get_or clients c.from.result k (c.in_ok-get_mut.ensures.variant.0 refl)
+    ∙ ap (λ m. Some m) (sym c.in_ok-get_mut.ensures.value) in
+    let all = may_collect s clients c.from.result k l c.collect_discovery.result
+    (λ end. outcome_value (discovery_outcome end c.collect_discovery.new.set)) c.self.invariant
+    refl at c.collect_discovery.ensures.taken
+    (if_none c.collect_discovery.result
+    (λ (same : (l ≡ k) × (c.collect_discovery.new.set ≡ c.args.set.now)). same.0)
+    c.collect_discovery.ensures.unchanged) in
+    let places : places_of (set clients c.from.result l)
+    ≡ places_of clients = places_stayed clients c.from.result k l at all.places in
     rw (← c.self.view_is, places, waiting_are _ (set clients c.from.result l) all.kept, ← c.from.ensures) all.taken
 
 pub returns-clause-none : goal.returns-clause-none
@@ -40,5 +56,10 @@ returns-clause-none c =
     let clients : List Client = c.self.inside.clients.items in
     let k : Client = c.in_ok-get_mut.field-0.now in
     let l : Client = c.collect_discovery.new.self in
-    let at : slice_get clients c.from.result ≡ Some k = slice_get-get_or clients c.from.result k (c.in_ok-get_mut.ensures.variant.0 refl) ∙ ap (λ m. Some m) (sym c.in_ok-get_mut.ensures.value) in
-    rw (← c.self.view_is, ← c.from.ensures) (if_none c.collect_discovery.result (λ (other : first_kind_owed k ≢ Some kinds.Discovery) is. other (sym (kind_is s clients c.from.result k refl at) ∙ is)) c.collect_discovery.ensures.none)
+    let at : slice_get clients c.from.result
+    ≡ Some k = slice_get-get_or clients c.from.result k (c.in_ok-get_mut.ensures.variant.0 refl)
+    ∙ ap (λ m. Some m) (sym c.in_ok-get_mut.ensures.value) in
+    rw (← c.self.view_is, ← c.from.ensures)
+    (if_none c.collect_discovery.result
+    (λ (other : first_kind_owed k ≢ Some kinds.Discovery) is. other
+    (sym (kind_is s clients c.from.result k refl at) ∙ is)) c.collect_discovery.ensures.none)

@@ -9,12 +9,15 @@ use Rattle.rdm_queue.proofs.queue.Queue.waiting.Goals as goal
 pub sum-requires-clause-fits : goal.sum-requires-clause-fits
 sum-requires-clause-fits c =
     fits_by_from_yields_list (λ k. deque_len k.waiting) c.self.inside.clients.items c.map.result _
-    (YieldsList-from_map _ (λ k. deque_len k.waiting) (YieldsList-from_slice c.self.inside.clients.items cc) c.map.ensures.closure (λ x r q k. search (rules, tests)))
-    (subst (λ n. n < 18446744073709551616) (sym (waiting_sum c.self.inside.clients.items)) (waiting_fit (state_of c.self.inside) c.self.invariant.state))
+    (YieldsList-from_map _ (λ k. deque_len k.waiting) (YieldsList-from_slice c.self.inside.clients.items cc)
+    c.map.ensures.closure (λ x r q k. search (rules, tests)))
+    (subst (λ n. n < 18446744073709551616) (sym (waiting_sum c.self.inside.clients.items))
+    (waiting_fit (state_of c.self.inside) c.self.invariant.state))
 
 pub returns : goal.returns
 returns c =
     rw (← c.self.view_is) (
     sum_by_from_yields_List (λ k. deque_len k.waiting) c.self.inside.clients.items c.map.result _ c.sum.ensures.ran
-    (YieldsList-from_map _ (λ k. deque_len k.waiting) (YieldsList-from_slice c.self.inside.clients.items cc) c.map.ensures.closure (λ x r q k. search (rules, tests)))
+    (YieldsList-from_map _ (λ k. deque_len k.waiting) (YieldsList-from_slice c.self.inside.clients.items cc)
+    c.map.ensures.closure (λ x r q k. search (rules, tests)))
     ∙ waiting_sum c.self.inside.clients.items)

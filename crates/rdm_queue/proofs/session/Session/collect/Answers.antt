@@ -6,4 +6,8 @@ use Rattle.rdm_queue.proofs.session.Session.collect.Goals as goal
 pub returns-in-None-clause-adds : goal.returns-in-None-clause-adds
 returns-in-None-clause-adds c =
     let k = c.args.self.now in
-    record { block = []; adds = (nothing_uncollected k.opening c.args.client.0 k.entries (sym c.in-None.ensures), refl); grows = grown_none k }
+    record {
+      block = [];
+      adds = (nothing_uncollected k.opening c.args.client.0 k.entries (sym c.in-None.ensures), refl);
+      grows = grown_none k;
+    }

@@ -10,4 +10,6 @@ invariant_of-self c =
     let after = c.self.invariant.after in
     let can = sym (c.can_pause.ensures k.opening k.entries after) ∙ c.if-not-can_pause.false in
     let stands = c.pause.ensures.adds.each k c.self.invariant.search_is after in
-    rw c.append.ensures (session_grown c.self.inside.controller c.pause.new.self k (Pause ∷ []) c.self.invariant (rw (stands.adds, can) at stands.after) c.pause.ensures.adds.search (tt, tt) (omega arith))
+    rw c.append.ensures
+    (session_grown c.self.inside.controller c.pause.new.self k (Pause ∷ []) c.self.invariant
+    (rw (stands.adds, can) at stands.after) c.pause.ensures.adds.search (tt, tt) (omega arith))

@@ -10,4 +10,6 @@ invariant_of-self c =
     let after = c.self.invariant.after in
     let can = sym (c.can_resume.ensures k.opening k.entries after) ∙ c.if-not-can_resume.false in
     let stands = c.resume.ensures.adds.each k c.self.invariant.search_is after in
-    rw c.append.ensures (session_grown c.self.inside.controller c.resume.new.self k (Resume ∷ []) c.self.invariant (rw (stands.adds, can) at stands.after) c.resume.ensures.adds.search (tt, tt) (omega arith))
+    rw c.append.ensures
+    (session_grown c.self.inside.controller c.resume.new.self k (Resume ∷ []) c.self.invariant
+    (rw (stands.adds, can) at stands.after) c.resume.ensures.adds.search (tt, tt) (omega arith))

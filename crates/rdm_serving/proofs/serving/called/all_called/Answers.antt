@@ -7,6 +7,7 @@ use Rattle.rdm_serving.proofs.serving.called.all_called.Goals as goal
 pub clients-preserved : goal.clients-preserved
 clients-preserved c =
     let here : calls_logged c.clients.client c.args.entries.now ≡ c.index-clients-client.result.calls.items =
-    c.if-not-is_called.ensures ∙ c.deref.ensures.value ∙ ap (λ (k : ClientFile). k.calls.items) (sym c.index-clients-client.is) in
+    c.if-not-is_called.ensures ∙ c.deref.ensures.value
+    ∙ ap (λ (k : ClientFile). k.calls.items) (sym c.index-clients-client.is) in
     called_next c.args.entries.now c.args.clients.now c.clients.client c.index-clients-client.result
     (omega arith) c.index-clients-client.is c.clients.invariant here

@@ -8,7 +8,9 @@ searched : (c : goal.After-binary_search_by_key) → Searched c.args.self.now c.
 searched c =
     let facts = c.binary_search_by_key.ensures in
     let by_uid = facts.position (λ d. d.uid) (answers_always _ _ _ (λ f a r g called. search rules)) in
-    rw (← c.as_slice.ensures.value) (searched-device _ c.args.uid _ facts.bound by_uid (rw c.as_slice.ensures.value c.as_slice.ensures.devices.ascending))
+    rw (← c.as_slice.ensures.value)
+    (searched-device _ c.args.uid _ facts.bound by_uid
+    (rw c.as_slice.ensures.value c.as_slice.ensures.devices.ascending))
 
 pub returns-clause-there : goal.returns-clause-there
 returns-clause-there c = (searched c).there

@@ -6,8 +6,10 @@ use Rattle.rdm_wire.proofs.frame.Header.encode.Goals as goal
 
 -- the header, the data and the sum, one after another
 built : (f : Fields) (header with_header with_data sum frame : List ℕ)
-    → with_header ≡ header → header ≡ header_of f → with_data ≡ with_header ++ f.param → sum ≡ two_bytes (checksum with_data) → frame ≡ with_data ++ sum → frame ≡ packet f
-built f header with_header with_data sum frame h0 h1 h2 h3 h4 = h4 ∙ ap (λ l. with_data ++ l) h3 ∙ ap (λ l. l ++ two_bytes (checksum l)) body
+    → with_header ≡ header → header ≡ header_of f → with_data ≡ with_header ++ f.param
+    → sum ≡ two_bytes (checksum with_data) → frame ≡ with_data ++ sum → frame ≡ packet f
+built f header with_header with_data sum frame h0 h1 h2 h3 h4 =
+    h4 ∙ ap (λ l. with_data ++ l) h3 ∙ ap (λ l. l ++ two_bytes (checksum l)) body
   where
     body : with_data ≡ body_of f
     body = h2 ∙ ap (λ l. l ++ f.param) (h0 ∙ h1)

@@ -13,7 +13,9 @@ returns-clause-text c =
     manufacturer ∙ ap (λ (bytes : List ℕ). encode_lower (take 2 bytes)) c.to_bytes-bytes.ensures.bytes in
     let back : c.encode_to_slice-2.new.output ≡ encode_lower (drop 2 (uid_bytes c.args.self)) =
     device ∙ ap (λ (bytes : List ℕ). encode_lower (take 4 (drop 2 bytes))) c.to_bytes-bytes.ensures.bytes in
-    rw (front, back) (put_digits (encode_lower (take 2 (uid_bytes c.args.self))) _ (length-encode_with lower_digits (take 2 (uid_bytes c.args.self))))
+    rw (front, back)
+    (put_digits (encode_lower (take 2 (uid_bytes c.args.self))) _
+    (length-encode_with lower_digits (take 2 (uid_bytes c.args.self))))
 
 pub returns-clause-reads : goal.returns-clause-reads
 returns-clause-reads c = rw (returns-clause-text c) (uid_text_reads c.args.self c.to_bytes-bytes.ensures.in_range)

@@ -16,7 +16,8 @@ pub returns-in_err-params : goal.returns-in_err-params
 returns-in_err-params c = passed c.from_residual-in_err-params.result c.in_err-params.field-0.0
     (IsDeviceOf (view c.args.value.now)) c.from_residual-in_err-params.ensures.1
     (λ other d h. c.in_err-params.ensures other d.params
-    (subst (λ none. MayHave (codes "params") (IsListOf ParameterState IsParameter 0 any_length) none (view c.args.value.now) d.params) (sym c.new.ensures) h.params))
+    (subst (λ none. MayHave (codes "params") (IsListOf ParameterState IsParameter 0 any_length) none
+    (view c.args.value.now) d.params) (sym c.new.ensures) h.params))
 
 pub returns-in_err-from : goal.returns-in_err-from
 returns-in_err-from c = passed c.from_residual-in_err-from.result c.in_err-from.field-0.0
@@ -29,4 +30,6 @@ returns-in_err-until c = passed c.from_residual-in_err-until.result c.in_err-unt
     (λ other d h. c.in_err-until.ensures other d.until h.until)
 
 pub returns-then-leaves_first : goal.returns-then-leaves_first
-returns-then-leaves_first c other d h = leaves (view c.args.value.now) d c.in_ok-from.from c.in_ok-until.until h c.in_ok-from.ensures c.in_ok-until.ensures c.if-leaves_first.ensures
+returns-then-leaves_first c other d h =
+    leaves (view c.args.value.now) d c.in_ok-from.from c.in_ok-until.until h c.in_ok-from.ensures c.in_ok-until.ensures
+    c.if-leaves_first.ensures

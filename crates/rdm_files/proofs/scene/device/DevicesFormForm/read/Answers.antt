@@ -4,7 +4,8 @@ use Rattle.rdm_files.proofs.DeviceForms.{none_placed, one_placed, all_placed, no
 use Rattle.rdm_files.proofs.scene.device.DevicesFormForm.read.Goals as goal
 
 pub returns-then-len-gt-MOST_DEVICES : goal.returns-then-len-gt-MOST_DEVICES
-returns-then-len-gt-MOST_DEVICES c other = too_many (view c.args.value.now) c.in-Some.values.now.items c.in-Some.ensures (omega arith)
+returns-then-len-gt-MOST_DEVICES c other =
+    too_many (view c.args.value.now) c.in-Some.values.now.items c.in-Some.ensures (omega arith)
 
 pub devices-init : goal.devices-init
 devices-init c = none_placed c.in-Some.values.now.items c.new-devices.result c.new-devices.ensures
@@ -15,7 +16,10 @@ returns-in-Err c other = none_listed (view c.args.value.now) c.in-Some.values.no
     (c.in-Err.ensures.refused (sym c.in_item.ensures ∙ other))
 
 pub devices-preserved : goal.devices-preserved
-devices-preserved c = one_placed c.in-Some.values.now.items c.devices.i c.index.result.now c.devices.devices c.add.new.devices (omega arith) c.index.ensures c.devices.invariant c.in-Ok.ensures.added
+devices-preserved c =
+    one_placed c.in-Some.values.now.items c.devices.i c.index.result.now c.devices.devices c.add.new.devices
+    (omega arith) c.index.ensures c.devices.invariant c.in-Ok.ensures.added
 
 pub returns : goal.returns
-returns c = all_placed (view c.args.value.now) c.in-Some.values.now.items c.devices.i c.devices.devices c.in-Some.ensures (omega arith) (omega arith) c.devices.invariant
+returns c = all_placed (view c.args.value.now) c.in-Some.values.now.items c.devices.i c.devices.devices
+    c.in-Some.ensures (omega arith) (omega arith) c.devices.invariant

@@ -4,7 +4,8 @@ use Rattle.rdm_files.proofs.KnownForms.{none_known, one_known, all_known, too_ma
 use Rattle.rdm_files.proofs.scene.file.KnownFormForm.read.Goals as goal
 
 pub returns-then-len-gt-MOST_DEVICES : goal.returns-then-len-gt-MOST_DEVICES
-returns-then-len-gt-MOST_DEVICES c other = too_many_known (view c.args.value.now) c.in-Some.values.now.items c.in-Some.ensures (omega arith)
+returns-then-len-gt-MOST_DEVICES c other =
+    too_many_known (view c.args.value.now) c.in-Some.values.now.items c.in-Some.ensures (omega arith)
 
 pub known-init : goal.known-init
 known-init c = none_known c.in-Some.values.now.items c.new-known.result c.new-known.ensures
@@ -19,4 +20,5 @@ known-preserved c = one_known c.in-Some.values.now.items c.known.i c.in-Ok.uid c
     c.insert.ensures.inserted c.insert.ensures.full.0
 
 pub returns : goal.returns
-returns c = all_known (view c.args.value.now) c.in-Some.values.now.items c.known.i c.known.known c.in-Some.ensures (omega arith) (omega arith) c.known.invariant
+returns c = all_known (view c.args.value.now) c.in-Some.values.now.items c.known.i c.known.known c.in-Some.ensures
+    (omega arith) (omega arith) c.known.invariant

@@ -13,8 +13,11 @@ returns-clause-published g c =
 pub returns-clause-shown_first : goal.returns-clause-shown_first
 returns-clause-shown_first g c =
     let me = c.args.self in
-    let long = c.compared-session.ensures.told.long ∙ (sym (length-map c.args.ends.items end_rings) ∙ c.requires.pairs.long) in
-    rw (c.again.ensures, c.front-2.ensures) (ends_shown_first me.server.session me.server.lanes.items c.compared-session.result.1.items me.views.shown me.server.fits c.compared-session.ensures.agree long me.shown_first)
+    let long = c.compared-session.ensures.told.long
+    ∙ (sym (length-map c.args.ends.items end_rings) ∙ c.requires.pairs.long) in
+    rw (c.again.ensures, c.front-2.ensures)
+    (ends_shown_first me.server.session me.server.lanes.items c.compared-session.result.1.items me.views.shown
+    me.server.fits c.compared-session.ensures.agree long me.shown_first)
 
 pub returns-clause-unspent : goal.returns-clause-unspent
 returns-clause-unspent g c = record { each = λ i e at. e.own }

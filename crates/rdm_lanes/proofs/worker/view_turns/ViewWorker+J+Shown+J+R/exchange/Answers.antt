@@ -6,6 +6,7 @@ invariant_of-self g c =
     let me = c.args.self.now in
     let made = c.exchange.ensures.exchanged in
     record {
-      publishes = publishes_found me.server.session c.exchange.new.self.session made.block me.views c.requires made.grows c.exchange.ensures.found me.publishes;
+      publishes = publishes_found me.server.session c.exchange.new.self.session made.block me.views c.requires
+          made.grows c.exchange.ensures.found me.publishes;
       shown_first = rw c.exchange.ensures.lanes me.shown_first;
     }

@@ -11,10 +11,13 @@ invariant_of-self g c =
     let publishes = publishes_same me.server.session moved.session me.views line me.publishes in
     record {
       publishes = publishes;
-      shown_first = first_shown moved.session moved.lanes.items me.views.shown publishes.showing.none_later moved.fits (all_published_same me.server.session moved.session me.views line c.requires).shown;
+      shown_first =
+          first_shown moved.session moved.lanes.items me.views.shown publishes.showing.none_later moved.fits
+          (all_published_same me.server.session moved.session me.views line c.requires).shown;
     }
 
 pub returns-clause-published : goal.returns-clause-published
 returns-clause-published g c =
     let me = c.args.self.now in
-    all_published_same me.server.session c.move_all.new.self.session me.views (collects_line me.server.session c.move_all.new.self.session c.move_all.ensures.collects) c.requires
+    all_published_same me.server.session c.move_all.new.self.session me.views
+    (collects_line me.server.session c.move_all.new.self.session c.move_all.ensures.collects) c.requires

@@ -14,21 +14,29 @@ invariant_of-self g c =
     let publishes = publishes_same me.server.session served.session me.views line me.publishes in
     record {
       publishes = publishes;
-      shown_first = first_shown served.session served.lanes.items me.views.shown publishes.showing.none_later served.fits (all_published_same me.server.session served.session me.views line c.requires).shown;
+      shown_first =
+          first_shown served.session served.lanes.items me.views.shown publishes.showing.none_later served.fits
+          (all_published_same me.server.session served.session me.views line c.requires).shown;
     }
 
 pub returns-clause-published : goal.returns-clause-published
 returns-clause-published g c =
     let me = c.args.self.now in
-    all_published_same me.server.session c.serve_operator.new.self.session me.views (line_join _ _ _ c.serve_clients.ensures.line c.serve_operator.ensures.line) c.requires
+    all_published_same me.server.session c.serve_operator.new.self.session me.views
+    (line_join _ _ _ c.serve_clients.ensures.line c.serve_operator.ensures.line) c.requires
 
 pub returns-clause-line : goal.returns-clause-line
 returns-clause-line g c = line_join _ _ _ c.serve_clients.ensures.line c.serve_operator.ensures.line
 
 pub returns-clause-operator : goal.returns-clause-operator
 returns-clause-operator g c left =
-    let operator = c.serve_operator.ensures.operator (c.serve_clients.ensures.operator ∙ left) in
-    (operator.0, switches_join c.args.self.now.server.session c.serve_clients.new.self.session c.serve_operator.new.self.session c.serve_clients.ensures.switches operator.1)
+    let operator = c.serve_operator.ensures.operator (c.serve_clients.ensures.operator ∙ left) in (
+      operator.0,
+      switches_join c.args.self.now.server.session c.serve_clients.new.self.session c.serve_operator.new.self.session
+          c.serve_clients.ensures.switches operator.1,
+    )
 
 pub returns-clause-ring : goal.returns-clause-ring
-returns-clause-ring g c = subst (λ (q : OperatorEnd). SameConsumer q c.serve_operator.new.self.operator) c.serve_clients.ensures.ring c.serve_operator.ensures.ring
+returns-clause-ring g c =
+    subst (λ (q : OperatorEnd). SameConsumer q c.serve_operator.new.self.operator) c.serve_clients.ensures.ring
+    c.serve_operator.ensures.ring

@@ -8,27 +8,41 @@ use Rattle.rdm_lanes.proofs.worker.view_turns.ViewWorker+J+Shown+J+R.work.Goals 
 
 pub returns-in-Some-clause-exchanged : goal.returns-in-Some-clause-exchanged
 returns-in-Some-clause-exchanged g c =
-    exchanged_join g.X.Line.step c.args.line.now c.loop-turn.line c.turn.new.line c.args.self.now.server.session c.loop-turn.self.server.session c.turn.new.self.server.session c.loop-turn.invariant.exchanged c.turn.ensures.exchanged
+    exchanged_join g.X.Line.step c.args.line.now c.loop-turn.line c.turn.new.line c.args.self.now.server.session
+    c.loop-turn.self.server.session c.turn.new.self.server.session c.loop-turn.invariant.exchanged
+    c.turn.ensures.exchanged
 
 pub returns-in-Some-clause-lanes : goal.returns-in-Some-clause-lanes
 returns-in-Some-clause-lanes g c =
-    same_lanes_join c.args.self.now.server.lanes.items c.loop-turn.self.server.lanes.items c.turn.new.self.server.lanes.items c.loop-turn.invariant.lanes c.turn.ensures.lanes
+    same_lanes_join c.args.self.now.server.lanes.items c.loop-turn.self.server.lanes.items
+    c.turn.new.self.server.lanes.items c.loop-turn.invariant.lanes c.turn.ensures.lanes
 
 pub loop-turn-preserved : goal.loop-turn-preserved
 loop-turn-preserved g c = record {
-  exchanged = exchanged_join g.X.Line.step c.args.line.now c.loop-turn.line c.turn.new.line c.args.self.now.server.session c.loop-turn.self.server.session c.turn.new.self.server.session c.loop-turn.invariant.exchanged c.turn.ensures.exchanged;
+  exchanged = exchanged_join g.X.Line.step c.args.line.now c.loop-turn.line c.turn.new.line
+      c.args.self.now.server.session c.loop-turn.self.server.session c.turn.new.self.server.session
+      c.loop-turn.invariant.exchanged c.turn.ensures.exchanged;
   few = omega (arith, c.loop-turn.invariant.few, c.turn.ensures.one);
-  lanes = same_lanes_join c.args.self.now.server.lanes.items c.loop-turn.self.server.lanes.items c.turn.new.self.server.lanes.items c.loop-turn.invariant.lanes c.turn.ensures.lanes;
+  lanes = same_lanes_join c.args.self.now.server.lanes.items c.loop-turn.self.server.lanes.items
+      c.turn.new.self.server.lanes.items c.loop-turn.invariant.lanes c.turn.ensures.lanes;
   operator = λ left.
       let before = c.loop-turn.invariant.operator left in
-      let turn = c.turn.ensures.operator before.0 in
-      (turn.0, switches_join c.args.self.now.server.session c.loop-turn.self.server.session c.turn.new.self.server.session before.1 turn.1);
-  views = prefix_trans c.args.self.now.views.shown c.loop-turn.self.views.shown c.turn.new.self.views.shown c.loop-turn.invariant.views c.turn.ensures.views;
-  ring = ring_join c.args.self.now.server.operator c.loop-turn.self.server.operator c.turn.new.self.server.operator c.loop-turn.invariant.ring c.turn.ensures.ring;
+      let turn = c.turn.ensures.operator before.0 in (
+        turn.0,
+        switches_join c.args.self.now.server.session c.loop-turn.self.server.session
+            c.turn.new.self.server.session before.1 turn.1,
+      );
+  views = prefix_trans c.args.self.now.views.shown c.loop-turn.self.views.shown c.turn.new.self.views.shown
+      c.loop-turn.invariant.views c.turn.ensures.views;
+  ring = ring_join c.args.self.now.server.operator c.loop-turn.self.server.operator c.turn.new.self.server.operator
+      c.loop-turn.invariant.ring c.turn.ensures.ring;
 }
 
 pub returns-in-Some-clause-turns : goal.returns-in-Some-clause-turns
-returns-in-Some-clause-turns g c = (omega (arith, c.loop-turn.invariant.few, c.turn.ensures.one, c.loop-turn-test.true), λ none. absurd (omega (arith, none, c.loop-turn-test.true)))
+returns-in-Some-clause-turns g c = (
+  omega (arith, c.loop-turn.invariant.few, c.turn.ensures.one, c.loop-turn-test.true),
+  λ none. absurd (omega (arith, none, c.loop-turn-test.true)),
+)
 
 pub returns-in-Some-clause-all_left : goal.returns-in-Some-clause-all_left
 returns-in-Some-clause-all_left g c is = c.turn.ensures.all_left (c.in-Some.is ∙ ap (λ x. Some x) is)
@@ -39,12 +53,16 @@ returns-in-Some-clause-full g c is = c.turn.ensures.full (c.in-Some.is ∙ ap (�
 pub returns-in-Some-clause-operator : goal.returns-in-Some-clause-operator
 returns-in-Some-clause-operator g c left =
     let before = c.loop-turn.invariant.operator left in
-    let turn = c.turn.ensures.operator before.0 in
-    (turn.0, switches_join c.args.self.now.server.session c.loop-turn.self.server.session c.turn.new.self.server.session before.1 turn.1)
+    let turn = c.turn.ensures.operator before.0 in (
+      turn.0,
+      switches_join c.args.self.now.server.session c.loop-turn.self.server.session c.turn.new.self.server.session
+          before.1 turn.1,
+    )
 
 pub loop-turn-init : goal.loop-turn-init
 loop-turn-init g c = record {
-  exchanged = exchanged_none g.X.Line.step c.args.line.now c.args.self.now.server.session c.args.self.now.server.session (line_same c.args.self.now.server.session);
+  exchanged = exchanged_none g.X.Line.step c.args.line.now c.args.self.now.server.session c.args.self.now.server.session
+      (line_same c.args.self.now.server.session);
   few = omega arith;
   lanes = same_lanes c.args.self.now.server.lanes.items;
   operator = λ left. (left, switches_same c.args.self.now.server.session);
@@ -56,7 +74,11 @@ pub returns-in-Some-clause-published : goal.returns-in-Some-clause-published
 returns-in-Some-clause-published g c apart = (rw c.in-Some.is at c.turn.ensures.published).shown
 
 pub returns-in-Some-clause-views : goal.returns-in-Some-clause-views
-returns-in-Some-clause-views g c = prefix_trans c.args.self.now.views.shown c.loop-turn.self.views.shown c.turn.new.self.views.shown c.loop-turn.invariant.views c.turn.ensures.views
+returns-in-Some-clause-views g c =
+    prefix_trans c.args.self.now.views.shown c.loop-turn.self.views.shown c.turn.new.self.views.shown
+    c.loop-turn.invariant.views c.turn.ensures.views
 
 pub returns-in-Some-clause-ring : goal.returns-in-Some-clause-ring
-returns-in-Some-clause-ring g c = ring_join c.args.self.now.server.operator c.loop-turn.self.server.operator c.turn.new.self.server.operator c.loop-turn.invariant.ring c.turn.ensures.ring
+returns-in-Some-clause-ring g c =
+    ring_join c.args.self.now.server.operator c.loop-turn.self.server.operator c.turn.new.self.server.operator
+    c.loop-turn.invariant.ring c.turn.ensures.ring

@@ -2,4 +2,6 @@ use Rattle.rdm_lanes.proofs.WorkLemmas.{Worked}
 use Rattle.rdm_lanes.proofs.worker.view_turns.ViewWorker+J+Shown+J+R.work.Given as goal
 
 abbrev pub invariant-loop-turn : goal.invariant-loop-turn
-invariant-loop-turn g l = Worked g.X.Line.step l._turn l.fn.line l.fn.self.server l.line l.self.server l.fn.self.views.shown l.self.views.shown
+invariant-loop-turn g l =
+    Worked g.X.Line.step l._turn l.fn.line l.fn.self.server l.line l.self.server l.fn.self.views.shown
+    l.self.views.shown
