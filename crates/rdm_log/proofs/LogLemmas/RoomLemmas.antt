@@ -24,7 +24,7 @@ use Rattle.rdm_log.proofs.LogLemmas.AskFacts.{ask_facts}
 use Rattle.rdm_log.proofs.LogLemmas.ClientFacts.{client_facts, collects_within}
 use Rattle.rdm_log.proofs.LogLemmas.PushLemmas.{SameRequests, same_after, finishes_more, answered_more, accepts_same, asks_same, finishes_same, answered_same, collectors_same, collectors_more, unfinished_accept, unfinished_finish, unanswered_ask, unanswered_answer, awaited-push, is_closed-push}
 
--- the entries that stand and those that are reserved
+-- the entries and those that are reserved
 abbrev pub taken : Opening → List Entry → ℕ
 taken o h = length h + reserved o h
 

@@ -1,4 +1,4 @@
--- A client is given the outcomes of its Finishes and Answers once, in order.
+-- A client collects the outcomes of its Finishes and Answers once, in order.
 use Rattle.std.proofs.Common.{◌≡◌, ℕ, zero, suc, Bool, true, false, List, [], ◌∷◌, ◌++◌, length, take, drop, Option, Some, None, if◌then◌else◌, slice_get, refl, ap, ◌∙◌, append_assoc, append-nil, add-one, inl, inr, filter_map}
 use Rattle.std.specs.Prelude.{◌⊎◌, ◌==◌, Ok, Err}
 use Rattle.std.specs.List.{AllByRecursion, cons_option}
@@ -59,7 +59,7 @@ collected_own o h d x at =
 collected_other : (o : Opening) (c : ℕ) (h : List Entry) (d : ClientId) → (c == d.0) ≡ false → collected o c (h ++ Collect d ∷ []) ≡ collected o c h
 collected_other o c h d other = rw (answers_same o c h (Collect d) refl refl, collectors_more h (Collect d) d.0 refl, filter-append (λ x. c == x) (collectors h) (d.0 ∷ []), other, append-nil) refl
 
--- an event that gives no outcome adds no Collect
+-- an event that returns no outcome adds no Collect
 none_or_one : (e : Entry) (block : List Entry) → collector_of e ≡ None → (block ≡ []) ⊎ (block ≡ e ∷ []) → NoCollects block
 none_or_one e block none (inl is) = rw is tt
 none_or_one e block none (inr is) = rw is (none, tt)
@@ -81,12 +81,12 @@ close_none : (closed : Bool) (block : List Entry) → CloseAddsWhere closed bloc
 close_none true block adds = rw adds tt
 close_none false block adds = with_results_none Close block refl adds
 
--- of an event that gave nothing to any client
+-- for an event that returned no outcome
 pub record GaveNothing (e : Event) (r : Answer) (block : List Entry) : Type 0 where
   pub none : NoCollects block
   pub nothing : (c : ℕ) → outcome_given c e r ≡ None
 
--- an event gave a client its oldest outcome, or nothing to anyone
+-- an event returned a client's oldest outcome, or none
 pub record GaveOne (k : LogState) (e : Event) (r : Answer) (block : List Entry) : Type 0 where
   pub client : ClientId
   pub outcome : Outcome

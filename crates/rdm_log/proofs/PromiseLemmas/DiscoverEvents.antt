@@ -1,4 +1,4 @@
--- A discovery that was accepted stands in the log, and a client with four outstanding is refused.
+-- A discovery that was accepted is in the log, and a client that has as many as it may is refused.
 use Rattle.std.proofs.Common.{◌≡◌, ℕ, zero, suc, false, List, [], ◌∷◌, ◌++◌, Option, Some, slice_get, refl, sym, ap, ◌∙◌}
 use Rattle.std.specs.Prelude.{Result, Ok, Err, option_map}
 use Rattle.std.specs.List.{Contains}
@@ -44,7 +44,7 @@ discovery_contained h c n kind has =
     let found = filter_map_has asked_of h has.0 e a (slice_get-get_or h has.0 e has.1 ∙ ap (λ x. Some x) has.2) refl in
     contains_from_get (numbers_asked (asks h)) found.0 n (slice_get-map (λ b. b.number) (asks h) found.0 ∙ ap (option_map (λ b. b.number)) found.1)
 
--- a discover where the log isn't full
+-- a discover if the log isn't full
 full_answered : (k : LogState) (c : ClientId) (kind : Kind) (answer : Answer) (block : List Entry) → Adds k (events.Discover c kind) answer block → answer ≡ refuses_discovery → HasMostDiscoveries k.opening k.entries c.0
 full_answered k c kind answer block adds is = most_is_fault k.opening k.entries c.0 (discover_full k c kind block (rw is at adds)).0
 

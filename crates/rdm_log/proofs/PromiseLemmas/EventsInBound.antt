@@ -36,7 +36,7 @@ switch_in_bound : (k : LogState) (b : Bool) (e : Entry) (block : List Entry) →
 switch_in_bound k true e block none is = rw is (none, tt)
 switch_in_bound k false e block none is = rw is tt
 
--- where the queue is closed nothing is asked of Answers
+-- if the queue is closed, any Answer is in bound
 closed_entry : (k : LogState) (e : Entry) → is_closed k.opening k.entries ≡ true → FaultNeedsClose k e
 closed_entry k (discovery.Answer n r (Some fault)) closed = λ present calm. closed
 closed_entry k (discovery.Answer n r None) closed = tt
@@ -50,7 +50,7 @@ close_in_bound : (k : LogState) (closed : Bool) (block : List Entry) → CloseAd
 close_in_bound k true block adds = rw adds tt
 close_in_bound k false block adds = rw adds.whole (tt, closed_in_bound (grown k (Close ∷ [])) adds.results (is_closed-push k.opening k.entries Close))
 
--- so it is with each event's block
+-- the same for each event's block
 pub event_in_bound : (k : LogState) (e : Event) (r : Answer) (block : List Entry) → Adds k e r block → AnswersInBound k block
 event_in_bound k (events.Join n) (answers.Join (Ok c)) block adds = rw (join_ok k n c block adds).2 (tt, tt)
 event_in_bound k (events.Join n) (answers.Join (Err fault)) block adds = none_or_one k (join_refused n fault) block tt (join_refusal k n fault block adds)
@@ -94,7 +94,7 @@ calm_before k before back n r fault present each is begun calm = record {
   budgeted = rw (is, served_stays r before (discovery.Answer n r (Some fault) ∷ back) begun, entries_before_run_stays r before (discovery.Answer n r (Some fault) ∷ back) begun) at calm.budgeted;
 }
 
--- an Answer that names no run stands after a close
+-- an Answer that names no run comes after a close
 by_number : (k : LogState) (before back : List Entry) (n r : ℕ) (fault : AgentFault) (present : List ℕ) → EachAfter (MayFollow k.opening) k.entries → k.entries ≡ before ++ discovery.Answer n r (Some fault) ∷ back → MayAnswer k.opening before n r (Some fault) → FaultNeedsClose (with_entries k before) (discovery.Answer n r (Some fault)) → IsCalmRun k r present → is_closed k.opening before ≡ true
 by_number k before back n zero fault present each is may bound calm = (may.unserved refl).closing.closed
 by_number k before back n (suc r) fault present each is may bound calm = bound present (calm_before k before back n (suc r) fault present each is (named_begun k.opening before n (suc r) (Some fault) may some) calm)

@@ -1,4 +1,4 @@
--- One run answers the discoveries that were asked before it began, all alike.
+-- One run answers the discoveries that were asked for before it began, all alike.
 use Rattle.std.proofs.Common.{◌≡◌, ℕ, ◌+◌, Bool, true, false, List, [], ◌∷◌, ◌++◌, length, Option, Some, slice_get, refl, sym, ap, ◌∙◌, inl, inr, append_assoc, append-nil}
 use Rattle.std.specs.Prelude.{◌⊎◌, ◌≢◌, ◌==◌, ◌||◌, ◌-◌}
 use Rattle.std.specs.List.{AllByRecursion, Contains, list_any}
@@ -92,7 +92,7 @@ ended o h each before back n r fault is =
 devices_stay : (h k : List Entry) (r : ℕ) → run_exchanges r k ≡ run_exchanges r h → answer_devices r k ≡ answer_devices r h
 devices_stay h k r same = rw same refl
 
--- what a run serves was asked before it began
+-- what a run serves was asked for before it began
 asked_first : (o : Opening) (h : List Entry) → EachAfter (MayFollow o) h → (before back : List Entry) (n r : ℕ) (fault : Option AgentFault) → h ≡ before ++ Answer n r fault ∷ back → r ≢ 0 → Contains (numbers_asked (asks (entries_before_run r h))) n
 asked_first o h each before back n r fault is run = rw (is, entries_before_run_stays r before (Answer n r fault ∷ back) begun) (by_place (any_from_place (λ a. a.number == n) (unserved early) (rw begun at (may.by_run run).serves)))
   where
@@ -120,7 +120,7 @@ contains_place xs x has = slice_get-get_or xs has.0 x has.1 ∙ ap (λ y. Some y
 all_served : (o : Opening) (h : List Entry) → Legal o h → (i : ℕ) (b : Answered) (a : AskedDiscovery) → slice_get (answers h) i ≡ Some b → Contains (served b.run h) a → has_answer a.number h ≡ true
 all_served o h legal i b a at has = all_at (λ x. has_answer x.number h ≡ true) (served b.run h) (all_at (λ x. AllAnswered x.run h) (answers h) legal.settled.runs_answered i b at) has.0 a (contains_place (served b.run h) a has)
 
--- which kind it is of
+-- its kind
 full : (r : ℕ) (h : List Entry) (a : AskedDiscovery) → Contains (served r h) a → a.kind ≡ kinds.Full → run_kind r h ≡ kinds.Full
 full r h a has is = rw (list_any_at (λ x. is_full_kind x.kind) (served r h) has.0 a has.1 (rw (has.2, is) refl)) refl
 
