@@ -38,7 +38,7 @@ close_amid o h s open_ after = record {
       (rw (joins_same h Close refl) after.stands.places_are) (after.stands.paused_is ∙ sym (is_paused-push o h Close)) (sym (is_closed-push o h Close)) (λ c. refl) refl (rw (joins_same h Close refl) after.stands.owed_for_each) after.stands;
 }
 
--- how far the oldest request is, where its result is open
+-- the state of the oldest request, if its result is open
 pub open_progress : (r : Option Joined) (vs : List Judged) (decided : Option Joined) (joiner : JoinerStanding) → r ≡ None → ProgressAt r vs decided joiner → (decided ≡ None) × StandsAt vs joiner
 open_progress None vs decided joiner is progress = progress
 open_progress (Some j) vs decided joiner is progress = absurd (none-some j (sym is))

@@ -1,4 +1,4 @@
--- A queue goes on with the log, entry by entry.
+-- A queue follows the log, entry by entry.
 use Rattle.std.proofs.Common.{◌≡◌, ℕ, ◌+◌, ◌≤◌, ◌<◌, ◌%◌, Bool, true, false, List, [], ◌∷◌, ◌++◌, length, drop, filter, map, sum, set, get_or, Option, Some, None, slice_get, refl, sym, ap, ◌∙◌, inl, inr, zero, suc, length-append, append-nil, arith, filter_map, if◌then◌else◌}
 use Rattle.std.specs.Prelude.{◌⊎◌, ◌==◌, ◌||◌}
 use Rattle.std.specs.List.{list_any}
@@ -307,7 +307,7 @@ last_owner ss xs ys n r frame other is also = no (same_from_push xs ys (record {
     no : ◌≡◌ {A = Sending} (record { owner = owners.Request n; frame = frame }) (record { owner = owners.Run r; frame = other }) → ⊥
     no h = false≢true (ap (λ (x : Sending). is_run r x.owner) h ∙ eq-eqb r r refl)
 
--- an outcome more
+-- one more outcome
 pub count_more : (lists : List (List OutcomeValue)) (c : ℕ) (d : OutcomeValue) → c < length lists → sum (map (λ (ds : List OutcomeValue). length ds) (set lists c (get_or lists c [] ++ d ∷ []))) ≡ sum (map (λ (ds : List OutcomeValue). length ds) lists) + 1
 count_more [] c d within = absurd (omega arith)
 count_more (ds ∷ lists) zero d within = let rest = sum_by-cons (λ (n : ℕ). n) (length (ds ++ d ∷ [])) (map (λ (es : List OutcomeValue). length es) lists) in let whole = sum_by-cons (λ (n : ℕ). n) (length ds) (map (λ (es : List OutcomeValue). length es) lists) in let one = length-append ds (d ∷ []) in omega arith
