@@ -1,7 +1,7 @@
 //! The fault that calls of several crates return.
 use thiserror::Error;
 
-/// There was no memory, and nothing has changed.
+/// Out of memory. Each call says what is then left unchanged.
 #[derive(Clone, Copy, Debug, PartialEq, Eq, Error)]
 #[error("out of memory")]
 pub struct NoMemory;

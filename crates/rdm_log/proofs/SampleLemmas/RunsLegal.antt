@@ -97,7 +97,7 @@ not_corrupt x many u c = among x c.before c.mutes many c.whole
 no_devices : IsDeviceSet []
 no_devices = record { devices = tt; ascending = tt }
 
--- a full run amid them goes on
+-- a full run during these exchanges goes on
 goes_on : (h : List Entry) (n : ℕ) (b : AgentState) (asked : Asked) → run_kind 1 h ≡ Full
     → known_at_run sample_opening 1 h ≡ [] → run_exchanges 1 h ≡ take n sample_run
     → Runs (start Full [] 96008) (take n sample_run) b → next_of b ≡ Some asked → AllReported (take n sample_run)
@@ -661,7 +661,7 @@ failed = record {
   };
 }
 
--- a run that a close finds amid its frames is aborted
+-- a run that a close interrupts is aborted
 one_exchange : (h : List Entry) → run_kind 1 h ≡ Full → known_at_run sample_opening 1 h ≡ []
     → run_exchanges 1 h ≡ take 1 sample_run → GoesOn sample_opening h 1
 one_exchange h kind known same =
