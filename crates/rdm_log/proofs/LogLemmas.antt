@@ -1,4 +1,4 @@
--- How the words of a log change with each entry, and what holds of each legal log.
+-- How what a log says changes with each entry, and what holds for each legal log.
 pub mod Grows
 pub mod Places
 pub mod Counts

@@ -8,14 +8,13 @@ use std::mem::size_of;
 /// How many clients may join (profile of this project).
 pub const MOST_CLIENTS: usize = 16;
 
-/// The number that no request is given: where it would be the next one, the numbers have run out (profile of this
-/// project).
+/// The number that no request gets: if it would be the next one, the numbers have run out (profile of this project).
 pub const NEVER_GIVEN: u64 = u64::MAX;
 
 /// How many discoveries a client may have outstanding (profile of this project).
 pub const MOST_DISCOVERIES: usize = 4;
 
-/// The number that no discovery is given: where it would be the next one, the numbers have run out (profile of this
+/// The number that no discovery gets: if it would be the next one, the numbers have run out (profile of this
 /// project).
 pub const NEVER_GIVEN_TO_A_DISCOVERY: u64 = u64::MAX - 1;
 
@@ -23,10 +22,10 @@ pub const NEVER_GIVEN_TO_A_DISCOVERY: u64 = u64::MAX - 1;
 #[derive(Clone, Copy, Debug, PartialEq, Eq)]
 pub struct ClientId(pub u8);
 
-/// A call that was refused, with what it was given (profile of this project).
+/// A call that was refused, with its arguments (profile of this project).
 #[derive(Debug, Drop)]
 pub enum Call {
-    /// A join with this many places.
+    /// A join with this queue depth.
     Join(u8),
     /// A submit of this request.
     Submit(Request),
@@ -55,7 +54,7 @@ pub enum Entry {
     Join {
         /// The client.
         client: ClientId,
-        /// Its places: how many requests it may have outstanding.
+        /// Its queue depth: how many requests it may have outstanding.
         places: u8,
     },
     /// A call was refused.
@@ -73,7 +72,7 @@ pub enum Entry {
         client: ClientId,
         /// Its number.
         number: u64,
-        /// What it asks.
+        /// The request.
         request: Request,
     },
     /// A discovery was accepted.
@@ -82,10 +81,10 @@ pub enum Entry {
         client: ClientId,
         /// Its number.
         number: u64,
-        /// What it asks for. A run is full where one of the discoveries that it serves asks for that.
+        /// Its kind. A run is full if one of the discoveries that it serves is.
         kind: Kind,
     },
-    /// A frame was given for the line.
+    /// A frame was returned, for the line.
     Send {
         /// Whose it is.
         owner: Owner,
@@ -97,27 +96,27 @@ pub enum Entry {
         /// What came.
         event: LineEvent,
     },
-    /// A request was finished. With status Completed its data are those of the replies to its frames, one after
-    /// the other.
+    /// A request was finished. With status Completed its data are those of the replies to its frames, joined in
+    /// order.
     Finish {
         /// The request's number.
         number: u64,
         /// How it ended.
         status: Status,
-        /// How many bytes its joined data have; 0 for each status but Completed.
+        /// The length of its joined data in bytes; 0 for each status but Completed.
         len: usize,
     },
     /// A discovery was answered. Its set is that of its run: each device whose mute was acknowledged in that run's
-    /// exchanges, as its first acknowledgement says it; of more than 1,024 the first 1,024.
+    /// exchanges, as its first acknowledgement describes it. If there are more than 1,024, it has the first 1,024.
     Answer {
         /// The discovery's number.
         number: u64,
-        /// The run that served it; 0 where none was begun for it.
+        /// The run that served it; 0 if none was begun for it.
         run: u64,
-        /// Why the run ended early; None where it ended without fault.
+        /// Why the run ended early; None if it ended without fault.
         fault: Option<AgentFault>,
     },
-    /// A client was given its oldest outcome.
+    /// A client collected its oldest outcome.
     Collect {
         /// The client.
         client: ClientId,
@@ -132,17 +131,17 @@ pub enum Entry {
 
 const _: () = prove!(size_of::<Entry>() == 296);
 
-/// What a log stands after: how the queue stood before its first entry. A number that is "next" is the one that will
-/// be given next (profile of this project).
+/// The state of the queue before a log's first entry. A number that is "next" is the one that will be used next
+/// (profile of this project).
 #[derive(Debug, Drop)]
 pub struct Opening {
     /// The controller's own UID.
     pub source: Uid,
-    /// How many places there are for all clients together.
+    /// The greatest sum of all clients' queue depths.
     pub greatest: u16,
-    /// How many frames a discovery run may take.
+    /// How many frames a discovery run may send.
     pub budget: u64,
-    /// The places of each client that had joined.
+    /// The queue depth of each client that had joined.
     pub places: ArrayVec<u8, MOST_CLIENTS>,
     /// Whether sending was paused.
     pub paused: bool,
@@ -150,7 +149,7 @@ pub struct Opening {
     pub closed: bool,
     /// The devices of the last run without fault; none before the first.
     pub devices: DeviceSet,
-    /// The run that gave the devices; 0 before the first.
+    /// The run that found the devices; 0 before the first.
     pub devices_run: u64,
     /// The next request's number.
     pub next_request: u64,

@@ -1,4 +1,4 @@
-//! What is asked of a session, as one value, and what it answers.
+//! The calls of a session, each as one value, and their results.
 use crate::entry::ClientId;
 use crate::fault::{AskFault, JoinFault, LogFull, NotAsked, SubmitFault};
 use crate::outcome::BoxedOutcome;
@@ -10,7 +10,7 @@ use std::mem::size_of;
 /// A call of a session (profile of this project).
 #[derive(Debug, Drop)]
 pub enum Event {
-    /// A client joins, with this many places.
+    /// A client joins, with this queue depth.
     Join(u8),
     /// A client submits a request.
     Submit(ClientId, Request),
@@ -24,13 +24,13 @@ pub enum Event {
     Close,
     /// The next frame is taken for the line.
     Take,
-    /// What the line answered to the last frame is delivered.
+    /// What came for the last frame is delivered.
     Deliver(LineEvent),
     /// A client collects its oldest outcome.
     Collect(ClientId),
 }
 
-/// What a session answers: the result of the call of that name (profile of this project).
+/// A session's answer to an event: the result of the call with that name (profile of this project).
 #[derive(Debug, Drop)]
 pub enum Answer {
     /// The client, or why it may not join.
@@ -45,12 +45,12 @@ pub enum Answer {
     Resume(Result<(), LogFull>),
     /// Done.
     Close,
-    /// The frame, or None where none may be sent; or the log is full.
+    /// The frame, or None if none may be sent; or the log is full.
     Take(Result<Option<Frame>, LogFull>),
-    /// Done; or no reply was awaited, with what was delivered.
+    /// Done; or no reply was awaited, and the event is returned.
     Deliver(Result<(), (NotAsked, LineEvent)>),
-    /// The outcome, or None where there is none. Or there was no memory for the set of a discovery: nothing has
-    /// changed, and the client's next collect meets the same outcome.
+    /// The outcome, or None if there is none. Or there was no memory for the set of a discovery: nothing has changed,
+    /// and the client's next collect finds the same outcome.
     Collect(Result<Option<BoxedOutcome>, NoMemory>),
 }
 

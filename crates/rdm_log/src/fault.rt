@@ -25,7 +25,7 @@ pub enum JoinFault {
     /// 2: sixteen clients have joined.
     #[error("there are sixteen clients")]
     TooManyClients,
-    /// 3: the places of all clients together would be more than there are.
+    /// 3: the sum of the clients' queue depths would be too large.
     #[error("there are too few places")]
     NoPlaces,
     /// 4: there is no memory for what the client may have outstanding.
@@ -45,7 +45,7 @@ pub enum SubmitFault {
     /// 2: no such client has joined.
     #[error("no such client")]
     UnknownClient,
-    /// 3: the client's places are taken, or the numbers have run out.
+    /// 3: the client has as many requests outstanding as its queue depth allows, or the numbers have run out.
     #[error("the client's places are taken")]
     Full,
     /// 4: the log has fewer than three free entries.

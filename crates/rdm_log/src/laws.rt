@@ -1,4 +1,4 @@
-//! What is proved of logs and of answers, beside the contracts of the calls.
+//! What is proved about logs and answers, beside the contracts of the calls.
 
 mod broken;
 mod discoveries;

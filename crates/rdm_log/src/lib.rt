@@ -1,12 +1,12 @@
 //! The log of a queue of requests and discoveries on one RDM line: its entries, which logs are legal, and what a legal
 //! log promises.
 //!
-//! The laws of [`laws`] speak of logs alone. `rdm_queue` has the queue that writes such a log.
+//! The laws in [`laws`] are about logs alone. `rdm_queue` has the queue that writes such a log.
 //!
 //! # What calls cost
 //!
-//! - A log's opening holds a set of devices, 32 KB large. It is filled when a log is made or cleared, and when it is
-//!   given another opening.
+//! - A log's opening contains a set of devices, of 32 KB. It is filled when a log is made or cleared, and when it gets
+//!   another opening.
 //! - An entry takes 296 bytes. The memory of all of them is reserved when the log is made, so `append` takes constant
 //!   time and allocates nothing.
 #![tactic(auto)]

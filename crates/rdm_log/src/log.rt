@@ -12,15 +12,15 @@ pub const MOST_FREE_ENTRIES: usize = 1_000_000;
 /// How many entries have to be free for each call that a full log refuses (profile of this project).
 pub const LEAST_FREE: usize = 3;
 
-/// The entries of a session, oldest first, and what they stand after (profile of this project). Its memory is
+/// The entries of a session, oldest first, and the opening before them (profile of this project). Its memory is
 /// reserved when it is made.
 #[derive(Debug, Drop)]
 pub struct Log {
-    // It holds a device set, and a log is moved often. So it lies in memory of its own.
+    // Boxed, because it contains a device set, and a log is moved often.
     opening: Box<Opening>,
     entries: Vec<Entry>,
     room: usize,
-    /// How the runs of its session search. No entry says it, and no rule on logs looks at it.
+    /// How the runs of its session search. No entry says it, and no rule about logs depends on it.
     search: Search,
 }
 
@@ -46,9 +46,9 @@ impl Log {
     ghost use Rattle.std.specs.Prelude.{◌≡◌, ◌+◌, ◌<◌, ◌≤◌, [], ◌∷◌, IfOk, length};
     ghost use Rattle.rdm_log.specs.log.LogState.{grown, blank_opening, blank_log};
 
-    /// A log without entries, with room for this many, 0 to [`MOST_FREE_ENTRIES`], and one more for a close. Its
+    /// A log without entries, with capacity for this many, 0 to [`MOST_FREE_ENTRIES`], and one more for a close. Its
     /// opening has 0 everywhere, no clients and no devices, and is neither paused nor closed. It is written when a
-    /// session begins. Err: there was no memory.
+    /// session begins. Err: out of memory.
     pub fn new(alloc: Global, free: usize) -> Result<Log, NoMemory>
         requires { free ≤ 1000000 }
         ensures { IfOk result (λ log. log ≡ blank_log (free + 1)) }
@@ -68,7 +68,7 @@ impl Log {
         })
     }
 
-    /// How the queue stood before the first entry.
+    /// The state of the queue before the first entry.
     pub fn opening(&self) -> &Opening
         ensures { result.now ≡ self.now.opening }
     {
@@ -89,7 +89,7 @@ impl Log {
         self.search
     }
 
-    /// How many entries the log can hold, those that it has among them. It is at least 1, and no call changes it.
+    /// How many entries the log can hold, including those that it has. It is at least 1, and no call changes it.
     pub fn room(&self) -> usize
         ensures room { result ≡ self.now.room }
         ensures within { length self.now.entries ≤ self.now.room }
@@ -98,7 +98,7 @@ impl Log {
         self.room
     }
 
-    /// The same log after another opening, of a session whose runs search by `search`. Its entries and its room are
+    /// The same log after another opening, of a session whose runs search by `search`. Its entries and its capacity are
     /// unchanged.
     pub fn after(mut self, opening: Opening, search: Search) -> Log
         ensures log { result ≡ record self { opening = opening; search = search } }
@@ -109,7 +109,7 @@ impl Log {
         self
     }
 
-    /// The log without its entries, with the same room, and with the opening of a new log.
+    /// The log without its entries, with the same capacity, and with the opening of a new log.
     pub fn cleared(mut self) -> Log
         ensures { result ≡ blank_log self.room }
     {

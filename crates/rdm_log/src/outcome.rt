@@ -1,29 +1,29 @@
-//! What a client is given for its calls.
+//! The outcomes that a client collects.
 use rdm_agent::AgentFault;
 use rdm_join::{ReplyHead, Status};
 use rdm_wire::DeviceSet;
 use std::mem::size_of;
 
-/// How a request ended, and what was answered (profile of this project).
+/// How a request ended, with the answer (profile of this project).
 #[derive(Debug, Drop)]
 pub struct Completion {
     /// How it ended.
     pub status: Status,
-    /// The head of the last reply; it is there for status Completed alone.
+    /// The head of the last reply; only status Completed has one.
     pub reply: Option<ReplyHead>,
-    /// The parameter data of all replies, one after the other; none for each status but Completed.
+    /// The parameter data of all replies, joined in order; empty for each status but Completed.
     pub bytes: Vec<u8>,
 }
 
-/// How a discovery ended, and what its run found (profile of this project). The set makes it 32 KB large.
+/// How a discovery ended, and what its run found (profile of this project). The set makes it 32 KB in size.
 #[derive(Debug, Drop)]
 pub struct AskCompletion {
-    /// The run that served it; 0 where none was begun for it.
+    /// The run that served it; 0 if none was begun for it.
     pub run: u64,
-    /// Why the run ended early; None where it ended without fault.
+    /// Why the run ended early; None if it ended without fault.
     pub fault: Option<AgentFault>,
-    /// The devices whose mute was acknowledged in the run, as each first acknowledgement says it. Without fault these
-    /// are all that the run's certificate vouches for; none for run 0.
+    /// The devices whose mute was acknowledged in the run, each as its first acknowledgement describes it. Without
+    /// fault these are all that the run's certificate vouches for; none for run 0.
     pub set: DeviceSet,
 }
 
@@ -48,8 +48,8 @@ pub enum Outcome {
 
 const _: () = prove!(size_of::<Outcome>() == 32_832);
 
-/// What a client collects by an event: an [`Outcome`], but the set of a discovery lies in memory of its own (profile of
-/// this project).
+/// What a client collects by an event: an [`Outcome`], but with the set of a discovery in a box (profile of this
+/// project).
 #[derive(Debug, Drop)]
 pub enum BoxedOutcome {
     /// A request has ended.
@@ -63,14 +63,14 @@ pub enum BoxedOutcome {
     Discovery {
         /// How it ended, and its number.
         end: DiscoveryEnd,
-        /// The devices that its run found, as [`AskCompletion::set`] has them.
+        /// The devices that its run found, as in [`AskCompletion::set`].
         set: Box<DeviceSet>,
     },
 }
 
 const _: () = prove!(size_of::<BoxedOutcome>() == 56);
 
-/// Of which kind an outcome is (profile of this project).
+/// The kind of an outcome (profile of this project).
 #[derive(Clone, Copy, Debug, PartialEq, Eq)]
 pub enum OutcomeKind {
     /// A request has ended.
@@ -79,13 +79,13 @@ pub enum OutcomeKind {
     Discovery,
 }
 
-/// How a discovery ended, but for what its run found (profile of this project).
+/// How a discovery ended, without what its run found (profile of this project).
 #[derive(Clone, Copy, Debug, PartialEq, Eq)]
 pub struct DiscoveryEnd {
     /// Its number.
     pub number: u64,
-    /// The run that served it; 0 where none was begun for it.
+    /// The run that served it; 0 if none was begun for it.
     pub run: u64,
-    /// Why the run ended early; None where it ended without fault.
+    /// Why the run ended early; None if it ended without fault.
     pub fault: Option<AgentFault>,
 }

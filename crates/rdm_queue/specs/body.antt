@@ -1,5 +1,5 @@
--- What ties the code to the log. Nothing here has to be trusted. The clauses of a controller name `StandsAfter` alone,
--- of which the law `controllers_keep_promises` says all that a reader needs.
+-- What relates the code to the log. Nothing here has to be trusted. The clauses of a controller name only
+-- `StandsAfter`. The law `controllers_keep_promises` says all that a reader has to know about it.
 pub mod State
 pub mod Merged
 pub mod Sending

@@ -1,4 +1,4 @@
-//! A client's places, and the rings of what it has outstanding.
+//! A client's queue depth, and the rings of what it has outstanding.
 ghost use Rattle.std.specs.Prelude.{◌≡◌, ◌≢◌, ◌+◌, ◌-◌, ◌<◌, ◌≤◌, IfOk, IfSome, IfNone, Some, length, option_map};
 ghost use Rattle.std.specs.Prelude.{slice_get};
 ghost use Rattle.std.specs.VecDeque.{deque_len, deque_capacity};
@@ -20,7 +20,8 @@ pub(crate) struct Waiting {
     pub(crate) request: Request,
 }
 
-/// An outcome that its client hasn't collected. The set of a discovery's stands apart, so that a request pays for none.
+/// An outcome that its client hasn't collected. A discovery's set is kept elsewhere, so that a request needs no memory
+/// for one.
 #[derive(Debug, Drop)]
 pub(crate) enum Owed {
     Request {
@@ -101,7 +102,7 @@ impl Client {
         self.waiting.front()
     }
 
-    /// Accepts a request, for which it has a place.
+    /// Accepts a request, which its queue depth allows.
     pub(crate) fn accept(&mut self, number: u64, request: Request)
         requires { deque_len self.old.waiting < deque_capacity self.old.waiting }
         ensures { ClientAccepts self.old number request self.new }
@@ -109,7 +110,7 @@ impl Client {
         self.waiting.push_back_reserved(Waiting { number, request });
     }
 
-    /// Finishes its oldest request so, and gives the entry of its end.
+    /// Finishes its oldest request with this end, and returns the entry.
     pub(crate) fn finish_oldest(&mut self, done: Completion) -> Entry
         requires some { 0 < deque_len self.old.waiting }
         requires room { deque_len self.old.outcomes < deque_capacity self.old.outcomes }
@@ -130,7 +131,7 @@ impl Client {
         entry
     }
 
-    /// Answers its discovery of this number so, with the devices found.
+    /// Answers its discovery of this number, with this run and fault, and the devices found.
     pub(crate) fn answer(
         &mut self,
         number: u64,
@@ -148,7 +149,7 @@ impl Client {
         self.sets.push_back(found);
     }
 
-    /// Of which kind its oldest outcome is.
+    /// The kind of its oldest outcome.
     pub(crate) fn oldest_outcome(&self) -> Option<OutcomeKind>
         ensures { result ≡ first_kind_owed self.now }
     {
@@ -158,7 +159,7 @@ impl Client {
         }
     }
 
-    /// Takes its oldest outcome out, where that is a request's.
+    /// Takes its oldest outcome out, if that is a request's.
     pub(crate) fn collect_request(&mut self) -> Option<(u64, Completion)>
         requires { HasSets self.old }
         ensures taken { IfSome result (λ r. ClientCollects self.old (outcome_value (request_outcome r)) self.new) }
@@ -174,7 +175,7 @@ impl Client {
         Some((number, done))
     }
 
-    /// Takes its oldest outcome out, where that is a discovery's, and writes its set into `set`.
+    /// Takes its oldest outcome out, if that is a discovery's, and writes its set into `set`.
     pub(crate) fn collect_discovery(&mut self, set: &mut DeviceSet) -> Option<DiscoveryEnd>
         requires { HasSets self.old }
         ensures taken { IfSome result (λ end. ClientCollects self.old (outcome_value (discovery_outcome end set.new))
@@ -197,7 +198,7 @@ impl Client {
     }
 }
 
-/// What fills the places of clients that haven't joined. It takes no memory.
+/// What fills the elements of clients that haven't joined. It allocates nothing.
 impl MadeWith<Global> for Client {
     fn made_with(alloc: Global) -> Client {
         Client {

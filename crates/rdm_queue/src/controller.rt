@@ -13,14 +13,14 @@ use std::alloc::Global;
 use std::marker::Model;
 
 /// The queue of the requests and discoveries of up to sixteen clients on one RDM line (profile of this project). One
-/// request goes out at a time, the oldest first, whatever its client. All discoveries that are asked are served by one
-/// run, before the requests that wait, but not between two parts of a request. It does no input or output: `take` gives
-/// each frame for the line, and `deliver` is given what the line answered.
+/// request is sent at a time, the oldest first, whatever its client. All discoveries that wait are served by one run,
+/// before the requests that wait, but not between two parts of a request. It does no input or output: `take` returns
+/// each frame for the line, and `deliver` takes what the line answered.
 ///
-/// Contracts say after which logs it stands, and what each call adds to such a log.
+/// Contracts say which logs describe its state (`StandsAfter`), and what each call adds to such a log.
 #[derive(Debug, Drop)]
 pub struct Controller {
-    // It is large, and a controller is moved often. So it lies in memory of its own.
+    // Boxed, because it is large, and a controller is moved often.
     queue: Box<Queue>,
 }
 
@@ -51,7 +51,7 @@ impl Controller {
 
     /// A controller without clients, neither paused nor closed, whose numbers begin at 0, and whose runs search
     /// steadily. The configuration must be valid ([`Config::is_valid`]).
-    /// Err: there was no memory.
+    /// Err: out of memory.
     pub fn new(alloc: Global, config: Config) -> Result<Controller, NoMemory>
         requires { IsConfig config }
         ensures { IfOk result (λ c. IsSetUp (steady config) c) }
@@ -77,9 +77,9 @@ impl Controller {
         self.queue.search()
     }
 
-    /// Lets a client join, with this many places: how many requests it may have outstanding, from their acceptance
+    /// Lets a client join, with this queue depth: how many requests it may have outstanding, from their acceptance
     /// until their outcomes are collected. The memory for them is reserved here.
-    /// Err: the first fault that stands; nothing has changed.
+    /// Err: the first fault that applies; nothing has changed.
     pub fn join_client(&mut self, alloc: Global, places: u8) -> Result<ClientId, JoinFault>
         ensures adds { AddsToEach self.old (λ k. JoinAdds k.opening k.entries places result) self.new }
         ensures unchanged { OnErr result (self.new ≡ self.old) }
@@ -87,8 +87,8 @@ impl Controller {
         self.queue.join_client(alloc, places)
     }
 
-    /// Accepts a client's request, and gives its number. It takes a place until its outcome is collected.
-    /// Err: the first fault that stands; nothing has changed, and the request comes back.
+    /// Accepts a client's request, and returns its number. It is outstanding until its outcome is collected.
+    /// Err: the first fault that applies; nothing has changed, and the request is returned.
     pub fn submit(
         &mut self,
         client: ClientId,
@@ -100,9 +100,9 @@ impl Controller {
         self.queue.submit(client, request)
     }
 
-    /// Accepts a client's discovery, and gives its number. A run serves all discoveries that are asked when it begins.
-    /// It is a full one where one of them is, else an incremental one, which mutes the devices known first.
-    /// Err: the first fault that stands; nothing has changed.
+    /// Accepts a client's discovery, and returns its number. A run serves all discoveries that wait when it begins. It
+    /// is full if one of them is, or else incremental; an incremental run mutes the known devices first.
+    /// Err: the first fault that applies; nothing has changed.
     pub fn discover(&mut self, client: ClientId, kind: Kind) -> Result<u64, AskFault>
         ensures adds { AddsToEach self.old (λ k. DiscoverAdds k.opening k.entries client kind result) self.new }
         ensures unchanged { OnErr result (self.new ≡ self.old) }
@@ -110,8 +110,8 @@ impl Controller {
         self.queue.discover(client, kind)
     }
 
-    /// Begins no run and sends no request until `resume`; a run that has begun goes on, and a reply that is awaited is
-    /// still taken. Without effect where it is paused or closed.
+    /// Begins no run and sends no request until `resume`; a run that has begun continues, and a reply that is awaited
+    /// is still taken. It has no effect if it is paused or closed already.
     pub fn pause(&mut self)
         ensures adds { AddsToEach self.old (λ k. PauseAdds k.opening k.entries) self.new }
         ensures unchanged { ForEachLog self.old (λ o h. can_pause o h ≡ false → self.new ≡ self.old) }
@@ -121,7 +121,7 @@ impl Controller {
         }
     }
 
-    /// Begins runs and sends requests again. Without effect where it isn't paused, or is closed.
+    /// Begins runs and sends requests again. It has no effect if it isn't paused, or is closed.
     pub fn resume(&mut self)
         ensures adds { AddsToEach self.old (λ k. ResumeAdds k.opening k.entries) self.new }
         ensures unchanged { ForEachLog self.old (λ o h. can_resume o h ≡ false → self.new ≡ self.old) }
@@ -131,10 +131,10 @@ impl Controller {
         }
     }
 
-    /// Refuses all later joins, submits and discovers, and sends nothing more. Where no reply is awaited, all is ended
-    /// at once; else `deliver` does so. In this order: the discoveries of a run that has begun, with Aborted; the
-    /// requests that wait, with status FailedToSend; the other discoveries, with Aborted and run 0. Without effect
-    /// where it is closed.
+    /// Refuses all later joins, submits and discovers, and sends nothing more. If no reply is awaited, everything is
+    /// ended at once; otherwise `deliver` does it. The order is: the discoveries of a run that has begun, with Aborted;
+    /// the requests that wait, with status FailedToSend; the other discoveries, with Aborted and run 0. It has no
+    /// effect if it is closed already.
     pub fn close(&mut self)
         ensures adds { AddsToEach self.old (λ k. CloseAdds k.opening k.entries) self.new }
         ensures unchanged { ForEachLog self.old (λ o h. is_closed o h ≡ true → self.new ≡ self.old) }
@@ -145,13 +145,13 @@ impl Controller {
         }
     }
 
-    /// The next frame for the line, with the next transaction number, modulo 256, and port id 1. It is what a run that
-    /// has begun asks next; and, where sending isn't paused, the first of these:
-    /// - the request that is between two parts;
-    /// - the first unmute of a run for all discoveries that are asked;
-    /// - the oldest request that isn't finished.
+    /// The next frame for the line, with the next transaction number, modulo 256, and port id 1. It is the next frame
+    /// of a run that has begun; or, if sending isn't paused, the first of these:
+    /// - that of the request that is between two parts;
+    /// - the first unmute of a run for all discoveries that wait;
+    /// - that of the oldest unfinished request.
     ///
-    /// None while a reply is awaited, where it is closed, and where there is none of these.
+    /// None if a reply is awaited, if it is closed, or if there is none of these.
     pub fn take(&mut self) -> Option<Frame>
         ensures adds { AddsToEach self.old (λ k. TakeAdds k.opening k.entries result) self.new }
         ensures unchanged { IfNone result (self.new ≡ self.old) }
@@ -160,17 +160,17 @@ impl Controller {
         Some(frame)
     }
 
-    /// Takes what the line answered to the last frame. A request is finished where that decides its result; where its
-    /// joined data find no memory, with status NoMemory. A run that ends answers all its discoveries alike, in the
-    /// order asked, and without fault its devices are those that `devices` gives. After a close, all else is then ended
-    /// too, as `close` does it.
+    /// Takes what the line answered to the last frame. If that decides a request's result, the request is finished,
+    /// with status NoMemory if there is no memory for its joined data. A run that ends answers all its discoveries
+    /// alike, in the order in which they were asked for; without fault, `devices` returns its devices from then on.
+    /// After a close, everything else is then ended too, as by `close`.
     ///
     /// A discovery that it answers has a fault only after a failure or a close, if these hold:
     /// - the line is honest, and its devices stay;
     /// - they are at most 1,024;
-    /// - the budget is no less than the bound on frames.
+    /// - the budget is at least the bound on frames.
     ///
-    /// Err: no reply is awaited; nothing has changed, and the event comes back.
+    /// Err: no reply is awaited; nothing has changed, and the event is returned.
     pub fn deliver(&mut self, alloc: Global, event: LineEvent) -> Result<(), (NotAsked, LineEvent)>
         ensures adds { AddsToEach self.old (λ k. DeliverAdds k event result) self.new }
         ensures unchanged { IfErr result (λ e. (e.1 ≡ event) × (self.new ≡ self.old)) }
@@ -183,8 +183,8 @@ impl Controller {
         Ok(())
     }
 
-    /// A client's oldest outcome that it hasn't collected, whose place is free again. None where there is none, or
-    /// no such client.
+    /// A client's oldest uncollected outcome, which is then no longer outstanding. None if there is none, or no such
+    /// client.
     pub fn next_outcome(&mut self, client: ClientId) -> Option<Outcome>
         ensures adds { AddsToEach self.old (λ k. CollectAdds k.opening k.entries client result) self.new }
         ensures unchanged { IfNone result (self.new ≡ self.old) }
@@ -192,15 +192,14 @@ impl Controller {
         self.queue.next_outcome(client)
     }
 
-    /// Of which kind a client's oldest outcome is that it hasn't collected. None where there is none, or no such
-    /// client.
+    /// The kind of a client's oldest uncollected outcome. None if there is none, or no such client.
     pub fn oldest(&self, client: ClientId) -> Option<OutcomeKind>
         ensures { ForEachLog self.now (λ o h. result ≡ oldest_kind o h client.0) }
     {
         self.queue.oldest_outcome(client)
     }
 
-    /// Collects a client's oldest outcome where that is a request's, and gives its number and how it ended. It moves no
+    /// Collects a client's oldest outcome if that is a request's, and returns its number and how it ended. It moves no
     /// set. None: there is no outcome, it is a discovery's, or there is no such client; nothing has changed.
     pub fn next_completion(&mut self, client: ClientId) -> Option<(u64, Completion)>
         ensures adds { IfSome result (λ r. AddsToEach self.old
@@ -211,9 +210,9 @@ impl Controller {
         self.queue.next_completion(client)
     }
 
-    /// Collects a client's oldest outcome where that is a discovery's. The devices that its run found are written into
-    /// `set`, in place of what was there. None: there is no outcome, it is a request's, or there is no such client;
-    /// nothing has changed, and `set` is as it was.
+    /// Collects a client's oldest outcome if that is a discovery's. The devices that its run found replace those in
+    /// `set`. None: there is no outcome, it is a request's, or there is no such client; nothing has changed, and `set`
+    /// is unchanged.
     pub fn next_discovery(&mut self, client: ClientId, set: &mut DeviceSet) -> Option<DiscoveryEnd>
         ensures adds { IfSome result (λ end. AddsToEach self.old
             (λ k. CollectAdds k.opening k.entries client (Some (discovery_outcome end set.new))) self.new) }
@@ -237,7 +236,7 @@ impl Controller {
         self.queue.devices_run()
     }
 
-    /// Whether nothing waits, is under way, is asked or is uncollected.
+    /// Whether each request is finished, each discovery answered, and each outcome collected.
     pub fn is_idle(&self) -> bool
         ensures { ForEachLog self.now (λ o h. result ≡ is_idle h) }
     {
@@ -288,21 +287,21 @@ impl Controller {
         self.queue.take()
     }
 
-    /// Closes, where it isn't closed. What is then due is still to be finished.
+    /// Closes, if it isn't closed. What is due then is still to be finished.
     pub(crate) fn shut(&mut self)
         ensures { AddsAmid self.old (λ o h. is_closed o h ≡ false) Close self.new }
     {
         self.queue.set_closed();
     }
 
-    /// Takes what the line answered, where a reply is awaited. What is then due is still to be finished.
+    /// Takes what the line answered, if a reply is awaited. What is due then is still to be finished.
     pub(crate) fn hear(&mut self, alloc: Global, event: &LineEvent)
         ensures { AddsAmid self.old (λ o h. awaited h ≡ true) (Came event.now) self.new }
     {
         self.queue.hear(alloc, event);
     }
 
-    /// Ends what is due next, and gives its entry: a Finish or an Answer. None where nothing is due.
+    /// Ends what is due next, and returns its entry: a Finish or an Answer. None if nothing is due.
     pub(crate) fn finish_next(&mut self) -> Option<Entry>
         ensures ended { IfSome result (λ entry. Ends self.old entry self.new) }
         ensures fewer { OnSome result (unended self.new < unended self.old) }
@@ -319,7 +318,7 @@ impl Controller {
         while self.finish_next().is_some() {}
     }
 
-    /// The opening of a log that goes on from here.
+    /// The opening of a log that continues from here.
     pub(crate) fn opening(&self) -> Opening
         ensures { ForEachLog self.now (λ o h. result ≡ opening_after o h) }
     {

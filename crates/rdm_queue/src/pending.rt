@@ -1,4 +1,4 @@
-//! What is still to come: the discoveries that are asked, the run that serves them, and what awaits its reply.
+//! What is still to come: the unanswered discoveries, the run that serves them, and what awaits its reply.
 ghost use Rattle.std.specs.Prelude.{◌≡◌};
 
 use rdm_agent::Kind;
@@ -15,7 +15,7 @@ pub(crate) struct Asked {
     pub(crate) kind: Kind,
 }
 
-/// What fills the places of discoveries that aren't asked.
+/// What fills the elements that hold no discovery.
 impl MadeWith<Global> for Asked {
     fn made_with(_alloc: Global) -> Asked {
         Asked {
@@ -30,7 +30,7 @@ impl MadeWith<Global> for Asked {
 #[derive(Clone, Copy, Debug)]
 pub(crate) struct Running {
     pub(crate) number: u64,
-    /// It serves this many of the oldest discoveries that aren't answered.
+    /// It serves this many of the unanswered discoveries, the oldest ones.
     pub(crate) left: usize,
 }
 
@@ -39,7 +39,7 @@ impl Running {
     ghost use Rattle.rdm_queue.specs.body.Fields.{run_is};
     ghost use Rattle.rdm_queue.specs.body.Ending.{one_less};
 
-    /// The run with one discovery less to answer; None where that was the last.
+    /// The run with one discovery fewer to answer; None if that was the last.
     pub(crate) fn one_less(&self) -> Option<Running>
         ensures { option_map run_is result ≡ one_less (run_is self.now) }
     {

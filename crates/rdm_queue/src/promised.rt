@@ -1,4 +1,4 @@
-//! What a controller's clauses promise of its results.
+//! What a controller's clauses promise about its results.
 ghost use Rattle.std.specs.Prelude.{List};
 ghost use Rattle.rdm_log.specs.declared.entry.Opening.{Opening};
 ghost use Rattle.rdm_log.specs.declared.entry.Entry.{Entry};
@@ -7,11 +7,11 @@ ghost use Rattle.rdm_log.specs.promises.Promised.{LegalPromised};
 ghost use Rattle.rdm_queue.specs.body.Agrees.{StandsAfter};
 ghost use Rattle.rdm_queue.specs.body.State.{QueueState};
 
-/// Each log that a controller stands after is legal, so clients have all that they are promised of a legal log. That is
-/// all but for the bound on frames, which a clause of `deliver` keeps. A new controller stands after a log without
-/// entries. The clauses of each call say which block it adds to each log that the controller stands after, and that it
-/// then stands after the longer log. So whoever reads these clauses needs to know nothing of `StandsAfter` but this
-/// law.
+/// Each log that a controller stands after is legal, so clients have all that they are promised for a legal log. That
+/// is everything except the bound on frames, which a clause of `deliver` keeps. A new controller stands after a log
+/// without entries. The clauses of each call say which block it adds to each log that the controller stands after, and
+/// that it then stands after the longer log. So a reader of these clauses needs to know only this law about
+/// `StandsAfter`.
 pub fn controllers_keep_promises()
     ensures legal { (o : Opening) (h : List Entry) (s : QueueState) → StandsAfter o h s → Legal o h }
     ensures promised { (o : Opening) (h : List Entry) (s : QueueState) → StandsAfter o h s → LegalPromised o h }

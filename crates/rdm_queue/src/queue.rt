@@ -1,5 +1,4 @@
-//! The requests that wait, the discoveries that are asked, the run that serves them, and the outcomes that wait for
-//! their clients.
+//! The requests and discoveries that wait, the run that serves these, and the outcomes that wait for their clients.
 ghost use Rattle.std.specs.Prelude.{◌≡◌, ◌≤◌, length, IfSome, IfNone};
 ghost use Rattle.rdm_queue.specs.body.Rings.{NoneWaits, IsFirstInLine};
 ghost use Rattle.rdm_queue.specs.body.Fields.{places_of};
@@ -24,8 +23,8 @@ use std::marker::Model;
 /// How many discoveries all clients together have outstanding, at most.
 const MOST_ASKED: usize = 64;
 
-/// What a controller holds. Contracts see how it stands: the requests that aren't finished, what was sent, and the
-/// outcomes that aren't collected.
+/// What a controller holds. Contracts see its state: the unfinished requests, what was sent, and the uncollected
+/// outcomes.
 #[derive(Debug, Drop)]
 pub(crate) struct Queue {
     config: Config,
@@ -39,11 +38,11 @@ pub(crate) struct Queue {
     next_tn: u8,
     /// What was sent, while its reply is awaited.
     awaited: Option<Awaited>,
-    /// Whether a frame of the oldest of those that wait was sent.
+    /// Whether a frame was sent for the oldest unfinished request.
     under_way: bool,
-    /// The replies of the oldest of those that wait.
+    /// The replies to the oldest unfinished request.
     joiner: Joiner,
-    /// How the oldest has ended, until it is finished.
+    /// How the oldest unfinished request has ended, until it is finished.
     decided: Option<Completion>,
     next_ask: u64,
     next_run: u64,
@@ -123,7 +122,7 @@ impl Queue {
         self.search
     }
 
-    // The first fault of a join, want of memory aside.
+    // The first fault of a join, except NoMemory.
     fn join_fault(&self, places: u8) -> Option<JoinFault>
         ensures { result ≡ first_join_fault self.now places }
     {
@@ -138,7 +137,7 @@ impl Queue {
         }
     }
 
-    // The places of all clients together.
+    // The sum of the clients' queue depths.
     fn given_places(&self) -> u16
         ensures { result ≡ sum self.now.places }
     {
@@ -183,7 +182,7 @@ impl Queue {
         }
     }
 
-    /// Accepts a request, and gives its number.
+    /// Accepts a request, and returns its number.
     pub(crate) fn submit(
         &mut self,
         client: ClientId,
@@ -232,7 +231,7 @@ impl Queue {
             .count()
     }
 
-    /// Accepts a discovery, and gives its number.
+    /// Accepts a discovery, and returns its number.
     pub(crate) fn discover(&mut self, client: ClientId, kind: Kind) -> Result<u64, AskFault>
         ensures accepted { IfOk result (λ n. (first_ask_fault self.old client.0 ≡ None) × (n ≡ self.old.next_ask)
             × (self.new ≡ asks_discovery self.old client.0 kind)) }
@@ -308,7 +307,7 @@ impl Queue {
         Some((owner, frame))
     }
 
-    // Begins a run for all discoveries that are asked: full where one of them is, else from the devices that are known.
+    // Begins a run for all discoveries that wait: full if one of them is, or else from the known devices.
     fn begin_run(&mut self)
         requires none { self.old.run ≡ None }
         requires some { 0 < length self.old.asked }
@@ -327,7 +326,7 @@ impl Queue {
         self.agent.restart(self.search, kind, &known, budget);
     }
 
-    // Full where one of the discoveries that are asked is.
+    // Full if one of the discoveries that wait is.
     fn asked_kind(&self) -> Kind
         ensures { result ≡ kind_of self.now.asked }
     {
@@ -342,7 +341,7 @@ impl Queue {
         }
     }
 
-    // The frame of the run's next operation; None where no run is open, or its agent has ended.
+    // The frame of the run's next operation; None if no run is open, or its agent has ended.
     fn take_run(&mut self) -> Option<(Owner, Frame)>
         ensures none { IfNone result ((run_to_send self.old ≡ None) × (self.new ≡ self.old)) }
         ensures frame { IfSome result (λ given. GivesRun self.old given.0 given.1 self.new) }
@@ -358,21 +357,21 @@ impl Queue {
         Some((Owner::Run(run.number), frame))
     }
 
-    // The oldest request, and where its client stands.
+    // The oldest request, and the index of its client.
     fn oldest(&self) -> Option<(usize, &Waiting)>
         ensures { option_map (λ found. accepted_is found.0 found.1.now) result ≡ slice_get self.now.waiting 0 }
     {
         first_in_line(&self.clients)
     }
 
-    /// Of which kind a client's oldest outcome is.
+    /// The kind of a client's oldest outcome.
     pub(crate) fn oldest_outcome(&self, client: ClientId) -> Option<OutcomeKind>
         ensures { result ≡ first_kind client.0 self.now }
     {
         self.clients.get(usize::from(client.0))?.oldest_outcome()
     }
 
-    /// Takes a client's oldest outcome out, which frees its place.
+    /// Takes a client's oldest outcome out, which is then no longer outstanding.
     pub(crate) fn next_outcome(&mut self, client: ClientId) -> Option<Outcome>
         ensures outcome { option_map outcome_value result ≡ slice_get (owed_to client.0 self.old) 0 }
         ensures taken { OnSome result (self.new ≡ collects_oldest self.old client.0) }
@@ -397,7 +396,7 @@ impl Queue {
         }
     }
 
-    /// Takes a client's oldest outcome out, where that is a request's.
+    /// Takes a client's oldest outcome out, if that is a request's.
     pub(crate) fn next_completion(&mut self, client: ClientId) -> Option<(u64, Completion)>
         ensures taken { IfSome result (λ r. TakesOldest self.old client.0
             (outcome_value (request_outcome r)) self.new) }
@@ -409,7 +408,7 @@ impl Queue {
             .collect_request()
     }
 
-    /// Takes a client's oldest outcome out, where that is a discovery's, and writes its set into `set`.
+    /// Takes a client's oldest outcome out, if that is a discovery's, and writes its set into `set`.
     pub(crate) fn next_discovery(
         &mut self,
         client: ClientId,
@@ -439,7 +438,7 @@ impl Queue {
         self.devices_run
     }
 
-    /// The opening of a log that goes on from here.
+    /// The opening of a log that continues from here.
     pub(crate) fn opening(&self) -> Opening
         ensures { result ≡ opening_of self.now }
     {
@@ -507,7 +506,7 @@ impl Queue {
     }
 }
 
-// The first in line: of the clients' oldest requests the one with the lowest number, and where its client stands.
+// The next in line: of the clients' oldest requests the one with the lowest number, and the index of its client.
 fn first_in_line(clients: &[Client]) -> Option<(usize, &Waiting)>
     ensures none { IfNone result (NoneWaits clients.now) }
     ensures first { IfSome result (λ found. IsFirstInLine clients.now found.0 found.1.now) }
@@ -525,7 +524,7 @@ fn first_in_line(clients: &[Client]) -> Option<(usize, &Waiting)>
     first
 }
 
-// The places of each client, in the order of joining.
+// The queue depth of each client, in the order of joining.
 fn places_of(clients: &[Client]) -> ArrayVec<u8, MOST_CLIENTS>
     requires { length clients.now ≤ 16 }
     ensures { result.items ≡ places_of clients.now }

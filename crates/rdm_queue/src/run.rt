@@ -13,8 +13,8 @@ impl Session {
     ghost use Rattle.rdm_log.specs.promises.Explains.{IsAnswered, Explains};
     ghost use Rattle.rdm_log.specs.promises.EventsHeadline.{EventsPromised};
 
-    /// Makes the call of an event, and gives its answer. What the call refuses comes back in the answer. A collect of a
-    /// discovery's outcome takes memory for its set; if there is none, the answer says so, and the outcome stays.
+    /// Makes the call of an event, and returns its answer. What the call refuses is returned in the answer. A collect
+    /// of a discovery's outcome allocates memory for its set; if that fails, the answer says so, and the outcome stays.
     pub fn answer(&mut self, alloc: Global, event: &Event) -> Answer
         ensures answered { IsAnswered self.old event.now result self.new }
         ensures legal { Legal self.new.opening self.new.entries }
@@ -37,8 +37,8 @@ impl Session {
         }
     }
 
-    /// Answers each event by its call, in order, and gives the answers: one for each event, as `answer` gives it. Each
-    /// takes 296 bytes, and the set of each discovery that is collected 32 KB more.
+    /// Answers each event by its call, in order, and returns the answers: one for each event, as `answer` returns it.
+    /// Each takes 296 bytes, and the set of each discovery that is collected 32 KB more.
     /// Err: there was no memory for the list of answers; the session is unchanged, and no call was made.
     pub fn run(&mut self, alloc: Global, events: &[Event]) -> Result<Vec<Answer>, NoMemory>
         ensures explains { IfOk result (λ answers. Explains self.old events.now answers.items self.new) }
@@ -46,7 +46,7 @@ impl Session {
         ensures legal { Legal self.new.opening self.new.entries }
         ensures unchanged { OnErr result (self.new ≡ self.old) }
     {
-        // The log is legal, also where there are no events.
+        // The log is legal, even if there are no events.
         self.log();
         let Ok(mut answers) = Vec::with_capacity(alloc, events.len()) else {
             return Err(NoMemory);
@@ -57,14 +57,14 @@ impl Session {
         Ok(answers)
     }
 
-    // Collects a client's oldest outcome; None where there is none. Each kind has a function of its own, so that no set
+    // Collects a client's oldest outcome; None if there is none. Each kind has a function of its own, so that no set
     // is in the frame of what collects a request's.
     // Err: it is a discovery's, and there is no memory for its set; nothing has changed.
     fn collect(&mut self, alloc: Global, client: ClientId) -> Result<Option<BoxedOutcome>, NoMemory>
         ensures adds { GrowsBy self.old (CollectLogs self.old client result) self.new }
         ensures legal { Legal self.new.opening self.new.entries }
     {
-        // The log is legal, also where nothing is collected.
+        // The log is legal, even if nothing is collected.
         self.log();
         match self.oldest(client) {
             None => Ok(None),
@@ -83,7 +83,7 @@ impl Session {
         Some(BoxedOutcome::Request { number, done })
     }
 
-    // Collects a client's oldest outcome, which is a discovery's. The memory of its set is taken first. This isn't
+    // Collects a client's oldest outcome, which is a discovery's. The memory for its set is allocated first. This isn't
     // inlined, since a set is made in its frame.
     // Err: there is no memory for it; nothing has changed.
     #[inline(never)]

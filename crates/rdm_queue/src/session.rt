@@ -19,8 +19,8 @@ use std::alloc::Global;
 use std::marker::Model;
 use std::mem;
 
-/// A controller with a log of all that it does. Contracts see the log; it is legal at all times, the controller stands
-/// after it, and there is room for the entries that are owed (profile of this project).
+/// A controller with a log of all that it does. Contracts see the log. It is always legal, the controller's state is
+/// the one that it describes, and it has capacity for all reserved entries (profile of this project).
 #[derive(Debug, Drop)]
 pub struct Session {
     controller: Controller,
@@ -54,10 +54,10 @@ impl Session {
     ghost use Rattle.rdm_log.specs.declared.outcome.OutcomeKind.TheVariants as kinds;
     ghost use Rattle.rdm_queue.specs.body.Agrees.{StandsAfter};
 
-    /// A session without clients, neither paused nor closed, whose numbers begin at 0, and those of its discovery runs
-    /// at 1. Its runs search steadily. It writes the log's opening. The configuration must be valid
+    /// A session without clients, neither paused nor closed. Its discovery runs are numbered from 1, and all else from
+    /// 0. Its runs search steadily. It writes the log's opening. The configuration must be valid
     /// ([`Config::is_valid`]), and the log must have no entries ([`Log::entries`]).
-    /// Err: there was no memory; the log comes back as it was.
+    /// Err: out of memory; the log is returned unchanged.
     pub fn new(alloc: Global, config: Config, log: Log) -> Result<Session, (NoMemory, Log)>
         requires config_is { IsConfig config }
         requires empty { log.entries ≡ [] }
@@ -87,7 +87,7 @@ impl Session {
 
     /// Lets a client join, as [`Controller::join_client`] does. LogFull leaves no entry. Any other refusal is a Refuse
     /// entry with the number of its fault.
-    /// Err: LogFull, or else the first other fault that stands; nothing changes but the log.
+    /// Err: LogFull, or else the first other fault that applies; nothing changes but the log.
     pub fn join_client(&mut self, alloc: Global, places: u8) -> Result<ClientId, JoinFault>
         ensures adds { GrowsBy self.old (JoinLogs self.old places result) self.new }
         ensures legal { Legal self.new.opening self.new.entries }
@@ -111,9 +111,9 @@ impl Session {
         }
     }
 
-    /// Accepts a client's request, as [`Controller::submit`] does. A refusal but LogFull is an entry.
-    /// Err: LogFull, or else the first other fault that stands; nothing changes but the log, and the request comes
-    /// back.
+    /// Accepts a client's request, as [`Controller::submit`] does. Each refusal except LogFull is an entry.
+    /// Err: LogFull, or else the first other fault that applies; nothing changes but the log, and the request is
+    /// returned.
     pub fn submit(
         &mut self,
         client: ClientId,
@@ -146,8 +146,8 @@ impl Session {
         }
     }
 
-    /// Accepts a client's discovery, as [`Controller::discover`] does. A refusal but LogFull is an entry.
-    /// Err: LogFull, or else the first other fault that stands; nothing changes but the log.
+    /// Accepts a client's discovery, as [`Controller::discover`] does. Each refusal except LogFull is an entry.
+    /// Err: LogFull, or else the first other fault that applies; nothing changes but the log.
     pub fn discover(&mut self, client: ClientId, kind: Kind) -> Result<u64, AskFault>
         ensures adds { GrowsBy self.old (DiscoverLogs self.old client kind result) self.new }
         ensures legal { Legal self.new.opening self.new.entries }
@@ -175,7 +175,7 @@ impl Session {
         }
     }
 
-    /// Pauses, as [`Controller::pause`] does; an entry where that has an effect.
+    /// Pauses, as [`Controller::pause`] does, with an entry if that has an effect.
     /// Err: the log is full, even if the call would have no effect; nothing has changed.
     pub fn pause(&mut self) -> Result<(), LogFull>
         ensures adds { GrowsBy self.old (PauseLogs self.old result) self.new }
@@ -192,7 +192,7 @@ impl Session {
         Ok(())
     }
 
-    /// Resumes, as [`Controller::resume`] does; an entry where that has an effect.
+    /// Resumes, as [`Controller::resume`] does, with an entry if that has an effect.
     /// Err: the log is full, even if the call would have no effect; nothing has changed.
     pub fn resume(&mut self) -> Result<(), LogFull>
         ensures adds { GrowsBy self.old (ResumeLogs self.old result) self.new }
@@ -209,8 +209,8 @@ impl Session {
         Ok(())
     }
 
-    /// Closes, as [`Controller::close`] does; an entry where that has an effect, and after it those of the requests
-    /// that it finishes and the discoveries that it answers. There is always room for them.
+    /// Closes, as [`Controller::close`] does, with an entry if that has an effect, and then those of the requests that
+    /// it finishes and the discoveries that it answers. They always fit into the log.
     pub fn close(&mut self)
         ensures adds { GrowsBy self.old (CloseAdds self.old.opening self.old.entries) self.new }
         ensures legal { Legal self.new.opening self.new.entries }
@@ -223,7 +223,7 @@ impl Session {
         finish_due(&mut self.controller, &mut self.log);
     }
 
-    /// The next frame for the line, as [`Controller::take`] gives it; an entry where there is one.
+    /// The next frame for the line, as [`Controller::take`] returns it, with an entry if there is one.
     /// Err: the log is full, even if there would be no frame, and after a close too; nothing has changed.
     pub fn take(&mut self) -> Result<Option<Frame>, LogFull>
         ensures adds { GrowsBy self.old (TakeLogs self.old result) self.new }
@@ -240,14 +240,14 @@ impl Session {
         Ok(Some(frame))
     }
 
-    /// Takes what the line answered, as [`Controller::deliver`] does; an entry, and after it those of the requests
-    /// that it finishes and the discoveries that it answers. There is always room for them.
-    /// An Answer that it adds has a fault only after a failure or a close, if these hold:
+    /// Takes what the line answered, as [`Controller::deliver`] does, with an entry, and then those of the requests
+    /// that it finishes and the discoveries that it answers. They always fit into the log. An Answer that it adds has a
+    /// fault only after a failure or a close, if these hold:
     /// - the line is honest, and its devices stay;
     /// - they are at most 1,024;
-    /// - the budget is no less than the bound on frames.
+    /// - the budget is at least the bound on frames.
     ///
-    /// Err: no reply is awaited; nothing has changed, and the event comes back.
+    /// Err: no reply is awaited; nothing has changed, and the event is returned.
     pub fn deliver(&mut self, alloc: Global, event: LineEvent) -> Result<(), (NotAsked, LineEvent)>
         ensures adds { GrowsBy self.old (DeliverAdds self.old event result) self.new }
         ensures legal { Legal self.new.opening self.new.entries }
@@ -261,8 +261,8 @@ impl Session {
         Ok(())
     }
 
-    /// A client's oldest outcome, as [`Controller::next_outcome`] gives it; an entry where there is one. There is
-    /// always room for it.
+    /// A client's oldest outcome, as [`Controller::next_outcome`] returns it, with an entry if there is one. The entry
+    /// always fits into the log.
     pub fn next_outcome(&mut self, client: ClientId) -> Option<Outcome>
         ensures adds { GrowsBy self.old (CollectAdds self.old.opening self.old.entries client result) self.new }
         ensures legal { Legal self.new.opening self.new.entries }
@@ -272,16 +272,15 @@ impl Session {
         Some(outcome)
     }
 
-    /// Of which kind a client's oldest outcome is that it hasn't collected. None where there is none, or no such
-    /// client.
+    /// The kind of a client's oldest uncollected outcome. None if there is none, or no such client.
     pub fn oldest(&self, client: ClientId) -> Option<OutcomeKind>
         ensures { result ≡ oldest_kind self.now.opening self.now.entries client.0 }
     {
         self.controller.oldest(client)
     }
 
-    /// Collects a client's oldest outcome where that is a request's, as [`Controller::next_completion`] does, with an
-    /// entry. There is always room for it. It moves no set.
+    /// Collects a client's oldest outcome if that is a request's, as [`Controller::next_completion`] does, with an
+    /// entry, which always fits into the log. It moves no set.
     /// None: there is no outcome, it is a discovery's, or there is no such client; nothing has changed.
     pub fn next_completion(&mut self, client: ClientId) -> Option<(u64, Completion)>
         ensures adds { IfSome result (λ r. GrowsBy self.old
@@ -295,10 +294,10 @@ impl Session {
         Some((number, done))
     }
 
-    /// Collects a client's oldest outcome where that is a discovery's, as [`Controller::next_discovery`] does, with an
-    /// entry. There is always room for it. The devices that its run found are in `set`, in place of what was there.
-    /// None: there is no outcome, it is a request's, or there is no such client; nothing has changed, and `set` is as
-    /// it was.
+    /// Collects a client's oldest outcome if that is a discovery's, as [`Controller::next_discovery`] does, with an
+    /// entry, which always fits into the log. The devices that its run found replace those in `set`.
+    /// None: there is no outcome, it is a request's, or there is no such client; nothing has changed, and `set` is
+    /// unchanged.
     pub fn next_discovery(&mut self, client: ClientId, set: &mut DeviceSet) -> Option<DiscoveryEnd>
         ensures adds { IfSome result (λ end. GrowsBy self.old
             (CollectAdds self.old.opening self.old.entries client (Some (discovery_outcome end set.new))) self.new) }
@@ -311,9 +310,8 @@ impl Session {
         Some(end)
     }
 
-    /// How many entries are free: those that there is room for, less those that stand and those that are reserved.
-    /// Reserved are:
-    /// - one for a close, and one for a reply that is awaited;
+    /// How many entries are free: the capacity, less the entries of the log and those that are reserved. Reserved are:
+    /// - one for a close, unless it is closed, and one for a reply that is awaited;
     /// - two for each request that isn't finished and each discovery that isn't answered;
     /// - one for each outcome that isn't collected.
     pub fn free(&self) -> usize
@@ -328,7 +326,7 @@ impl Session {
         room - self.log.entries().len() - (close + reply + 2 * unended + uncollected)
     }
 
-    // Whether the log is full for the calls that it refuses.
+    // Whether the log is too full for the calls that a full log refuses.
     fn is_full(&self) -> bool
         ensures { result ≡ is_full_log self.now }
     {
@@ -358,7 +356,7 @@ impl Session {
         self.controller.devices_run()
     }
 
-    /// Whether nothing waits, is under way, is asked or is uncollected.
+    /// Whether each request is finished, each discovery answered, and each outcome collected.
     pub fn is_idle(&self) -> bool
         ensures { result ≡ is_idle self.now.entries }
     {
@@ -386,18 +384,18 @@ impl Session {
         self.controller.awaits()
     }
 
-    /// Goes on with a new log, and hands back the old one with its entries. A log has room for a fixed number of
-    /// entries. So a session that is to go on takes a new one from time to time. The log that is handed back may be the
-    /// next one, once it is [`cleared`](Log::cleared).
+    /// Continues with a new log, and returns the old one with its entries. A log has capacity for a fixed number of
+    /// entries, so a session that is to continue needs a new one from time to time. The returned log may be the next
+    /// one, once it is [`cleared`](Log::cleared).
     ///
-    /// An entry takes 296 bytes. A request takes 5 entries where one frame is enough for it, and 2 for each frame
-    /// more. A discovery takes 3, and its run 2 for each frame. On an honest line a run with `n` devices and `k` known
-    /// ones has at most `8 + 370 n + 5 k` frames, and 205 more where it searches quickly.
+    /// An entry takes 296 bytes. A request takes 5 entries if one frame is enough for it, and 2 for each further frame.
+    /// A discovery takes 3, and its run 2 for each frame. On an honest line a run with `n` devices and `k` known ones
+    /// has at most `8 + 370 n + 5 k` frames, and 205 more if it searches quickly.
     ///
-    /// The numbers of requests, discoveries, runs and frames go on. So do the clients with their places, the devices
-    /// and their run, and whether it is paused or closed: all stand in the new log's opening. Its runs search as
-    /// before. The new log has no entries.
-    /// Err: the session isn't idle. It comes back as it was, and so does the new log.
+    /// The numbers of requests, discoveries, runs and frames continue. The clients with their queue depths, the devices
+    /// and their run, and whether it is paused or closed are unchanged: all are in the new log's opening. Its runs
+    /// search as before. The new log has no entries.
+    /// Err: the session isn't idle. It is returned unchanged, and so is the new log.
     pub fn rotate(mut self, log: Log) -> Result<(Session, Log), (NotIdle, Session, Log)>
         requires empty { log.entries ≡ [] }
         ensures idle { OnOk result (is_idle self.entries ≡ true) }
@@ -419,7 +417,7 @@ impl Session {
         Ok((self, old_log))
     }
 
-    /// The controller, and the log that it stands after. The controller searches as the session did.
+    /// The controller, and the log that describes its state. The controller searches as the session did.
     pub fn end(self) -> (Controller, Log)
         ensures log { result.1 ≡ self }
         ensures controller { StandsAfter self.opening self.entries result.0 }
@@ -430,7 +428,7 @@ impl Session {
     }
 }
 
-// What a session with this configuration stands after at its start.
+// The opening of a session with this configuration.
 fn opening_of(config: &Config) -> Opening
     ensures { result ≡ opened config.now }
 {
@@ -460,7 +458,7 @@ fn finish_due(controller: &mut Controller, log: &mut Log)
     }
 }
 
-// One where the flag is set, else none.
+// One if the flag is set, or else none.
 fn one_if(flag: bool) -> usize
     ensures { result ≡ (if flag then 1 else 0) }
 {

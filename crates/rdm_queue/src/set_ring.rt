@@ -1,16 +1,16 @@
-//! The sets of a client's discoveries that are answered and not collected.
+//! The sets of a client's answered discoveries that aren't collected.
 use rdm_log::MOST_DISCOVERIES;
 use rdm_wire::DeviceSet;
 use std::alloc::{AllocError, Global};
 use std::marker::Model;
 
-/// A ring of sets, which are made once and used again: a set is copied into it and out of it, and never moved.
-/// Contracts see the sets that it holds, oldest first, and how many there is room for.
+/// A ring of sets, which are made once and reused: a set is copied into it and out of it, and never moved.
+/// Contracts see the sets that it holds, oldest first, and its capacity.
 #[derive(Debug, Drop)]
 pub(crate) struct SetRing {
-    // As many as there is room for. Those that aren't held are any.
+    // As many as its capacity. Those that aren't held have any content.
     sets: Vec<DeviceSet>,
-    // Where the oldest is.
+    // The index of the oldest.
     first: usize,
     count: usize,
 }
@@ -29,7 +29,7 @@ impl Model for SetRing {
 impl SetRing {
     ghost use Rattle.std.specs.Prelude.{◌≡◌, ◌<◌, ◌≤◌, ◌++◌, ◌∷◌, [], length, drop, IfOk, option_map, slice_get};
 
-    /// A ring without room. It takes no memory.
+    /// A ring without capacity. It allocates nothing.
     pub(crate) fn blank(alloc: Global) -> SetRing
         ensures { result ≡ record { items = []; room = 0 } }
     {
@@ -40,7 +40,7 @@ impl SetRing {
         }
     }
 
-    /// A ring that holds none, with room for the sets of as many discoveries as a client may have outstanding.
+    /// An empty ring, with capacity for the sets of as many discoveries as a client may have outstanding.
     pub(crate) fn with_room(alloc: Global) -> Result<SetRing, AllocError>
         ensures { IfOk result (λ r. r ≡ record { items = []; room = MOST_DISCOVERIES }) }
     {
@@ -73,7 +73,7 @@ impl SetRing {
         self.sets.get(self.first)
     }
 
-    /// Holds a copy of this set too, as the newest.
+    /// Adds a copy of this set, as the newest.
     pub(crate) fn push_back(&mut self, set: &DeviceSet)
         requires { length self.old.items < self.old.room }
         ensures { self.new ≡ record self.old { items = self.old.items ++ set.now ∷ [] } }
@@ -83,7 +83,7 @@ impl SetRing {
         self.count += 1;
     }
 
-    /// Holds the oldest no more.
+    /// Removes the oldest.
     pub(crate) fn drop_front(&mut self)
         requires { 0 < length self.old.items }
         ensures { self.new ≡ record self.old { items = drop 1 self.old.items } }

@@ -1,4 +1,4 @@
--- What an agent that stands after a run's exchanges shows of that run in the log.
+-- What an agent that has made a run's exchanges shows about that run in the log.
 use Rattle.std.proofs.Common.{◌≡◌, ℕ, ◌<◌, ◌≤◌, Bool, true, false, List, [], ◌∷◌, length, Option, None, Some, refl, sym}
 use Rattle.std.proofs.Common.{ap, ◌∙◌, subst, inl, inr, filter_map, arith}
 use Rattle.std.specs.Prelude.{◌≢◌, ◌⊎◌}

@@ -1,4 +1,4 @@
--- Runs begin one after the other: what earlier runs serve was asked before the last one.
+-- Runs begin one after another: what earlier runs serve was asked for before the last one.
 use Rattle.std.proofs.Common.{◌≡◌, ℕ, ◌+◌, ◌<◌, ◌≤◌, Bool, true, false, List, [], ◌∷◌, ◌++◌, length, Option, Some, None}
 use Rattle.std.proofs.Common.{slice_get, refl, sym, ap, ◌∙◌, inl, inr, length-append, fold, filter_map, arith, drop}
 use Rattle.std.specs.Prelude.{◌⊎◌, ◌==◌, ◌||◌, ◌-◌}
@@ -29,7 +29,7 @@ use Rattle.rdm_log.proofs.LogLemmas.RunFacts.{RunFacts, run_facts, open_is}
 use Rattle.rdm_log.proofs.LogLemmas.RunLemmas.{sent_begins, last_run_same, last_run_sent, last_begun, begun_same}
 use Rattle.rdm_log.proofs.LogLemmas.RunLemmas.{has_begun_more, entries_before_run_stays, not_sent, before_first-cons}
 
--- what stood before a run that begins
+-- the entries before a run that begins
 before_new : {X : Type 0} (p : X → Bool) (xs : List X) (y : X) → list_any p xs ≡ false → p y ≡ true
     → before_first p (xs ++ y ∷ []) ≡ xs
 before_new p [] y none own = before_first-cons p y [] ∙ rw own refl
@@ -52,7 +52,7 @@ all_unserved h none = ap (λ n. drop n (unanswered h)) (zero_of _ _ none)
     zero_of : (n m : ℕ) → n ≤ m → n - m ≡ 0
     zero_of n m p = omega arith
 
--- what stood before a run is a front of the log
+-- the entries before a run are a prefix of the log
 front_of : (p : Entry → Bool) (xs : List Entry) → (ys : List Entry) × (xs ≡ before_first p xs ++ ys)
 front_of p [] = ([], refl)
 front_of p (x ∷ xs) = by_test (cases_Bool (p x)) (front_of p xs)
@@ -70,7 +70,7 @@ pub before_front : (r : ℕ) (h : List Entry) → (ys : List Entry) × (h ≡ en
 unfolding entries_before_run
 before_front r h = front_of (sends_run r) h
 
--- no run has begun where none is the last
+-- no run has begun if none is the last
 none_last : (q : ℕ) (first : Option ℕ) (ss : List Sending)
     → fold (λ before (s : Sending). run_of_owner before s.owner) first ss ≡ None → (first ≡ None)
     × (list_any (λ (s : Sending). is_run q s.owner) ss ≡ false)
@@ -87,7 +87,7 @@ unfolding last_run has_begun sends
 none_begun q h none begun =
     false≢true (sym (none_last q None (filter_map sending_of h) none).1 ∙ (sent_begins q h ∙ begun))
 
--- what stands before a run has no more Asks than the log
+-- the entries before a run have no more Asks than the log
 pub before_fewer : (r : ℕ) (h : List Entry) → length (asks (entries_before_run r h)) ≤ length (asks h)
 before_fewer r h =
     let rest = before_front r h in
@@ -102,7 +102,7 @@ asked_fewer h = by_last (last_run h)
     by_last None = omega arith
     by_last (Some r) = before_fewer r h
 
--- a run that has begun is the last, or what it serves was asked before the last began
+-- a run that has begun is the last, or what it serves was asked for before the last began
 abbrev pub InOrder : List Entry → Type 0
 InOrder h = (r : ℕ) → last_run h ≡ Some r → (q : ℕ) → has_begun q h ≡ true → (q ≡ r)
     ⊎ (length (asks (entries_before_run q h)) ≤ asked_before (last_run (entries_before_run r h))

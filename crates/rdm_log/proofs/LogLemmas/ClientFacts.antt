@@ -45,7 +45,7 @@ unfinished_by c h = filter (λ a. c == a.client) (unfinished h)
 abbrev pub unanswered_by : ℕ → List Entry → List AskedDiscovery
 unanswered_by c h = filter (λ a. c == a.client) (unanswered h)
 
--- what each client was given and has collected
+-- what each client was answered and has collected
 pub record ClientFacts (o : Opening) (h : List Entry) : Type 0 where
   -- a client's requests are finished or unfinished, its discoveries answered or unanswered
   pub finished : (c : ℕ) → length (finishes (answers_to o c h)) + length (unfinished_by c h) ≡ length (accepts_by c h)

@@ -22,7 +22,7 @@ use Rattle.rdm_log.proofs.LogLemmas.PushLemmas.{accepts-append, accepts_same, as
 use Rattle.rdm_log.proofs.LogLemmas.LegalFacts.{LogFacts, unfinished_place}
 use Rattle.rdm_log.proofs.LogLemmas.AskFacts.{AskFacts, unanswered_place}
 
--- an accepted request's client, also where more was accepted since
+-- an accepted request's client, even if more was accepted since
 pub client_of_accepted : (o : Opening) (h : List Entry) → LogFacts o h → (i : ℕ) (a : Accepted)
     → slice_get (accepts h) i ≡ Some a → client_of_request o h a.number ≡ Some a.client
 client_of_accepted o h facts i a at =
@@ -95,7 +95,7 @@ not_answer o c h (Finish n status len) other = cc
 not_answer o c h (Answer n run fault) other = cc
 not_answer o c h _ other = refl
 
--- an entry that brings no work adds itself, where it is an answer
+-- an entry that brings no work adds itself, if it is an answer
 answers-push : (o : Opening) (c : ℕ) (h : List Entry) (e : Entry) → brings_work e ≡ false
     → answers_to o c (h ++ e ∷ []) ≡ answers_to o c h ++ filter (is_answer_to o c h) (e ∷ [])
 unfolding answers_to
@@ -135,7 +135,7 @@ pub answers_answer_other : (o : Opening) (c : ℕ) (h : List Entry) (n r : ℕ) 
 answers_answer_other o c h n r fault d client other =
     answers-push o c h (Answer n r fault) refl ∙ rw (client, other) (append-nil (answers_to o c h))
 
--- each Finish of the log is of a request that was accepted, and each Answer of a discovery that was asked
+-- each Finish of the log is of a request that was accepted, and each Answer of a discovery that was asked for
 finish_accepted : (o : Opening) (h : List Entry) → LogFacts o h → (i n : ℕ) (status : Status) (len : ℕ)
     → slice_get h i ≡ Some (Finish n status len) → n - o.next_request < length (accepts h)
 unfolding finishes

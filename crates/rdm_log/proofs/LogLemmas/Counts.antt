@@ -1,11 +1,11 @@
--- How often a number stands in a list.
+-- How often a number occurs in a list.
 use Rattle.std.proofs.Common.{◌≡◌, ℕ, suc, ◌+◌, ◌<◌, ◌≤◌, Bool, true, false, cond, List, [], ◌∷◌, ◌++◌, length, ap}
 use Rattle.std.proofs.Common.{length-append, filter, map, if◌then◌else◌, refl, arith, inl, inr}
 use Rattle.std.specs.Prelude.{◌⊎◌, ◌==◌}
 use Rattle.std.proofs.lemmas.List.Elements.{filter-append}
 use Rattle.std.proofs.lemmas.Bool.{cases_Bool, eqb-true, eq-eqb}
 
--- how often c stands in a list
+-- how often c occurs in a list
 abbrev pub count : ℕ → List ℕ → ℕ
 count c xs = length (filter (λ d. c == d) xs)
 
@@ -78,7 +78,7 @@ length_without c (x ∷ xs) has = by_first (cases_Bool (c == x)) (length_without
 count_self : (c : ℕ) (cs : List ℕ) → count c (c ∷ cs) ≡ suc (count c cs)
 count_self c cs = rw (eq-eqb c c refl) refl
 
--- where no number stands more often in cs than in ds, cs is no longer
+-- if no number occurs more often in cs than in ds, cs is no longer
 pub no_longer : (cs ds : List ℕ) → ((c : ℕ) → count c cs ≤ count c ds) → length cs ≤ length ds
 no_longer [] ds fewer = omega arith
 no_longer (c ∷ cs) ds fewer =

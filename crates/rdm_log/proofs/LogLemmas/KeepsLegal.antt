@@ -97,7 +97,7 @@ runs_settled o h k same due = record {
         goes_on_same o h k r (same.same_served r) (same.same_before r (last_begun r h (open_is h r is).last))
         (same.same_exchanges r) goes
 
--- where not closed, that and the requests' results are all
+-- if the queue isn't closed, that and the requests' results are all
 pub settled_open : (o : Opening) (h : List Entry) → is_closed o h ≡ false → RunsSettled o h
     → ((i : ℕ) (a : Accepted) → slice_get (unfinished h) i ≡ Some a → result a.number h ≡ None) → NothingDue o h
 settled_open o h not_closed runs at = record {

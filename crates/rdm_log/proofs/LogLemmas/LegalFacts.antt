@@ -1,4 +1,4 @@
--- What holds of a log in which each entry may follow those before it, also where something is due at its end.
+-- What holds for a log in which each entry may follow those before it, even if something is due at its end.
 use Rattle.std.proofs.Common.{◌≡◌, false, ℕ, ◌+◌, ◌≤◌, ◌<◌, true, List, [], ◌∷◌, ◌++◌, length, Some, None}
 use Rattle.std.proofs.Common.{if◌then◌else◌, slice_get, refl, sym, ap, ◌∙◌, append_assoc, append-nil, arith}
 use Rattle.std.proofs.Common.{length-append, inl, inr}
@@ -114,7 +114,7 @@ no_finish_awaited o h n status len facts may waits = false≢true (sym closing.0
     closing : FitsResult (IsClosing o h) None status len
     closing = rw undecided at may.fits
 
--- nothing stands in the empty log
+-- the empty log
 facts_of_empty : (o : Opening) → LogFacts o []
 unfolding accepts finishes sends cames awaited
 facts_of_empty o = record {

@@ -97,7 +97,7 @@ slice_get_append_within [] ys i within = absurd (omega arith)
 slice_get_append_within (x ∷ xs) ys zero within = refl
 slice_get_append_within (x ∷ xs) ys (suc i) within = slice_get_append_within xs ys i (omega arith)
 
--- what a projection makes of an element stands in it
+-- the projection of a list contains each element's
 pub filter_map_has : {X Y : Type 0} (f : X → Option Y) (xs : List X) (i : ℕ) (x : X) (y : Y) → slice_get xs i ≡ Some x
     → f x ≡ Some y → (j : ℕ) × (slice_get (filter_map f xs) j ≡ Some y)
 filter_map_has f [] i x y at is = cc

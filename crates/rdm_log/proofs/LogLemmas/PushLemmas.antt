@@ -17,7 +17,7 @@ use Rattle.rdm_log.specs.log.History.{unfinished, unanswered, awaits_after, paus
 use Rattle.rdm_log.specs.log.History.{is_paused, is_closed}
 use Rattle.rdm_log.proofs.LogLemmas.Places.{filter_map_none, filter_map_some}
 
--- of two parts: what the first says, and then what the second says
+-- for two parts: what the first says, and then what the second says
 pub joins-append : (h k : List Entry) → joins (h ++ k) ≡ joins h ++ joins k
 unfolding joins
 joins-append h k = filter_map-append join_of h k
@@ -42,7 +42,7 @@ pub finishes-append : (h k : List Entry) → finishes (h ++ k) ≡ finishes h ++
 unfolding finishes
 finishes-append h k = filter_map-append finished_of h k
 
--- one entry more: the same where it is of another kind, else one more
+-- with one more entry: the same if it is of another kind, or else one more
 pub joins_same : (h : List Entry) (e : Entry) → join_of e ≡ None → joins (h ++ e ∷ []) ≡ joins h
 unfolding joins
 joins_same h e other = filter_map_none join_of h e other

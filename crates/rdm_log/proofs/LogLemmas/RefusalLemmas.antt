@@ -1,4 +1,4 @@
--- What holds where a call isn't refused.
+-- What holds if a call isn't refused.
 use Rattle.std.proofs.Common.{◌≡◌, ℕ, ◌+◌, ◌-◌, ◌^◌, ◌<◌, ◌≤◌, Bool, true, false, Option, Some, None, if◌then◌else◌}
 use Rattle.std.proofs.Common.{slice_index, sum, List, refl}
 use Rattle.std.proofs.lemmas.Bool.{leb-false, ltb-false, or_parts}
@@ -8,7 +8,7 @@ use Rattle.rdm_log.specs.log.History.{is_closed, places, next_client, next_reque
 use Rattle.rdm_log.specs.log.Clients.{outstanding_requests, outstanding_discoveries}
 use Rattle.rdm_log.specs.log.Refusals.{join_fault, submit_fault, ask_fault}
 
--- of faults in order none stands
+-- of faults in order, none applies
 pub none_stands : {X : Type 0} (b : Bool) (fault : X) (later : Option X) → (if b then Some fault else later) ≡ None
     → (b ≡ false) × (later ≡ None)
 none_stands true fault later e = cc

@@ -30,7 +30,7 @@ use Rattle.rdm_log.proofs.LogLemmas.PushLemmas.{asks_same, finishes_same, answer
 use Rattle.rdm_log.proofs.LogLemmas.PushLemmas.{collectors_more, unfinished_accept, unfinished_finish, unanswered_ask}
 use Rattle.rdm_log.proofs.LogLemmas.PushLemmas.{unanswered_answer, awaited-push, is_closed-push}
 
--- the entries that stand and those that are reserved
+-- the entries and those that are reserved
 abbrev pub taken : Opening → List Entry → ℕ
 taken o h = length h + reserved o h
 

@@ -67,7 +67,7 @@ pub record RunFacts (o : Opening) (h : List Entry) : Type 0 where
   -- a run's Answers agree
   pub agree : (i j : ℕ) (a b : Answered) → slice_get (answers h) i ≡ Some a → slice_get (answers h) j ≡ Some b
       → a.run ≢ 0 → a.run ≡ b.run → a.fault ≡ b.fault
-  -- nothing stands after a failure
+  -- no exchange follows a failure
   pub failures : (r : ℕ) → FailureIsLast (run_exchanges r h)
 
 facts_of_empty : (o : Opening) → RunFacts o []

@@ -59,7 +59,7 @@ begun_same r h e other = has_begun_more r h e ∙ rw other (or_false (has_begun 
     or_false true = refl
     or_false false = refl
 
--- what stood before it began
+-- the entries before it began
 pub before_first-cons : {X : Type 0} (p : X → Bool) (x : X) (xs : List X)
     → before_first p (x ∷ xs) ≡ cond (p x) [] (x ∷ before_first p xs)
 before_first-cons {X} p x xs = by_test (p x) (position_or_len p xs)
@@ -140,7 +140,7 @@ open_run_same h k sent answered = rw (last_run_same h k sent) (by_last (last_run
     by_last None = refl
     by_last (Some r) = rw answered refl
 
--- how many were asked before the last run began, and which no run serves
+-- how many discoveries were asked for before the last run began, and which no run serves
 pub asked_before_same : (h : List Entry) (e : Entry) → sending_of e ≡ None
     → asked_before (last_run (h ++ e ∷ [])) (h ++ e ∷ []) ≡ asked_before (last_run h) h
 asked_before_same h e other = rw (last_run_same h (h ++ e ∷ []) (sends_same h e other)) (by_last (last_run h) refl)

@@ -140,7 +140,7 @@ in_order o h legal =
     let facts = ask_facts o h legal.each in
     record { numbered = asked_in_order o h facts; all = answered_first o h facts; each = each_client o h facts }
 
--- a discovery has one answer where its number is among those of the Answers, else none
+-- a discovery has one answer if its number is among those of the Answers, or else none
 counted : (o : Opening) (h : List Entry) → AskFacts o h → (n : ℕ) → IsAmong o.next_ask (length (answers h)) n
     → answer_count n h ≡ 1
 counted o h facts n is = rw (answered_in_order o h facts) (count_within n o.next_ask (length (answers h)) is.from is.to)

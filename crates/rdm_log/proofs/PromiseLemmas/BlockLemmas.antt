@@ -1,4 +1,4 @@
--- What the blocks of a session's calls say where the log isn't full, and which entries a refused call leaves.
+-- What the blocks of a session's calls say if the log isn't full, and which entries a refused call leaves.
 use Rattle.std.proofs.Common.{◌≡◌, ℕ, Bool, true, false, List, [], ◌∷◌, ap, inl, inr}
 use Rattle.std.specs.Prelude.{◌⊎◌, Result, Ok, Err}
 use Rattle.rdm_wire.specs.declared.request.Request.{Request}

@@ -64,7 +64,7 @@ closes old (e ∷ es) (r ∷ rs) new explains zero at_e = closed_later
 closes old (e ∷ es) (r ∷ rs) new explains (suc i) at_e = closes explains.0 es rs new explains.2 i at_e
 closes old (e ∷ es) [] new explains i at_e = absurd explains
 
--- where the queue is closed no event is answered by a start
+-- if the queue is closed, no event has an answer that starts something
 silent_join : (k : LogState) (n : ℕ) (r : Answer) (block : List Entry) → is_closed k.opening k.entries ≡ true
     → Adds k (events.Join n) r block → starts r ≡ false
 silent_join k n (answers.Join (Ok c)) block closed adds =

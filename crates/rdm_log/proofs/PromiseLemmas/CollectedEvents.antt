@@ -1,4 +1,4 @@
--- A client is given the outcomes of its Finishes and Answers once, in order.
+-- A client collects the outcomes of its Finishes and Answers once, in order.
 use Rattle.std.proofs.Common.{◌≡◌, ℕ, zero, suc, Bool, true, false, List, [], ◌∷◌, ◌++◌, length, take, drop, Option}
 use Rattle.std.proofs.Common.{Some, None, if◌then◌else◌, slice_get, refl, ap, ◌∙◌, append_assoc, append-nil, add-one}
 use Rattle.std.proofs.Common.{inl, inr, filter_map}
@@ -82,7 +82,7 @@ collected_other o c h d other =
       append-nil,
     ) refl
 
--- an event that gives no outcome adds no Collect
+-- an event that returns no outcome adds no Collect
 none_or_one : (e : Entry) (block : List Entry) → collector_of e ≡ None → (block ≡ []) ⊎ (block ≡ e ∷ [])
     → NoCollects block
 none_or_one e block none (inl is) = rw is tt
@@ -106,12 +106,12 @@ close_none : (closed : Bool) (block : List Entry) → CloseAddsWhere closed bloc
 close_none true block adds = rw adds tt
 close_none false block adds = with_results_none Close block refl adds
 
--- of an event that gave nothing to any client
+-- for an event that returned no outcome
 pub record GaveNothing (e : Event) (r : Answer) (block : List Entry) : Type 0 where
   pub none : NoCollects block
   pub nothing : (c : ℕ) → outcome_given c e r ≡ None
 
--- an event gave a client its oldest outcome, or nothing to anyone
+-- an event returned a client's oldest outcome, or none
 pub record GaveOne (k : LogState) (e : Event) (r : Answer) (block : List Entry) : Type 0 where
   pub client : ClientId
   pub outcome : Outcome

@@ -1,4 +1,4 @@
--- A discovery that was accepted stands in the log, and a client with four outstanding is refused.
+-- A discovery that was accepted is in the log, and a client that has as many as it may is refused.
 use Rattle.std.proofs.Common.{◌≡◌, ℕ, zero, suc, false, List, [], ◌∷◌, ◌++◌, Option, Some, slice_get, refl, sym, ap}
 use Rattle.std.proofs.Common.{◌∙◌}
 use Rattle.std.specs.Prelude.{Result, Ok, Err, option_map}
@@ -51,7 +51,7 @@ discovery_contained h c n kind has =
     contains_from_get (numbers_asked (asks h)) found.0 n
     (slice_get-map (λ b. b.number) (asks h) found.0 ∙ ap (option_map (λ b. b.number)) found.1)
 
--- a discover where the log isn't full
+-- a discover if the log isn't full
 full_answered : (k : LogState) (c : ClientId) (kind : Kind) (answer : Answer) (block : List Entry)
     → Adds k (events.Discover c kind) answer block → answer ≡ refuses_discovery
     → HasMostDiscoveries k.opening k.entries c.0

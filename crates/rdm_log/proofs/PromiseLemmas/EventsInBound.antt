@@ -41,7 +41,7 @@ switch_in_bound : (k : LogState) (b : Bool) (e : Entry) (block : List Entry) →
 switch_in_bound k true e block none is = rw is (none, tt)
 switch_in_bound k false e block none is = rw is tt
 
--- where the queue is closed nothing is asked of Answers
+-- if the queue is closed, any Answer is in bound
 closed_entry : (k : LogState) (e : Entry) → is_closed k.opening k.entries ≡ true → FaultNeedsClose k e
 closed_entry k (discovery.Answer n r (Some fault)) closed = λ present calm. closed
 closed_entry k (discovery.Answer n r None) closed = tt
@@ -59,7 +59,7 @@ close_in_bound k true block adds = rw adds tt
 close_in_bound k false block adds =
     rw adds.whole (tt, closed_in_bound (grown k (Close ∷ [])) adds.results (is_closed-push k.opening k.entries Close))
 
--- so it is with each event's block
+-- the same for each event's block
 pub event_in_bound : (k : LogState) (e : Event) (r : Answer) (block : List Entry) → Adds k e r block
     → AnswersInBound k block
 event_in_bound k (events.Join n) (answers.Join (Ok c)) block adds = rw (join_ok k n c block adds).2 (tt, tt)
@@ -123,7 +123,7 @@ calm_before k before back n r fault present each is begun calm = record {
   ) at calm.budgeted;
 }
 
--- an Answer that names no run stands after a close
+-- an Answer that names no run comes after a close
 by_number : (k : LogState) (before back : List Entry) (n r : ℕ) (fault : AgentFault) (present : List ℕ)
     → EachAfter (MayFollow k.opening) k.entries → k.entries ≡ before ++ discovery.Answer n r (Some fault) ∷ back
     → MayAnswer k.opening before n r (Some fault)

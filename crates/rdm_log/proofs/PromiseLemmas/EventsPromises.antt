@@ -46,7 +46,7 @@ use Rattle.rdm_log.proofs.PromiseLemmas.RisingNumbers.{numbers_rise, asks_rise}
 use Rattle.rdm_log.proofs.PromiseLemmas.ExplainsLemmas.{IsPlaced, placed, one_answer_each, explained_grows, answered_at}
 use Rattle.rdm_log.proofs.PromiseLemmas.ExplainsLemmas.{block_contained, block_follows}
 
--- a request that was accepted stands in the log
+-- a request that was accepted is in the log
 accepted : (old : LogState) (es : List Event) (rs : List Answer) (new : LogState) → Explains old es rs new
     → (i : ℕ) (c : ClientId) (n : ℕ) (request : Request) → slice_get es i ≡ Some (events.Submit c request)
     → slice_get rs i ≡ Some (answers.Submit (Ok n)) → Contains new.entries (Accept c n request)
@@ -67,7 +67,7 @@ number_contained h c n request has =
     contains_from_get (numbers_accepted (accepts h)) found.0 n
     (slice_get-map (λ b. b.number) (accepts h) found.0 ∙ ap (option_map (λ b. b.number)) found.1)
 
--- a submit where the log isn't full
+-- a submit if the log isn't full
 full_answered : (k : LogState) (c : ClientId) (request : Request) (answer : Answer) (block : List Entry)
     → Adds k (events.Submit c request) answer block → is_full_log k ≡ false → answer ≡ refuses_full request
     → IsFull k.opening k.entries c.0

@@ -60,7 +60,7 @@ answered_at old (f ∷ es) (s ∷ rs) new is (suc i) e r at_e at_r =
 answered_at old [] (s ∷ rs) new is i e r at_e at_r = absurd is
 answered_at old (f ∷ es) [] new is i e r at_e at_r = absurd is
 
--- what was answered stands in the new log, between what came earlier and what came later
+-- an event's block is in the new log, between what came earlier and what came later
 pub record IsPlaced (new before : LogState) (block : List Entry) : Type 0 where
   pub back : List Entry
   pub whole : new.entries ≡ (before.entries ++ block) ++ back
@@ -84,7 +84,7 @@ explains_more old (f ∷ es) [] mid e r new is last = absurd is
 contains_last : {X : Type 0} (xs : List X) (x : X) → Contains (xs ++ x ∷ []) x
 contains_last xs x = Contains-append_right xs (x ∷ []) x (0, omega arith, refl)
 
--- a block stands in the new log, and each of its entries may follow what stands before it
+-- a block is in the new log, and each of its entries may follow those before it
 pub block_contained : (new before : LogState) (block : List Entry) (e : Entry) → IsPlaced new before block
     → block ≡ e ∷ [] → Contains new.entries e
 block_contained new before block e place is =

@@ -29,7 +29,7 @@ starts_none e more one rest = record {
   no_frame = sends-append (e ∷ []) more ∙ rw (one.no_frame, rest.no_frame) refl;
 }
 
--- of an entry that may follow where the queue is closed
+-- for an entry that may follow if the queue is closed
 one_after : (o : Opening) (h : List Entry) (e : Entry) → is_closed o h ≡ true → MayFollow o h e → NothingStarts (e ∷ [])
 unfolding joins accepts asks sends
 one_after o h (Join c n) closed may = absurd (false≢true (sym (join_passes o h n may.1).not_closed ∙ closed))

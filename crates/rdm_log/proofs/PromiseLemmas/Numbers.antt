@@ -22,7 +22,7 @@ numbers_by_place f (x ∷ xs) a at =
     rw (at 0 x refl, add-zero)
     (ap (λ l. a ∷ l) (numbers_by_place f xs (a + 1) (λ i y e. omega (arith, at (suc i) y e))))
 
--- how often one of them stands there
+-- how often one of them occurs there
 pub count_outside : (n a m : ℕ) → (n < a) ⊎ (a + m ≤ n) → length (filter (λ k. n == k) (range_with_len a m)) ≡ 0
 count_outside n a zero out = refl
 count_outside n a (suc m) out = by_first (cases_Bool (n == a)) out (count_outside n (a + 1) m)

@@ -41,7 +41,7 @@ range_contains a m n has =
     let is : n ≡ a + has.0 = sym has.2 ∙ get_or-range_with_len a m has.0 n within in
     record { from = omega arith; to = omega arith }
 
--- a request has one result where its number is among those of the Finishes, else none
+-- a request has one result if its number is among those of the Finishes, or else none
 counted : (o : Opening) (h : List Entry) → LogFacts o h → (n : ℕ) → IsAmong o.next_request (length (finishes h)) n
     → result_count n h ≡ 1
 counted o h facts n is =

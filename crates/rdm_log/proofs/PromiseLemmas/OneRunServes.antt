@@ -30,7 +30,7 @@ use Rattle.rdm_log.proofs.LogLemmas.RunLemmas.{not_sent, last_run_same, last_run
 use Rattle.rdm_log.proofs.LogLemmas.RunLemmas.{before_first-cons, entries_before_run_stays, served_same, served_stays}
 use Rattle.rdm_log.proofs.LogLemmas.RunFacts.{run_facts, open_is, any_from_place}
 
--- what stands before a run is a front of the log
+-- the entries before a run are a prefix of the log
 before_is_front : (o : Opening) (h : List Entry) (r : ℕ) → EachAfter (MayFollow o) h
     → EachAfter (MayFollow o) (entries_before_run r h)
 unfolding entries_before_run
@@ -91,7 +91,7 @@ which_first : (r q : ℕ) (h : List Entry) → (r ≡ q → ⊥) → has_begun r
 unfolding has_begun entries_before_run
 which_first r q h apart begun other = one_before (sends_run r) (sends_run q) h (runs_apart r q apart) begun other
 
--- what a run serves: a place among the Asks before it, after those asked before the run before it
+-- what a run serves: a place among the Asks before it, after those asked for before the previous run
 record IsServed (o : Opening) (h : List Entry) (r : ℕ) (a : AskedDiscovery) : Type 0 where
   begun : has_begun r h ≡ true
   place : ℕ

@@ -1,4 +1,4 @@
--- What a log has told and known stays, as it grows.
+-- What a log has reported doesn't change as it grows.
 use Rattle.std.proofs.Common.{◌≡◌, ℕ, zero, suc, ◌+◌, ◌≤◌, ◌<◌, Bool, true, false, List, [], ◌∷◌, ◌++◌, length, drop}
 use Rattle.std.proofs.Common.{fold, Option, Some, None, slice_get, refl, sym, ap, ◌∙◌, inl, inr, arith, filter_map}
 use Rattle.std.proofs.Common.{if◌then◌else◌}
@@ -127,7 +127,7 @@ answers_passed o c h =
     recursion_from_All P (uncollected o c h)
     (All-drop P (length (collects_by c h)) (answers_to o c h) (filter_passes (is_answer_to o c h) h))
 
--- where there is no oldest outcome nothing is uncollected
+-- if there is no oldest outcome, nothing is uncollected
 pub nothing_uncollected : (o : Opening) (c : ℕ) (h : List Entry) → oldest_kind o h c ≡ None → uncollected o c h ≡ []
 nothing_uncollected o c h none = no_first (uncollected o c h) (answers_passed o c h) none
   where

@@ -40,7 +40,7 @@ use Rattle.rdm_log.proofs.LogLemmas.LegalFacts.{legal_facts, unfinished_number}
 use Rattle.rdm_log.proofs.PromiseLemmas.StableResults.{result_step}
 use Rattle.rdm_log.specs.promises.Headline.{OwnAnswer, OwnAnswers}
 
--- want of memory comes from no event
+-- no event has the status NoMemory
 abbrev is_no_memory : Status → Bool
 is_no_memory NoMemory = true
 is_no_memory _ = false
@@ -111,7 +111,7 @@ of_event : (sent : Sent) (event : LineEvent) → IsFromLine (verdict sent event)
 of_event sent Failed = with_status FailedToSend refl
 of_event sent (Reply bytes) = either _ _ _ (with_status _ refl) (of_bytes sent bytes.items)
 
--- what a verdict decides: never want of memory, and data with status Completed alone
+-- what a verdict decides: never NoMemory, and data only with status Completed
 record IsAnswer (j : Joined) : Type 0 where
   remembered : is_no_memory j.status ≡ false
   no_data : j.status ≢ Completed → j.data_ ≡ []

@@ -1,4 +1,4 @@
--- A client is answered what it asked, and refused only where it has four discoveries outstanding.
+-- A client is answered what it asked for, and refused only if it has as many discoveries as it may.
 use Rattle.std.proofs.Common.{◌≡◌, ℕ, ◌-◌, ◌≤◌, Bool, true, false, List, [], ◌∷◌, map, Option, Some, None, slice_get}
 use Rattle.std.proofs.Common.{filter_map, if◌then◌else◌, refl, sym, ap, ◌∙◌, inl, inr, arith, zero, suc, ◌++◌}
 use Rattle.std.specs.Prelude.{◌⊎◌, ◌||◌, option_map, nat_le, ◌==◌}

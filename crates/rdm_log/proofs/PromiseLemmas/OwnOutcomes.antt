@@ -126,7 +126,7 @@ own_outcome o h more c outcome each is =
     by_kind (inl f) = of_finish o h more c found.0 is.entry outcome each f found.1 found.2 is.told
     by_kind (inr f) = of_reply o h more c found.0 is.entry outcome each f found.1 found.2 is.told
 
--- so it tells of the line what its Answer tells
+-- so it says the same about the line as its Answer
 pub reports_the_line : (o : Opening) (h : List Entry) → Legal o h → (c : ℕ) (number : Option ℕ) (done : Discovered)
     → IsOwnReport o h c number done → ReportsTheLine h done
 reports_the_line o h legal c number done is = record {

@@ -26,7 +26,7 @@ use Rattle.rdm_log.proofs.PromiseLemmas.BlockLemmas.{join_ok, submit_ok, discove
 use Rattle.rdm_log.proofs.PromiseLemmas.BlockLemmas.{discover_refusal}
 use Rattle.rdm_log.proofs.PromiseLemmas.ClosedEvents.{next_closed, close_closes}
 
--- entries after which no reply is awaited where none was before
+-- entries after which no reply is awaited if none was before
 abbrev IsQuiet : List Entry → Type 0
 IsQuiet block = AllByRecursion (λ e. awaits_after false e ≡ false) block
 
@@ -59,7 +59,7 @@ close_quiet : (closed : Bool) (block : List Entry) → CloseAddsWhere closed blo
 close_quiet true block adds = rw adds tt
 close_quiet false block adds = with_results_quiet Close block refl adds
 
--- where the queue is closed no event's block awaits a reply
+-- if the queue is closed, no event's block awaits a reply
 quiet : (k : LogState) (e : Event) (r : Answer) (block : List Entry) → is_closed k.opening k.entries ≡ true
     → Adds k e r block → IsQuiet block
 quiet k (events.Join n) (answers.Join (Ok c)) block closed adds = rw (join_ok k n c block adds).2 (refl, tt)

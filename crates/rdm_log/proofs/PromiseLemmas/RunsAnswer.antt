@@ -1,4 +1,4 @@
--- One run answers the discoveries that were asked before it began, all alike.
+-- One run answers the discoveries that were asked for before it began, all alike.
 use Rattle.std.proofs.Common.{◌≡◌, ℕ, ◌+◌, Bool, true, false, List, [], ◌∷◌, ◌++◌, length, Option, Some, slice_get}
 use Rattle.std.proofs.Common.{refl, sym, ap, ◌∙◌, inl, inr, append_assoc, append-nil}
 use Rattle.std.specs.Prelude.{◌⊎◌, ◌≢◌, ◌==◌, ◌||◌, ◌-◌}
@@ -111,7 +111,7 @@ devices_stay : (h k : List Entry) (r : ℕ) → run_exchanges r k ≡ run_exchan
     → answer_devices r k ≡ answer_devices r h
 devices_stay h k r same = rw same refl
 
--- what a run serves was asked before it began
+-- what a run serves was asked for before it began
 asked_first : (o : Opening) (h : List Entry) → EachAfter (MayFollow o) h
     → (before back : List Entry) (n r : ℕ) (fault : Option AgentFault) → h ≡ before ++ Answer n r fault ∷ back → r ≢ 0
     → Contains (numbers_asked (asks (entries_before_run r h))) n
@@ -151,7 +151,7 @@ all_served o h legal i b a at has =
     (all_at (λ x. AllAnswered x.run h) (answers h) legal.settled.runs_answered i b at) has.0 a
     (contains_place (served b.run h) a has)
 
--- which kind it is of
+-- its kind
 full : (r : ℕ) (h : List Entry) (a : AskedDiscovery) → Contains (served r h) a → a.kind ≡ kinds.Full
     → run_kind r h ≡ kinds.Full
 full r h a has is = rw (list_any_at (λ x. is_full_kind x.kind) (served r h) has.0 a has.1 (rw (has.2, is) refl)) refl

@@ -38,7 +38,7 @@ named_in h j n r fault at = by_place (filter_map_has answered_of h j (Answer n r
         let has : Contains (answers h) b = contains_from_get (answers h) found.0 b found.1 in
         list_any_at (λ x. x.run == r) (answers h) has.0 b has.1 (rw has.2 (eq-eqb r r refl))
 
--- and so its devices stay as they are
+-- and so its devices don't change
 pub devices_stay : (o : Opening) (h more : List Entry) (r : ℕ) → EachAfter (MayFollow o) (h ++ more)
     → is_answered r h ≡ true → answer_devices r (h ++ more) ≡ answer_devices r h
 devices_stay o h more r each is = rw (exchanges_stay o h more r each is) refl

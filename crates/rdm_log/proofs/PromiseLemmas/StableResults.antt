@@ -46,7 +46,7 @@ result_step o h (Send (owners.Run r) frame) each may n other =
     result_sent h (owners.Run r) frame n (sent_evenly o h (legal_facts o h each) may.1.not_awaited)
 result_step o h e each may n other = result_other h e n refl refl
 
--- what stands at a place is contained
+-- the element at a place is contained
 pub contains_from_get : {X : Type 0} (xs : List X) (i : ℕ) (x : X) → slice_get xs i ≡ Some x → Contains xs x
 contains_from_get xs i x at = (i, slice_get_within xs i x at, get_or_from_slice_get xs i x x at)
 
@@ -55,7 +55,7 @@ pub client_is : (c : ℕ) (client : Option ℕ) → is_client_of c client ≡ tr
 client_is c None is = absurd (false≢true is)
 client_is c (Some d) is = ap (λ x. Some x) (sym (eqb-true c d is))
 
--- what a test passes stands in the list, and passes
+-- what a filter keeps is in the list, and passes the test
 pub filter_has : {X : Type 0} (p : X → Bool) (xs : List X) (i : ℕ) (x : X) → slice_get (filter p xs) i ≡ Some x
     → (j : ℕ) × (slice_get xs j ≡ Some x) × (p x ≡ true)
 filter_has p [] i x at = cc

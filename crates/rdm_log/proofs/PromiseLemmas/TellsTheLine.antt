@@ -1,4 +1,4 @@
--- The devices of an Answer are those that the line showed in its run.
+-- The devices of an Answer are those that its run showed on the line.
 use Rattle.std.proofs.Common.{◌≡◌, ℕ, suc, zero, true, false, List, [], ◌∷◌, ◌++◌, take, drop, Option, Some, None}
 use Rattle.std.proofs.Common.{slice_get, filter_map, refl, sym, ap, ◌∙◌, inl, inr, fold}
 use Rattle.std.specs.Prelude.{◌⊎◌, ◌≢◌, ◌==◌}
@@ -140,7 +140,7 @@ without_fault r first (b ∷ bs) e = by_later (without_fault r (if_without_fault
     by_later (inl here) = by_fault b.fault refl here
     by_later (inr later) = inr (record { place = suc later.place; number = later.number; stands = later.stands })
 
--- stands in the log
+-- is in the log
 record IsAnswerAt (h : List Entry) (n r : ℕ) (fault : Option AgentFault) : Type 0 where
   place : ℕ
   stands : slice_get h place ≡ Some (Answer n r fault)

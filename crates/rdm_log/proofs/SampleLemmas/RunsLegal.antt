@@ -92,7 +92,7 @@ not_corrupt x many u c = among x c.before c.mutes many c.whole
 no_devices : IsDeviceSet []
 no_devices = record { devices = tt; ascending = tt }
 
--- a full run amid them goes on
+-- a full run during these exchanges goes on
 pub goes_on : (h : List Entry) (n : ℕ) (b : AgentState) (asked : Asked) → run_kind 1 h ≡ Full
     → known_at_run sample_opening 1 h ≡ [] → run_exchanges 1 h ≡ take n sample_run
     → Runs (start Full [] 96008) (take n sample_run) b → next_of b ≡ Some asked → AllReported (take n sample_run)

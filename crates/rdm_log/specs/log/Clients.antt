@@ -1,4 +1,4 @@
--- What a log says of one client: what it was given, what it has collected, and what is outstanding.
+-- What a log says about one client: its answers, what it has collected, and what is outstanding.
 use Rattle.std.specs.Prelude.{ℕ, ◌-◌, Bool, false, List, length, take, drop, map, filter, Option, Some, None, ◌==◌}
 use Rattle.std.specs.Prelude.{slice_get}
 use Rattle.rdm_log.specs.declared.entry.Opening.{Opening}
@@ -10,7 +10,7 @@ use Rattle.rdm_log.specs.log.Entries.{Accepted, AskedDiscovery, accepts, asks, f
 abbrev pub accepts_by : ℕ → List Entry → List Accepted
 accepts_by c h = filter (λ a. c == a.client) (accepts h)
 
--- the discoveries that a client asked, in order
+-- the discoveries that a client asked for, in order
 abbrev pub asks_by : ℕ → List Entry → List AskedDiscovery
 asks_by c h = filter (λ a. c == a.client) (asks h)
 
@@ -43,18 +43,18 @@ answers_to o c h = filter (is_answer_to o c h) h
 abbrev pub collects_by : ℕ → List Entry → List ℕ
 collects_by c h = filter (λ d. c == d) (collectors h)
 
--- the Finishes and Answers that a client has collected: as many first ones as it has Collects
+-- the Finishes and Answers that a client has collected: the first n, if it has n Collects
 abbrev pub collected : Opening → ℕ → List Entry → List Entry
 collected o c h = take (length (collects_by c h)) (answers_to o c h)
 
--- the Finishes and Answers that a client has not collected, in order
+-- the Finishes and Answers that a client hasn't collected, in order
 abbrev pub uncollected : Opening → ℕ → List Entry → List Entry
 uncollected o c h = drop (length (collects_by c h)) (answers_to o c h)
 
--- how many requests of a client are outstanding: accepted, and their Finish not collected
+-- how many of a client's requests are outstanding: accepted, and their Finish isn't collected
 abbrev pub outstanding_requests : Opening → ℕ → List Entry → ℕ
 outstanding_requests o c h = length (accepts_by c h) - length (finishes (collected o c h))
 
--- how many discoveries of a client are outstanding: asked, and their Answer not collected
+-- how many of a client's discoveries are outstanding: asked for, and their Answer isn't collected
 abbrev pub outstanding_discoveries : Opening → ℕ → List Entry → ℕ
 outstanding_discoveries o c h = length (asks_by c h) - length (answers (collected o c h))

@@ -1,4 +1,4 @@
--- What is due: the Finishes and Answers that may not wait for any other entry.
+-- What is due: the Finishes and Answers that have to come before any other entry.
 use Rattle.std.specs.Prelude.{◌≡◌, ◌≢◌, ℕ, ◌<◌, Bool, true, false, List, [], length, None, ◌==◌, MatchOption}
 use Rattle.std.specs.List.{AllByRecursion, list_any}
 use Rattle.rdm_wire.specs.Honest.Heard.{Failed}
@@ -10,7 +10,7 @@ use Rattle.rdm_log.specs.log.Entries.{answers, result}
 use Rattle.rdm_log.specs.log.History.{awaited, is_closed, unfinished, unanswered}
 use Rattle.rdm_log.specs.log.Runs.{open_run, served, run_exchanges, run_devices, run_kind, known_at_run}
 
--- the discovery of this number has an Answer
+-- whether the discovery with this number has an Answer
 abbrev pub has_answer : ℕ → List Entry → Bool
 has_answer n h = list_any (λ b. b.number == n) (answers h)
 
@@ -18,7 +18,7 @@ has_answer n h = list_any (λ b. b.number == n) (answers h)
 abbrev pub AllAnswered : ℕ → List Entry → Type 0
 AllAnswered r h = AllByRecursion (λ a. has_answer a.number h ≡ true) (served r h)
 
--- a run is done: its exchanges show that its devices are all there are
+-- a run is done: its exchanges have the certificate that it found all devices
 abbrev pub IsDone : Opening → List Entry → ℕ → Type 0
 IsDone o h r = Certificate (run_kind r h) (known_at_run o r h) (run_exchanges r h) (run_devices r h)
 
@@ -38,5 +38,5 @@ pub record NothingDue (o : Opening) (h : List Entry) : Type 0 where
   pub runs_answered : AllByRecursion (λ b. AllAnswered b.run h) (answers h)
   -- a run that no Answer names goes on
   pub run_goes_on : MatchOption (open_run h) (Unit {0}) (GoesOn o h)
-  -- closed, and no reply awaited: all is finished and answered
+  -- once the queue is closed and no reply is awaited, all requests are finished and all discoveries answered
   pub all_closed : is_closed o h ≡ true → awaited h ≡ false → (unfinished h ≡ []) × (unanswered h ≡ [])

@@ -31,7 +31,7 @@ pub record Sending : Type 0 where
   pub owner : Owner
   pub frame : ArrayVec ℕ
 
--- a Finish: the number of the request, its status and how many bytes it has
+-- a Finish: the request's number, its status, and how many bytes of data it has
 pub record Finished : Type 0 where
   pub number : ℕ
   pub status : Status
@@ -115,19 +115,29 @@ answers h = filter_map answered_of h
 unfoldable pub collectors : List Entry → List ℕ
 collectors h = filter_map collector_of h
 
--- a frame and what came for it: the first Send with the first Came, and so on
+-- a frame, whose it is, and what came for it
 pub record Traded : Type 0 where
   pub owner : Owner
   pub frame : ArrayVec ℕ
   pub event : LineEvent
 
--- a Send and an event, as one
+-- a Send with an event
 abbrev pub traded_of : Sending × LineEvent → Traded
 traded_of e = record { owner = e.0.owner; frame = e.0.frame; event = e.1 }
 
--- the frames with what came for them, in order; a frame whose reply is awaited isn't among them
+-- the frames with what came for them, in order: the first Send with the first Came, and so on. A frame whose reply is
+-- awaited isn't among them
 unfoldable pub traded : List Entry → List Traded
 traded h = map traded_of (zip (sends h) (cames h))
+
+-- a frame with what came for it, without its owner
+abbrev pub exchange_of : Traded → ArrayVec ℕ × LineEvent
+exchange_of t = (t.frame, t.event)
+
+-- a log's exchanges with the line, in order: each frame that was sent, with what came for it. A frame whose reply is
+-- awaited has no exchange yet
+unfoldable pub exchanges : List Entry → List (ArrayVec ℕ × LineEvent)
+exchanges h = map exchange_of (traded h)
 
 -- whether a frame was sent for request n
 abbrev pub is_request : ℕ → Owner → Bool
@@ -151,6 +161,6 @@ verdict_on t = verdict (sent_by t.frame.items) t.event
 unfoldable pub verdicts : ℕ → List Entry → List Judged
 verdicts n h = map verdict_on (of_request n h)
 
--- a request's result, or None where it is open
+-- a request's result, or None if it is open
 unfoldable pub result : ℕ → List Entry → Option Joined
 result n h = result_of (verdicts n h)

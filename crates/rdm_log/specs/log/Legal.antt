@@ -1,4 +1,4 @@
--- What may stand in a log.
+-- Which logs are legal.
 use Rattle.std.specs.Prelude.{◌≡◌, ◌≢◌, true, false, List, [], None}
 use Rattle.rdm_wire.specs.Lists.{EachAfter}
 use Rattle.rdm_log.specs.declared.entry.Opening.{Opening}
@@ -14,7 +14,7 @@ use Rattle.rdm_log.specs.log.MaySend.{MaySend}
 use Rattle.rdm_log.specs.log.MayFinish.{MayFinish}
 use Rattle.rdm_log.specs.log.MayAnswer.{MayAnswer}
 
--- a Finish or an Answer may stand after h where it is right; any other entry also only where nothing is due
+-- the entry may follow h: a Finish or an Answer if it is right, and any other entry only if nothing is due, too
 abbrev pub MayFollow : Opening → List Entry → Entry → Type 0
 MayFollow o h (Finish n status len) = MayFinish o h n status len
 MayFollow o h (Answer n r fault) = MayAnswer o h n r fault
@@ -29,7 +29,7 @@ MayFollow o h Pause = NothingDue o h × (can_pause o h ≡ true)
 MayFollow o h Resume = NothingDue o h × (can_resume o h ≡ true)
 MayFollow o h Close = NothingDue o h × (is_closed o h ≡ false)
 
--- each entry may stand after those before it, and nothing is due at the end
+-- each entry may follow those before it, and nothing is due at the end
 pub record Legal (o : Opening) (h : List Entry) : Type 0 where
   pub each : EachAfter (MayFollow o) h
   pub settled : NothingDue o h

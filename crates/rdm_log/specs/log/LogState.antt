@@ -1,4 +1,4 @@
--- What a log and a session are seen as.
+-- How contracts see a log and a session.
 use Rattle.std.specs.Prelude.{ℕ, Bool, false, List, [], ◌++◌, nat_lt}
 use Rattle.rdm_agent.specs.declared.search.Search.{Search}
 use Rattle.rdm_agent.specs.declared.search.Search.TheVariants.{Steady}
@@ -9,7 +9,7 @@ use Rattle.rdm_log.specs.declared.entry.Entry.{Entry}
 use Rattle.rdm_log.specs.log.History.{free_room, is_paused, is_closed, places, next_request, next_ask, next_tn}
 use Rattle.rdm_log.specs.log.Runs.{next_run, known_devices, devices_run}
 
--- the opening, the entries after it, the entries that there is room for, and how the runs of its session search
+-- the opening, the entries after it, how many entries fit, and how the session's runs search
 pub record LogState : Type 0 where
   pub opening : Opening
   pub entries : List Entry
@@ -28,11 +28,11 @@ grown k block = record k { entries = k.entries ++ block }
 abbrev pub free_entries : LogState → ℕ
 free_entries k = free_room k.room k.opening k.entries
 
--- three entries have to be free for each call that a full log refuses
+-- whether the log is full: fewer than three entries are free, so some calls are refused
 abbrev pub is_full_log : LogState → Bool
 is_full_log k = nat_lt (free_entries k) 3
 
--- what a new log stands after
+-- the opening of a new log
 abbrev pub blank_opening : Opening
 blank_opening = record {
   source = 0;
@@ -49,12 +49,12 @@ blank_opening = record {
   next_tn = 0;
 }
 
--- a new log with this room
+-- a new log for this many entries
 abbrev pub blank_log : ℕ → LogState
 blank_log room = record { opening = blank_opening; entries = []; room = room; search = Steady }
 
--- what a session with this configuration stands after at its start: no clients, no devices, neither paused nor closed;
--- the first run will be number 1, and all other numbers begin at 0
+-- the opening of a session with this configuration: no clients, no devices, neither paused nor closed; the first run
+-- will be number 1, and all other numbers begin at 0
 abbrev pub opened : Config → Opening
 opened config = record blank_opening {
   source = config.source;
@@ -64,11 +64,11 @@ opened config = record blank_opening {
 }
 
 -- the log of a session with this set-up, at its start: it has that opening, and says how runs search; its entries and
--- its room are those of the log that the session was given
+-- its capacity are those of the log that the session was given
 abbrev pub begun : Setup → LogState → LogState
 begun setup k = record k { opening = opened setup.config; search = setup.search }
 
--- what stands after these entries: the opening of a log that goes on from there
+-- the opening of a log that continues after these entries
 abbrev pub opening_after : Opening → List Entry → Opening
 opening_after o h = record {
   source = o.source;

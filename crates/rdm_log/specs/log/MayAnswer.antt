@@ -1,4 +1,4 @@
--- Which Answers may stand.
+-- Which Answers may follow.
 use Rattle.std.specs.Prelude.{◌≡◌, ◌≢◌, ℕ, true, false, List, [], Option, Some, None, ◌==◌, slice_get}
 use Rattle.std.specs.List.{AllByRecursion, list_any}
 use Rattle.rdm_agent.specs.Cause.{Cause}
@@ -17,25 +17,25 @@ pub record IsAborted (o : Opening) (h : List Entry) (r : ℕ) : Type 0 where
   pub closed : is_closed o h ≡ true
   pub goes_on : GoesOn o h r
 
--- what an Answer says that a run has shown: without fault that it is done; with a fault its cause, and that it isn't
+-- what an Answer says about a run: without fault, that it is done; with a fault, its cause, and that it isn't done
 abbrev pub Shows : Opening → List Entry → ℕ → Option AgentFault → Type 0
 Shows o h r None = IsDone o h r
 Shows o h r (Some fault) = Cause o.budget (IsAborted o h r) fault (run_exchanges r h) × (IsDone o h r → ⊥)
 
--- an Answer by a run that serves the discovery: it says what its exchanges show, as its other Answers say it
+-- an Answer by a run that serves the discovery: the run's exchanges show it, and the run's other Answers agree
 pub record MayAnswerByRun (o : Opening) (h : List Entry) (n r : ℕ) (fault : Option AgentFault) : Type 0 where
   pub not_awaited : awaited h ≡ false
   pub serves : list_any (λ a. a.number == n) (served r h) ≡ true
   pub agrees : AllByRecursion (λ b. (b.run ≡ r) → b.fault ≡ fault) (answers h)
   pub shows : Shows o h r fault
 
--- an Answer at a close to a discovery that no run serves, after all Finishes
+-- an Answer to a discovery that no run serves, which a close ends after all Finishes
 pub record MayAnswerUnserved (o : Opening) (h : List Entry) (fault : Option AgentFault) : Type 0 where
   pub closing : IsClosing o h
   pub aborted : fault ≡ Some Aborted
   pub last : unfinished h ≡ []
 
--- the oldest unanswered discovery may be answered; run 0 means that none was begun for it
+-- the oldest unanswered discovery may be answered; run 0 means that no run was begun for it
 pub record MayAnswer (o : Opening) (h : List Entry) (n r : ℕ) (fault : Option AgentFault) : Type 0 where
   pub asked : AskedDiscovery
   pub oldest : slice_get (unanswered h) 0 ≡ Some asked

@@ -1,4 +1,4 @@
--- Which Finishes may stand.
+-- Which Finishes may follow.
 use Rattle.std.specs.Prelude.{◌≡◌, ◌≢◌, ◌⊎◌, ℕ, true, false, List, [], length, Option, Some, None, slice_get}
 use Rattle.rdm_join.specs.declared.status.Status.{Status}
 use Rattle.rdm_join.specs.declared.status.Status.TheVariants.{Completed, FailedToSend, NoMemory}
@@ -9,19 +9,19 @@ use Rattle.rdm_log.specs.log.Entries.{Accepted, result}
 use Rattle.rdm_log.specs.log.History.{awaited, is_closed, unfinished, unanswered}
 use Rattle.rdm_log.specs.log.Runs.{unserved}
 
--- a close ends what is left: no reply is awaited, and each discovery that a run serves has its Answer
+-- a close ends the requests: the queue is closed, no reply is awaited, and no run has a discovery left to answer
 pub record IsClosing (o : Opening) (h : List Entry) : Type 0 where
   pub closed : is_closed o h ≡ true
   pub not_awaited : awaited h ≡ false
   pub runs_answered : unanswered h ≡ unserved h
 
--- a status and a length tell a joined result: its own, or want of memory for its data
+-- a status and a length report a joined result: they are its own, or there was no memory for its data
 abbrev pub Tells : Joined → Status → ℕ → Type 0
 Tells j status len =
     ((status ≡ j.status) × (len ≡ length j.data_))
     ⊎ ((status ≡ NoMemory) × (j.status ≡ Completed) × (j.data_ ≢ []) × (len ≡ 0))
 
--- they fit a result that is decided where they tell it, and an open one at a close alone
+-- they fit a decided result if they report it, and an open one as FailedToSend, if a close ends the request
 abbrev pub FitsResult : Type 0 → Option Joined → Status → ℕ → Type 0
 FitsResult closing None status len = closing × (status ≡ FailedToSend) × (len ≡ 0)
 FitsResult closing (Some j) status len = Tells j status len

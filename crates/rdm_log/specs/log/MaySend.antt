@@ -18,11 +18,11 @@ pub record MaySendRequest (o : Opening) (h : List Entry) (n : ℕ) (frame : Arra
   pub not_closed : is_closed o h ≡ false
   pub not_paused : is_paused o h ≡ false
   pub no_run : open_run h ≡ None
-  -- it is the lowest that isn't finished
+  -- it is the oldest unfinished request
   pub accepted : Accepted
   pub lowest : slice_get (unfinished h) 0 ≡ Some accepted
   pub number : n ≡ accepted.number
-  -- a discovery that is asked goes before it, unless it is under way
+  -- it is under way, or no discovery waits for a run
   pub turn : (was_sent n h ≡ true) ⊎ (unserved h ≡ [])
   pub packet : Packet (request_fields accepted.request o.source (next_tn o h)) frame.items
 
@@ -50,12 +50,12 @@ pub record IsMuteFrame (source tn : ℕ) (frame : List ℕ) : Type 0 where
   pub device : IsDevice uid
   pub frame_is : frame ≡ mute_frame uid source tn
 
--- a run's frame, with this many before it: three unmutes, and then branches and mutes
+-- a run's frame, after this many others of the run: the first three are unmutes, all others branches or mutes
 pub record IsRunFrame (source tn before : ℕ) (frame : List ℕ) : Type 0 where
   pub unmute : before < 3 → frame ≡ unmute_frame source tn
   pub search : 3 ≤ before → IsBranchFrame source tn frame ⊎ IsMuteFrame source tn frame
 
--- a run's frame may be sent: of one that begins, or of the one that is open
+-- a frame of a run may be sent: the run may begin, or it is the open one
 pub record MaySendRun (o : Opening) (h : List Entry) (r : ℕ) (frame : ArrayVec ℕ) : Type 0 where
   pub not_awaited : awaited h ≡ false
   pub not_closed : is_closed o h ≡ false

@@ -1,5 +1,5 @@
--- Why a join, a submit or a discover is refused: of the faults that a log shows, the first that stands. That memory is
--- wanted or the log is full it doesn't show.
+-- Why a join, a submit or a discover is refused: the first fault that applies, of those that a log shows. It shows
+-- neither that an allocation failed nor that the log is full.
 use Rattle.std.specs.Prelude.{◌≡◌, ℕ, ◌+◌, Bool, ◌||◌, List, length, sum, Option, Some, None, option_map, unwrap_or}
 use Rattle.std.specs.Prelude.{nat_lt, nat_le, if◌then◌else◌, slice_index}
 use Rattle.rdm_log.specs.declared.entry.ClientId.{ClientId}
@@ -16,18 +16,18 @@ use Rattle.rdm_log.specs.declared.fault.AskFault.TheVariants as ask_faults
 use Rattle.rdm_log.specs.log.History.{is_closed, places, next_request, next_ask}
 use Rattle.rdm_log.specs.log.Clients.{outstanding_requests, outstanding_discoveries}
 
--- of a join with n places, where the clients have these places, of this many
+-- the first fault of a join with queue depth n, if the clients have these depths, and may have `greatest` in all
 abbrev pub join_fault_at : Bool → List ℕ → ℕ → ℕ → Option JoinFault
 join_fault_at closed places greatest n =
     if closed then Some join_faults.Closed
     else (if nat_le 16 (length places) then Some join_faults.TooManyClients
     else (if nat_lt greatest (sum places + n) then Some join_faults.NoPlaces else None))
 
--- the first fault of a join with n places that a log shows
+-- the first fault of a join with queue depth n that a log shows
 abbrev pub join_fault : Opening → List Entry → ℕ → Option JoinFault
 join_fault o h n = join_fault_at (is_closed o h) (places o h) o.greatest n
 
--- of a submit by client c, with this many requests outstanding: its places are taken, or the numbers have run out
+-- the first fault of a submit by client c, which has this many requests outstanding; `next` is the next number
 abbrev pub submit_fault_at : Bool → List ℕ → ℕ → ℕ → ℕ → Option SubmitFault
 submit_fault_at closed places outstanding next c =
     if closed then Some submit_faults.Closed
@@ -39,7 +39,7 @@ submit_fault_at closed places outstanding next c =
 abbrev pub submit_fault : Opening → List Entry → ℕ → Option SubmitFault
 submit_fault o h c = submit_fault_at (is_closed o h) (places o h) (outstanding_requests o c h) (next_request o h) c
 
--- of a discover by client c, with this many discoveries outstanding: it has four, or the numbers have run out
+-- the first fault of a discover by client c, which has this many discoveries outstanding; `next` is the next number
 abbrev pub ask_fault_at : Bool → List ℕ → ℕ → ℕ → ℕ → Option AskFault
 ask_fault_at closed places outstanding next c =
     if closed then Some ask_faults.Closed
@@ -51,7 +51,7 @@ ask_fault_at closed places outstanding next c =
 abbrev pub ask_fault : Opening → List Entry → ℕ → Option AskFault
 ask_fault o h c = ask_fault_at (is_closed o h) (places o h) (outstanding_discoveries o c h) (next_ask o h) c
 
--- the faults' numbers
+-- the number of a join's fault
 abbrev pub number_of_join_fault : JoinFault → ℕ
 number_of_join_fault join_faults.Closed = 1
 number_of_join_fault join_faults.TooManyClients = 2
@@ -73,13 +73,13 @@ number_of_ask_fault ask_faults.UnknownClient = 2
 number_of_ask_fault ask_faults.Full = 3
 number_of_ask_fault ask_faults.LogFull = 4
 
--- this call of this client is refused with this number: the first fault's; a join's for want of memory only
--- where no other stands
+-- this call of this client is refused with this number, that of its first fault; a join has NoMemory only if no other
+-- fault applies
 abbrev pub IsRefused : Opening → List Entry → Option ClientId → Call → ℕ → Type 0
 IsRefused o h None (calls.Join n) cause =
     cause ≡ number_of_join_fault (unwrap_or (join_fault o h n) join_faults.NoMemory)
 IsRefused o h (Some c) (calls.Submit request) cause =
     option_map number_of_submit_fault (submit_fault o h c.0) ≡ Some cause
 IsRefused o h (Some c) (calls.Discover kind) cause = option_map number_of_ask_fault (ask_fault o h c.0) ≡ Some cause
--- a client makes no join, and each other call is a client's
+-- a join has no client, and each other call has one
 IsRefused o h _ _ cause = ⊥

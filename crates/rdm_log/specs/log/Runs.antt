@@ -1,4 +1,4 @@
--- What a log says of its discovery runs.
+-- What a log says about its discovery runs.
 use Rattle.std.specs.Prelude.{ℕ, ◌+◌, ◌-◌, Bool, true, false, List, [], length, drop, map, filter, filter_map, fold}
 use Rattle.std.specs.Prelude.{Option, Some, None, ◌==◌, if◌then◌else◌}
 use Rattle.std.specs.List.{list_any, before_first}
@@ -30,16 +30,16 @@ has_begun r h = list_any (sends_run r) h
 unfoldable pub entries_before_run : ℕ → List Entry → List Entry
 entries_before_run r h = before_first (sends_run r) h
 
--- the run of this Send, or the one before if it is a request's
+-- this owner's run, or the one before if the owner is a request
 abbrev pub run_of_owner : Option ℕ → Owner → Option ℕ
 run_of_owner before (owners.Run r) = Some r
 run_of_owner before (owners.Request n) = before
 
--- the run that began last: that of the last Send that is a run's
+-- the run that began last: that of the last Send for a run
 unfoldable pub last_run : List Entry → Option ℕ
 last_run h = fold (λ before s. run_of_owner before s.owner) None (sends h)
 
--- the number after the last run, or the first number without one
+-- the number after that of the last run, or the first number if there was no run
 abbrev pub number_after : ℕ → Option ℕ → ℕ
 number_after first None = first
 number_after first (Some r) = r + 1
@@ -48,7 +48,7 @@ number_after first (Some r) = r + 1
 abbrev pub next_run : Opening → List Entry → ℕ
 next_run o h = number_after o.next_run (last_run h)
 
--- some Answer names the run
+-- whether some Answer names the run
 abbrev pub is_answered : ℕ → List Entry → Bool
 is_answered r h = list_any (λ b. b.run == r) (answers h)
 
@@ -86,7 +86,7 @@ run_exchanges r h = map seen_of (filter (λ t. is_run r t.owner) (traded h))
 abbrev pub run_frames : ℕ → List Entry → ℕ
 run_frames r h = length (filter (λ s. is_run r s.owner) (sends h))
 
--- the devices that exchanges report, each as the first acknowledgement of its mute says it
+-- the devices that exchanges report, each as the first acknowledgement of its mute describes it
 abbrev pub reported_devices : List Seen → List Device
 reported_devices x = filter_map (device_with (devices_in x)) (reported x)
 
@@ -98,7 +98,7 @@ run_devices r h = reported_devices (run_exchanges r h)
 abbrev pub answer_devices : ℕ → List Entry → List Device
 answer_devices r h = if r == 0 then [] else run_devices r h
 
--- the run of an Answer without fault, else the one before
+-- this Answer's run if it has no fault, or else the one before
 abbrev pub if_without_fault : Option ℕ → Answered → Option ℕ
 if_without_fault before b = elim b.fault [ None ↦ Some b.run | Some fault ↦ before ]
 
@@ -106,21 +106,21 @@ if_without_fault before b = elim b.fault [ None ↦ Some b.run | Some fault ↦ 
 abbrev pub last_run_without_fault : List Entry → Option ℕ
 last_run_without_fault h = fold if_without_fault None (answers h)
 
--- the devices of this run, or the first ones without a run
+-- the devices of this run, or the first ones if there is no run
 abbrev pub devices_of : List Device → Option ℕ → List Entry → List Device
 devices_of first None h = first
 devices_of first (Some r) h = run_devices r h
 
--- the devices known, which the call `devices` gives: those of the last run without fault, else the opening's
+-- the known devices, which the call `devices` lends: those of the last run without fault, or else the opening's
 abbrev pub known_devices : Opening → List Entry → List Device
 known_devices o h = devices_of o.devices (last_run_without_fault h) h
 
--- this run, or the first one without a run
+-- this run, or the first one if there is no run
 abbrev pub run_or : ℕ → Option ℕ → ℕ
 run_or first None = first
 run_or first (Some r) = r
 
--- the run that gave the devices known, else the opening's
+-- the run that found the known devices, or else the opening's
 abbrev pub devices_run : Opening → List Entry → ℕ
 devices_run o h = run_or o.devices_run (last_run_without_fault h)
 

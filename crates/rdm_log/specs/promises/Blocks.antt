@@ -1,4 +1,4 @@
--- What each call adds to a log: for each call one word, of what it answers and of its block of entries.
+-- What each call adds to a log: for each call, one definition relates its result and its block of entries.
 use Rattle.std.specs.Prelude.{◌≡◌, ℕ, Bool, true, false, List, [], ◌∷◌, Option, Some, None, Result, Ok, Err}
 use Rattle.std.specs.Prelude.{unwrap_or, option_map, if◌then◌else◌, slice_get}
 use Rattle.std.specs.List.{AllByRecursion}
@@ -48,7 +48,7 @@ submit_refused c request fault =
 abbrev pub ask_refused : ClientId → Kind → AskFault → Entry
 ask_refused c kind fault = Refuse (Some c) (calls.Discover kind) (record { 0 = number_of_ask_fault fault })
 
--- the first fault that stands, or want of memory where none does
+-- the fault is the first that applies, or NoMemory if none does
 abbrev pub RefusesJoin : Option JoinFault → JoinFault → Type 0
 RefusesJoin first fault = fault ≡ unwrap_or first join_faults.NoMemory
 
@@ -58,7 +58,7 @@ is_result (Finish n status len) = true
 is_result (Answer n run fault) = true
 is_result _ = false
 
--- only Finishes and Answers
+-- there are only Finishes and Answers
 abbrev pub AllResults : List Entry → Type 0
 AllResults block = AllByRecursion (λ r. is_result r ≡ true) block
 
@@ -68,24 +68,24 @@ pub record IsWithResults (e : Entry) (block : List Entry) : Type 0 where
   pub whole : block ≡ e ∷ results
   pub each : AllResults results
 
--- the outcome is that of the oldest answer that the client hasn't collected
+-- the outcome is that of the client's oldest uncollected answer
 pub record IsOldest (o : Opening) (h : List Entry) (c : ℕ) (outcome : Outcome) : Type 0 where
   pub entry : Entry
   pub oldest : slice_get (uncollected o c h) 0 ≡ Some entry
   pub told : outcome_of h entry ≡ Some (outcome_value outcome)
 
--- An entry where the call has an effect, else none.
+-- an entry if the call has an effect, or else none
 abbrev pub SwitchAdds : Bool → Entry → List Entry → Type 0
 SwitchAdds has_effect e block = block ≡ (if has_effect then e ∷ [] else [])
 
--- The calls of a controller, after a history: what each answers, and the block that it adds.
--- a join: the next client, and a Join with its places, if no fault stands; else the first fault that stands, or
--- NoMemory if none does, and a Refuse with the number of that fault
+-- The calls of a controller, after a history: what each returns, and the block that it adds.
+-- a join: the next client and its Join, only if no fault applies; or the first fault that applies, NoMemory if none
+-- does, and a Refuse with the number of that fault
 abbrev pub JoinAdds : Opening → List Entry → ℕ → Result ClientId JoinFault → List Entry → Type 0
 JoinAdds o h n (Ok c) block = (join_fault o h n ≡ None) × (c.0 ≡ next_client o h) × (block ≡ Join c n ∷ [])
 JoinAdds o h n (Err fault) block = RefusesJoin (join_fault o h n) fault × (block ≡ join_refused n fault ∷ [])
 
--- a submit: accepted with the next number, or refused with the first fault; a refused request comes back
+-- a submit: accepted with the next number, or refused with the first fault; a refused request is returned
 abbrev pub SubmitAdds : Opening → List Entry → ClientId → Request → Result ℕ (SubmitFault × Request)
     → List Entry → Type 0
 SubmitAdds o h c request (Ok n) block =
@@ -99,15 +99,15 @@ DiscoverAdds o h c kind (Ok n) block = (ask_fault o h c.0 ≡ None) × (n ≡ ne
 DiscoverAdds o h c kind (Err fault) block =
     (ask_fault o h c.0 ≡ Some fault) × (block ≡ ask_refused c kind fault ∷ [])
 
--- a pause: a Pause if it has an effect, else nothing
+-- a pause: a Pause if it has an effect, or else nothing
 abbrev pub PauseAdds : Opening → List Entry → List Entry → Type 0
 PauseAdds o h block = SwitchAdds (can_pause o h) Pause block
 
--- a resume: a Resume if it has an effect, else nothing
+-- a resume: a Resume if it has an effect, or else nothing
 abbrev pub ResumeAdds : Opening → List Entry → List Entry → Type 0
 ResumeAdds o h block = SwitchAdds (can_resume o h) Resume block
 
--- a close adds nothing if the queue is closed; else a Close, and the results that are due then
+-- a close adds nothing if the queue is closed; otherwise it adds a Close, and then Finishes and Answers
 abbrev pub CloseAddsWhere : Bool → List Entry → Type 0
 CloseAddsWhere true block = block ≡ []
 CloseAddsWhere false block = IsWithResults Close block
@@ -121,14 +121,14 @@ abbrev pub TakeAdds : Opening → List Entry → Option (ArrayVec ℕ) → List 
 TakeAdds o h (Some frame) block = (owner : Owner) × MaySend o h owner frame × (block ≡ Send owner frame ∷ [])
 TakeAdds o h None block = NoSend o h × (block ≡ [])
 
--- a deliver, where a reply is awaited: a Came with the event, and then the Finishes and Answers that are due; an Answer
--- by a calm run has a fault only if the queue is closed. Else the event comes back, and nothing is added
+-- a deliver: if a reply is awaited, a Came with the event, and then Finishes and Answers; an Answer by a calm run has a
+-- fault only if the queue is closed. Otherwise the event is returned, and nothing is added
 abbrev pub DeliverAdds : LogState → LineEvent → Result (Unit {0}) (NotAsked × LineEvent) → List Entry → Type 0
 DeliverAdds k event (Ok x) block =
     (awaited k.entries ≡ true) × IsWithResults (Came event) block × AnswersInBound k block
 DeliverAdds k event (Err e) block = (awaited k.entries ≡ false) × (e.1 ≡ event) × (block ≡ [])
 
--- a collect: the client's oldest outcome that isn't collected, and a Collect; or nothing, since there is none
+-- a collect: the client's oldest uncollected outcome, and a Collect; or nothing, since there is none
 abbrev pub CollectAdds : Opening → List Entry → ClientId → Option Outcome → List Entry → Type 0
 CollectAdds o h c (Some outcome) block = IsOldest o h c.0 outcome × (block ≡ Collect c ∷ [])
 CollectAdds o h c None block = (uncollected o c.0 h ≡ []) × (block ≡ [])
@@ -138,47 +138,47 @@ abbrev pub UnlessFull : Bool → Type 0 → Type 0 → Type 0
 UnlessFull true refuses adds = refuses
 UnlessFull false refuses adds = adds
 
--- The calls of a session: if the log is full, LogFull is answered and nothing is added; else as a controller's.
--- a join of a session: LogFull and no entry if the log is full, else the answer and the block of a controller's join
+-- The calls of a session: if the log is full, LogFull is returned and nothing is added; otherwise as a controller's.
+-- a join of a session: LogFull and no entry if the log is full, otherwise the result and block of a controller's join
 abbrev pub JoinLogs : LogState → ℕ → Result ClientId JoinFault → List Entry → Type 0
 JoinLogs k n answer block =
     UnlessFull (is_full_log k) ((answer ≡ Err join_faults.LogFull) × (block ≡ []))
     (JoinAdds k.opening k.entries n answer block)
 
--- a submit of a session: LogFull if the log is full, else as a controller's
+-- a submit of a session: LogFull if the log is full, otherwise as a controller's
 abbrev pub SubmitLogs : LogState → ClientId → Request → Result ℕ (SubmitFault × Request) → List Entry → Type 0
 SubmitLogs k c request answer block =
     UnlessFull (is_full_log k) ((answer ≡ Err (submit_faults.LogFull, request)) × (block ≡ []))
     (SubmitAdds k.opening k.entries c request answer block)
 
--- a discover of a session: LogFull if the log is full, else as a controller's
+-- a discover of a session: LogFull if the log is full, otherwise as a controller's
 abbrev pub DiscoverLogs : LogState → ClientId → Kind → Result ℕ AskFault → List Entry → Type 0
 DiscoverLogs k c kind answer block =
     UnlessFull (is_full_log k) ((answer ≡ Err ask_faults.LogFull) × (block ≡ []))
     (DiscoverAdds k.opening k.entries c kind answer block)
 
--- a pause of a session: an error if the log is full, else as a controller's
+-- a pause of a session: an error if the log is full, otherwise as a controller's
 abbrev pub PauseLogs : LogState → Result (Unit {0}) LogFull → List Entry → Type 0
 PauseLogs k (Ok x) block = (is_full_log k ≡ false) × PauseAdds k.opening k.entries block
 PauseLogs k (Err x) block = (is_full_log k ≡ true) × (block ≡ [])
 
--- a resume of a session: an error if the log is full, else as a controller's
+-- a resume of a session: an error if the log is full, otherwise as a controller's
 abbrev pub ResumeLogs : LogState → Result (Unit {0}) LogFull → List Entry → Type 0
 ResumeLogs k (Ok x) block = (is_full_log k ≡ false) × ResumeAdds k.opening k.entries block
 ResumeLogs k (Err x) block = (is_full_log k ≡ true) × (block ≡ [])
 
--- a take of a session: an error if the log is full, else as a controller's
+-- a take of a session: an error if the log is full, otherwise as a controller's
 abbrev pub TakeLogs : LogState → Result (Option (ArrayVec ℕ)) LogFull → List Entry → Type 0
 TakeLogs k (Ok taken) block = (is_full_log k ≡ false) × TakeAdds k.opening k.entries taken block
 TakeLogs k (Err x) block = (is_full_log k ≡ true) × (block ≡ [])
 
 -- a collect among events: the outcome and the block of a controller's collect; or NoMemory and no entry, only if the
--- client's oldest outcome that isn't collected is a discovery's
+-- client's oldest uncollected outcome is a discovery's
 abbrev pub CollectLogs : LogState → ClientId → Result (Option BoxedOutcome) NoMemory → List Entry → Type 0
 CollectLogs k c (Ok given) block = CollectAdds k.opening k.entries c (option_map unboxed given) block
 CollectLogs k c (Err x) block = (oldest_kind k.opening k.entries c.0 ≡ Some kinds.Discovery) × (block ≡ [])
 
--- old grew to new by a block of which this holds
+-- new is old with one more block, for which this holds
 pub record GrowsBy (old : LogState) (Adds : List Entry → Type 0) (new : LogState) : Type 0 where
   pub block : List Entry
   pub adds : Adds block

@@ -1,4 +1,4 @@
--- What clients are promised, said of a list of events and its answers.
+-- What clients are promised, for a list of events and its answers.
 use Rattle.std.specs.Prelude.{◌≡◌, ◌↔◌, ℕ, ◌+◌, ◌<◌, Bool, true, false, List, [], ◌∷◌, ◌++◌, length, take, drop, zip}
 use Rattle.std.specs.Prelude.{filter_map, Option, Some, None, Ok, Err, ◌==◌, if◌then◌else◌, slice_get}
 use Rattle.std.specs.List.{Contains}
@@ -44,7 +44,7 @@ use Rattle.rdm_log.specs.promises.Headline.{IsFull, SameQueue, result_count}
 use Rattle.rdm_log.specs.promises.Discoveries.{HasMostDiscoveries, answer_count}
 use Rattle.rdm_log.specs.promises.Promised.{LegalPromised}
 
--- event i was answered so: the log stood at before, and then at after
+-- event i had this answer: the log was `before`, and then `after`
 pub record AnsweredAt (old : LogState) (es : List Event) (rs : List Answer) (new : LogState) (i : ℕ) (event : Event)
     (answer : Answer) : Type 0 where
   pub before : LogState
@@ -53,11 +53,11 @@ pub record AnsweredAt (old : LogState) (es : List Event) (rs : List Answer) (new
   pub here : IsAnswered before event answer after
   pub later : Explains after (drop (i + 1) es) (drop (i + 1) rs) new
 
--- the answer to a submit of a client whose queue is full, and to no other
+-- the answer to a submit if the client's queue is full
 abbrev pub refuses_full : Request → Answer
 refuses_full request = answers.Submit (Err (Full, request))
 
--- a submit is answered Full exactly when the client's queue is full, if the log isn't; that changes the log alone
+-- if the log isn't full, a submit is answered Full exactly when the client's queue is full; that changes only the log
 pub record FullExactly (old : LogState) (es : List Event) (rs : List Answer) (new : LogState) (i : ℕ) (c : ClientId)
     (request : Request) (answer : Answer) : Type 0 where
   pub at : AnsweredAt old es rs new i (events.Submit c request) answer
@@ -66,12 +66,12 @@ pub record FullExactly (old : LogState) (es : List Event) (rs : List Answer) (ne
   pub refused : answer ≡ refuses_full request → at.after ≡ grown at.before (submit_refused c request Full ∷ [])
   pub unchanged : answer ≡ refuses_full request → SameQueue new.opening at.before.entries at.after.entries
 
--- the answer to a discover of a client that has as many discoveries as it may, and to no other
+-- the answer to a discover if the client has as many discoveries as it may
 abbrev pub refuses_discovery : Answer
 refuses_discovery = answers.Discover (Err ask_faults.Full)
 
--- a discover is answered Full exactly when the client has as many as it may, if the log isn't full; that changes the
--- log alone
+-- if the log isn't full, a discover is answered Full exactly when the client has as many as it may; that changes only
+-- the log
 pub record MostExactly (old : LogState) (es : List Event) (rs : List Answer) (new : LogState) (i : ℕ) (c : ClientId)
     (kind : Kind) (answer : Answer) : Type 0 where
   pub at : AnsweredAt old es rs new i (events.Discover c kind) answer
@@ -81,15 +81,15 @@ pub record MostExactly (old : LogState) (es : List Event) (rs : List Answer) (ne
       → at.after ≡ grown at.before (ask_refused c kind ask_faults.Full ∷ [])
   pub unchanged : answer ≡ refuses_discovery → SameQueue new.opening at.before.entries at.after.entries
 
--- a collect was answered with NoMemory: the client's oldest outcome that isn't collected is a discovery's, and nothing
--- has changed
+-- a collect was answered with NoMemory: the client's oldest uncollected outcome is a discovery's, and nothing has
+-- changed
 pub record RefusesDiscovery (old : LogState) (es : List Event) (rs : List Answer) (new : LogState) (i : ℕ)
     (c : ClientId) (fault : NoMemory) : Type 0 where
   pub at : AnsweredAt old es rs new i (events.Collect c) (answers.Collect (Err fault))
   pub discovery : oldest_kind at.before.opening at.before.entries c.0 ≡ Some kinds.Discovery
   pub unchanged : at.after ≡ at.before
 
--- an answer that starts something: a client joined, a request or a discovery was accepted, or a frame was given
+-- an answer that starts something: a client joined, a request or a discovery was accepted, or a frame was returned
 abbrev pub starts : Answer → Bool
 starts (answers.Join (Ok c)) = true
 starts (answers.Submit (Ok n)) = true
@@ -115,20 +115,20 @@ pub record IsOwnReport (o : Opening) (h : List Entry) (c : ℕ) (number : Option
   pub client : client_of_discovery o h discovery ≡ Some c
   pub told : done.devices ≡ answer_devices done.run h
 
--- the outcome is of a request or a discovery of client c, and says what the log says of it
+-- the outcome belongs to a request or a discovery of client c, and says what the log says about it
 abbrev pub IsOwnOutcome : Opening → List Entry → ℕ → Outcome → Type 0
 IsOwnOutcome o h c (outcomes.Request number done) = IsOwnResult o h c number (completion_value done)
 IsOwnOutcome o h c (outcomes.Discovery number done) = IsOwnReport o h c number (discovered done)
 
--- the devices of a discovery are those that the line showed in its run
+-- the devices of a discovery are those that its run showed on the line
 pub record ReportsTheLine (h : List Entry) (done : Discovered) : Type 0 where
-  -- on an honest line with fixed devices: without fault exactly these, whatever bytes colliding replies make
+  -- on an honest line whose devices stay: without fault exactly these, whatever bytes colliding replies make
   pub exactly : (present : List ℕ) → done.fault ≡ None → HonestTrace present (run_exchanges done.run h)
       → uids_of done.devices ≡ present
-  -- and with a fault none but these
+  -- and even with a fault, no others
   pub no_phantom : (present : List ℕ) (u : ℕ) → HonestTrace present (run_exchanges done.run h)
       → has (uids_of done.devices) u ≡ true → has present u ≡ true
-  -- on a line that is honest to one device: without fault that device, whatever others do
+  -- on a line that is honest towards one device: without fault that device, whatever others do
   pub each : (u : ℕ) → done.fault ≡ None → IsDevice u → HonestTo u (run_exchanges done.run h)
       → has (uids_of done.devices) u ≡ true
   -- on an honest line whose devices come and leave: without fault each that was always present
@@ -138,21 +138,21 @@ pub record ReportsTheLine (h : List Entry) (done : Discovered) : Type 0 where
   pub no_stranger : (sets : List (List ℕ)) (u : ℕ) → HonestOver sets (run_exchanges done.run h)
       → has (uids_of done.devices) u ≡ true → IsInOne u sets
 
--- the outcome that an event gave to the client; none if there was no memory for it
+-- the outcome that an event returned to the client, if it did
 abbrev pub outcome_given : ℕ → Event → Answer → Option OutcomeValue
 outcome_given c (events.Collect d) (answers.Collect (Ok (Some outcome))) =
     if c == d.0 then Some (outcome_value (unboxed outcome)) else None
 outcome_given c _ _ = None
 
--- all outcomes that events gave to the client, in order
+-- all outcomes that events returned to the client, in order
 abbrev pub given_to : ℕ → List Event → List Answer → List OutcomeValue
 given_to c es rs = filter_map (λ p. outcome_given c p.0 p.1) (zip es rs)
 
--- the outcomes that the client's collected Finishes and Answers of h have in a log
+-- the outcomes, as this log has them, of the Finishes and Answers that the client has collected in h
 abbrev pub collected_outcomes : Opening → ℕ → List Entry → List Entry → List OutcomeValue
 collected_outcomes o c h log = filter_map (outcome_of log) (collected o c h)
 
--- All that is promised of every list of events that a session answers, and of its log before and after.
+-- All that is promised about each list of events that a session answers, and about its log before and after.
 pub record EventsPromised (old : LogState) (es : List Event) (rs : List Answer) (new : LogState) : Type 0 where
   -- each event has one answer
   pub all_answered : length rs ≡ length es
@@ -160,19 +160,19 @@ pub record EventsPromised (old : LogState) (es : List Event) (rs : List Answer) 
   pub only_grows : (block : List Entry) × (new ≡ grown old block)
   -- the log keeps all that clients are promised of a legal log
   pub log : LegalPromised new.opening new.entries
-  -- where a submit was answered with a number, the log has an Accept of its client and request under that number
+  -- if a submit was answered with a number, the log has an Accept of its client and request under that number
   pub accepted : (i : ℕ) (c : ClientId) (n : ℕ) (request : Request) → slice_get es i ≡ Some (events.Submit c request)
       → slice_get rs i ≡ Some (answers.Submit (Ok n)) → Contains new.entries (Accept c n request)
-  -- where a submit was answered with a number, and a Close and later a Deliver are among the events, the request has
+  -- if a submit was answered with a number, and a Close and later a Deliver are among the events, the request has
   -- exactly one result
   pub finished : (i j m : ℕ) (c : ClientId) (n : ℕ) (request : Request) (event : LineEvent)
       → slice_get es i ≡ Some (events.Submit c request) → slice_get rs i ≡ Some (answers.Submit (Ok n)) → j < m
       → slice_get es j ≡ Some events.Close → slice_get es m ≡ Some (events.Deliver event)
       → result_count n new.entries ≡ 1
-  -- where a discover was answered with a number, the log has an Ask of its client and kind under that number
+  -- if a discover was answered with a number, the log has an Ask of its client and kind under that number
   pub asked : (i : ℕ) (c : ClientId) (n : ℕ) (kind : Kind) → slice_get es i ≡ Some (events.Discover c kind)
       → slice_get rs i ≡ Some (answers.Discover (Ok n)) → Contains new.entries (Ask c n kind)
-  -- where a discover was answered with a number, and a Close and later a Deliver are among the events, the discovery
+  -- if a discover was answered with a number, and a Close and later a Deliver are among the events, the discovery
   -- has exactly one answer
   pub answered : (i j m : ℕ) (c : ClientId) (n : ℕ) (kind : Kind) (event : LineEvent)
       → slice_get es i ≡ Some (events.Discover c kind) → slice_get rs i ≡ Some (answers.Discover (Ok n)) → j < m
@@ -184,41 +184,41 @@ pub record EventsPromised (old : LogState) (es : List Event) (rs : List Answer) 
   -- of two discovers that were answered with a number, the later has the greater one
   pub asks_rise : (i j n m : ℕ) → i < j → slice_get rs i ≡ Some (answers.Discover (Ok n))
       → slice_get rs j ≡ Some (answers.Discover (Ok m)) → n < m
-  -- where a Close is among the events, the queue is closed at the end
+  -- if a Close is among the events, the queue is closed at the end
   pub closed : (i : ℕ) → slice_get es i ≡ Some events.Close → is_closed new.opening new.entries ≡ true
   -- no event after a Close has an answer that starts something
   pub nothing_after : (i j : ℕ) (answer : Answer) → i < j → slice_get es i ≡ Some events.Close
       → slice_get rs j ≡ Some answer → starts answer ≡ false
-  -- where the queue was closed before the events, no event has an answer that starts something
+  -- if the queue was closed before the events, no event has an answer that starts something
   pub nothing_closed : is_closed old.opening old.entries ≡ true → (j : ℕ) (answer : Answer)
       → slice_get rs j ≡ Some answer → starts answer ≡ false
-  -- a submit is answered Full exactly when its client's queue is full, if the log isn't; that changes the log alone
+  -- if the log isn't full, a submit is answered Full exactly when its client's queue is; that changes only the log
   pub full : (i : ℕ) (c : ClientId) (request : Request) (answer : Answer)
       → slice_get es i ≡ Some (events.Submit c request) → slice_get rs i ≡ Some answer
       → FullExactly old es rs new i c request answer
-  -- a discover is answered Full exactly when its client has as many discoveries as it may, if the log isn't full; that
-  -- changes the log alone
+  -- if the log isn't full, a discover is answered Full exactly when its client has as many discoveries as it may; that
+  -- changes only the log
   pub most : (i : ℕ) (c : ClientId) (kind : Kind) (answer : Answer)
       → slice_get es i ≡ Some (events.Discover c kind) → slice_get rs i ≡ Some answer
       → MostExactly old es rs new i c kind answer
-  -- what a Collect gave is the outcome of a request or a discovery of that client, and says what the log says of it
+  -- what a Collect returned is an outcome of that client's request or discovery, and says what the log says about it
   pub collected : (i : ℕ) (c : ClientId) (outcome : BoxedOutcome) → slice_get es i ≡ Some (events.Collect c)
       → slice_get rs i ≡ Some (answers.Collect (Ok (Some outcome)))
       → IsOwnOutcome new.opening new.entries c.0 (unboxed outcome)
-  -- the devices that a Collect gave with a discovery are those that the line showed in its run
+  -- the devices that a Collect returned for a discovery are those that its run showed on the line
   pub reported : (i : ℕ) (outcome : BoxedOutcome) (number : Option ℕ) (done : AskCompletion)
       → slice_get rs i ≡ Some (answers.Collect (Ok (Some outcome))) → unboxed outcome ≡ outcomes.Discovery number done
       → ReportsTheLine new.entries (discovered done)
   -- a Collect is answered with NoMemory only if its client's oldest outcome is a discovery's; that changes nothing
   pub no_memory : (i : ℕ) (c : ClientId) (fault : NoMemory) → slice_get es i ≡ Some (events.Collect c)
       → slice_get rs i ≡ Some (answers.Collect (Err fault)) → RefusesDiscovery old es rs new i c fault
-  -- the outcomes that a client has collected by the end are those that it had before, and then those that these events
-  -- gave it, each once and in order
+  -- the outcomes that a client has collected at the end are those that it had before, and then those that these events
+  -- returned to it, each once and in order
   pub collected_once : (c : ℕ)
       → collected_outcomes new.opening c new.entries new.entries
       ≡ collected_outcomes new.opening c old.entries new.entries ++ given_to c es rs
-  -- an Answer that these events added, by a run on a calm line whose budget suffices, has a fault only if the queue was
-  -- closed before it
+  -- an Answer that these events added, for a run on a calm line with a sufficient budget, has a fault only if the queue
+  -- was closed before it
   pub in_bound : (front back : List Entry) (n r : ℕ) (fault : AgentFault) (present : List ℕ)
       → new.entries ≡ old.entries ++ front ++ entries.Answer n r (Some fault) ∷ back
       → IsCalmRun new r present → is_closed new.opening (old.entries ++ front) ≡ true

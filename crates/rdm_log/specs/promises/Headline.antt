@@ -1,4 +1,4 @@
--- What clients are promised, said of one log by its positions and counts.
+-- What clients are promised, for one log, by its positions and counts.
 use Rattle.std.specs.Prelude.{◌≡◌, ◌≢◌, ◌⊎◌, ℕ, ◌+◌, ◌%◌, ◌<◌, ◌≤◌, true, false, List, [], ◌∷◌, ◌++◌, length, map}
 use Rattle.std.specs.Prelude.{filter}
 use Rattle.arrayvec.specs.ArrayVec.{ArrayVec}
@@ -38,7 +38,7 @@ numbers_accepted some = map (λ a. a.number) some
 abbrev pub numbers_finished : List Finished → List ℕ
 numbers_finished some = map (λ f. f.number) some
 
--- how many results a request has: how often its number stands among those of the Finishes
+-- how many results a request has: how many Finishes have its number
 abbrev pub result_count : ℕ → List Entry → ℕ
 result_count n h = length (filter (λ m. n == m) (numbers_finished (finishes h)))
 
@@ -63,24 +63,24 @@ pub record CarriesRequest (o : Opening) (h : List Entry) (n tn : ℕ) (frame : L
 
 -- A request's frames carry that request.
 pub record OwnRequests (o : Opening) (h : List Entry) : Type 0 where
-  -- each that was sent, numbered by its place among all frames
+  -- each frame that was sent for it does, with the transaction number of its place among all frames
   pub sent : (i n : ℕ) (frame : ArrayVec ℕ)
       → slice_get (sends h) i ≡ Some (record { owner = owners.Request n; frame = frame })
       → CarriesRequest o h n ((o.next_tn + i) % 256) frame.items
-  -- and so each in the request's exchanges
+  -- and so does each frame in the request's exchanges
   pub carried : (n i : ℕ) (t : Traded) → slice_get (of_request n h) i ≡ Some t
       → (tn : ℕ) × CarriesRequest o h n tn t.frame.items
 
--- The joined answer of a request's own exchanges, as a Finish after h tells it.
+-- A Finish after h reports the joined answer of the request's own exchanges.
 pub record OwnAnswer (o : Opening) (h : List Entry) (n : ℕ) (status : Status) (len : ℕ) : Type 0 where
-  -- its exchanges decide a result, and that is told
+  -- if its exchanges decide a result, that is reported
   pub decided : (j : Joined) → IsResult (verdicts n h) j → Tells j status len
-  -- they decide none: the queue is closed, no reply is awaited, and it failed to be sent
+  -- if they decide none, the queue is closed, no reply is awaited, and the status is FailedToSend
   pub undecided : ((j : Joined) → IsResult (verdicts n h) j → ⊥)
       → (status ≡ FailedToSend) × (len ≡ 0) × (is_closed o h ≡ true) × (awaited h ≡ false)
-  -- want of memory stands in place of data that came, and of nothing else
+  -- NoMemory replaces data that came, and nothing else
   pub no_memory : status ≡ NoMemory → (j : Joined) × IsResult (verdicts n h) j × (j.status ≡ Completed) × (j.data_ ≢ [])
-  -- data come with status Completed alone
+  -- only status Completed has data
   pub no_data : status ≢ Completed → len ≡ 0
 
 -- Each request's Finish has the joined answer of that request's own exchanges.
@@ -91,7 +91,7 @@ pub record OwnAnswers (o : Opening) (h : List Entry) : Type 0 where
   pub stays : (front back : List Entry) (n : ℕ) (status : Status) (len : ℕ) → h ≡ front ++ Finish n status len ∷ back
       → result n h ≡ result n front
 
--- the first of a list are these
+-- a list begins with these
 pub record Begins {X : Type 0} (firsts all : List X) : Type 0 where
   pub rest : List X
   pub whole : all ≡ firsts ++ rest
@@ -105,13 +105,13 @@ pub record InOrder (o : Opening) (h : List Entry) : Type 0 where
   -- so do each client's
   pub each : (c : ℕ) → Begins (numbers_finished (finishes (answers_to o c h))) (numbers_accepted (accepts_by c h))
 
--- the client's places are taken, or the numbers have run out, and no fault goes before that
+-- the client's queue depth is used up, or the numbers have run out, and no earlier fault applies
 pub record IsFull (o : Opening) (h : List Entry) (c : ℕ) : Type 0 where
   pub not_closed : is_closed o h ≡ false
   pub known : c < next_client o h
   pub full : (slice_index (places o h) c ≤ outstanding_requests o c h) ⊎ (18446744073709551615 ≤ next_request o h)
 
--- k says of the queue what h says
+-- k says the same about the queue as h
 pub record SameQueue (o : Opening) (h k : List Entry) : Type 0 where
   pub paused : is_paused o k ≡ is_paused o h
   pub closed : is_closed o k ≡ is_closed o h
@@ -136,16 +136,16 @@ pub record SameQueue (o : Opening) (h k : List Entry) : Type 0 where
   pub devices_from : devices_run o k ≡ devices_run o h
   pub outstanding_asked : (c : ℕ) → outstanding_discoveries o c k ≡ outstanding_discoveries o c h
 
--- A full queue refuses, and nothing but the refusal's entry tells of it.
+-- A full queue refuses a request, and only the refusal's entry shows it.
 pub record FullRefuses (o : Opening) (h : List Entry) : Type 0 where
-  -- a submit is refused as full only where the client's queue is full
+  -- a submit is refused as full only if the client's queue is full
   pub refused : (front back : List Entry) (c : ClientId) (request : Request) (cause : Cause)
       → h ≡ front ++ Refuse (Some c) (calls.Submit request) cause ∷ back → cause.0 ≡ number_of_submit_fault Full
       → IsFull o front c.0
-  -- and is not accepted there
+  -- and then it isn't accepted
   pub accepted : (front back : List Entry) (c : ClientId) (n : ℕ) (request : Request)
       → h ≡ front ++ Accept c n request ∷ back → IsFull o front c.0 → ⊥
-  -- after a refusal's entry the log says of the queue what it said before
+  -- after a refusal's entry the log says the same about the queue as before
   pub unchanged : (front back : List Entry) (c : Option ClientId) (call : Call) (cause : Cause)
       → h ≡ front ++ Refuse c call cause ∷ back → SameQueue o front (front ++ Refuse c call cause ∷ [])
 

@@ -8,19 +8,19 @@ use Rattle.rdm_log.specs.log.Runs.{run_exchanges, run_kind, known_at_run}
 use Rattle.rdm_log.specs.log.LogState.{LogState, grown}
 
 -- the run's exchanges are those of an honest line with these devices, of which there are at most 1,024, without a
--- failure; and the budget is at least as large as the bound on frames asks of the search by which the log's runs search
+-- failure; and the budget is at least the bound on frames, for the search that the log's runs make
 pub record IsCalmRun (k : LogState) (r : ℕ) (present : List ℕ) : Type 0 where
   pub calm : IsCalm present (run_exchanges r k.entries)
   pub budgeted :
       enough_by k.search present (run_kind r k.entries) (known_at_run k.opening r k.entries) ≤ k.opening.budget
 
--- an entry after this log: if it is an Answer with a fault by a calm run, then the queue is closed
+-- if this entry after this log is an Answer with a fault by a calm run, then the queue is closed
 abbrev pub FaultNeedsClose : LogState → Entry → Type 0
 FaultNeedsClose k (Answer n r (Some fault)) =
     (present : List ℕ) → IsCalmRun k r present → is_closed k.opening k.entries ≡ true
 FaultNeedsClose k _ = Unit {0}
 
--- the same of each entry of a block, after the log with the entries of the block before it
+-- the same for each entry of a block, after the log with the block's earlier entries
 abbrev pub AnswersInBound : LogState → List Entry → Type 0
 AnswersInBound k [] = Unit {0}
 AnswersInBound k (e ∷ block) = FaultNeedsClose k e × AnswersInBound (grown k (e ∷ [])) block

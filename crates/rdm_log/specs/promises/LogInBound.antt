@@ -7,8 +7,8 @@ use Rattle.rdm_log.specs.log.History.{is_closed}
 use Rattle.rdm_log.specs.log.LogState.{LogState, with_entries}
 use Rattle.rdm_log.specs.promises.InBound.{IsCalmRun}
 
--- An Answer to a discovery has a fault only where the queue is closed, if its run is calm: its exchanges are those of
--- an honest line whose devices stay, without a failure, and its budget suffices.
+-- An Answer by a calm run has a fault only if the queue is closed. A run is calm if its exchanges are those of an
+-- honest line whose devices stay, without a failure, and its budget suffices.
 pub record InBound (k : LogState) : Type 0 where
   pub closed_first : (front back : List Entry) (n r : ℕ) (fault : AgentFault) (present : List ℕ)
       → k.entries ≡ front ++ Answer n r (Some fault) ∷ back → IsCalmRun (with_entries k front) r present

@@ -1,4 +1,4 @@
--- What one client called, and what it is told.
+-- What one client called, and which outcomes it collects.
 use Rattle.std.specs.Prelude.{ℕ, Bool, false, ◌&&◌, ◌||◌, List, [], filter, Option, Some, None, ◌==◌, slice_get}
 use Rattle.std.specs.Prelude.{option_and_then}
 use Rattle.rdm_wire.specs.declared.device.Device.{Device}
@@ -35,28 +35,28 @@ abbrev pub is_client : ℕ → Option ClientId → Bool
 is_client c None = false
 is_client c (Some d) = c == d.0
 
--- the number with which a closed queue refuses a call
+-- the number of the fault with which a closed queue refuses a call
 abbrev pub closed_number : Call → ℕ
 closed_number (calls.Join places) = number_of_join_fault join_faults.Closed
 closed_number (calls.Submit request) = number_of_submit_fault submit_faults.Closed
 closed_number (calls.Discover kind) = number_of_ask_fault ask_faults.Closed
 
--- a Refuse of the client's call, since the queue is closed
+-- whether an entry refuses a call of the client because the queue is closed
 abbrev pub is_closed_refusal : ℕ → Entry → Bool
 is_closed_refusal c (Refuse d call cause) = (cause.0 == closed_number call) && is_client c d
 is_closed_refusal c _ = false
 
--- what a client is told of, in order: its Finishes and Answers, and refusals by a close
+-- what is reported to a client, in order: its Finishes and Answers, and what a closed queue refused
 abbrev pub told : Opening → ℕ → List Entry → List Entry
 told o c h = filter (λ e. is_answer_to o c h e || is_closed_refusal c e) h
 
--- how a discovery ended: which run served it, with what fault, and the devices that the run reports
+-- how a discovery ended: the run that served it, its fault, and the devices that the run reports
 pub record Discovered : Type 0 where
   pub run : ℕ
   pub fault : Option AgentFault
   pub devices : List Device
 
--- an outcome as its client sees it: vectors with the same bytes are one
+-- an outcome as its client sees it: vectors with the same bytes are equal
 pub data OutcomeValue : Type 0 where
   RequestValue : Option ℕ → Joined → OutcomeValue
   DiscoveryValue : Option ℕ → Discovered → OutcomeValue
@@ -83,25 +83,25 @@ abbrev pub discovery_outcome : DiscoveryEnd → List Device → Outcome
 discovery_outcome end set =
     outcomes.Discovery (Some end.number) (record { run = end.run; fault = end.fault; set = set })
 
--- the same outcome, whose set of devices lies in memory of its own
+-- the outcome that the boxed one represents: its set of devices is taken out of the box
 abbrev pub unboxed : BoxedOutcome → Outcome
 unboxed (boxed.Request number done) = request_outcome (number, done)
 unboxed (boxed.Discovery end set) = discovery_outcome end set.value
 
--- the completion of a status: with status Completed the joined data and the last reply's head
+-- the completion with this status: for Completed, with the joined data and the last reply's head
 abbrev pub completion_of : Status → Option Joined → Joined
 completion_of Completed (Some j) = record { status = Completed; data_ = j.data_; head = j.head }
 completion_of status _ = ended status
 
--- what a discovery is told that an Answer answers with this run and fault
+-- how a discovery ended whose Answer has this run and this fault
 abbrev pub discovered_by : ℕ → Option AgentFault → List Entry → Discovered
 discovered_by run fault h = record { run = run; fault = fault; devices = answer_devices run h }
 
--- what a discovery is told that no run was begun for
+-- how a discovery ended for which no run was begun
 abbrev pub never_begun : Discovered
 never_begun = record { run = 0; fault = Some Aborted; devices = [] }
 
--- the outcome of a call that a close refused; a join has none
+-- the outcome of a call that a closed queue refused; a join has none
 abbrev pub refused_outcome : Call → Option OutcomeValue
 refused_outcome (calls.Submit request) = Some (RequestValue None (completion_of FailedToSend None))
 refused_outcome (calls.Discover kind) = Some (DiscoveryValue None never_begun)
@@ -114,12 +114,12 @@ outcome_of h (Answer n run fault) = Some (DiscoveryValue (Some n) (discovered_by
 outcome_of h (Refuse c call cause) = refused_outcome call
 outcome_of h _ = None
 
--- of which kind the outcome of a Finish or an Answer is
+-- the kind of the outcome of a Finish or an Answer
 abbrev pub kind_of_answer : Entry → Option OutcomeKind
 kind_of_answer (Finish n status len) = Some kinds.Request
 kind_of_answer (Answer n run fault) = Some kinds.Discovery
 kind_of_answer _ = None
 
--- of which kind the outcome of the client's oldest answer is that it hasn't collected
+-- the kind of the client's oldest uncollected outcome
 abbrev pub oldest_kind : Opening → List Entry → ℕ → Option OutcomeKind
 oldest_kind o h c = option_and_then kind_of_answer (slice_get (uncollected o c h) 0)

@@ -22,7 +22,7 @@ abbrev pub sample_request : Request
 sample_request =
     record { target = 0x123400000001; sub_device = 0; class = requests.Get; pid = 0x60; param = record { items = [] } }
 
--- the opening of the sample logs: one place, and nothing in the queue
+-- the opening of the sample logs: queue depth 1 in all, and nothing in the queue
 abbrev pub sample_opening : Opening
 sample_opening = record {
   source = 0x7a7000000100;
@@ -45,7 +45,7 @@ sample_frame =
     0xcc ∷ 0x01 ∷ 0x18 ∷ 0x12 ∷ 0x34 ∷ 0 ∷ 0 ∷ 0 ∷ 1 ∷ 0x7a ∷ 0x70 ∷ 0 ∷ 0 ∷ 1 ∷ 0 ∷ 0 ∷ 1 ∷ 0 ∷ 0 ∷ 0 ∷ 0x20 ∷ 0
     ∷ 0x60 ∷ 0 ∷ 0x02 ∷ 0x98 ∷ []
 
--- a client joins with one place
+-- a client joins with queue depth 1
 abbrev pub join_only : List Entry
 join_only = Join (record { 0 = 0 }) 1 ∷ []
 
@@ -83,7 +83,7 @@ accepted_two =
 abbrev pub closed_two : List Entry
 closed_two = accepted_two ++ Close ∷ []
 
--- a session that kept this log, with room for eleven entries
+-- a session that kept this log, with capacity for eleven entries
 abbrev pub logged_with : List Entry → LogState
 logged_with h = record { opening = sample_opening; entries = h; room = 11; search = Steady }
 

@@ -11,7 +11,7 @@ use Rattle.rdm_log.specs.declared.entry.Entry.{Entry}
 use Rattle.rdm_log.specs.declared.entry.Entry.TheVariants.{Join, Accept, Send, Came, Finish}
 use Rattle.rdm_log.specs.samples.Sample.{sample_opening, sample_request, sample_frame, accepted_two}
 
--- with two places
+-- the opening with queue depth 2
 abbrev pub wide_opening : Opening
 wide_opening = record sample_opening { greatest = 2 }
 

@@ -82,7 +82,7 @@ abbrev pub logged_traffic : ℕ → List (List ℕ × List ℕ) → List Entry
 logged_traffic r [] = []
 logged_traffic r (e ∷ es) = sent_for_run r e.0 ∷ came_with e.1 ∷ logged_traffic r es
 
--- while sending is paused a request is accepted and two discoveries are asked
+-- while sending is paused, a request is accepted and two discoveries are asked for
 abbrev pub waiting_log : List Entry
 waiting_log =
     Join first_client 1 ∷ Pause ∷ Accept first_client 0 sample_request ∷ Ask first_client 0 Full
@@ -104,7 +104,7 @@ answered_both = answered_first ++ Answer 1 1 None ∷ []
 abbrev pub request_sent : List Entry
 request_sent = answered_both ++ Send (owners.Request 0) (record { items = tenth_frame }) ∷ []
 
--- a discovery is asked
+-- a discovery is asked for
 abbrev pub asked_one : List Entry
 asked_one = Join first_client 1 ∷ Ask first_client 0 Full ∷ []
 
@@ -112,7 +112,7 @@ asked_one = Join first_client 1 ∷ Ask first_client 0 Full ∷ []
 abbrev pub begun_run : List Entry
 begun_run = asked_one ++ sent_for_run 1 (unmute_frame source 0) ∷ []
 
--- then another discovery is asked during the run
+-- then another discovery is asked for during the run
 abbrev pub asked_during : List Entry
 asked_during = begun_run ++ Ask first_client 1 Incremental ∷ []
 
@@ -132,7 +132,7 @@ closed_failed = answered_failed ++ Close ∷ []
 abbrev pub aborted_log : List Entry
 aborted_log = closed_failed ++ Answer 1 0 (Some Aborted) ∷ []
 
--- a run that a close finds amid its frames
+-- a run that a close interrupts
 abbrev pub closed_run : List Entry
 closed_run = begun_run ++ came_with [] ∷ Close ∷ []
 
@@ -152,7 +152,7 @@ known_traffic =
 abbrev pub second_run : Kind → List (List ℕ × List ℕ) → List Entry
 second_run kind traffic = Join first_client 1 ∷ Ask first_client 0 kind ∷ logged_traffic 2 traffic
 
--- a close finds a run amid its frames, a request that waits and a discovery asked during the run; then silence comes
+-- a close finds an open run, a request that waits and a discovery asked for during the run; then silence comes
 abbrev pub closed_amid : List Entry
 closed_amid =
     begun_run ++ Ask first_client 1 Full ∷ Accept first_client 0 sample_request ∷ Close ∷ came_with [] ∷ []

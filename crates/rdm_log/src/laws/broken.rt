@@ -19,8 +19,8 @@ pub fn wrong_results()
     ensures not_accepted { MayFollow sample_opening (join_only ++ Close ∷ []) (Finish 0 FailedToSend 0) → ⊥ }
 {}
 
-/// A request that was answered by silence isn't finished as if it had been answered, nor with data, nor for want of
-/// memory; and one that wasn't sent isn't finished before a close.
+/// A request that was answered by silence isn't finished as if it had been answered, nor with data, nor with
+/// NoMemory; and one that wasn't sent isn't finished before a close.
 pub fn wrong_answers()
     ensures status { MayFollow sample_opening came_one (Finish 0 Completed 0) → ⊥ }
     ensures length { MayFollow sample_opening came_one (Finish 0 Timeout 1) → ⊥ }
@@ -61,12 +61,12 @@ pub fn wrong_order()
     ensures number { MayFollow sample_opening join_only (Accept (record { 0 = 0 }) 1 sample_request) → ⊥ }
 {}
 
-/// A client with one place has no second request accepted, and isn't refused as full while the place is free.
+/// A client with queue depth 1 has no second request accepted, and isn't refused as full while it has none outstanding.
 pub fn wrong_refusals()
     ensures accepted { MayFollow sample_opening accepted_one (Accept (record { 0 = 0 }) 1 sample_request) → ⊥ }
     ensures refused { MayFollow sample_opening accepted_one
         (Refuse (Some (record { 0 = 0 })) (Submit sample_request) (record { 0 = 3 })) }
-    // The queue is closed, and that goes before an unknown client.
+    // The queue is closed, which is tested before an unknown client.
     ensures first_fault { MayFollow sample_opening closed_log
         (Refuse (Some (record { 0 = 1 })) (Submit sample_request) (record { 0 = 1 })) }
     ensures second_fault { MayFollow sample_opening closed_log
@@ -75,7 +75,7 @@ pub fn wrong_refusals()
         (Refuse (Some (record { 0 = 0 })) (Submit sample_request) (record { 0 = 3 })) → ⊥ }
 {}
 
-/// After a close no frame is sent, also where a request waits, and no request is accepted.
+/// After a close no frame is sent, even if a request waits, and no request is accepted.
 pub fn wrong_after_a_close()
     ensures waits { MaySend sample_opening accepted_one (Request 0) (record { items = sample_frame }) }
     ensures sent { MaySend sample_opening (accepted_one ++ Close ∷ []) (Request 0) (record { items = sample_frame })

@@ -1,4 +1,4 @@
-//! What clients are promised of discoveries: laws on each legal log.
+//! What clients are promised about discoveries: laws about each legal log.
 ghost use Rattle.std.specs.Prelude.{List};
 ghost use Rattle.rdm_log.specs.declared.entry.Opening.{Opening};
 ghost use Rattle.rdm_log.specs.declared.entry.Entry.{Entry};
@@ -6,7 +6,7 @@ ghost use Rattle.rdm_log.specs.log.Legal.{Legal};
 ghost use Rattle.rdm_log.specs.promises.Discoveries.{OneAnswer, AnsweredInOrder, TellsTheLine, RunsAnswer};
 ghost use Rattle.rdm_log.specs.promises.Discoveries.{OwnDiscoveries, FullRefusesDiscoveries, DiscoveriesPromised};
 
-/// Each discovery that is asked has exactly one answer: never two, and one once the queue is closed and no reply is
+/// Each discovery that is asked for has exactly one answer: never two, and one once the queue is closed and no reply is
 /// awaited.
 pub fn exactly_one_answer()
     ensures { (o : Opening) (h : List Entry) → Legal o h → OneAnswer o h }
@@ -18,29 +18,29 @@ pub fn first_asked_first_answered()
 {}
 
 /// A discovery that ends without fault on an honest line reports exactly the devices present, whatever bytes colliding
-/// replies make; with a fault, none but those. Where devices come and leave, without fault each that was always
-/// present, and none that never was. This holds amid requests, pauses, closes and other runs.
+/// replies make; with a fault, no others. If devices come and leave, it reports without fault each that was always
+/// present, and none that never was. This holds among requests, pauses, closes and other runs.
 pub fn answers_tell_the_line()
     ensures { (o : Opening) (h : List Entry) → Legal o h → TellsTheLine o h }
 {}
 
-/// One run answers the discoveries that were asked before it began, and all of them alike.
+/// One run answers the discoveries that were asked for before it began, and all of them alike.
 pub fn runs_answer_what_was_asked()
     ensures { (o : Opening) (h : List Entry) → Legal o h → RunsAnswer o h }
 {}
 
-/// A client is answered its own discoveries.
+/// A client gets answers only to its own discoveries.
 pub fn own_discoveries()
     ensures { (o : Opening) (h : List Entry) → Legal o h → OwnDiscoveries o h }
 {}
 
-/// A discovery is refused as full only where its client has four outstanding or the numbers have run out, and is not
-/// accepted there.
+/// A discovery is refused as full only if its client has four outstanding or the numbers have run out. Then it isn't
+/// accepted.
 pub fn full_client_is_refused()
     ensures { (o : Opening) (h : List Entry) → Legal o h → FullRefusesDiscoveries o h }
 {}
 
-/// All that clients are promised of discoveries holds of each legal log.
+/// All that clients are promised about discoveries holds for each legal log.
 pub fn legal_keeps_discoveries()
     ensures { (o : Opening) (h : List Entry) → Legal o h → DiscoveriesPromised o h }
 {}

@@ -1,4 +1,4 @@
-//! Answers that a log explains, and answers that none does.
+//! Answers that a log explains, and answers that no log explains.
 ghost use Rattle.std.specs.Prelude.{◌≡◌, ℕ, List, [], ◌∷◌, ◌++◌, Ok, Err, Some, None, slice_get};
 ghost use Rattle.std.specs.Global.{Vec, Box};
 ghost use Rattle.rdm_wire.specs.declared.device.Device.{Device};
@@ -34,13 +34,13 @@ pub fn sample_is_explained()
 {}
 
 /// A log with a run explains the answers to its events: a discover, the run's first frame, a discover during the run,
-/// a failure of the line, a close, a collect for which there is no memory, and another that gives the outcome.
+/// a failure of the line, a close, a collect for which there is no memory, and another that returns the outcome.
 pub fn failing_run_is_explained()
     ensures { (set : Box (List Device)) → set.value ≡ []
         → Explains (logged_with []) failing_events (failing_answers set) (logged_with collected_failed) }
 {}
 
-/// Where a log explains the answers to a list of events, it explains each of them where it stands.
+/// If a log explains the answers to a list of events, it explains each of them at its place.
 pub fn each_event_is_answered()
     ensures { (old : LogState) (es : List Event) (rs : List Answer) (new : LogState) → Explains old es rs new
         → (i : ℕ) (event : Event) (answer : Answer) → slice_get es i ≡ Some event → slice_get rs i ≡ Some answer
@@ -49,7 +49,7 @@ pub fn each_event_is_answered()
 
 /// No log explains these answers.
 pub fn not_explained()
-    // A submit is refused as full while the client's place is free, or for a full log that isn't.
+    // A submit is refused as full while the client has nothing outstanding, or with LogFull while the log isn't full.
     ensures full { (new : LogState) → Explains (logged_with join_only)
         (events.Submit (record { 0 = 0 }) sample_request ∷ [])
         (answers.Submit (Err (faults.Full, sample_request)) ∷ []) new → ⊥ }
@@ -59,7 +59,7 @@ pub fn not_explained()
     // A discover is refused as full while the client has one outstanding.
     ensures discovery { (new : LogState) → Explains (logged_with asked_one)
         (events.Discover (record { 0 = 0 }) Full ∷ []) (answers.Discover (Err ask_faults.Full) ∷ []) new → ⊥ }
-    // A request or a discovery waits, and no frame is given for it, or the log is said to be full.
+    // A request or a discovery waits, and no frame is returned for it, or the log is said to be full.
     ensures no_frame { (new : LogState)
         → Explains (logged_with accepted_one) (events.Take ∷ []) (answers.Take (Ok None) ∷ []) new → ⊥ }
     ensures no_run { (new : LogState)
@@ -80,7 +80,7 @@ pub fn not_explained()
 {}
 
 /// A line without devices is calm, and eight frames suffice for a run. So no log explains that the reply to a run's
-/// eighth frame is followed by its Answer with Exhausted, where the queue isn't closed.
+/// eighth frame is followed by its Answer with Exhausted, if the queue isn't closed.
 pub fn wasted_run_is_not_explained()
     ensures calm { IsCalmRun (wasted_with wasted_run) 1 [] }
     ensures fault { Explains (wasted_with wasted_sent) (events.Deliver (Reply (record { items = [] })) ∷ [])

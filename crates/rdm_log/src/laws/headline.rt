@@ -1,4 +1,4 @@
-//! What clients are promised: laws on each legal log.
+//! What clients are promised: laws about each legal log.
 ghost use Rattle.std.specs.Prelude.{List};
 ghost use Rattle.rdm_log.specs.declared.entry.Opening.{Opening};
 ghost use Rattle.rdm_log.specs.declared.entry.Entry.{Entry};
@@ -35,7 +35,8 @@ pub fn first_in_first_out()
     ensures { (o : Opening) (h : List Entry) → Legal o h → InOrder o h }
 {}
 
-/// A full queue refuses, and only there; after the refusal's entry the log says of the queue what it said before.
+/// A request is refused as full only if its client's queue is full. After the refusal's entry the log says the same
+/// about the queue as before.
 pub fn full_queue_refuses()
     ensures { (o : Opening) (h : List Entry) → Legal o h → FullRefuses o h }
 {}
@@ -45,23 +46,23 @@ pub fn nothing_after_close()
     ensures { (o : Opening) (h : List Entry) → Legal o h → NothingAfterClose o h }
 {}
 
-/// All that clients are promised of a legal log holds of each legal log. Where the log is also in bound, all that they
-/// are promised of a session's log holds of it.
+/// All that clients are promised for a legal log holds for each legal log. If the log is also in bound, all that they
+/// are promised for a session's log holds for it.
 pub fn legal_keeps_promises()
     ensures legal { (o : Opening) (h : List Entry) → Legal o h → LegalPromised o h }
     ensures in_bound { (k : LogState) → Legal k.opening k.entries → InBound k → Promised k }
 {}
 
-/// The whole, for every list of events. Where a log explains its answers and is legal, these hold:
+/// All together, for every list of events. If a log explains their answers and is legal, these hold:
 /// - each event has one answer;
 /// - each accepted request is finished with exactly one result, the joined answer of its own exchanges, first in, first
 ///   out;
 /// - a full queue refuses and changes nothing but the log;
 /// - nothing starts after a close.
 ///
-/// Where the exchanges of a run are those of an honest line, its discoveries that are collected without fault have
-/// exactly the devices present. With at most 1,024 devices, no failure and a budget that suffices, they are answered
-/// with a fault only after a close.
+/// If the exchanges of a run are those of an honest line, its discoveries that are collected without fault have exactly
+/// the devices present. With at most 1,024 devices, no failure and a sufficient budget, they are answered with a fault
+/// only after a close.
 pub fn answers_keep_promises()
     ensures { (old : LogState) (es : List Event) (rs : List Answer) (new : LogState) → Explains old es rs new
         → Legal new.opening new.entries → EventsPromised old es rs new }

@@ -5,8 +5,8 @@ ghost use Rattle.rdm_log.specs.declared.entry.TheConstants.{MOST_CLIENTS, MOST_D
 ghost use Rattle.rdm_log.specs.declared.entry.TheConstants.{NEVER_GIVEN, NEVER_GIVEN_TO_A_DISCOVERY};
 ghost use Rattle.rdm_log.specs.declared.log.TheConstants.{LEAST_FREE, MOST_FREE_ENTRIES};
 
-/// Definitions have the limits as numbers, and the code has them as constants. This law ties both: each constant is
-/// the number that the definitions have.
+/// Definitions have the limits as numbers, and the code has them as constants. This law relates them: each
+/// constant is the number that the definitions have.
 pub fn limits_are()
     ensures clients { MOST_CLIENTS ≡ 16 }
     ensures places { MOST_PLACES ≡ 4080 }

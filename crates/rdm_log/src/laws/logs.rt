@@ -21,8 +21,8 @@ ghost use Rattle.rdm_log.specs.promises.Outcomes.OutcomeValue.{RequestValue};
 ghost use Rattle.rdm_log.specs.samples.Sample.{sample_opening, join_only, accepted_one, sent_one, finished_one};
 ghost use Rattle.rdm_log.specs.samples.Sample.{closed_log};
 
-/// In some logs each entry may stand after those before it. Such a log stays so where one more entry may stand after
-/// it, and at each of its fronts.
+/// In some logs each entry may follow those before it. This stays true with one more entry that may follow, and it is
+/// true of each prefix of such a log.
 pub fn log_grows()
     ensures pushed { (o : Opening) (h : List Entry) (e : Entry) → EachAfter (MayFollow o) h → MayFollow o h e
         → EachAfter (MayFollow o) (h ++ e ∷ []) }
@@ -31,7 +31,7 @@ pub fn log_grows()
     ensures empty { (o : Opening) → Legal o [] }
 {}
 
-/// No frame may be sent after a legal log exactly when no Send keeps it legal.
+/// After a legal log, no frame may be sent exactly if no Send keeps the log legal.
 pub fn no_send_is_no_legal_send()
     ensures { (o : Opening) (h : List Entry) → Legal o h
         → NoSend o h ↔ ((owner : Owner) (frame : ArrayVec ℕ) → Legal o (h ++ Send owner frame ∷ []) → ⊥) }
@@ -52,7 +52,7 @@ pub fn counts_of_a_log()
     ensures outcome { outcome_of closed_log (Finish 0 Timeout 0) ≡ Some (RequestValue (Some 0) (ended Timeout)) }
 {}
 
-/// The first fault that stands, in order.
+/// The first fault that applies, in order.
 pub fn faults_in_order()
     ensures join_goes { join_fault sample_opening [] 1 ≡ None }
     ensures no_places { join_fault sample_opening accepted_one 1 ≡ Some join_faults.NoPlaces }
@@ -64,7 +64,7 @@ pub fn faults_in_order()
     ensures closed { submit_fault sample_opening closed_log 1 ≡ Some submit_faults.Closed }
 {}
 
-/// The rooms of logs with eleven entries, and with four.
+/// The free entries of logs with capacity for eleven entries, and for four.
 pub fn rooms()
     ensures accepted { free_room 11 sample_opening accepted_one ≡ 6 }
     ensures finished { free_room 11 sample_opening finished_one ≡ 4 }

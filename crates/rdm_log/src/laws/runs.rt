@@ -1,4 +1,4 @@
-//! Logs with discovery runs: some that are legal, and some that break a rule each, so that none of them is.
+//! Logs with discovery runs: some are legal, and the others break one rule each.
 ghost use Rattle.std.specs.Prelude.{◌≡◌, [], ◌∷◌, ◌++◌, take, map, Some, None};
 ghost use Rattle.rdm_wire.specs.CommandFrames.{unmute_frame};
 ghost use Rattle.rdm_join.specs.declared.status.Status.TheVariants.{FailedToSend};
@@ -26,9 +26,9 @@ ghost use Rattle.rdm_log.specs.samples.SampleRuns.{aborted_log, closed_run, know
 ghost use Rattle.rdm_log.specs.samples.SampleRuns.{closed_amid, aborted_first, then_unsent, failed_late};
 ghost use Rattle.rdm_log.specs.samples.SampleRuns.{came_with, whole_branch};
 
-/// Two discoveries are asked while sending is paused. One full run of ten frames answers both alike, and then the
-/// request that waited goes out. That is legal, and so is a run whose line fails, with a discovery asked during it
-/// that a close answers.
+/// Two discoveries are asked for while sending is paused. One full run of ten frames answers both alike, and then the
+/// request that waited goes out. That is legal, and so is a run whose line fails, with a discovery asked for
+/// during it that a close answers.
 pub fn runs_are_legal()
     ensures found { Legal sample_opening request_sent }
     ensures failed { Legal sample_opening aborted_log }
@@ -69,7 +69,8 @@ pub fn counts_of_discoveries()
 {}
 
 /// No run begins between two parts of a request, nor while sending is paused. No frame of a run is sent after its
-/// answer. A request waits for a discovery that is asked. An open run's frames are sent also while sending is paused.
+/// answer. A request waits while a discovery waits for a run. An open run's frames are sent even while sending is
+/// paused.
 pub fn wrong_run_frames()
     ensures between_parts { MaySend wide_opening (came_part ++ Ask first_client 0 Full ∷ [])
         (Run 1) (record { items = unmute_frame source 1 }) → ⊥ }
@@ -88,8 +89,8 @@ pub fn wrong_run_frames()
         (Run 1) (record { items = unmute_frame source 1 }) → ⊥ }
 {}
 
-/// A discovery asked during a run isn't served by that run. One that a run serves isn't answered as if none had begun
-/// for it, and none is forgotten at a close. A fault has its cause.
+/// A discovery asked for during a run isn't served by that run. One that a run serves isn't answered as if none had
+/// begun for it, and none is forgotten at a close. Each fault has its cause.
 pub fn wrong_discovery_answers()
     ensures asked_during { MayFollow sample_opening answered_failed (Answer 1 1 (Some LineFailed)) → ⊥ }
     ensures aborted { MayFollow sample_opening closed_run (Answer 0 1 (Some Aborted)) }
@@ -106,8 +107,8 @@ pub fn wrong_discovery_answers()
     ensures done_in_vain { MayFollow sample_opening (run_log 10) (Answer 0 1 (Some Exhausted)) → ⊥ }
 {}
 
-/// At a close the discoveries of an aborted run are answered first. Then all requests are finished. Last are answered
-/// the discoveries that no run has begun for.
+/// At a close the discoveries of an aborted run are answered first. Then all requests are finished. The
+/// discoveries for which no run has begun are answered last.
 pub fn order_at_a_close()
     ensures first { MayFollow sample_opening closed_amid (Answer 0 1 (Some Aborted)) }
     ensures then { MayFollow sample_opening aborted_first (Finish 0 FailedToSend 0) }
@@ -116,7 +117,8 @@ pub fn order_at_a_close()
     ensures request_last { MayFollow sample_opening aborted_first (Answer 1 0 (Some Aborted)) → ⊥ }
 {}
 
-/// A full discovery isn't served by an incremental run, nor an incremental one from no devices where one is known.
+/// A full discovery isn't served by an incremental run. An incremental run doesn't start without devices if one is
+/// known.
 pub fn wrong_kinds()
     ensures full { MayFollow (known_opening 1) (second_run Full known_traffic) (Answer 0 2 None) → ⊥ }
     ensures from_nothing { MayFollow (known_opening 0) (second_run Incremental run_traffic) (Answer 0 2 None) → ⊥ }

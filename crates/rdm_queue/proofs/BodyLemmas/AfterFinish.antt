@@ -42,7 +42,7 @@ close_amid o h s open_ after = record {
       after.stands;
 }
 
--- how far the oldest request is, where its result is open
+-- the state of the oldest request, if its result is open
 pub open_progress : (r : Option Joined) (vs : List Judged) (decided : Option Joined) (joiner : JoinerStanding)
     → r ≡ None → ProgressAt r vs decided joiner → (decided ≡ None) × StandsAt vs joiner
 open_progress None vs decided joiner is progress = progress

@@ -1,4 +1,4 @@
--- A queue goes on with the log through the frames, replies and answers of a run.
+-- A queue follows the log through the frames, replies and answers of a run.
 use Rattle.std.proofs.Common.{◌≡◌, ℕ, ◌+◌, ◌≤◌, ◌<◌, ◌%◌, Bool, true, false, List, [], ◌∷◌, ◌++◌, length, drop, Option}
 use Rattle.std.proofs.Common.{Some, None, slice_get, refl, sym, ap, ◌∙◌, subst, inl, inr, length-append, arith}
 use Rattle.std.specs.Prelude.{◌⊎◌, ◌≢◌, ◌||◌}

@@ -1,4 +1,4 @@
--- A queue stands where it stood, after entries that aren't of the work on requests or discoveries.
+-- A queue stands after a log with more entries, if they aren't about the work on requests or discoveries.
 use Rattle.std.proofs.Common.{◌≡◌, ℕ, ◌+◌, Bool, false, List, [], ◌∷◌, ◌++◌, length, Option, Some, None, refl, sym, ap}
 use Rattle.std.proofs.Common.{◌∙◌, inl}
 use Rattle.rdm_wire.specs.Lists.{EachAfter}

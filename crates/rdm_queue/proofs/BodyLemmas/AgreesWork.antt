@@ -1,4 +1,4 @@
--- A queue goes on with the log, entry by entry.
+-- A queue follows the log, entry by entry.
 use Rattle.std.proofs.Common.{◌≡◌, ℕ, ◌+◌, ◌≤◌, ◌<◌, ◌%◌, Bool, true, false, List, [], ◌∷◌, ◌++◌, length, drop, filter}
 use Rattle.std.proofs.Common.{map, sum, set, get_or, Option, Some, None, slice_get, refl, sym, ap, ◌∙◌, inl, inr, zero}
 use Rattle.std.proofs.Common.{suc, length-append, append-nil, arith, filter_map, if◌then◌else◌}
@@ -434,7 +434,7 @@ last_owner ss xs ys n r frame other is also =
         (record { owner = owners.Run r; frame = other }) → ⊥
     no h = false≢true (ap (λ (x : Sending). is_run r x.owner) h ∙ eq-eqb r r refl)
 
--- an outcome more
+-- one more outcome
 pub count_more : (lists : List (List OutcomeValue)) (c : ℕ) (d : OutcomeValue) → c < length lists
     → sum (map (λ (ds : List OutcomeValue). length ds) (set lists c (get_or lists c [] ++ d ∷ [])))
     ≡ sum (map (λ (ds : List OutcomeValue). length ds) lists) + 1

@@ -1,4 +1,4 @@
--- The oldest discovery is answered: its client has room, and what all clients' rings are then.
+-- The oldest discovery is answered: its client's ring has capacity, and what all clients' rings are then.
 use Rattle.std.proofs.Common.{◌≡◌, ℕ, ◌+◌, ◌<◌, ◌≤◌, ◌-◌, Bool, true, false, List, [], ◌∷◌, length, get_or, set, Option}
 use Rattle.std.proofs.Common.{Some, None, slice_get, refl, sym, ap, ◌∙◌, subst, map, arith}
 use Rattle.std.specs.Prelude.{◌==◌, MatchOption, nat_lt, if◌then◌else◌}
@@ -36,7 +36,7 @@ front_asked c x some is =
     first_mapped [] at = cc
     first_mapped (y ∷ xs) at = let same : y ≡ x = cc in rw same refl
 
--- its client, read at its place, and the room for its answer
+-- its client, read at its place, and the capacity for its answer
 pub record CanAnswer (s : QueueState) (clients : List Client) (a : AskedDiscovery) (k : Client) : Type 0 where
   pub at : slice_get clients a.client ≡ Some k
   pub sets : HasSets k
@@ -78,7 +78,7 @@ kept-answer s clients k l a r f found run held can answers oldest serves less mo
       refl held.rings can.at answers;
 }
 
--- a run that serves one less, and no run
+-- a run that serves one fewer, and no run
 pub record ServesLess (s : QueueState) (run : Option RunState) : Type 0 where
   pub serves : MatchOption run (Unit {0}) (λ q. 1 ≤ q.left)
   pub less : served_by s.run ≤ served_by run + 1

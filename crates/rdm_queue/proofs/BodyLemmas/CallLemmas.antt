@@ -199,7 +199,7 @@ pub not_kind : {X : Type 0} (r : Option X) (s : QueueState) (c : ℕ) (kind : Ou
 not_kind (Some x) s c kind other = tt
 not_kind None s c kind other = λ o h after is. other (kind_after o h s c after ∙ is)
 
--- what ends is one fewer
+-- one fewer is left to end
 less_first : {X : Type 0} (xs : List X) (x : X) → slice_get xs 0 ≡ Some x → length (drop 1 xs) < length xs
 less_first [] x at = cc
 less_first (y ∷ xs) x at = omega arith

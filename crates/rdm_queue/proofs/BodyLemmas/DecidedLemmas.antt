@@ -53,7 +53,7 @@ after_complete before (v ∷ vs) j is = by_first (decides before v) refl is (aft
 pub result_complete : (vs : List Judged) (j : Joined) → result_of vs ≡ Some j → IsComplete j
 result_complete vs j is = after_complete [] vs j is
 
--- what is given for a result is its completion, and fits
+-- what is returned for a result is its completion, and fits
 pub gives_complete : (j done : Joined) → IsComplete j → GivesResult j done → done ≡ completion_of done.status (Some j)
 gives_complete j done complete (inl same) = rw same complete
 gives_complete j done complete (inr wanted) = rw wanted.0 refl

@@ -1,4 +1,4 @@
--- What a queue ends stands in the log, and where it ends nothing, nothing is due.
+-- What a queue ends is in the log, and if it ends nothing, nothing is due.
 use Rattle.std.proofs.Common.{◌≡◌, ℕ, zero, suc, ◌≤◌, Bool, true, false, not, List, [], ◌∷◌, ◌++◌, length, Option, Some}
 use Rattle.std.proofs.Common.{None, slice_get, refl, sym, ap, ◌∙◌, subst, inl, inr, length-append, arith}
 use Rattle.std.specs.Prelude.{◌⊎◌, ◌==◌, is_some, if◌then◌else◌}
@@ -168,7 +168,7 @@ ends_amid o h s new entry (ByResult e) amid =
     rw (e.finishes.entry_is, e.finishes.new_is) (finish_amid o h s e.finishes.owed e.no_run e.finishes.was_due amid)
 ends_amid o h s new entry (ByClose e) amid = unserved_amid o h s new entry e.no_run e.no_request e.answers amid
 
--- an Answer with a fault needs a close, on a calm line with the budget that suffices
+-- an Answer with a fault needs a close, on a calm line with a sufficient budget
 in_bound_at : (k : LogState) (n r : ℕ) (a : AgentState) (aborted : Bool)
     → HasRunBy k.search (run_kind r k.entries) (known_at_run k.opening r k.entries) k.opening.budget aborted
     (run_exchanges r k.entries) a → (aborted ≡ true → is_closed k.opening k.entries ≡ true) → next_op a ≡ ops.End
@@ -198,7 +198,7 @@ ends_in_bound_amid k s new entry same (ByResult e) amid = rw e.finishes.entry_is
 ends_in_bound_amid k s new entry same (ByClose e) amid =
     rw e.answers.entry_is (λ present calm. closed_of k.opening k.entries s e.answers.closing amid.stands)
 
--- where nothing is to be ended, nothing is due: the results
+-- if nothing is to be ended, nothing is due: the results
 unsent_at : (n : ℕ) (ss : List Sending) → list_any (λ (x : Sending). is_request n x.owner) ss ≡ false
     → (i : ℕ) (x : Sending) → slice_get ss i ≡ Some x → is_request n x.owner ≡ false
 unsent_at n [] none i x at = absurd (none-some x at)
@@ -223,7 +223,7 @@ open_end : (decided : Option Joined) (closing : Bool)
 open_end (Some j) closing is = absurd (none-some j (sym is))
 open_end None closing is = refl
 
--- where no run is under way
+-- if no run is open
 settled_idle : (o : Opening) (h : List Entry) (s : QueueState) → s.run ≡ None → due s ≡ None
     → (is_closing s ≡ true → s.asked ≡ []) → StandsAmid o h s → NothingDue o h
 unfolding result
@@ -273,7 +273,7 @@ settled_idle o h s none none_left asked amid = record {
     closing_of closed idle =
         rw (amid.stands.closed_is, closed, pending_flag o h s s.awaited amid.stands.awaited_is, idle) refl
 
--- where a run is under way
+-- if a run is open
 stopped_ends : (op : Op) (a : AgentState) → next_op a ≡ op → next_op (stopped_at op a) ≡ ops.End
 stopped_ends ops.End a is = is
 stopped_ends ops.UnmuteAll a is = aborted_ends a

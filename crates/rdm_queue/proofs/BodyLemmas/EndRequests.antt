@@ -1,4 +1,4 @@
--- The oldest request is finished where it has ended, or at a close.
+-- The oldest request is finished if it has ended, or at a close.
 use Rattle.std.proofs.Common.{◌≡◌, ℕ, Bool, true, false, List, [], ◌∷◌, ◌++◌, length, Option, Some, None, slice_get}
 use Rattle.std.proofs.Common.{refl, sym, ap, ◌∙◌, subst, arith}
 use Rattle.std.specs.Prelude.{◌&&◌, not, is_some, if◌then◌else◌}
@@ -30,7 +30,7 @@ use Rattle.rdm_queue.proofs.BodyLemmas.AgreesWork.{stands_finish}
 use Rattle.rdm_log.proofs.LogLemmas.BegunLemmas.{all_unserved}
 use Rattle.rdm_queue.proofs.BodyLemmas.TakeLemmas.{not_running}
 
--- how far the oldest request is, where it isn't decided
+-- the state of the oldest request, if it isn't decided
 pub undecided : (r : Option Joined) (vs : List Judged) (decided : Option Joined) (joiner : JoinerStanding)
     → decided ≡ None → ProgressAt r vs decided joiner → r ≡ None
 undecided None vs decided joiner none progress = refl

@@ -93,7 +93,7 @@ fault_of s clients c k held same owed at open_ =
         let long = ap (λ ns. length ns) same ∙ length-map clients (λ l. l.places) in
         lt-leb (length s.places) c (omega arith)
 
--- how many stand in all rings
+-- how many are in all rings
 length-merged : {X : Type 0} (number : X → ℕ) (ring : ℕ → Client → List X) (count : Client → ℕ)
     → ((i : ℕ) (k : Client) → length (ring i k) ≡ count k) → (from : ℕ) (clients : List Client)
     → sum_by count clients ≡ length (merged number (rings_from ring from clients))
@@ -135,7 +135,7 @@ known_client s clients c same passes =
     let long = ap (λ ns. length ns) same ∙ length-map clients (λ k. k.places) in
     omega arith
 
--- whether a submit finds its client's places taken, or the numbers run out
+-- whether a submit finds its client's queue depth used up, or the numbers run out
 pub full_by_places : (places count next : ℕ) → places ≤ count
     → (nat_le places count || nat_le 18446744073709551615 next) ≡ true
 full_by_places places count next full = rw (le-leb places count full) refl
@@ -150,7 +150,7 @@ full_by_number places count next free fits =
     by_case (inl last) = rw (eq-eqb next 18446744073709551615 last) (le-leb 18446744073709551615 next (omega arith))
     by_case (inr other) = rw (ne_eqb next 18446744073709551615 other) (lt-leb 18446744073709551615 next (omega arith))
 
--- one of the discoveries that are asked is full
+-- one of the discoveries that wait is full
 pub any_asked : (xs : List Asked)
     → list_any (λ (a : AskedDiscovery). is_full_kind a.kind) (map asked_is xs)
     ≡ list_any (λ (a : Asked). is_full_kind a.kind) xs

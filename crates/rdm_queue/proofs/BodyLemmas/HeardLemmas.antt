@@ -1,4 +1,4 @@
--- What a reply makes of the oldest request.
+-- How a reply changes the oldest request.
 use Rattle.std.proofs.Common.{◌≡◌, ◌<◌, List, [], ◌∷◌, length, slice_get, Option, Some, None, refl, ◌∙◌, inl, inr}
 use Rattle.std.specs.Prelude.{◌⊎◌}
 use Rattle.rdm_join.specs.declared.verdict.Judged.{Judged}
@@ -13,7 +13,7 @@ use Rattle.rdm_log.specs.log.Entries.{Accepted}
 use Rattle.rdm_queue.specs.body.State.{QueueState, fresh_joiner, GivesResult, ProgressAt, IsProgress, end_of_oldest}
 use Rattle.rdm_queue.specs.body.State.{owed_next, owed_for, finish_of, finishes_oldest, IsFinished}
 
--- the completion of a joiner that stands at a result
+-- the completion of a joiner that has a result
 abbrev pub CompletesAs : Status → JoinerStanding → Joined → Type 0
 CompletesAs status s done =
     (done ≡ record { status = status; data_ = s.data_; head = head_of_standing s })
@@ -53,7 +53,7 @@ heard_more vs s step at = by_result (result_of vs) refl step
         no : More ≡ Done j.status → ⊥
         no h = cc
 
--- the oldest request finished so, once its end was taken out
+-- the oldest request, finished with its end, which was taken out
 pub finished_so : (s taken new : QueueState) (done : Joined) (entry : Entry) → end_of_oldest s ≡ Some done
     → taken ≡ record s { decided = None } → (a : Accepted) × (slice_get taken.waiting 0 ≡ Some a)
     × (entry ≡ finish_of (owed_for done a)) × (new ≡ finishes_oldest taken (owed_for done a)) → IsFinished s entry new

@@ -1,4 +1,4 @@
--- What a queue's state keeps, through its calls.
+-- A queue's calls keep its invariant.
 use Rattle.std.proofs.Common.{◌≡◌, ℕ, zero, suc, ◌+◌, ◌-◌, ◌≤◌, ◌<◌, Bool, true, false, cond, not, List, [], ◌∷◌, ◌++◌}
 use Rattle.std.proofs.Common.{length, drop, get_or, set, filter, map, sum, Option, Some, None, slice_get, refl, sym, ap}
 use Rattle.std.proofs.Common.{◌∙◌, subst, inl, inr, length-append, arith}
@@ -159,7 +159,7 @@ held-answers s a d run held at discovery serves less most within new is = rw is 
     same n m k l t true p q r = omega arith
     same n m k l t false p q r = omega arith
 
--- a request more, of a client that has joined and has a place for it
+-- one more request, of a client that has joined and whose queue depth allows it
 pub record HasPlace (s : QueueState) (c : ℕ) : Type 0 where
   pub joined : c < length s.places
   pub free : outstanding c s < slice_index s.places c
@@ -224,7 +224,7 @@ held-accepts s c request held passes = record {
   runs_numbered = held.runs_numbered;
 }
 
--- a discovery more, of a client that has joined and has fewer than four
+-- one more discovery, of a client that has joined and has fewer than four
 pub record HasAsk (s : QueueState) (c : ℕ) : Type 0 where
   pub joined : c < length s.places
   pub free : outstanding_asks c s < 4
@@ -277,7 +277,7 @@ room_to_ask s c held passes =
     let few = held.few_clients in
     omega arith
 
--- a run begins for all discoveries that are asked
+-- a run begins for all discoveries that wait
 pub held-begun : (s : QueueState) → StateInvariant s → s.run ≡ None → 0 < length s.asked → StateInvariant (begun s)
 held-begun s held none some = record {
   source = held.source;
@@ -304,7 +304,7 @@ run_number s held none some =
     let numbered : s.next_run + (length s.asked - 0) ≤ s.next_ask + 1 = rw none at held.runs_numbered in
     let most = held.asks_numbered in omega arith
 
--- an outcome less
+-- one outcome fewer
 fewer_left : (p : OutcomeValue → Bool) (ds : List OutcomeValue) → length (filter p (drop 1 ds)) ≤ length (filter p ds)
 fewer_left p [] = omega arith
 fewer_left p (d ∷ ds) = by_test (p d)
@@ -393,7 +393,7 @@ held-joins s places held few fits = record {
     more : (n m t : ℕ) → n ≡ m + (0 + places) → m + places ≤ t → n ≤ t
     more n m t p q = omega arith
 
--- a join that isn't refused finds its places, and fewer than sixteen clients
+-- a join that isn't refused finds enough queue depth, and fewer than sixteen clients
 pub has_room : (s : QueueState) (n : ℕ) → first_join_fault s n ≡ None → (length s.places < 16)
     × (sum s.places + n ≤ s.greatest)
 has_room s n e =

@@ -1,4 +1,4 @@
--- How long a client's oldest outcome is: of its rings, of all clients' rings and of the log it is the same.
+-- How long a client's oldest outcome is: its rings, all clients' rings and the log agree.
 use Rattle.std.proofs.Common.{◌≡◌, ℕ, true, List, [], ◌∷◌, get_or, Some, refl, ap, ◌∙◌, filter_map}
 use Rattle.std.specs.Prelude.{option_map, option_and_then, slice_get}
 use Rattle.std.specs.List.{AllByRecursion}

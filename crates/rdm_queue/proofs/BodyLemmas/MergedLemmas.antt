@@ -62,7 +62,7 @@ put_back {X} number p (x ∷ xs) rising = by_test (p x) (put_back number p xs ri
     by_test false same =
         put_behind number x those others (all_passed number (λ n. number x < n) p xs rising.0) ∙ ap (λ l. x ∷ l) same
 
--- of those that don't pass a test that is weaker
+-- for those that don't pass a weaker test
 filter_both : {X : Type 0} (p q : X → Bool) (xs : List X) → ((x : X) → p x ≡ true → q x ≡ true)
     → filter p (filter q xs) ≡ filter p xs
 filter_both p q [] weaker = refl

@@ -19,7 +19,7 @@ count-same c x xs same = rw (eq-eqb c x same) omega arith
 count-other : (c x : ℕ) (xs : List ℕ) → c ≢ x → count c (x ∷ xs) ≡ count c xs
 count-other c x xs other = rw (ne_eqb c x other) refl
 
--- a list in which each number stands at most as often as its place allows has at most all places' sum
+-- a list in which each number occurs at most as often as its place allows is no longer than the sum of all places
 few_in_all : (places xs : List ℕ) → ((c : ℕ) → count c xs ≤ get_or places c 0) → length xs ≤ sum places
 few_in_all places [] few = omega arith
 few_in_all places (x ∷ xs) few =
@@ -80,7 +80,7 @@ more_left n m t p = omega arith
 pub waiting-le : (s : QueueState) → StateInvariant s → length s.waiting ≤ sum s.places
 waiting-le s held = few_of (λ a. a.client) s.waiting s.places (λ c. more_left _ _ _ (held.few c))
 
--- no more discoveries are asked than four for each client
+-- at most four discoveries wait for each client
 sum_fours : (ns : List ℕ) → sum (map (λ (n : ℕ). 4) ns) ≡ 4 * length ns
 sum_fours [] = refl
 sum_fours (n ∷ ns) =
@@ -140,7 +140,7 @@ sum_lengths (ds ∷ lists) (n ∷ places) same each =
 pub uncollected-le : (s : QueueState) → StateInvariant s → uncollected s ≤ sum s.places + 4 * length s.places
 uncollected-le s held = sum_lengths s.owed s.places held.owed_for_each (λ c. owed-le s c held)
 
--- an outcome more for a client
+-- one more outcome for a client
 pub owes-own : (s : QueueState) (c : ℕ) (d : OutcomeValue) → c < length s.owed
     → get_or (owes c d s) c [] ≡ owed_to c s ++ d ∷ []
 owes-own s c d within = get_or-set_same s.owed c (owed_to c s ++ d ∷ []) [] within

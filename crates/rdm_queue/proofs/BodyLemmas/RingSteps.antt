@@ -1,4 +1,4 @@
--- What one client's call makes of all clients' rings.
+-- How one client's call changes all clients' rings.
 use Rattle.std.proofs.Common.{◌≡◌, ℕ, zero, suc, ◌+◌, ◌-◌, ◌<◌, ◌≤◌, false, List, [], ◌∷◌, ◌++◌, length, drop, set}
 use Rattle.std.proofs.Common.{get_or, Option, Some, None, slice_get, refl, sym, ap, ◌∙◌, subst, filter, map, arith}
 use Rattle.std.specs.Prelude.{◌==◌, option_map, is_some, OnSome, IfNone, IfSome}
@@ -121,7 +121,7 @@ entry-finish s clients k l done entry a rings at finishes oldest =
     ap (λ (b : Accepted). b.number)
     (front_is s clients k a finishes.oldest l.waiting.items rings at finishes.waiting oldest)
 
--- what clients are owed, where one of them has changed
+-- what clients are owed, if one of them has changed
 pub values_at : (clients : List Client) (c : ℕ) (k : Client) → slice_get clients c ≡ Some k
     → get_or (owed_rings clients) c [] ≡ owed_values k
 values_at [] c k at = cc
@@ -256,7 +256,7 @@ places_at [] c k at = cc
 places_at (l ∷ clients) zero k at = let same : l ≡ k = cc in rw same refl
 places_at (l ∷ clients) (suc c) k at = places_at clients c k at
 
--- there is room for a request that no fault refuses
+-- a request that no fault refuses fits
 pub room_for_request : (s : QueueState) (clients : List Client) (c : ℕ) (k : Client) → QueueInvariant s clients
     → s.places ≡ places_of clients → s.owed ≡ owed_rings clients → first_submit_fault s c ≡ None
     → slice_get clients c ≡ Some k → deque_len k.waiting < deque_capacity k.waiting
@@ -267,7 +267,7 @@ room_for_request s clients c k held same owed passes at =
     let sizes : HasRings k = all_at HasRings clients held.rings.sizes c k at in
     omega (arith, sizes.waiting)
 
--- there is room for each outcome, and for the set of each discovery
+-- each outcome fits, and so does the set of each discovery
 pub room_for_outcome : (s : QueueState) (clients : List Client) (c : ℕ) (k : Client) → QueueInvariant s clients
     → s.places ≡ places_of clients → s.owed ≡ owed_rings clients → slice_get clients c ≡ Some k
     → 1 ≤ length (filter (λ (a : Accepted). c == a.client) s.waiting) + length
@@ -326,7 +326,7 @@ kept-join s clients k places held fresh passes = record {
   rings = rings-join s clients k places held.rings fresh;
 }
 
--- of which kind a client's oldest outcome is
+-- the kind of a client's oldest outcome
 pub kind_is : (s : QueueState) (clients : List Client) (c : ℕ) (k : Client) → s.owed ≡ owed_rings clients
     → slice_get clients c ≡ Some k → first_kind c s ≡ first_kind_owed k
 kind_is s clients c k owed at =
@@ -334,7 +334,7 @@ kind_is s clients c k owed at =
     ∙ (ap (λ ds. option_map kind_of_value (slice_get ds 0)) (values_at clients c k at)
     ∙ kind_first k.outcomes.items k.sets.items)
 
--- what all clients' rings are after a call that has collected what it gives, if it gives anything
+-- what all clients' rings are after a call that has collected what it returns, if it returns anything
 pub record MayCollect {X : Type 0} (s : QueueState) (clients : List Client) (c : ℕ) (k l : Client) (r : Option X)
     (value : X → OutcomeValue) : Type 0 where
   pub kept : QueueInvariant (record s { owed = owed_rings (set clients c l) }) (set clients c l)

@@ -1,4 +1,4 @@
--- An idle queue stands after what its log leaves, and no entries.
+-- An idle queue stands after the opening that its log leaves, and no entries.
 use Rattle.rdm_log.proofs.PromiseLemmas.LogInBoundLemmas.{empty_in_bound}
 use Rattle.std.proofs.Common.{◌≡◌, ℕ, zero, suc, ◌≤◌, Bool, true, false, List, [], ◌∷◌, length, map, sum, get_or}
 use Rattle.std.proofs.Common.{Option, Some, None, slice_get, refl, sym, ap, ◌∙◌, append-nil, inl, inr, arith}
@@ -166,7 +166,7 @@ rotated o h s idle after = record {
     none : s.run ≡ None
     none = no_run o h s rest stands
 
--- and a session keeps its room
+-- and the session's entries still fit
 pub session_rotated : (o : Opening) (h : List Entry) (s : QueueState) (room : ℕ) → 1 ≤ room → is_idle h ≡ true
     → StandsAfter o h s → SessionInvariant s (record {
       opening = opening_after o h;

@@ -1,4 +1,4 @@
--- A session's log keeps its room, and its controller stands after it.
+-- A session's entries always fit into its log, and its controller stands after it.
 use Rattle.std.proofs.Common.{◌≡◌, ℕ, ◌+◌, ◌≤◌, Bool, true, false, List, [], ◌∷◌, ◌++◌, length, append_assoc}
 use Rattle.std.proofs.Common.{append-nil, length-append, refl, sym, ap, arith, ◌∙◌}
 use Rattle.std.proofs.lemmas.Bool.{ltb-false}
@@ -62,14 +62,14 @@ amid_begun s new k e kept amid same bound none = record {
   room = room_grown k (e ∷ []) kept.room amid.each (omega (arith, none));
 }
 
--- what stands has its room
+-- the entries fit
 pub room_for : (k : LogState) (e : Entry) → HasRoom (grown k (e ∷ [])) → length k.entries + 1 ≤ k.room
 room_for k e room = omega (arith, room, length-append k.entries (e ∷ []))
 
 pub free_of : (k : LogState) → is_full_log k ≡ false → 3 ≤ free_entries k
 free_of k free = ltb-false (free_entries k) 3 free
 
--- a Finish takes nothing
+-- a Finish takes no free entry
 pub result_added : (e : Entry) → is_result e ≡ true → added e ≡ 0
 result_added (Finish n status len) is = refl
 result_added (Answer n run fault) is = refl
@@ -78,7 +78,7 @@ result_added e is = absurd (no is)
     no : false ≡ true → ⊥
     no h = cc
 
--- a call that the log has room for, and one that it hasn't
+-- a call whose entries fit, and one whose don't
 pub not_full : (A B : Type 0) (full : Bool) → full ≡ false → B → UnlessFull full A B
 not_full A B true is adds = absurd (no is)
   where

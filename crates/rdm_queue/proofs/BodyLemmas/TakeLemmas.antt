@@ -1,4 +1,4 @@
--- The frame that a queue gives may be sent, and it stands after the log with it.
+-- The frame that a queue returns may be sent, and the queue stands after the log with it.
 use Rattle.std.proofs.Common.{◌≡◌, ℕ, zero, suc, ◌+◌, ◌<◌, ◌≤◌, Bool, true, false, List, [], ◌∷◌, length, filter, map}
 use Rattle.std.proofs.Common.{Option, Some, None, slice_get, refl, sym, ap, ◌∙◌, subst, inl, inr, arith, cond}
 use Rattle.std.specs.Prelude.{◌⊎◌, ◌==◌, ◌||◌, is_some, zip, if◌then◌else◌}
@@ -47,7 +47,7 @@ free_of : (o : Opening) (h : List Entry) (s : QueueState) → is_some s.awaited 
     → awaited h ≡ false
 free_of o h s free after = sym (pending_flag o h s s.awaited after.stands.awaited_is) ∙ free
 
--- a run's frames are as many as its exchanges where no reply is awaited
+-- a run has as many frames as exchanges if no reply is awaited
 frames_of : (r : ℕ) (ss : List Sending) (es : List LineEvent) → length ss ≡ length es
     → length (filter (λ (s : Sending). is_run r s.owner) ss)
     ≡ length (map seen_of (filter (λ (t : Traded). is_run r t.owner) (map traded_of (zip ss es))))
@@ -344,7 +344,7 @@ sent_waits o h facts sent none = by_first (slice_get (unfinished h) 0) refl
         too_few : oldest_number o h < next_request o h → slice_get (accepts h) (length (finishes h) + 0) ≡ None → ⊥
         too_few below empty = within_some (accepts h) (length (finishes h) + 0) (omega arith) empty
 
--- a queue that gives no frame has none to give
+-- if a queue returns no frame, none may be sent
 gives_open : (r : ℕ) (op : Op) → unless_ended r op ≡ None → op ≡ ops.End
 gives_open r ops.UnmuteAll is = absurd (none-some _ (sym is))
 gives_open r (ops.Mute u) is = absurd (none-some _ (sym is))

@@ -137,7 +137,7 @@ collects-discovery k l n r f found items set waits places room set_room has = re
     fewer : (n m : ℕ) → suc n ≡ suc m → n ≡ m
     fewer n m same = omega arith
 
--- of which kind the oldest is
+-- the kind of the oldest
 pub kind_first : (ds : List Owed) (sets : List (List Device))
     → option_map kind_of_value (slice_get (values ds sets) 0) ≡ option_map kind_of_owed (slice_get ds 0)
 unfolding values

@@ -1,4 +1,4 @@
--- After which logs a queue stands so: what it holds is what the log says.
+-- Which logs a queue stands after: those that say what it holds.
 use Rattle.std.specs.Prelude.{◌≡◌, ◌≢◌, ℕ, ◌+◌, ◌≤◌, Bool, true, false, List, [], ◌∷◌, ◌++◌, length, filter_map}
 use Rattle.std.specs.Prelude.{Option, Some, None, slice_get}
 use Rattle.arrayvec.specs.ArrayVec.{ArrayVec}
@@ -30,7 +30,7 @@ use Rattle.rdm_log.specs.promises.InBound.{FaultNeedsClose, AnswersInBound}
 use Rattle.rdm_queue.specs.body.State.{QueueState, RunState, owed_to, IsProgress}
 use Rattle.rdm_queue.specs.body.State.{uncollected as uncollected_by}
 
--- the number of the oldest request that isn't finished, or of the next one
+-- the number of the oldest unfinished request, or of the next one if there is none
 abbrev pub oldest_number : Opening → List Entry → ℕ
 oldest_number o h = o.next_request + length (finishes h)
 
@@ -40,13 +40,13 @@ pub record IsLast (h : List Entry) (last : Sending) : Type 0 where
   pub earlier : List Sending
   pub sends_are : sends h ≡ earlier ++ last ∷ []
 
--- it is of this request, of which this was sent
+-- the last frame is of this request, of which this was sent
 pub record AwaitsRequest (o : Opening) (h : List Entry) (sent : Sent) : Type 0 where
   pub frame : ArrayVec ℕ
   pub last : IsLast h (record { owner = owners.Request (oldest_number o h); frame = frame })
   pub same : sent_by frame.items ≡ sent
 
--- it is of the open run: the agent's next operation, with this transaction number
+-- the last frame is of the open run: the agent's next operation, with this transaction number
 pub record AwaitsRun (o : Opening) (h : List Entry) (s : QueueState) (tn : ℕ) : Type 0 where
   pub run : RunState
   pub run_is : s.run ≡ Some run
@@ -61,18 +61,18 @@ IsPending o h s None = awaited h ≡ false
 IsPending o h s (Some (awaiting.Request sent)) = AwaitsRequest o h sent
 IsPending o h s (Some (awaiting.Run tn)) = AwaitsRun o h s tn
 
--- a run has begun, and not all that it serves are answered: the agent stands after its exchanges, and was stopped only
--- at a close
+-- a run has begun, and not all that it serves are answered: the agent has made its exchanges, and was stopped only by a
+-- close
 pub record IsRunning (o : Opening) (h : List Entry) (s : QueueState) (r : RunState) : Type 0 where
   pub last : last_run h ≡ Some r.number
   pub aborted : Bool
   pub has_run : HasRunBy s.search (run_kind r.number h) (known_at_run o r.number h) o.budget aborted
       (run_exchanges r.number h) s.agent
   pub stopped : aborted ≡ true → (is_closed o h ≡ true) × (awaited h ≡ false)
-  -- what it serves are the first of those that aren't answered
+  -- it serves the first of the unanswered discoveries
   pub left : asked_before (last_run h) h ≡ length (answers h) + r.left
   pub some : 1 ≤ r.left
-  -- all that earlier runs serve are answered
+  -- all discoveries that earlier runs serve are answered
   pub earlier : asked_before (last_run (entries_before_run r.number h)) (entries_before_run r.number h)
       ≤ length (answers h)
   -- it answers only once it has ended, and all alike
@@ -128,23 +128,23 @@ pub record StandsAfter (o : Opening) (h : List Entry) (s : QueueState) : Type 0 
   pub stands : Agrees o h s
   pub goes_on : RunGoesOn s.run s.agent
 
--- the same amid a block of entries, where Finishes and Answers may still be due
+-- a queue stands amid a block of entries: Finishes and Answers may still be due
 pub record StandsAmid (o : Opening) (h : List Entry) (s : QueueState) : Type 0 where
   pub each : EachAfter (MayFollow o) h
   pub stands : Agrees o h s
 
--- what holds of each log that a queue stands amid
+-- this holds for each log that a queue stands amid
 abbrev pub ForEachBlock : QueueState → (Opening → List Entry → Type 0) → Type 0
 ForEachBlock s P = (o : Opening) (h : List Entry) → StandsAmid o h s → P o h
 
--- with this entry more a queue stands amid each log after which old stands and of which this holds; its runs search as
--- before
+-- for each log that old stands after and for which this holds, new stands amid it with one more entry; its runs search
+-- as before
 pub record AddsAmid (old : QueueState) (May : Opening → List Entry → Type 0) (e : Entry) (new : QueueState)
     : Type 0 where
   pub search : new.search ≡ old.search
   pub each : (o : Opening) (h : List Entry) → StandsAfter o h old → May o h → StandsAmid o (h ++ e ∷ []) new
 
--- what was due next was ended with this entry, a Finish or an Answer in bound, after each log that old stands amid and
+-- what was due next was ended with this entry, a Finish or an Answer in bound, for each log that old stands amid and
 -- that says how it searches; runs search as before
 pub record Ends (old : QueueState) (e : Entry) (new : QueueState) : Type 0 where
   pub is : is_result e ≡ true
@@ -159,7 +159,7 @@ pub record FinishesAll (k : LogState) (new : QueueState) : Type 0 where
   pub in_bound : AnswersInBound k results
   pub after : StandsAfter k.opening (k.entries ++ results) new
 
--- all that was due was ended, after each log that old stands amid and that says how it searches; runs search as before
+-- all that was due was ended, for each log that old stands amid and that says how it searches; runs search as before
 pub record FinishesEach (old new : QueueState) : Type 0 where
   pub search : new.search ≡ old.search
   pub each : (k : LogState) → old.search ≡ k.search → StandsAmid k.opening k.entries old → FinishesAll k new

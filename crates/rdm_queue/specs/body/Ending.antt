@@ -15,12 +15,12 @@ use Rattle.rdm_log.specs.promises.Outcomes.{OutcomeValue}
 use Rattle.rdm_log.specs.promises.Outcomes.OutcomeValue.{DiscoveryValue}
 use Rattle.rdm_queue.specs.body.State.{QueueState, RunState, owes, is_closing, due, IsFinished}
 
--- an agent that was stopped: one that has ended stays as it is
+-- an agent that was stopped: one that has ended is unchanged
 abbrev pub stopped_at : Op → AgentState → AgentState
 stopped_at End a = a
 stopped_at _ a = ended_by_abort a
 
--- the agent as it is answered by: at a close it is stopped
+-- the agent whose report is the answer: a close stops it first
 abbrev pub agent_at_end : QueueState → AgentState
 agent_at_end s = if is_closing s then stopped_at (next_op s.agent) s.agent else s.agent
 
@@ -31,12 +31,12 @@ answer_of a run fault = Answer a.number run fault
 abbrev pub answer_value : AskedDiscovery → ℕ → Option AgentFault → List Device → OutcomeValue
 answer_value a run fault found = DiscoveryValue (Some a.number) (record { run = run; fault = fault; devices = found })
 
--- the oldest discovery answered so
+-- the oldest discovery, answered with this end
 abbrev pub answers_oldest : QueueState → AskedDiscovery → ℕ → Option AgentFault → List Device → QueueState
 answers_oldest s a run fault found =
     record s { asked = drop 1 s.asked; owed = owes a.client (answer_value a run fault found) s }
 
--- the run, with one discovery less to answer
+-- the run, with one discovery fewer to answer
 abbrev pub one_less : RunState → Option RunState
 one_less r = if nat_lt 1 r.left then Some (record { number = r.number; left = r.left - 1 }) else None
 

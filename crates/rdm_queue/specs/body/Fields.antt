@@ -11,7 +11,7 @@ use Rattle.rdm_queue.specs.body.Rings.{owed_values}
 use Rattle.rdm_queue.specs.body.State.{QueueState, RunState}
 use Rattle.rdm_queue.specs.body.Merged.{merged}
 
--- what stands in client c's rings
+-- the content of client c's rings
 abbrev pub accepted_is : ℕ → Waiting → Accepted
 accepted_is c w = record { client = c; number = w.number; request = w.request }
 

@@ -1,4 +1,4 @@
--- How long a client's oldest outcome is, of what a queue holds.
+-- How long a client's oldest outcome is, by what a queue holds.
 use Rattle.std.specs.Prelude.{ℕ, List, [], ◌∷◌, length, Option, option_map, slice_get}
 use Rattle.rdm_wire.specs.declared.device.Device.{Device}
 use Rattle.rdm_queue.specs.declared.client.Client.{Client}
@@ -7,7 +7,7 @@ use Rattle.rdm_queue.specs.declared.client.Owed.TheVariants as owed
 use Rattle.rdm_queue.specs.promises.Lengths.{length_of_value}
 use Rattle.rdm_queue.specs.body.State.{QueueState, owed_to}
 
--- how many devices the first set has; none where there is no set
+-- how many devices the first set has; 0 if there is no set
 abbrev pub first_set_length : List (List Device) → ℕ
 first_set_length [] = 0
 first_set_length (set ∷ sets) = length set

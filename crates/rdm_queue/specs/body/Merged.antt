@@ -15,6 +15,6 @@ unfoldable pub merged : {X : Type 0} → (X → ℕ) → List (List X) → List 
 merged number [] = []
 merged number (xs ∷ lists) = put_all number xs (merged number lists)
 
--- the c-th of these lists has what is client c's of all, in the order of all
+-- the c-th of these lists has client c's elements of the whole list, in the same order
 abbrev pub AreShares : {X : Type 0} → (X → ℕ) → List (List X) → List X → Type 0
 AreShares client lists all = (c : ℕ) → get_or lists c [] ≡ filter (λ x. c == client x) all

@@ -1,4 +1,4 @@
--- What a queue keeps of what it holds.
+-- A queue's invariant.
 use Rattle.std.specs.Prelude.{◌≡◌, ℕ, ◌+◌, ◌-◌, ◌≤◌, List, [], ◌∷◌, ◌++◌, length, map, sum, get_or, slice_index, Option}
 use Rattle.std.specs.Prelude.{Some, None, MatchOption}
 use Rattle.std.specs.List.{AllByRecursion}
@@ -10,16 +10,16 @@ use Rattle.rdm_queue.specs.body.Merged.{AreShares}
 use Rattle.rdm_queue.specs.body.Fields.{waiting_rings}
 use Rattle.rdm_queue.specs.body.State.{QueueState, RunState, outstanding, outstanding_asks}
 
--- the numbers of what waits, and of the next request
+-- the numbers of the requests that wait, and of the next request
 abbrev pub numbers : QueueState → List ℕ
 numbers s = map (λ a. a.number) s.waiting ++ s.next_request ∷ []
 
--- how many of the discoveries that aren't answered a run serves
+-- how many of the unanswered discoveries a run serves
 abbrev pub served_by : Option RunState → ℕ
 served_by None = 0
 served_by (Some r) = r.left
 
--- no client has more outstanding than its places, nor more than four discoveries; numbers rise in the order of
+-- no client has more outstanding than its queue depth, nor more than four discoveries; numbers rise in the order of
 -- acceptance; the joiner takes verdicts; and each run serves a discovery that no other serves
 pub record StateInvariant (s : QueueState) : Type 0 where
   pub source : IsDevice s.source
@@ -37,8 +37,8 @@ pub record StateInvariant (s : QueueState) : Type 0 where
   pub serves : MatchOption s.run (Unit {0}) (λ r. 1 ≤ r.left)
   pub runs_numbered : s.next_run + (length s.asked - served_by s.run) ≤ s.next_ask + 1
 
--- each client's ring has what is its own of the requests that wait; its rings are as large as its places ask for, and
--- each discovery among its outcomes has its set
+-- each client's ring has the client's own requests of those that wait; its rings are as large as its queue depth needs,
+-- and each discovery among its outcomes has its set
 pub record RingsInvariant (s : QueueState) (clients : List Client) : Type 0 where
   pub waiting : AreShares (λ a. a.client) (waiting_rings clients) s.waiting
   pub sizes : AllByRecursion HasRings clients

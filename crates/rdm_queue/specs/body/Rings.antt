@@ -1,4 +1,4 @@
--- A client's rings, and what its calls make of them.
+-- A client's rings, and how its calls change them.
 use Rattle.std.specs.Prelude.{◌≡◌, ℕ, ◌+◌, ◌≤◌, Bool, true, false, List, [], ◌∷◌, ◌++◌, length, filter, Option, Some}
 use Rattle.std.specs.Prelude.{option_map, slice_get}
 use Rattle.std.specs.VecDeque.{deque_capacity}
@@ -38,7 +38,7 @@ values (owed.Discovery number run fault ∷ ds) (set ∷ sets) =
 abbrev pub owed_values : Client → List OutcomeValue
 owed_values k = values k.outcomes.items k.sets.items
 
--- a client's rings are as large as its places ask for
+-- a client's rings are as large as its queue depth needs
 pub record HasRings (k : Client) : Type 0 where
   pub waiting : deque_capacity k.waiting ≡ k.places
   pub outcomes : deque_capacity k.outcomes ≡ k.places + 4
@@ -52,21 +52,21 @@ pub record IsNewClient (places : ℕ) (k : Client) : Type 0 where
   pub no_sets : k.sets.items ≡ []
   pub rings : HasRings k
 
--- it has the same places, in rings of the same size
+-- it has the same queue depth, with rings of the same size
 pub record SameRings (old new : Client) : Type 0 where
   pub places : new.places ≡ old.places
   pub waiting : deque_capacity new.waiting ≡ deque_capacity old.waiting
   pub outcomes : deque_capacity new.outcomes ≡ deque_capacity old.outcomes
   pub sets : new.sets.room ≡ old.sets.room
 
--- it has a request more
+-- it has one more request
 pub record ClientAccepts (old : Client) (number : ℕ) (request : Request) (new : Client) : Type 0 where
   pub waiting : new.waiting.items ≡ old.waiting.items ++ record { number = number; request = request } ∷ []
   pub outcomes : new.outcomes.items ≡ old.outcomes.items
   pub sets : new.sets.items ≡ old.sets.items
   pub rings : SameRings old new
 
--- its oldest request was finished so, with this entry
+-- its oldest request was finished with this end, and this entry
 pub record ClientFinishes (old : Client) (done : Completion) (entry : Entry) (new : Client) : Type 0 where
   pub oldest : Waiting
   pub waiting : old.waiting.items ≡ oldest ∷ new.waiting.items
@@ -75,7 +75,7 @@ pub record ClientFinishes (old : Client) (done : Completion) (entry : Entry) (ne
   pub entry_is : entry ≡ Finish oldest.number done.status (length done.bytes.items)
   pub rings : SameRings old new
 
--- its discovery of this number was answered so
+-- its discovery of this number was answered with this end
 pub record ClientAnswers (old : Client) (number run : ℕ) (fault : Option AgentFault) (found : List Device)
     (new : Client) : Type 0 where
   pub waiting : new.waiting.items ≡ old.waiting.items
@@ -83,7 +83,7 @@ pub record ClientAnswers (old : Client) (number run : ℕ) (fault : Option Agent
   pub sets : new.sets.items ≡ old.sets.items ++ found ∷ []
   pub rings : SameRings old new
 
--- of which kind its oldest outcome is
+-- the kind of its oldest outcome
 abbrev pub kind_of_owed : Owed → OutcomeKind
 kind_of_owed (owed.Request number done) = kinds.Request
 kind_of_owed (owed.Discovery number run fault) = kinds.Discovery
@@ -102,7 +102,7 @@ pub record ClientCollects (old : Client) (outcome : OutcomeValue) (new : Client)
 abbrev pub OldestOf : List Client → ℕ → Waiting → Type 0
 OldestOf clients i w = (k : Client) × (slice_get clients i ≡ Some k) × (slice_get k.waiting.items 0 ≡ Some w)
 
--- no client has a request that isn't finished
+-- no client has an unfinished request
 abbrev pub NoneWaits : List Client → Type 0
 NoneWaits clients = (i : ℕ) (w : Waiting) → OldestOf clients i w → ⊥
 

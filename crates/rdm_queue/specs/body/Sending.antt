@@ -1,4 +1,4 @@
--- What a queue sends next, and what it makes of the reply to a run's frame.
+-- What a queue sends next, and how the reply to a run's frame changes it.
 use Rattle.std.specs.Prelude.{◌≡◌, ℕ, ◌%◌, ◌+◌, true, false, ◌||◌, List, [], length, Option, Some, None, ◌==◌}
 use Rattle.std.specs.Prelude.{if◌then◌else◌, slice_get, is_some, option_map}
 use Rattle.std.specs.List.{list_any}
@@ -48,11 +48,11 @@ of_run (Some r) op = unless_ended r.number op
 abbrev pub run_to_send : QueueState → Option ToSend
 run_to_send s = of_run s.run (next_op s.agent)
 
--- a run is full where one of its discoveries is
+-- a run is full if one of its discoveries is
 abbrev pub kind_of : List AskedDiscovery → Kind
 kind_of asked = if list_any (λ a. is_full_kind a.kind) asked then Full else Incremental
 
--- a run has begun for all discoveries that are asked
+-- a run has begun for all discoveries that wait
 abbrev pub begun : QueueState → QueueState
 begun s = record s {
   run = Some (record { number = s.next_run; left = length s.asked });
@@ -60,7 +60,7 @@ begun s = record s {
   agent = start_by s.search (kind_of s.asked) (uids_of s.devices) s.budget;
 }
 
--- a run goes on also where sending is paused; a request between two parts goes before a run, and a run before others
+-- a run continues even while sending is paused; a request between two parts precedes a run, and a run other requests
 abbrev pub to_send : QueueState → Option ToSend
 to_send s =
     if is_some s.awaited || s.closed then None
@@ -69,7 +69,7 @@ to_send s =
     else (if s.under_way || (length s.asked == 0) then request_to_send s
     else run_to_send (begun s))))
 
--- what of a request's frame its reply is judged by
+-- the part of a request's frame with which its reply is compared
 abbrev pub sent_for : QueueState → Accepted → Sent
 sent_for s a = record {
   target = a.request.target;
@@ -90,7 +90,7 @@ sends_request s a = record s {
 abbrev pub sends_run : QueueState → QueueState
 sends_run s = record s { next_tn = (s.next_tn + 1) % 256; awaited = Some (awaiting.Run s.next_tn) }
 
--- the oldest request's frame was given
+-- the oldest request's frame was returned
 pub record GivesRequest (old : QueueState) (owner : Owner) (frame : ArrayVec ℕ) (new : QueueState) : Type 0 where
   pub accepted : Accepted
   pub oldest : slice_get old.waiting 0 ≡ Some accepted
@@ -98,7 +98,7 @@ pub record GivesRequest (old : QueueState) (owner : Owner) (frame : ArrayVec ℕ
   pub packet : Packet (request_fields accepted.request old.source old.next_tn) frame.items
   pub new_is : new ≡ sends_request old accepted
 
--- the frame of the run's next operation was given
+-- the frame of the run's next operation was returned
 pub record GivesRun (old : QueueState) (owner : Owner) (frame : ArrayVec ℕ) (new : QueueState) : Type 0 where
   pub run : RunState
   pub run_is : old.run ≡ Some run
@@ -108,7 +108,7 @@ pub record GivesRun (old : QueueState) (owner : Owner) (frame : ArrayVec ℕ) (n
   pub asks : asked_in frame.items ≡ asked_by (next_op old.agent)
   pub new_is : new ≡ sends_run old
 
--- the next frame was given: of the open run, of the request whose turn it is, or of a run that begins
+-- the next frame was returned: of the open run, of the request whose turn it is, or of a run that begins
 pub record GivesOpen (old : QueueState) (owner : Owner) (frame : ArrayVec ℕ) (new : QueueState) : Type 0 where
   pub gives : GivesRun old owner frame new
 

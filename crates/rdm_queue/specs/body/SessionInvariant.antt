@@ -1,4 +1,4 @@
--- What a session keeps of its controller and its log.
+-- A session's invariant, for its controller and its log.
 use Rattle.std.specs.Prelude.{◌≡◌, ◌+◌, ◌≤◌, List, length}
 use Rattle.rdm_log.specs.declared.entry.Entry.{Entry}
 use Rattle.rdm_log.specs.log.History.{reserved}
@@ -9,25 +9,25 @@ use Rattle.rdm_log.specs.promises.LogInBound.{InBound}
 use Rattle.rdm_queue.specs.body.State.{QueueState}
 use Rattle.rdm_queue.specs.body.Agrees.{StandsAmid, StandsAfter}
 
--- there is room for what stands and for what is reserved
+-- the entries and those that are reserved fit
 abbrev pub HasRoom : LogState → Type 0
 HasRoom k = length k.entries + reserved k.opening k.entries ≤ k.room
 
--- the controller stands after the log, which is legal, in bound and has its room, and searches as the log says
+-- the controller stands after the log, and searches as it says; the log is legal, in bound, and large enough
 pub record SessionInvariant (s : QueueState) (k : LogState) : Type 0 where
   pub after : StandsAfter k.opening k.entries s
   pub room : HasRoom k
   pub search_is : s.search ≡ k.search
   pub in_bound : InBound k
 
--- the same amid a block of entries, where Finishes may still be due
+-- the same amid a block of entries: Finishes and Answers may still be due
 pub record SessionAmid (s : QueueState) (k : LogState) : Type 0 where
   pub amid : StandsAmid k.opening k.entries s
   pub room : HasRoom k
   pub search_is : s.search ≡ k.search
   pub in_bound : InBound k
 
--- what was due is finished: the log has a Finish or an Answer more for each, and the session is whole again
+-- all that was due was ended: the log has one more Finish or Answer for each, and the session's invariant holds again
 pub record FinishesDue (old : LogState) (s : QueueState) (new : LogState) : Type 0 where
   pub results : List Entry
   pub each : AllResults results

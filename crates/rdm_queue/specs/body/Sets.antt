@@ -2,7 +2,7 @@
 use Rattle.std.specs.Prelude.{◌≡◌, ◌⊎◌, ℕ, ◌<◌, ◌≤◌, List, ◌++◌, take, drop}
 use Rattle.rdm_wire.specs.declared.device.Device.{Device}
 
--- the sets that are held, oldest first, and how many there is room for
+-- the sets that are held, oldest first, and the ring's capacity
 pub record SetsHeld : Type 0 where
   pub items : List (List Device)
   pub room : ℕ
@@ -11,7 +11,7 @@ pub record SetsHeld : Type 0 where
 abbrev pub held : ℕ → ℕ → List (List Device) → List (List Device)
 held first count sets = take count (drop first sets ++ take first sets)
 
--- there is room for all that are held; it is for four, or for none
+-- all that are held fit; the capacity is four, or none
 pub record IsRing (first count room : ℕ) : Type 0 where
   pub few : count ≤ room
   pub sized : ((room ≡ 4) × (first < 4)) ⊎ (room ≡ 0)

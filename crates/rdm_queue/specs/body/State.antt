@@ -1,4 +1,4 @@
--- What a queue holds, as numbers and lists, what of it calls look at, and what they make of it.
+-- What a queue holds, as numbers and lists, what calls read of it, and how they change it.
 use Rattle.std.specs.Prelude.{◌≡◌, ◌⊎◌, ℕ, ◌<◌, ◌+◌, Bool, true, false, ◌&&◌, not, List, [], ◌∷◌, ◌++◌, length}
 use Rattle.std.specs.Prelude.{drop, filter, map, sum, set, get_or, Option, Some, None, ◌==◌, if◌then◌else◌, is_some}
 use Rattle.std.specs.Prelude.{slice_get, option_map}
@@ -37,7 +37,7 @@ pub record OwedOutcome : Type 0 where
   pub number : ℕ
   pub done : Joined
 
--- a run that has begun; it serves this many of the oldest discoveries that aren't answered
+-- a run that has begun; it serves this many of the unanswered discoveries, the oldest ones
 pub record RunState : Type 0 where
   pub number : ℕ
   pub left : ℕ
@@ -53,19 +53,19 @@ pub record QueueState : Type 0 where
   pub closed : Bool
   pub next_request : ℕ
   pub next_tn : ℕ
-  -- the requests that aren't finished, oldest first
+  -- the unfinished requests, oldest first
   pub waiting : List Accepted
   -- what was sent, while its reply is awaited
   pub awaited : Option Awaited
-  -- a frame of the oldest of those that wait was sent
+  -- whether a frame was sent for the oldest unfinished request
   pub under_way : Bool
-  -- the replies of the oldest of those that wait
+  -- the replies to the oldest unfinished request
   pub joiner : JoinerStanding
-  -- how the oldest has ended, until it is finished
+  -- how the oldest unfinished request has ended, until it is finished
   pub decided : Option Joined
   pub next_ask : ℕ
   pub next_run : ℕ
-  -- the discoveries that aren't answered, oldest first
+  -- the unanswered discoveries, oldest first
   pub asked : List AskedDiscovery
   -- the run that has begun, and the agent of the last one
   pub run : Option RunState
@@ -112,15 +112,15 @@ asked_of c s = filter (λ a. c == a.client) s.asked
 abbrev pub owed_to : ℕ → QueueState → List OutcomeValue
 owed_to c s = get_or s.owed c []
 
--- an outcome more for a client
+-- one more outcome for a client
 abbrev pub owes : ℕ → OutcomeValue → QueueState → List (List OutcomeValue)
 owes c d s = set s.owed c (owed_to c s ++ d ∷ [])
 
--- all outcomes that aren't collected
+-- all uncollected outcomes
 abbrev pub uncollected : QueueState → ℕ
 uncollected s = sum (map (λ ds. length ds) s.owed)
 
--- the requests that aren't finished and the discoveries that aren't answered
+-- the unfinished requests and the unanswered discoveries
 abbrev pub unended : QueueState → ℕ
 unended s = length s.waiting + length s.asked
 
@@ -128,7 +128,7 @@ abbrev pub is_discovery : OutcomeValue → Bool
 is_discovery (RequestValue number done) = false
 is_discovery (DiscoveryValue number done) = true
 
--- a client's requests that aren't finished, or not collected; and its discoveries
+-- a client's requests that aren't finished or not collected, and its discoveries
 abbrev pub outstanding : ℕ → QueueState → ℕ
 outstanding c s = length (waiting_of c s) + length (filter (λ d. not (is_discovery d)) (owed_to c s))
 
@@ -144,7 +144,7 @@ first_submit_fault s c = submit_fault_at s.closed s.places (outstanding c s) s.n
 abbrev pub first_ask_fault : QueueState → ℕ → Option AskFault
 first_ask_fault s c = ask_fault_at s.closed s.places (outstanding_asks c s) s.next_ask c
 
--- a client more, with these places
+-- one more client, with this queue depth
 abbrev pub joins_client : QueueState → ℕ → QueueState
 joins_client s n = record s { places = s.places ++ n ∷ []; owed = s.owed ++ [] ∷ [] }
 
@@ -155,15 +155,15 @@ owed_value d = RequestValue (Some d.number) d.done
 abbrev pub finish_of : OwedOutcome → Entry
 finish_of d = Finish d.number d.done.status (length d.done.data_)
 
--- what is owed for a request that ended so
+-- what is owed for a request that ended like this
 abbrev pub owed_for : Joined → Accepted → OwedOutcome
 owed_for j a = record { client = a.client; number = a.number; done = j }
 
--- a joiner that was given nothing
+-- a joiner without verdicts
 abbrev pub fresh_joiner : JoinerStanding
 fresh_joiner = standing_at None []
 
--- closed, and no reply is awaited: all is to be ended
+-- whether it is closed and awaits no reply, so that everything is to be ended
 abbrev pub is_closing : QueueState → Bool
 is_closing s = s.closed && not (is_some s.awaited)
 
@@ -171,7 +171,7 @@ is_closing s = s.closed && not (is_some s.awaited)
 abbrev pub end_of_oldest : QueueState → Option Joined
 end_of_oldest s = or_if_open s.decided (if is_closing s then Some (ended FailedToSend) else None)
 
--- what is owed for the oldest of these, where it has ended
+-- what is owed for the oldest of these, if it has ended
 abbrev pub owed_next : Option Joined → List Accepted → Option OwedOutcome
 owed_next (Some done) (a ∷ waiting) = Some (owed_for done a)
 owed_next (Some done) [] = None
@@ -181,7 +181,7 @@ owed_next None waiting = None
 abbrev pub due : QueueState → Option OwedOutcome
 due s = owed_next (end_of_oldest s) s.waiting
 
--- the oldest request finished so
+-- the oldest request, finished with this end
 abbrev pub finishes_oldest : QueueState → OwedOutcome → QueueState
 finishes_oldest s d = record s {
   waiting = drop 1 s.waiting;
@@ -198,7 +198,7 @@ pub record IsFinished (old : QueueState) (entry : Entry) (new : QueueState) : Ty
   pub entry_is : entry ≡ finish_of owed
   pub new_is : new ≡ finishes_oldest old owed
 
--- what a request of the client is accepted as
+-- how a client's request is kept once it is accepted
 abbrev pub accepted_as : QueueState → ℕ → Request → Accepted
 accepted_as s c request = record { client = c; number = s.next_request; request = request }
 
@@ -206,7 +206,7 @@ abbrev pub accepts_request : QueueState → ℕ → Request → QueueState
 accepts_request s c request =
     record s { next_request = s.next_request + 1; waiting = s.waiting ++ accepted_as s c request ∷ [] }
 
--- what a discovery of the client is asked as
+-- how a client's discovery is kept once it is accepted
 abbrev pub asked_as : QueueState → ℕ → Kind → AskedDiscovery
 asked_as s c kind = record { client = c; number = s.next_ask; kind = kind }
 
@@ -222,7 +222,7 @@ pub record TakesOldest (old : QueueState) (c : ℕ) (outcome : OutcomeValue) (ne
   pub oldest : slice_get (owed_to c old) 0 ≡ Some outcome
   pub new_is : new ≡ collects_oldest old c
 
--- of which kind a client's oldest outcome is
+-- the kind of a client's oldest outcome
 abbrev pub kind_of_value : OutcomeValue → OutcomeKind
 kind_of_value (RequestValue number done) = kinds.Request
 kind_of_value (DiscoveryValue number done) = kinds.Discovery
@@ -230,7 +230,7 @@ kind_of_value (DiscoveryValue number done) = kinds.Discovery
 abbrev pub first_kind : ℕ → QueueState → Option OutcomeKind
 first_kind c s = option_map kind_of_value (slice_get (owed_to c s) 0)
 
--- the opening of a log that goes on from here
+-- the opening of a log that continues from here
 abbrev pub opening_of : QueueState → Opening
 opening_of s = record {
   source = s.source;
@@ -247,11 +247,11 @@ opening_of s = record {
   next_tn = s.next_tn;
 }
 
--- a decided result is given as it is, but for data that find no memory
+-- a decided result is returned unchanged, unless there is no memory for its data
 abbrev pub GivesResult : Joined → Joined → Type 0
 GivesResult j done = (done ≡ j) ⊎ ((done ≡ ended NoMemory) × (0 < length j.data_))
 
--- how far the oldest request is after these verdicts: its joiner has them, or it has ended
+-- the state of the oldest request after these verdicts: its joiner has them, or it has ended
 abbrev pub ProgressAt : Option Joined → List Judged → Option Joined → JoinerStanding → Type 0
 ProgressAt None vs decided joiner = (decided ≡ None) × StandsAt vs joiner
 ProgressAt (Some j) vs decided joiner =

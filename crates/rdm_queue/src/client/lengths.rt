@@ -15,7 +15,7 @@ impl Client {
         }
     }
 
-    // How many devices the oldest of its sets has; none where there is no set.
+    // How many devices the oldest of its sets has; 0 if there is no set.
     fn oldest_set_length(&self) -> usize
         ensures { result ≡ first_set_length self.now.sets.items }
     {

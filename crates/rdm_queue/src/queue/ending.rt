@@ -1,4 +1,4 @@
-//! What comes to its end: replies are heard, and requests and discoveries are finished and answered.
+//! How requests and discoveries end: replies are heard, requests are finished, and discoveries are answered.
 ghost use Rattle.std.specs.Prelude.{◌≡◌, ◌⊎◌, ◌<◌, length};
 ghost use Rattle.rdm_join.specs.Result.{ended};
 ghost use Rattle.rdm_join.specs.JoinerStanding.{head_of_standing};
@@ -29,8 +29,8 @@ impl Queue {
     ghost use Rattle.rdm_queue.specs.body.Ending.{devices_run_after, answer_of, answers_oldest, one_less};
     ghost use Rattle.rdm_queue.specs.declared.pending.Awaited.TheVariants as awaiting;
 
-    /// Takes what the line answered to the last frame. It is of the oldest request, which hasn't ended before, or of
-    /// the run, whose agent hasn't.
+    /// Takes what the line answered to the last frame. That belongs to the oldest request, which hasn't ended yet, or
+    /// to the run, whose agent hasn't.
     pub(crate) fn hear(&mut self, alloc: Global, event: &LineEvent)
         ensures free { self.new.awaited ≡ None }
         ensures heard { (sent : Sent) → self.old.awaited ≡ Some (awaiting.Request sent)
@@ -79,8 +79,8 @@ impl Queue {
         self.agent.hear(reply);
     }
 
-    /// Ends what is due next, and gives the entry of its end; None where nothing is due. Due are: the discoveries of a
-    /// run that has ended, and a request that has. Where the queue is closed and awaits no reply, more is due: a run
+    /// Ends what is due next, and returns the entry of its end; None if nothing is due. These are due: the discoveries
+    /// of a run that has ended, and a request that has. If the queue is closed and awaits no reply, more is due: a run
     /// that hasn't ended, then the requests that wait, and last the discoveries that no run serves.
     pub(crate) fn finish_next(&mut self) -> Option<Entry>
         ensures ended { IfSome result (λ entry. IsEnded self.old entry self.new) }
@@ -95,7 +95,7 @@ impl Queue {
         }
     }
 
-    // Answers the oldest discovery by its run, where that has ended, or by a close. None where none has.
+    // Answers the oldest discovery by its run, if that has ended, or by a close. None if no run has ended.
     fn answer_by_run(&mut self) -> Option<Entry>
         requires { is_some self.old.run ≡ true }
         ensures ended { IfSome result (λ entry. AnswersByRun self.old entry self.new) }
@@ -111,7 +111,7 @@ impl Queue {
         Some(self.answer_served(&run, &fault))
     }
 
-    // Stops the run where the queue is closed and awaits no reply.
+    // Stops the run if the queue is closed and awaits no reply.
     fn stop_at_close(&mut self)
         ensures { self.new ≡ record self.old { agent = agent_at_end self.old } }
     {
@@ -120,7 +120,7 @@ impl Queue {
         }
     }
 
-    // The devices that are known are those that this run has found, unless it has a fault.
+    // The known devices are those that this run has found, unless it has a fault.
     fn keep_devices(&mut self, run: u64, fault: Option<AgentFault>)
         ensures { self.new ≡ record self.old {
           devices = devices_after fault self.old.agent.found self.old.devices;
@@ -158,7 +158,7 @@ impl Queue {
         entry
     }
 
-    // Answers the oldest discovery, which no run serves, by a close. None where none is due.
+    // Answers the oldest discovery, which no run serves, by a close. None if none is due.
     fn answer_unserved(&mut self) -> Option<Entry>
         requires { self.old.run ≡ None }
         ensures ended { IfSome result (λ entry. AnswersUnserved self.old entry self.new) }
@@ -181,14 +181,14 @@ impl Queue {
         })
     }
 
-    // Whether it is closed and awaits no reply, so that all is to be ended.
+    // Whether it is closed and awaits no reply, so that everything is to be ended.
     fn is_closing(&self) -> bool
         ensures { result ≡ is_closing self.now }
     {
         self.closed && !self.awaits()
     }
 
-    // Finishes the oldest request, where it has ended, or by a close. None where none is due.
+    // Finishes the oldest request, if it has ended, or by a close. None if none is due.
     fn finish_oldest(&mut self) -> Option<Entry>
         requires { self.old.run ≡ None }
         ensures finished { IfSome result (λ entry. IsFinished self.old entry self.new) }
@@ -199,7 +199,7 @@ impl Queue {
         Some(self.finish(at, done))
     }
 
-    // How the oldest request has ended, which is then no longer kept here.
+    // How the oldest request has ended. That is taken out.
     fn end_of_oldest(&mut self) -> Option<Completion>
         ensures end { option_map completion_value result ≡ end_of_oldest self.old }
         ensures taken { OnSome result (self.new ≡ record self.old { decided = None }) }
@@ -214,7 +214,7 @@ impl Queue {
         None
     }
 
-    // Finishes the oldest request so, which is this client's, and gives the entry of its end.
+    // Finishes the oldest request, which is this client's, with this end, and returns its entry.
     fn finish(&mut self, at: usize, done: Completion) -> Entry
         requires oldest { (accepted : Accepted) × (slice_get self.old.waiting 0 ≡ Some accepted)
             × (accepted.client ≡ at) }
@@ -229,7 +229,7 @@ impl Queue {
     }
 }
 
-// A completion without an answer, which takes no memory.
+// A completion without an answer. It allocates nothing.
 fn failed(alloc: Global, status: Status) -> Completion
     ensures { completion_value result ≡ ended status }
 {
@@ -240,7 +240,7 @@ fn failed(alloc: Global, status: Status) -> Completion
     }
 }
 
-// The completion of a request that has ended so, with its joined data, or with NoMemory where they find none.
+// The completion of a request with this end and its joined data, or with NoMemory if there is no memory for them.
 fn completion_of(joiner: &Joiner, alloc: Global, status: Status) -> Completion
     ensures { (completion_value result
         ≡ record { status = status; data_ = joiner.now.data_; head = head_of_standing joiner.now })

@@ -7,8 +7,8 @@ impl Session {
     ghost use Rattle.rdm_queue.specs.promises.Lengths.{oldest_length};
     ghost use Rattle.rdm_log.specs.log.History.{next_client};
 
-    /// How long a client's oldest outcome is that it hasn't collected: how many bytes of data a request's has, or how
-    /// many devices a discovery's. None where there is none, or no such client.
+    /// The length of a client's oldest uncollected outcome: how many bytes of data a request's has, or how many devices
+    /// a discovery's. None if there is none, or no such client.
     pub fn oldest_length(&self, client: ClientId) -> Option<usize>
         ensures { result ≡ oldest_length self.now.opening self.now.entries client.0 }
     {
