@@ -127,7 +127,7 @@ failed = record {
   };
 }
 
--- a run that a close finds between its frames is aborted
+-- a run that a close interrupts is aborted
 one_exchange : (h : List Entry) → run_kind 1 h ≡ Full → known_at_run sample_opening 1 h ≡ []
     → run_exchanges 1 h ≡ take 1 sample_run → GoesOn sample_opening h 1
 one_exchange h kind known same =
