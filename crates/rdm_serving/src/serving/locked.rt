@@ -101,7 +101,7 @@ fn together<L: Ledger + Send + Sync, X: Line + Send, R: Threads + Wait + Sync>(
 {
     let (mut callers, refused) = join_all(rt, alloc, port, clients);
     if refused.is_none() {
-        serve_callers(rt, alloc, port, callers.as_mut_slice(), line, turns, record);
+        serve_callers(rt, alloc, port, &mut callers, line, turns, record);
     }
     let ended = end_all(rt, alloc, callers);
     match refused {
@@ -115,7 +115,7 @@ fn serve_callers<L: Ledger + Send + Sync, X: Line + Send, R: Threads + Wait + Sy
     rt: &R,
     alloc: Global,
     port: &Port<L>,
-    callers: &mut [Caller<'_, '_, L>],
+    callers: &mut Vec<Caller<'_, '_, L>>,
     line: &mut X,
     turns: u64,
     record: &mut Vec<Exchange>,
@@ -123,10 +123,11 @@ fn serve_callers<L: Ledger + Send + Sync, X: Line + Send, R: Threads + Wait + Sy
     ensures { length «record».new.items ≤ length «record».old.items + turns }
 {
     let stop = AtomicBool::new(false);
+    let all = callers.as_mut_slice();
     join_mut(
         rt,
         &mut || work(rt, alloc, port, line, turns, record, &stop),
-        &mut || call_all(rt, alloc, turns, &stop, callers),
+        &mut || call_all(rt, alloc, turns, &stop, all),
     );
 }
 

@@ -102,7 +102,7 @@ fn served<J: ViewHistory, X: Drop>(
     alloc: Global,
     end: LanesEnd<J, Caller<'_>, X, RequestTicket, AskTicket>,
 ) -> Result<Served, ServeFault>
-    ensures { IfOk result (λ s. s.session ≡ end.session) }
+    ensures { IfOk result (λ s. s.session ≡ end.entry.session) }
 {
     let LanesEnd {
         session,
