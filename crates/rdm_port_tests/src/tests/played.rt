@@ -1,4 +1,4 @@
-//! How a client plays its calls: it looks for the worker's stop before it collects, and makes all its turns and no more.
+//! How a client plays its calls: it looks for the stop before it collects, and makes all its turns and no more.
 ghost use Rattle.std.specs.Prelude.{⊤};
 
 use super::program::check;
@@ -33,13 +33,7 @@ impl Late {
 
     // Plays a discovery in this many turns.
     fn play(&mut self, alloc: Global, turns: u64) -> Result<(), ServeFault> {
-        let (_outcomes, end) = play(
-            alloc,
-            &[ClientCall::Discover(Kind::Full)],
-            self,
-            &(),
-            turns,
-        );
+        let (_outcomes, end) = play(alloc, &[ClientCall::Discover(Kind::Full)], self, &(), turns);
         end
     }
 }
