@@ -24,4 +24,4 @@ pub use outcomes::{Discovered, Outcomes, session_text};
 pub use port_kind::PortKind;
 pub use progress::Progress;
 pub use reporting::{device_lines, report};
-pub use serving::{ServeFault, Served, are_logged, serve, serve_on_line};
+pub use serving::{Player, ServeFault, Served, are_logged, play, serve, serve_on_line};
