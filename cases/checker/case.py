@@ -12,6 +12,9 @@ Arguments = Tuple[bytes, ...]
 # Whether a text is a whole answer of a certain form, with its status.
 Form = Callable[[bytes, int], bool]
 
+# Whether a log is of a certain form.
+LogForm = Callable[[bytes], bool]
+
 FILE_NAME = "file.json"
 LOG_NAME = "log"
 PROGRAM_NAME = "wurstlinen"
@@ -80,6 +83,7 @@ class Expected:
     sent: Optional[Tuple[bytes, ...]] = None
     # The log, which is in the file LOG_NAME.
     log: Optional[Log] = None
+    log_form: Optional[LogForm] = None
 
 
 @dataclass(frozen=True)

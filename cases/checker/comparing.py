@@ -54,9 +54,12 @@ def differences_of_sent(expected: Expected, answer: Answer) -> Iterator[str]:
 
 
 def differences_of_log(expected: Expected, answer: Answer) -> Iterator[str]:
-    """The log is the one that is expected, or there is none."""
+    """The log is the one that is expected, or has the form, or there is none."""
     if expected.log not in (None, answer.log):
         yield from wanted_and_got("log", expected.log and expected.log.contents, answer.log.contents)
+    if expected.log_form is not None and not expected.log_form(answer.log.contents or b""):
+        name = getattr(expected.log_form, "__name__", "another form")
+        yield f"log: wanted {name}, got {shown_or_nothing(answer.log.contents)}"
 
 
 def differences_of_two(first: Optional[Answer], answer: Answer) -> Iterator[str]:

@@ -3,6 +3,7 @@
 mod arguments;
 mod logged;
 mod logs;
+mod played;
 mod program;
 mod readers;
 mod tapes;

@@ -42,7 +42,7 @@ pub record HasDriven (L : Type 0) (step : L → Exchange → L → Type 0) (sour
   -- its exchanges are those of a run
   pub run : HasRunBy search kind known budget false (map seen_event exchanges) a
 
--- a run on the line reports this, after n exchanges
+-- a run on the line reports this, after this many frames
 pub record IsDiscovery (L : Type 0) (step : L → Exchange → L → Type 0) (source : ℕ) (search : Search) (kind : Kind)
     (known : List ℕ) (budget : ℕ) (old new : L) (found : Result (List Device) (AgentFault × List Device)) (frames : ℕ)
     : Type 0 where

@@ -26,7 +26,7 @@ pub record IsStartOf (scene : Scene) (s : SimState) : Type 0 where
   pub exchanges : s.exchanges ≡ 0
   pub failures : s.failures ≡ 0
 
--- a run on a line of this scene reports this, after n exchanges
+-- a run on a line of this scene reports this, after this many frames
 pub record IsSceneDiscovery (scene : Scene) (search : Search) (kind : Kind) (known : List ℕ) (budget : ℕ)
     (found : Result (List Device) (AgentFault × List Device)) (frames : ℕ) : Type 0 where
   pub before : SimState

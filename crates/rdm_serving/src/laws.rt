@@ -8,8 +8,8 @@ ghost use Rattle.rdm_line.specs.SimRuns.{LosesFew};
 ghost use Rattle.rdm_line.specs.declared.scene.Scene.{Scene};
 ghost use Rattle.rdm_serving.specs.SceneDiscovery.{IsSceneDiscovery, IsHonestReport};
 
-/// A run on the line of a scene reports its devices, if its steps lost no five replies of a kind in a row. These are
-/// the replies to branches that a device was due to answer, and to mutes of a present device.
+/// A run on the line of a scene reports honestly (`IsHonestReport`), if its steps lost no five replies of a kind in a
+/// row. These are the replies to branches that a device was due to answer, and to mutes of a present device.
 pub fn few_losses_are_honest()
     ensures { (scene : Scene) (search : Search) (kind : Kind) (known : List ℕ) (budget : ℕ)
         (found : Result (List Device) (AgentFault × List Device)) (frames : ℕ)

@@ -23,4 +23,4 @@ pub use outcomes::{Discovered, Outcomes, session_text};
 pub use progress::Progress;
 pub use rdm_words::PortKind;
 pub use reporting::{device_lines, report};
-pub use serving::{ServeFault, Served, are_logged, serve, serve_on_line};
+pub use serving::{Player, ServeFault, Served, are_logged, play, serve, serve_on_line};

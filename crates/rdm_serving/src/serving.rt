@@ -4,6 +4,7 @@ ghost use Rattle.std.specs.Bool.{OnTrue};
 ghost use Rattle.rdm_wire.specs.Uid.{IsDevice};
 ghost use Rattle.rdm_log.specs.log.Config.{IsConfig};
 ghost use Rattle.rdm_client.specs.declared.told.Told.{Told};
+ghost use Rattle.rdm_lanes.specs.Lines.{exchange_count};
 ghost use Rattle.rdm_serving.specs.Serving.{MayServe};
 ghost use Rattle.rdm_serving.specs.LoggedOutcomes.{IsLogOf};
 ghost use Rattle.rdm_serving.specs.LoggedCalls.{HasCalls};
@@ -14,6 +15,7 @@ mod called;
 mod calls;
 mod locked;
 mod logged;
+mod playing;
 mod rings;
 mod script;
 mod ticket;
@@ -24,6 +26,7 @@ use crate::progress::Progress;
 use crate::serving::called::has_calls;
 use crate::serving::locked::serve_locked;
 pub use crate::serving::logged::are_logged;
+pub use crate::serving::playing::{Player, play};
 use crate::serving::rings::serve_rings;
 use crate::serving::told_line::ToldLine;
 use rdm_agent::Search;
@@ -73,7 +76,7 @@ pub struct Served {
 
 /// Serves a session on the line of its scene, and returns the outcomes of each client's calls, with the session and its
 /// log. The log has exactly the file's clients and calls. Each outcome has its call's tag. It agrees with that log in
-/// its status and the number of its bytes, or in its fault.
+/// its status and the number of its bytes, or in its fault. The worker made at most as many exchanges as turns.
 ///
 /// The file's fields must be in their ranges: the source isn't broadcast ([`Uid::is_broadcast`]), the budget and the
 /// ring are at least 1, and the log is at most [`MOST_FREE_ENTRIES`](rdm_queue::MOST_FREE_ENTRIES). Those of a file
@@ -92,6 +95,7 @@ pub fn serve<L: Ledger + Send + Sync, P: Progress + Send, R: Threads + Wait + Sy
     ensures settled { IfOk result (λ s. AllSettled file.clients.items s.outcomes.items) }
     ensures logged { IfOk result (λ s. IsLogOf s.session.opening s.session.entries s.outcomes.items) }
     ensures called { IfOk result (λ s. HasCalls s.session.entries file.clients.items) }
+    ensures in_turns { IfOk result (λ s. exchange_count s.session ≤ file.turns) }
 {
     let SessionFile {
         scene,
@@ -136,6 +140,7 @@ pub fn serve_on_line<
     ensures settled { IfOk result (λ s. AllSettled file.clients.items s.outcomes.items) }
     ensures logged { IfOk result (λ s. IsLogOf s.session.opening s.session.entries s.outcomes.items) }
     ensures called { IfOk result (λ s. HasCalls s.session.entries file.clients.items) }
+    ensures in_turns { IfOk result (λ s. exchange_count s.session ≤ file.turns) }
 {
     let LineSessionFile {
         source,
@@ -174,6 +179,7 @@ fn settled(alloc: Global, clients: &[ClientFile], served: Served) -> Result<Serv
     ensures settled { IfOk result (λ s. AllSettled clients.now s.outcomes.items) }
     ensures logged { IfOk result (λ s. IsLogOf s.session.opening s.session.entries s.outcomes.items) }
     ensures called { IfOk result (λ s. HasCalls s.session.entries clients.now) }
+    ensures same { IfOk result (λ s. s ≡ served) }
 {
     if served.session.free() < LEAST_FREE {
         return Err(ServeFault::Log);

@@ -1,5 +1,5 @@
 -- What a client of a session file does in its turns, and what it remembers.
-use Rattle.std.specs.Prelude.{◌≡◌, ◌⊎◌, ◌+◌, ◌≤◌, ◌++◌, ◌∷◌, [], ◌==◌, Bool, true, false, length, slice_get}
+use Rattle.std.specs.Prelude.{◌≡◌, ◌⊎◌, ℕ, ◌+◌, ◌≤◌, ◌++◌, ◌∷◌, [], ◌==◌, Bool, true, false, length, slice_get}
 use Rattle.std.specs.Prelude.{Option, Some, None}
 use Rattle.rdm_wire.specs.Devices.{uids_of}
 use Rattle.rdm_client.specs.declared.told.AskTold.{AskTold}
@@ -14,6 +14,10 @@ use Rattle.rdm_serving.specs.declared.serving.script.Next.TheVariants.{Call, Col
 -- each call has an outcome
 abbrev pub has_all : Script → Bool
 has_all s = (length s.outcomes.requests.items + length s.outcomes.discoveries.items) == length s.calls.now
+
+-- how many calls were accepted and outcomes collected; each took a turn
+abbrev pub done_by : Script → ℕ
+done_by s = s.accepted + (length s.outcomes.requests.items + length s.outcomes.discoveries.items)
 
 -- The client makes its calls in order. It collects after a call that found the queue full, and after the last call. It
 -- is done once each call has an outcome.

@@ -1,14 +1,15 @@
 //! Serves the clients of a session file with a mutex.
-ghost use Rattle.std.specs.Prelude.{◌≡◌, []};
+ghost use Rattle.std.specs.Prelude.{◌≡◌, ◌≤◌, ◌+◌, [], ⊤, length, IfOk};
 ghost use Rattle.rdm_log.specs.log.Config.{IsConfig};
+ghost use Rattle.rdm_lanes.specs.Lines.{exchange_count};
 
 use crate::outcomes::Outcomes;
 use crate::serving::calls::cancel_all;
-use crate::serving::script::{Next, Script};
+use crate::serving::playing::{Player, play};
 use crate::serving::ticket::{AskTicket, RequestTicket};
 use crate::serving::{ServeFault, Served, SetUp};
 use rdm_agent::Kind;
-use rdm_client::{Tells, TellsAsk};
+use rdm_client::{Collected, Tells, TellsAsk};
 use rdm_files::{ClientCall, ClientFile};
 use rdm_line::Line;
 use rdm_locked::{CallShare, Exchange, Left, LockedClient, Port};
@@ -38,6 +39,7 @@ pub fn serve_locked<L: Ledger + Send + Sync, X: Line + Send + Drop, R: Threads +
     requires parts { (blank.parts ≡ L.parts) × (L.parts ≡ 17) }
     requires config_is { IsConfig set_up.config }
     requires empty { set_up.log.entries ≡ [] }
+    ensures in_turns { IfOk result (λ s. exchange_count s.session ≤ set_up.turns) }
 {
     let SetUp {
         search,
@@ -65,6 +67,7 @@ fn finish<L: Ledger>(
     record: &[Exchange],
 ) -> Result<Served, ServeFault>
     requires { L.parts ≡ 17 }
+    ensures { IfOk result (λ s. exchange_count s.session ≡ length «record».now) }
 {
     let Ended { outcomes, shares } = ended;
     match port.finish(shares, record) {
@@ -93,22 +96,39 @@ fn together<L: Ledger + Send + Sync, X: Line + Send, R: Threads + Wait + Sync>(
     line: &mut X,
     turns: u64,
     record: &mut Vec<Exchange>,
-) -> Result<Ended<L>, ServeFault> {
+) -> Result<Ended<L>, ServeFault>
+    ensures { length «record».new.items ≤ length «record».old.items + turns }
+{
     let (mut callers, refused) = join_all(rt, alloc, port, clients);
     if refused.is_none() {
-        let stop = AtomicBool::new(false);
-        let all = callers.as_mut_slice();
-        join_mut(
-            rt,
-            &mut || work(rt, alloc, port, line, turns, record, &stop),
-            &mut || call_all(rt, alloc, turns, &stop, all),
-        );
+        serve_callers(rt, alloc, port, &mut callers, line, turns, record);
     }
     let ended = end_all(rt, alloc, callers);
     match refused {
         Some(fault) => Err(fault),
         None => ended,
     }
+}
+
+// The same for clients that have joined.
+fn serve_callers<L: Ledger + Send + Sync, X: Line + Send, R: Threads + Wait + Sync>(
+    rt: &R,
+    alloc: Global,
+    port: &Port<L>,
+    callers: &mut Vec<Caller<'_, '_, L>>,
+    line: &mut X,
+    turns: u64,
+    record: &mut Vec<Exchange>,
+)
+    ensures { length «record».new.items ≤ length «record».old.items + turns }
+{
+    let stop = AtomicBool::new(false);
+    let all = callers.as_mut_slice();
+    join_mut(
+        rt,
+        &mut || work(rt, alloc, port, line, turns, record, &stop),
+        &mut || call_all(rt, alloc, turns, &stop, all),
+    );
 }
 
 // The worker. It tells the clients that it has stopped.
@@ -120,7 +140,9 @@ fn work<L: Ledger, X: Line, R: Wait>(
     turns: u64,
     record: &mut Vec<Exchange>,
     stop: &AtomicBool,
-) {
+)
+    ensures { length «record».new.items ≤ length «record».old.items + turns }
+{
     port.work(rt, alloc, line, turns, record);
     stop.store(true, Ordering::SeqCst);
 }
@@ -191,13 +213,14 @@ fn end_all<L: Ledger, R: Wait>(
     }
 }
 
-// A client with its script.
+// A client with its calls.
 struct Caller<'p, 'c, L: Ledger> {
     // None once it has left.
     client: Option<Client<'p, L>>,
     // None until it has left.
     share: Option<CallShare<L>>,
-    script: Script<'c>,
+    calls: &'c [ClientCall],
+    outcomes: Outcomes,
     end: Result<(), ServeFault>,
 }
 
@@ -215,7 +238,8 @@ impl<'p, 'c, L: Ledger> Caller<'p, 'c, L> {
         Caller {
             client: Some(client),
             share: None,
-            script: Script::new(alloc, calls),
+            calls,
+            outcomes: Outcomes::new(alloc),
             end: Err(ServeFault::Turns),
         }
     }
@@ -225,7 +249,10 @@ impl<'p, 'c, L: Ledger> Caller<'p, 'c, L> {
         let Some(mut client) = mem::replace(&mut self.client, None) else {
             return;
         };
-        self.end = play(rt, alloc, &mut client, &mut self.script, turns, stop);
+        let beside = Beside { rt, stop };
+        let (outcomes, end) = play(alloc, self.calls, &mut client, &beside, turns);
+        self.outcomes = outcomes;
+        self.end = end;
         self.share = Some(leave(rt, alloc, client));
     }
 
@@ -234,7 +261,8 @@ impl<'p, 'c, L: Ledger> Caller<'p, 'c, L> {
         let Caller {
             client,
             share,
-            script,
+            calls: _,
+            outcomes,
             end,
         } = self;
         let share = match client {
@@ -242,7 +270,7 @@ impl<'p, 'c, L: Ledger> Caller<'p, 'c, L> {
             None => share,
         };
         Called {
-            outcomes: script.into_outcomes(),
+            outcomes,
             share,
             end,
         }
@@ -256,34 +284,42 @@ fn leave<L: Ledger, R: Wait>(rt: &R, alloc: Global, client: Client<'_, L>) -> Ca
     calls
 }
 
-// Plays the script. A turn is one submit, discover or collect, with or without success.
-fn play<L: Ledger, R: Wait>(
-    rt: &R,
-    alloc: Global,
-    client: &mut Client<'_, L>,
-    script: &mut Script<'_>,
-    turns: u64,
-    stop: &AtomicBool,
-) -> Result<(), ServeFault> {
-    for _ in 0..turns {
-        match script.next() {
-            Next::Call(call, place) => {
-                let is_accepted = is_accepted(rt, alloc, client, call, place)?;
-                script.tried(is_accepted);
-            }
-            Next::Collect => {
-                // It is read before the collect: then all that the worker delivered is collected.
-                let has_stopped = stop.load(Ordering::SeqCst);
-                let collected = client.collect(rt);
-                if collected.is_none() {
-                    thread::yield_now();
-                }
-                script.collected(alloc, collected, has_stopped)?;
-            }
-            Next::Done => return Ok(()),
-        }
+// What a client has beside it in its thread.
+#[derive(Drop)]
+struct Beside<'a, R> {
+    rt: &'a R,
+    // Whether the worker has stopped.
+    stop: &'a AtomicBool,
+}
+
+impl<L: Ledger, R: Wait> Player<Beside<'_, R>> for LockedClient<'_, L, RequestTicket, AskTicket> {
+    ghost same = { λ old new. ⊤ };
+
+    ghost sees = { λ client has_stopped. ⊤ };
+
+    ghost collects = { λ old collected new. ⊤ };
+
+    fn make(
+        &mut self,
+        alloc: Global,
+        beside: &Beside<'_, R>,
+        call: &ClientCall,
+        place: u64,
+    ) -> Result<bool, ServeFault> {
+        is_accepted(beside.rt, alloc, self, call, place)
     }
-    script.at_last_turn()
+
+    fn has_stopped(&self, beside: &Beside<'_, R>) -> bool {
+        beside.stop.load(Ordering::SeqCst)
+    }
+
+    fn take_outcome(&mut self, beside: &Beside<'_, R>) -> Option<Collected> {
+        self.collect(beside.rt)
+    }
+
+    ghost stays = { λ a. tt };
+
+    ghost follows = { λ a b c before after. tt };
 }
 
 // Whether a call is accepted; if not, the client's queue is full. Err: the log is full.

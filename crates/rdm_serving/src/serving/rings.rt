@@ -1,15 +1,17 @@
 //! Serves the clients of a session file with ring buffers.
-ghost use Rattle.std.specs.Prelude.{◌≡◌, ◌≤◌, [], length, IfSome};
+ghost use Rattle.std.specs.Prelude.{◌≡◌, ◌≤◌, [], ⊤, length, IfSome, IfOk};
+ghost use Rattle.std.proofs.Common.{rules};
 ghost use Rattle.rdm_log.specs.log.Config.{IsConfig};
 ghost use Rattle.rdm_lanes.specs.Clients.{SameClient};
+ghost use Rattle.rdm_lanes.specs.Lines.{exchange_count};
 ghost use Rattle.rdm_lanes.specs.Workers.{book_of};
 
 use crate::outcomes::Outcomes;
 use crate::serving::calls::cancel_all;
-use crate::serving::script::{Next, Script};
+use crate::serving::playing::{Player, play};
 use crate::serving::ticket::{AskTicket, RequestTicket};
 use crate::serving::{ServeFault, Served, SetUp};
-use rdm_client::{Tells, TellsAsk};
+use rdm_client::{Collected, Tells, TellsAsk};
 use rdm_files::{ClientCall, ClientFile};
 use rdm_lanes::{
     BlankHistory, Body, ClientEnd, Gate, LanesEnd, OpenFault, RingClient, ViewHistory,
@@ -39,6 +41,7 @@ pub fn serve_rings<X: Line + Send + Drop, R: Threads + Wait + Sync>(
     requires config_is { IsConfig set_up.config }
     requires empty { set_up.log.entries ≡ [] }
     requires slots { 1 ≤ ring }
+    ensures in_turns { IfOk result (λ s. exchange_count s.session ≤ set_up.turns) }
 {
     let history = BlankHistory::new();
     serve_views::<Brand, X, R>(rt, alloc, history, set_up, ring, clients, line)
@@ -58,6 +61,7 @@ fn serve_views<J: ViewHistory + Send + Sync, X: Line + Send + Drop, R: Threads +
     requires config_is { IsConfig set_up.config }
     requires empty { set_up.log.entries ≡ [] }
     requires slots { 1 ≤ ring }
+    ensures in_turns { IfOk result (λ s. exchange_count s.session ≤ set_up.turns) }
 {
     let SetUp {
         search,
@@ -97,7 +101,9 @@ fn seats_of(alloc: Global, clients: &[ClientFile], turns: u64) -> Option<(Vec<u8
 fn served<J: ViewHistory, X: Drop>(
     alloc: Global,
     end: LanesEnd<J, Caller<'_>, X, RequestTicket, AskTicket>,
-) -> Result<Served, ServeFault> {
+) -> Result<Served, ServeFault>
+    ensures { IfOk result (λ s. s.session ≡ end.entry.session) }
+{
     let LanesEnd {
         session,
         ends,
@@ -110,9 +116,7 @@ fn served<J: ViewHistory, X: Drop>(
     cancel_ends(alloc, ends);
     let mut outcomes = Vec::new(alloc);
     for caller in bodies {
-        if caller.end == Err(ServeFault::Memory)
-            || outcomes.push(caller.script.into_outcomes()).is_err()
-        {
+        if caller.end == Err(ServeFault::Memory) || outcomes.push(caller.outcomes).is_err() {
             return Err(ServeFault::Memory);
         }
     }
@@ -148,8 +152,9 @@ impl Gate for Stop {
 #[derive(Drop)]
 struct Caller<'a> {
     alloc: Global,
-    script: Script<'a>,
+    calls: &'a [ClientCall],
     turns: u64,
+    outcomes: Outcomes,
     end: Result<(), ServeFault>,
 }
 
@@ -158,47 +163,11 @@ impl<'a> Caller<'a> {
     fn new(alloc: Global, calls: &'a [ClientCall], turns: u64) -> Caller<'a> {
         Caller {
             alloc,
-            script: Script::new(alloc, calls),
+            calls,
             turns,
+            outcomes: Outcomes::new(alloc),
             end: Err(ServeFault::Turns),
         }
-    }
-
-    // Plays the script. A turn is one submit, discover or collect, with or without success.
-    fn play<J: ViewHistory, G: Gate>(
-        &mut self,
-        client: &mut Client<J>,
-        gate: &G,
-    ) -> Result<(), ServeFault>
-        ensures { SameClient client.old client.new }
-    {
-        for _turn in 0..self.turns {
-            match self.script.next() {
-                Next::Call(call, place) => {
-                    let is_accepted = is_accepted(self.alloc, client, call, place);
-                    self.script.tried(is_accepted);
-                }
-                Next::Collect => self.collect(client, gate)?,
-                Next::Done => return Ok(()),
-            }
-        }
-        self.script.at_last_turn()
-    }
-
-    fn collect<J: ViewHistory, G: Gate>(
-        &mut self,
-        client: &mut Client<J>,
-        gate: &G,
-    ) -> Result<(), ServeFault>
-        ensures { SameClient client.old client.new }
-    {
-        // It is read before the collect: then all that the worker put on the ring is collected.
-        let has_stopped = gate.passed(WORKER_STOPPED);
-        let collected = client.collect();
-        if collected.is_none() {
-            thread::yield_now();
-        }
-        self.script.collected(self.alloc, collected, has_stopped)
     }
 
     // Leaves. A client whose turns run out may find its ring full, until the worker takes a call or has stopped.
@@ -216,9 +185,41 @@ impl<'a> Caller<'a> {
 
 impl Body<RequestTicket, AskTicket> for Caller<'_> {
     fn run<J: ViewHistory, G: Gate>(&mut self, client: &mut Client<J>, gate: &G) {
-        self.end = self.play(client, gate);
+        let (outcomes, end) = play(self.alloc, self.calls, client, gate, self.turns);
+        self.outcomes = outcomes;
+        self.end = end;
         self.leave(client, gate);
     }
+}
+
+impl<J: ViewHistory, G: Gate> Player<G> for RingClient<J, RequestTicket, AskTicket> {
+    ghost same = { SameClient };
+
+    ghost sees = { λ client has_stopped. ⊤ };
+
+    ghost collects = { λ old collected new. ⊤ };
+
+    fn make(
+        &mut self,
+        alloc: Global,
+        _gate: &G,
+        call: &ClientCall,
+        place: u64,
+    ) -> Result<bool, ServeFault> {
+        Ok(is_accepted(alloc, self, call, place))
+    }
+
+    fn has_stopped(&self, gate: &G) -> bool {
+        gate.passed(WORKER_STOPPED)
+    }
+
+    fn take_outcome(&mut self, _gate: &G) -> Option<Collected> {
+        self.collect()
+    }
+
+    ghost stays = { Prim.search rules };
+
+    ghost follows = { Prim.search rules };
 }
 
 // Whether a call is sent to the worker; if not, the queue or the ring is full.

@@ -1,0 +1,99 @@
+//! How a client plays its calls: it looks for the stop before it collects, and makes all its turns and no more.
+ghost use Rattle.std.specs.Prelude.{⊤};
+
+use super::program::check;
+use rdm_agent::Kind;
+use rdm_client::{AskTold, Collected};
+use rdm_files::ClientCall;
+use rdm_queue::AskCompletion;
+use rdm_serving::{Player, ServeFault, play};
+use rdm_wire::DeviceSet;
+use std::alloc::Global;
+use std::sync::atomic::{AtomicBool, Ordering};
+
+// A client whose outcome comes just before somebody looks for the worker's stop, and not before so many collects.
+#[derive(Drop)]
+struct Late {
+    collects: u64,
+    has_stopped: bool,
+    has_come: AtomicBool,
+    // How many calls and collects it has made.
+    turns: u64,
+}
+
+impl Late {
+    fn new(collects: u64, has_stopped: bool) -> Late {
+        Late {
+            collects,
+            has_stopped,
+            has_come: AtomicBool::new(false),
+            turns: 0,
+        }
+    }
+
+    // Plays a discovery in this many turns.
+    fn play(&mut self, alloc: Global, turns: u64) -> Result<(), ServeFault> {
+        let (_outcomes, end) = play(alloc, &[ClientCall::Discover(Kind::Full)], self, &(), turns);
+        end
+    }
+}
+
+impl Player<()> for Late {
+    ghost same = { λ old new. ⊤ };
+
+    ghost sees = { λ client has_stopped. ⊤ };
+
+    ghost collects = { λ old collected new. ⊤ };
+
+    fn make(
+        &mut self,
+        _alloc: Global,
+        _beside: &(),
+        _call: &ClientCall,
+        _place: u64,
+    ) -> Result<bool, ServeFault> {
+        self.turns = self.turns.saturating_add(1);
+        Ok(true)
+    }
+
+    fn has_stopped(&self, _beside: &()) -> bool {
+        self.has_come.store(true, Ordering::SeqCst);
+        self.has_stopped
+    }
+
+    fn take_outcome(&mut self, _beside: &()) -> Option<Collected> {
+        self.turns = self.turns.saturating_add(1);
+        self.collects = self.collects.saturating_sub(1);
+        if self.collects > 0 || !self.has_come.load(Ordering::SeqCst) {
+            return None;
+        }
+        let done = AskCompletion {
+            run: 0,
+            fault: None,
+            set: DeviceSet::new(),
+        };
+        Some(Collected::Ask(AskTold { tag: 0, done }))
+    }
+
+    ghost stays = { λ a. tt };
+
+    ghost follows = { λ a b c before after. tt };
+}
+
+// The outcome comes after the client could have collected, and before it sees the stop.
+#[test]
+fn a_client_looks_for_the_stop_before_it_collects(rt: HostRuntime) {
+    let mut client = Late::new(0, true);
+    check(&rt, client.play(rt.alloc(), 100) == Ok(()));
+}
+
+// A call and three collects take four turns.
+#[test]
+fn a_client_makes_all_its_turns_and_no_more(rt: HostRuntime) {
+    let alloc = rt.alloc();
+    let mut in_four = Late::new(3, false);
+    check(&rt, in_four.play(alloc, 4) == Ok(()));
+    let mut in_three = Late::new(3, false);
+    check(&rt, in_three.play(alloc, 3) == Err(ServeFault::Turns));
+    check(&rt, in_three.turns == 3);
+}

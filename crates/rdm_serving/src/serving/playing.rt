@@ -1,0 +1,121 @@
+//! Makes the calls of a client and collects their outcomes, whichever port it has.
+ghost use Rattle.std.specs.Prelude.{◌≡◌, ◌⊎◌, ◌+◌, ◌≤◌, Bool, true, Option, None, length, OnOk, IfErr};
+ghost use Rattle.rdm_client.specs.declared.told.Collected.{Collected as CollectedState};
+ghost use Rattle.rdm_serving.specs.body.Scripts.{Notes, has_all, done_by};
+
+use crate::outcomes::Outcomes;
+use crate::serving::ServeFault;
+use crate::serving::script::{Next, Script};
+use rdm_client::Collected;
+use rdm_files::ClientCall;
+use std::alloc::Global;
+use std::thread;
+
+/// A client, which uses what it has beside it: a value of type `P`.
+pub trait Player<P> {
+    /// That both are the same client, before and after it did something.
+    ghost same: { Self → Self → Type 0 };
+
+    /// That this client, if it looks, sees whether the worker has stopped.
+    ghost sees: { Self → Bool → Type 0 };
+
+    /// That a collect returned this.
+    ghost collects: { Self → Option CollectedState → Self → Type 0 };
+
+    /// Makes a call, with its index among the client's calls. Returns whether it is accepted. If not, the queue or the
+    /// ring is full. Err: the log is full.
+    fn make(
+        &mut self,
+        alloc: Global,
+        beside: &P,
+        call: &ClientCall,
+        place: u64,
+    ) -> Result<bool, ServeFault>
+        ensures { same self.old self.new };
+
+    /// Looks whether the worker has stopped.
+    fn has_stopped(&self, beside: &P) -> bool
+        ensures { sees self.now result };
+
+    /// Collects the oldest outcome. None: there is none yet.
+    fn take_outcome(&mut self, beside: &P) -> Option<Collected>
+        ensures collected { collects self.old result self.new }
+        ensures same { same self.old self.new };
+
+    /// A client is the same as itself.
+    ghost stays: { (a : Self) → same a a };
+
+    /// It stays the same over several calls.
+    ghost follows: { (a b c : Self) → same a b → same b c → same a c };
+}
+
+/// Makes these calls in order, and collects until each has its outcome. Returns the outcomes, and whether the turns
+/// sufficed. A turn is one submit, discover or collect, with or without success.
+///
+/// Err: there was no memory; the log is full; or not all outcomes have come, though all turns are made or the worker
+/// has stopped. The outcomes that came are returned too.
+pub fn play<P, C: Player<P>>(
+    alloc: Global,
+    calls: &[ClientCall],
+    client: &mut C,
+    beside: &P,
+    turns: u64,
+) -> (Outcomes, Result<(), ServeFault>)
+    ensures settled { OnOk result.1
+        (length result.0.requests.items + length result.0.discoveries.items ≡ length calls.now) }
+    ensures in_turns { OnOk result.1
+        (length result.0.requests.items + length result.0.discoveries.items ≤ turns) }
+    ensures same { C.same client.old client.new }
+{
+    let mut script = Script::new(alloc, calls);
+    let end = play_script(alloc, &mut script, client, beside, turns);
+    (script.into_outcomes(), end)
+}
+
+fn play_script<P, C: Player<P>>(
+    alloc: Global,
+    script: &mut Script<'_>,
+    client: &mut C,
+    beside: &P,
+    turns: u64,
+) -> Result<(), ServeFault>
+    ensures settled { OnOk result (has_all script.new ≡ true) }
+    ensures in_turns { OnOk result (done_by script.new ≤ done_by script.old + turns) }
+    ensures calls { script.new.calls ≡ script.old.calls }
+    ensures same { C.same client.old client.new }
+{
+    'turns: for _turn in 0..turns {
+        match script.next() {
+            Next::Call(call, place) => {
+                let is_accepted = client.make(alloc, beside, call, place)?;
+                script.tried(is_accepted);
+            }
+            Next::Collect => collect(alloc, script, client, beside)?,
+            Next::Done => return Ok(()),
+        }
+    }
+    script.at_last_turn()
+}
+
+// Collects. It looks for the worker's stop before: if the worker had stopped, the collect finds all that is left. So it
+// gives up only if it saw the stop before a collect that found nothing.
+fn collect<P, C: Player<P>>(
+    alloc: Global,
+    script: &mut Script<'_>,
+    client: &mut C,
+    beside: &P,
+) -> Result<(), ServeFault>
+    ensures gives_up { IfErr result (λ e. (e ≡ ServeFault.Memory)
+        ⊎ ((e ≡ ServeFault.Turns) × C.sees client.old true × C.collects client.old None client.new)) }
+    ensures noted { OnOk result ((collected : Option CollectedState) × C.collects client.old collected client.new
+        × Notes collected script.old.outcomes script.new.outcomes) }
+    ensures script { (script.new.calls ≡ script.old.calls) × (script.new.accepted ≡ script.old.accepted) }
+    ensures same { C.same client.old client.new }
+{
+    let has_stopped = client.has_stopped(beside);
+    let collected = client.take_outcome(beside);
+    if collected.is_none() {
+        thread::yield_now();
+    }
+    script.collected(alloc, collected, has_stopped)
+}
