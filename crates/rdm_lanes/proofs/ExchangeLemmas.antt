@@ -10,7 +10,7 @@ use Rattle.rdm_log.specs.declared.entry.Entry.{Entry}
 use Rattle.rdm_log.specs.declared.entry.Entry.TheVariants.{Send, Came}
 use Rattle.rdm_log.specs.declared.fault.LogFull.{LogFull}
 use Rattle.rdm_log.specs.declared.fault.NotAsked.{NotAsked}
-use Rattle.rdm_log.specs.log.Entries.{sends, cames, joins}
+use Rattle.rdm_log.specs.log.Entries.{sends, cames, joins, exchanges}
 use Rattle.rdm_log.specs.log.History.{awaited}
 use Rattle.rdm_log.specs.log.LogState.{LogState, grown, is_full_log}
 use Rattle.rdm_log.specs.log.MaySend.{NoSend}
@@ -19,7 +19,6 @@ use Rattle.rdm_log.specs.promises.Blocks.{GrowsBy, TakeLogs, DeliverAdds, AllRes
 use Rattle.rdm_log.proofs.LogLemmas.Grows.{front}
 use Rattle.rdm_log.proofs.LogLemmas.PushLemmas.{awaited-push}
 use Rattle.rdm_log.proofs.LogLemmas.LegalFacts.{legal_facts, sent_evenly}
-use Rattle.rdm_scenes.specs.Exchanges.{exchanges}
 use Rattle.rdm_lanes.specs.Lines.{exchange_count, Exchanged, SameSwitches, NoCallLost, IsBetweenTurns}
 use Rattle.rdm_lanes.specs.body.Quiet.{NoExchange}
 use Rattle.rdm_lanes.specs.body.Serving.{IsOnlyTold}

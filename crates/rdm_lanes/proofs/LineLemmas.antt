@@ -14,13 +14,13 @@ use Rattle.rdm_log.specs.declared.entry.Entry.{Entry}
 use Rattle.rdm_log.specs.declared.entry.Entry.TheVariants.{Join, Refuse, Accept, Ask, Send, Came, Finish, Answer}
 use Rattle.rdm_log.specs.declared.entry.Entry.TheVariants.{Collect, Pause, Resume, Close}
 use Rattle.rdm_log.specs.log.Entries.{sending_of, came_of, join_of, sends, cames, traded, traded_of, joins}
+use Rattle.rdm_log.specs.log.Entries.{exchange_of, exchanges}
 use Rattle.rdm_log.specs.log.History.{awaited, is_closed, is_paused, closed_after as closed_by}
 use Rattle.rdm_log.specs.log.History.{paused_after as paused_by}
 use Rattle.rdm_log.specs.log.LogState.{LogState, grown}
 use Rattle.rdm_log.specs.promises.Blocks.{is_result, AllResults}
 use Rattle.rdm_log.proofs.LogLemmas.PushLemmas.{awaited-push, is_closed-push, is_paused-push}
 use Rattle.rdm_log.proofs.LogLemmas.Places.{zip_both_more}
-use Rattle.rdm_scenes.specs.Exchanges.{exchange_of, exchanges}
 use Rattle.rdm_lanes.specs.Lines.{SameSwitches, IsBetweenTurns, NoCallLost, may_refuse}
 use Rattle.rdm_lanes.specs.Operators.{switch_of, switches}
 use Rattle.rdm_lanes.specs.body.Quiet.{NoExchange}

@@ -20,6 +20,7 @@ use Rattle.rdm_log.specs.declared.entry.Entry.TheVariants.{Join, Refuse}
 use Rattle.rdm_log.specs.declared.fault.JoinFault.{JoinFault}
 use Rattle.rdm_log.specs.declared.fault.JoinFault.TheVariants as join_faults
 use Rattle.rdm_log.specs.log.Entries.{joins, accepts, asks, finishes, answers, sends, cames, traded, collectors}
+use Rattle.rdm_log.specs.log.Entries.{exchanges}
 use Rattle.rdm_log.specs.log.Clients.{answers_to}
 use Rattle.rdm_log.specs.log.History.{awaited, is_closed, is_paused, places, reserved}
 use Rattle.rdm_log.specs.log.Refusals.{join_fault_at}
@@ -38,7 +39,6 @@ use Rattle.rdm_lanes.specs.Told.{told_values, uncollected_values, values_in}
 use Rattle.rdm_lanes.specs.declared.call.OperatorCall.{OperatorCall}
 use Rattle.rdm_lanes.specs.Operators.{switches, effective}
 use Rattle.rdm_lanes.specs.body.Operated.{IsOperated}
-use Rattle.rdm_scenes.specs.Exchanges.{exchanges}
 use Rattle.rdm_lanes.specs.Lines.{IsBetweenTurns}
 use Rattle.rdm_lanes.specs.Lanes.{Fits, AllFit, lane_places}
 use Rattle.rdm_lanes.specs.Pairs.{Rings, ArePair, client_rings, ClientsPair}

@@ -2,13 +2,12 @@
 use Rattle.std.proofs.Common.{◌≡◌, ℕ, List, ◌++◌, length, sym, ap, ◌∙◌, subst, arith}
 use Rattle.rdm_line.specs.Events.{Exchange, Makes}
 use Rattle.rdm_log.specs.declared.config.Setup.{Setup}
-use Rattle.rdm_log.specs.log.Entries.{joins}
+use Rattle.rdm_log.specs.log.Entries.{joins, exchanges}
 use Rattle.rdm_log.specs.log.History.{is_closed, is_paused}
 use Rattle.rdm_log.specs.log.LogState.{LogState}
 use Rattle.rdm_log.specs.log.Legal.{Legal}
 use Rattle.rdm_log.specs.promises.Promised.{Promised}
 use Rattle.rdm_lanes.specs.declared.worker.lane.Lane.{Lane}
-use Rattle.rdm_scenes.specs.Exchanges.{exchanges}
 use Rattle.rdm_lanes.specs.Lines.{exchange_count, Exchanged, SameSwitches, IsBetweenTurns}
 use Rattle.rdm_lanes.specs.Lanes.{AllFit}
 use Rattle.rdm_lanes.specs.Opened.{opened_with}

@@ -7,10 +7,9 @@ use Rattle.rdm_log.specs.declared.entry.ClientId.{ClientId}
 use Rattle.rdm_log.specs.declared.entry.Opening.{Opening}
 use Rattle.rdm_log.specs.declared.entry.Entry.{Entry}
 use Rattle.rdm_log.specs.declared.entry.Entry.TheVariants.{Refuse}
-use Rattle.rdm_log.specs.log.Entries.{joins}
+use Rattle.rdm_log.specs.log.Entries.{joins, exchanges}
 use Rattle.rdm_log.specs.log.History.{awaited, is_closed, is_paused, next_request, next_ask}
 use Rattle.rdm_log.specs.log.LogState.{LogState, grown}
-use Rattle.rdm_scenes.specs.Exchanges.{exchanges}
 use Rattle.rdm_lanes.specs.Operators.{switches}
 
 -- how many exchanges a log has

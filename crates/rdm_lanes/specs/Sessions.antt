@@ -2,12 +2,11 @@
 use Rattle.std.specs.Prelude.{◌≡◌, ℕ, ◌≤◌, false, List, [], length}
 use Rattle.rdm_line.specs.Events.{Exchange, Makes}
 use Rattle.rdm_log.specs.declared.config.Setup.{Setup}
-use Rattle.rdm_log.specs.log.Entries.{joins}
+use Rattle.rdm_log.specs.log.Entries.{joins, exchanges}
 use Rattle.rdm_log.specs.log.History.{awaited, is_closed, is_paused}
 use Rattle.rdm_log.specs.log.Legal.{Legal}
 use Rattle.rdm_log.specs.log.LogState.{LogState, opened}
 use Rattle.rdm_log.specs.promises.Promised.{Promised}
-use Rattle.rdm_scenes.specs.Exchanges.{exchanges}
 use Rattle.rdm_lanes.specs.Calls.{calls_by}
 use Rattle.rdm_lanes.specs.Operators.{switches}
 use Rattle.rdm_lanes.specs.Lines.{NoCallLost}

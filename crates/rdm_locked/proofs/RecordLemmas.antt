@@ -13,12 +13,13 @@ use Rattle.rdm_log.specs.declared.entry.Entry.{Entry}
 use Rattle.rdm_log.specs.declared.entry.Entry.TheVariants.{Join, Refuse, Accept, Ask, Send, Came, Finish, Answer}
 use Rattle.rdm_log.specs.declared.entry.Entry.TheVariants.{Collect, Pause, Resume, Close}
 use Rattle.rdm_log.specs.declared.entry.Opening.{Opening}
-use Rattle.rdm_log.specs.log.Entries.{Sending, came_of, sending_of, traded_of, cames, sends, traded}
+use Rattle.rdm_log.specs.log.Entries.{Sending, came_of, sending_of, traded_of, cames, sends, traded, exchange_of}
+use Rattle.rdm_log.specs.log.Entries.{exchanges}
 use Rattle.rdm_log.specs.log.Legal.{Legal}
 use Rattle.rdm_log.proofs.LogLemmas.LegalFacts.{legal_facts}
 use Rattle.rdm_log.specs.promises.Headline.{Begins}
 use Rattle.rdm_locked.specs.body.Frames.{frames_in}
-use Rattle.rdm_locked.specs.Exchanges.{in_log, in_record, exchanges_in, recorded, Records}
+use Rattle.rdm_locked.specs.Exchanges.{in_record, recorded, Records}
 use Rattle.rdm_line.specs.Events.{Makes, Exchange as LineExchange}
 use Rattle.rdm_locked.specs.declared.exchange.Exchange.{Exchange}
 
@@ -117,7 +118,7 @@ module _ {X : Type 0} where
   begins_more : (x y : X) (xs ys : List X) → x ≡ y → Begins ys xs → Begins (y ∷ ys) (x ∷ xs)
   begins_more x y xs ys first b = record { rest = b.rest; whole = rw (first, b.whole) refl }
 
-  -- where a record, of which f gives such elements, ends
+  -- the end of a record, from which f takes such elements
   module _ {E : Type 0} where
     pub not_longer : (f : E → X) (x : X) (xs : List X) (left : List E) → length left ≡ 0 → (x ∷ xs) ≡ map f left → ⊥
     not_longer f x xs [] none same = cc
@@ -145,9 +146,9 @@ module _ {X : Type 0} where
       λ p. let same = (both.0 p).whole in cc,
     )
 
--- a log's exchanges are those of a record just where its events are, and its frames begin with the record's
+-- a log's exchanges are those of a record exactly if its events are, and its frames begin with the record's
 exchanges_split : (ss : List Sending) (es : List LineEvent) (xs : List Exchange) → length es ≤ length ss
-    → map in_log (map traded_of (zip ss es)) ≡ recorded xs → (es ≡ map (λ x. x.event) xs)
+    → map exchange_of (map traded_of (zip ss es)) ≡ recorded xs → (es ≡ map (λ x. x.event) xs)
     × Begins (map (λ x. x.frame) xs) (map (λ s. s.frame) ss)
 exchanges_split ss [] [] few same = (refl, record { rest = map (λ s. s.frame) ss; whole = refl })
 exchanges_split [] [] (x ∷ xs) few same = cc
@@ -163,7 +164,7 @@ exchanges_split (s ∷ ss) (e ∷ es) (x ∷ xs) few same =
     )
 
 exchanges_joined : (ss : List Sending) (es : List LineEvent) (xs : List Exchange) → es ≡ map (λ x. x.event) xs
-    → Begins (map (λ x. x.frame) xs) (map (λ s. s.frame) ss) → map in_log (map traded_of (zip ss es)) ≡ recorded xs
+    → Begins (map (λ x. x.frame) xs) (map (λ s. s.frame) ss) → map exchange_of (map traded_of (zip ss es)) ≡ recorded xs
 exchanges_joined [] [] [] same begins = refl
 exchanges_joined (s ∷ ss) [] [] same begins = refl
 exchanges_joined ss (e ∷ es) [] same begins = cc
@@ -176,9 +177,9 @@ exchanges_joined (s ∷ ss) (e ∷ es) (x ∷ xs) same begins =
     (record { rest = begins.rest; whole = ap tail_of begins.whole })))
 
 pub exchanges_decided : (o : Opening) (h : List Entry) (xs : List Exchange) → Legal o h
-    → (exchanges_in h ≡ recorded xs) ↔ ((cames h ≡ map (λ x. x.event) xs)
+    → (exchanges h ≡ recorded xs) ↔ ((cames h ≡ map (λ x. x.event) xs)
     × Begins (map (λ x. x.frame) xs) (frames_in h))
-unfolding traded
+unfolding traded exchanges
 exchanges_decided o h xs legal =
     let facts = legal_facts o h legal.each in (
       exchanges_split (sends h) (cames h) xs (omega (arith, facts.exchanges)),

@@ -1,4 +1,4 @@
--- What a client's collect makes of its desk.
+-- How a client's collect changes its desk.
 use Rattle.std.specs.Prelude.{◌≡◌, ℕ, drop, Some}
 use Rattle.rdm_log.specs.declared.outcome.Completion.{Completion}
 use Rattle.rdm_log.specs.declared.outcome.AskCompletion.{AskCompletion}

@@ -1,4 +1,4 @@
--- What opening a session with a mutex asks of its caller, and what it makes.
+-- What opening a session with a mutex requires, and what it makes.
 use Rattle.std.specs.Prelude.{◌≡◌, ℕ, []}
 use Rattle.std.specs.declared.sync.ledger.Blank.{Blank}
 use Rattle.rdm_log.specs.declared.config.Config.{Config}

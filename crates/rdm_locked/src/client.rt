@@ -136,8 +136,8 @@ impl<'a, L: Ledger, C: Tells, A: TellsAsk> LockedClient<'a, L, C, A> {
         }
     }
 
-    /// Of which kind the client's oldest outcome is that it hasn't collected, as
-    /// [`Inside::oldest`](crate::Inside::oldest) says. None: there is none.
+    /// The kind of the client's oldest uncollected outcome, as [`Inside::oldest`](crate::Inside::oldest) says. None:
+    /// there is none.
     pub fn oldest<R: Wait>(&self, rt: &R) -> Option<OutcomeKind> {
         self.port.inside.lock(rt).oldest(self.number)
     }

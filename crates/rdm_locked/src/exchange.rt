@@ -1,10 +1,10 @@
 //! Exchanges as a worker records them.
 ghost use Rattle.std.specs.Prelude.{◌≡◌, ◌+◌, map};
 ghost use Rattle.std.specs.Bool.{Decides};
-ghost use Rattle.rdm_log.specs.log.Entries.{cames};
+ghost use Rattle.rdm_log.specs.log.Entries.{cames, exchanges as log_exchanges};
 ghost use Rattle.rdm_log.specs.log.Legal.{Legal};
 ghost use Rattle.rdm_log.specs.promises.Headline.{Begins};
-ghost use Rattle.rdm_locked.specs.Exchanges.{exchanges_in, recorded};
+ghost use Rattle.rdm_locked.specs.Exchanges.{recorded};
 ghost use Rattle.rdm_locked.specs.body.Frames.{frames_in};
 
 use rdm_join::LineEvent;
@@ -23,7 +23,7 @@ pub struct Exchange {
 /// Whether the log's exchanges are those of the record. The log is legal, so each event belongs to the frame before it.
 pub(crate) fn has_exchanges(log: &Log, exchanges: &[Exchange]) -> bool
     requires { Legal log.now.opening log.now.entries }
-    ensures { Decides result (exchanges_in log.now.entries ≡ recorded exchanges.now) }
+    ensures { Decides result (log_exchanges log.now.entries ≡ recorded exchanges.now) }
 {
     has_events(log.entries(), exchanges) && begins_with_frames(log.entries(), exchanges)
 }

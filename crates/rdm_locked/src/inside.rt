@@ -168,8 +168,7 @@ impl<L: Ledger> Inside<L> {
         answer
     }
 
-    /// Of which kind a client's oldest outcome is that it hasn't collected, as [`Session::oldest`] says. None: there is
-    /// none.
+    /// The kind of a client's oldest uncollected outcome, as [`Session::oldest`] says. None: there is none.
     pub fn oldest(&self, client: ClientId) -> Option<OutcomeKind>
         ensures { result ≡ oldest_kind self.now.session.opening self.now.session.entries client.0 }
     {

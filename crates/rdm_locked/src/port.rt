@@ -1,11 +1,12 @@
 //! A session with a mutex.
 ghost use Rattle.std.specs.Prelude.{◌≡◌, [], length, false, IfOk, IfErr};
 ghost use Rattle.std.specs.List.{sum_by};
+ghost use Rattle.rdm_log.specs.log.Entries.{exchanges as log_exchanges};
 ghost use Rattle.rdm_log.specs.log.History.{next_client};
 ghost use Rattle.rdm_log.specs.log.Legal.{Legal};
 ghost use Rattle.rdm_log.specs.promises.Promised.{Promised};
 ghost use Rattle.rdm_locked.specs.Calls.{count_calls};
-ghost use Rattle.rdm_locked.specs.Exchanges.{exchanges_in, recorded, Records};
+ghost use Rattle.rdm_locked.specs.Exchanges.{recorded, Records};
 ghost use Rattle.rdm_locked.specs.Openings.{MayOpen};
 
 use crate::client::LockedClient;
@@ -171,7 +172,7 @@ impl<L: Ledger> Port<L> {
         ensures each { IfOk result (λ e. length shares.items ≡ next_client e.session.opening e.session.entries) }
         ensures calls { IfOk result (λ e. e.calls ≡ sum_by (λ s. s.count) shares.items) }
         ensures counted { IfOk result (λ e. e.calls ≡ count_calls e.session.entries) }
-        ensures exchanges { IfOk result (λ e. exchanges_in e.session.entries ≡ recorded exchanges.now) }
+        ensures exchanges { IfOk result (λ e. log_exchanges e.session.entries ≡ recorded exchanges.now) }
         ensures legal { IfOk result (λ e. Legal e.session.opening e.session.entries) }
         ensures promised { IfOk result (λ e. Promised e.session) }
         ensures back { IfErr result (λ e. e.2 ≡ shares) }

@@ -40,7 +40,7 @@ use Rattle.rdm_log.specs.promises.Discoveries.{TellsTheLine}
 use Rattle.rdm_log.proofs.LogLemmas.RunLemmas.{before_first-cons, entries_before_run_stays, served_stays}
 use Rattle.rdm_log.proofs.PromiseLemmas.RunsAnswer.{named_begun, ended}
 use Rattle.rdm_log.proofs.PromiseLemmas.TellsTheLine.{tells_the_line}
-use Rattle.rdm_scenes.specs.Exchanges.{exchanges}
+use Rattle.rdm_log.specs.log.Entries.{exchanges}
 use Rattle.rdm_scenes.specs.Scenes.{IsStayingScene, IsCalmScene}
 use Rattle.rdm_scenes.specs.Reports.{IsLogOver, IsEnough, IsByDefault, FaultsFollowAClose}
 use Rattle.rdm_scenes.proofs.SceneLemmas.{HonestRunOf, honest_in_log, staying_trace, split_at, run_of}
@@ -101,7 +101,7 @@ rest_after p h = by_split (split_first p h)
     by_split (inl all) = ([], all ∙ sym (append-nil (before_first p h)))
     by_split (inr s) = (s.first ∷ s.rest, s.whole)
 
--- a run that an Answer of a front names has the same exchanges in the whole log
+-- a run that an Answer of a prefix names has the same exchanges in the whole log
 same_run : (o : Opening) (p ys : List Entry) (n q : ℕ) → EachAfter (MayFollow o) (p ++ ys)
     → Contains p (Answer n q None) → run_exchanges q (p ++ ys) ≡ run_exchanges q p
 same_run o p ys n q each has =
@@ -218,7 +218,7 @@ faults_follow s t k over is bound enough front back n r fault whole =
           (known_few k.opening k.entries s t over.legal enough.few is.staying over.steps r) enough.budgeted;
     }
 
--- the budget by default is enough for a steady search
+-- the default budget is enough for a steady search
 pub default_enough : (s : SimState) (k : LogState) → IsCalmScene s → IsByDefault s k → IsEnough s k
 default_enough s k is default = record {
   few = default.few;

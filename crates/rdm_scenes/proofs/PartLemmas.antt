@@ -1,4 +1,4 @@
--- The exchanges of a run stand one after the other in a legal log.
+-- The exchanges of a run follow one another in a legal log.
 use Rattle.std.proofs.Common.{◌≡◌, ℕ, Bool, true, false, true≢false, List, [], ◌∷◌, ◌++◌, map, length, take, drop, zip}
 use Rattle.std.proofs.Common.{Some, None, refl, sym, ap, ◌∙◌, subst, inl, inr, append-nil, append_assoc, arith}
 use Rattle.std.specs.Prelude.{filter, ◌⊎◌, ◌==◌, ◌||◌}
@@ -20,6 +20,7 @@ use Rattle.rdm_log.specs.declared.entry.Entry.TheVariants.{Join, Refuse, Accept,
 use Rattle.rdm_log.specs.declared.entry.Entry.TheVariants.{Collect, Pause, Resume, Close}
 use Rattle.rdm_log.specs.log.Entries.{Sending, Traded, traded_of, Answered, sending_of, answered_of, sends, cames}
 use Rattle.rdm_log.specs.log.Entries.{traded, answers, is_run}
+use Rattle.rdm_log.specs.log.Entries.{exchange_of, exchanges}
 use Rattle.rdm_log.specs.log.Runs.{has_begun, open_run, next_run, run_exchanges, seen_of}
 use Rattle.rdm_log.specs.log.MaySend.{MaySendRun}
 use Rattle.rdm_log.specs.log.Legal.{MayFollow}
@@ -27,7 +28,7 @@ use Rattle.rdm_log.proofs.LogLemmas.LegalFacts.{along, legal_facts, sent_evenly}
 use Rattle.rdm_log.proofs.LogLemmas.PushLemmas.{sends_same, sends_more, answered_same, answered_more}
 use Rattle.rdm_log.proofs.LogLemmas.RunLemmas.{sent_begins, open_run_same, last_run_same, same_runs_sent}
 use Rattle.rdm_log.proofs.LogLemmas.RunFacts.{open_is, is_open, run_facts, opened_by}
-use Rattle.rdm_scenes.specs.Exchanges.{exchange_of, exchanges, RunPart}
+use Rattle.rdm_scenes.specs.Exchanges.{RunPart}
 
 abbrev pub NoneOf : ℕ → List Sending → Type 0
 NoneOf r ss = AllByRecursion (λ s. is_run r s.owner ≡ false) ss
@@ -35,7 +36,7 @@ NoneOf r ss = AllByRecursion (λ s. is_run r s.owner ≡ false) ss
 abbrev pub AllOf : ℕ → List Sending → Type 0
 AllOf r ss = AllByRecursion (λ s. is_run r s.owner ≡ true) ss
 
--- the frames of a run stand one after the other, and the last of them is the last frame unless the run is over
+-- the frames of a run follow one another, and the last of them is the last frame unless the run is over
 pub record SendsPart (r : ℕ) (h : List Entry) : Type 0 where
   pub before : List Sending
   pub during : List Sending

@@ -26,7 +26,7 @@ use Rattle.rdm_log.specs.log.LogState.{LogState}
 use Rattle.rdm_log.specs.log.Legal.{MayFollow}
 use Rattle.rdm_log.specs.promises.Discoveries.{TellsTheLine}
 use Rattle.rdm_log.proofs.PromiseLemmas.TellsTheLine.{tells_the_line}
-use Rattle.rdm_scenes.specs.Exchanges.{exchanges}
+use Rattle.rdm_log.specs.log.Entries.{exchanges}
 use Rattle.rdm_scenes.specs.Scenes.{IsLossyScene, IsStayingScene}
 use Rattle.rdm_scenes.specs.Reports.{IsLogOver, IsHonestRun, AnswersAreTheDevices, AnswersFollowTheDevices}
 use Rattle.rdm_scenes.proofs.PartLemmas.{run_part}
@@ -88,7 +88,7 @@ honest_in_log o h s t r each few made =
     (honest_part s t part.before part.during part.after few
     (subst (λ (xs : List Exchange). Makes SimState SimStep s xs t) part.whole made))
 
--- where the devices stay
+-- if the devices stay
 same_sets : (s : SimState) (ys : List Step) → AllByRecursion Stays s.devices
     → AllByRecursion (λ (y : Step). (i : ℕ) → present_at y.before.devices i ≡ present_at s.devices i) ys
     → map present_in ys ≡ replicate (length ys) (uids_of_scene s.devices)
@@ -107,7 +107,7 @@ staying_trace s x is run =
     (sym (length-map run.steps seen_in) ∙ ap length run.seen)
     (subst (λ (sets : List (List ℕ)). HonestOver sets x) (same_sets s run.steps is.stay run.keeps) run.honest))
 
--- where an entry stands
+-- the place of an entry
 pub split_at : {X : Type 0} (xs : List X) (i : ℕ) (x : X) → slice_get xs i ≡ Some x → (front : List X) × (back : List X)
     × (xs ≡ front ++ x ∷ back)
 split_at [] i x e = absurd (no_item e)

@@ -1,18 +1,10 @@
--- The exchanges in a log, and the part of them that is a run's.
+-- The part of a log's exchanges that is a run's.
 use Rattle.std.specs.Prelude.{◌≡◌, ℕ, List, ◌++◌, map}
 use Rattle.rdm_join.specs.Exchange.{seen_event}
 use Rattle.rdm_line.specs.Events.{Exchange}
 use Rattle.rdm_log.specs.declared.entry.Entry.{Entry}
-use Rattle.rdm_log.specs.log.Entries.{Traded, traded}
+use Rattle.rdm_log.specs.log.Entries.{exchanges}
 use Rattle.rdm_log.specs.log.Runs.{run_exchanges}
-
--- a frame and what came for it
-abbrev pub exchange_of : Traded → Exchange
-exchange_of t = (t.frame, t.event)
-
--- each frame that was sent, with what came for it, in order
-unfoldable pub exchanges : List Entry → List Exchange
-exchanges h = map exchange_of (traded h)
 
 -- the exchanges of a run, between those before and those after it
 pub record RunPart (r : ℕ) (h : List Entry) : Type 0 where

@@ -19,7 +19,7 @@ use Rattle.rdm_log.specs.log.History.{is_closed}
 use Rattle.rdm_log.specs.log.Legal.{Legal}
 use Rattle.rdm_log.specs.log.LogState.{LogState}
 use Rattle.rdm_log.specs.log.Runs.{answer_devices, known_devices, last_run_without_fault}
-use Rattle.rdm_scenes.specs.Exchanges.{exchanges}
+use Rattle.rdm_log.specs.log.Entries.{exchanges}
 
 -- A legal log over a simulated line. The log's exchanges are the line's steps, from its state s to its state t: the
 -- line was asked each frame once, in order, and what came is its own answer.
@@ -41,7 +41,7 @@ pub record AnswersAreTheDevices (s : SimState) (k : LogState) : Type 0 where
   pub known : (r : ℕ) → last_run_without_fault k.entries ≡ Some r
       → uids_of (known_devices k.opening k.entries) ≡ uids_of_scene s.devices
 
--- of devices that come and leave: an Answer without fault has each that is always there, and none has one that never is
+-- if devices come and leave, an Answer without fault has each that is always there, and none has one that never is
 pub record AnswersFollowTheDevices (s : SimState) (k : LogState) : Type 0 where
   pub staying : (front back : List Entry) (n r u : ℕ) → k.entries ≡ front ++ Answer n r None ∷ back
       → ((i : ℕ) → has (present_at s.devices i) u ≡ true) → has (uids_of (answer_devices r k.entries)) u ≡ true
@@ -59,13 +59,13 @@ pub record IsEnough (s : SimState) (k : LogState) : Type 0 where
   pub budgeted :
       enough_by k.search (uids_of_scene s.devices) Incremental (uids_of_scene s.devices) ≤ k.opening.budget
 
--- it is the budget by default, and the search is steady
+-- it is the default budget, and the search is steady
 pub record IsByDefault (s : SimState) (k : LogState) : Type 0 where
   pub few : KnowsFew s k
   pub budget : k.opening.budget ≡ DEFAULT_BUDGET
   pub search : k.search ≡ Steady
 
--- an Answer has a fault only where the queue is closed
+-- an Answer has a fault only if the queue is closed
 abbrev pub FaultsFollowAClose : LogState → Type 0
 FaultsFollowAClose k = (front back : List Entry) (n r : ℕ) (fault : AgentFault)
     → k.entries ≡ front ++ Answer n r (Some fault) ∷ back → is_closed k.opening front ≡ true

@@ -57,8 +57,8 @@ pub fn steps_follow_on<X: Line>()
 {}
 
 /// The exchanges of each run in such a log are those of an honest line. The premise is that the line loses no five
-/// exchanges with consecutive numbers. Where devices come and leave, the line is honest towards those that are present
-/// at each exchange. Where they stay, it is honest towards all of them. If no exchange is to fail, none of the run's
+/// exchanges with consecutive numbers. If devices come and leave, the line is honest towards those that are present at
+/// each exchange. If they stay, it is honest towards all of them. If no exchange is to fail, none of the run's
 /// does.
 pub fn runs_are_honest()
     ensures changing { (s t : SimState) (k : LogState) (r : ℕ) → IsLogOver s t k → IsLossyScene s
@@ -76,13 +76,13 @@ pub fn answers_are_the_devices()
     ensures { (s t : SimState) (k : LogState) → IsLogOver s t k → IsStayingScene s → AnswersAreTheDevices s k }
 {}
 
-/// Where devices come and leave, each discovery that is answered without fault is answered with each device that is
+/// If devices come and leave, each discovery that is answered without fault is answered with each device that is
 /// always there. No discovery is answered with a device that never is, even with a fault.
 pub fn answers_follow_the_devices()
     ensures { (s t : SimState) (k : LogState) → IsLogOver s t k → IsLossyScene s → AnswersFollowTheDevices s k }
 {}
 
-/// Where no exchange is to fail, either, a discovery is answered with a fault only after the queue was closed. At the
+/// If no exchange is to fail, either, a discovery is answered with a fault only after the queue was closed. At the
 /// log's opening no more devices may be known than the scene has: a session begins with none, and a rotated one with
 /// those of its last run. The budget has to be at least the search's bound on frames. The default budget is, for a
 /// steady search. `Session::log` promises `InBound`, within `Promised`.

@@ -1,5 +1,5 @@
 -- The premises of the laws: devices that stay, and the exchanges of a log as each kind of session says them.
-use Rattle.std.proofs.Common.{◌≡◌, ℕ, Bool, true, false, List, [], ◌∷◌, Option, Some, None, cond, refl, sym, subst, ◌∙◌}
+use Rattle.std.proofs.Common.{◌≡◌, ℕ, Bool, true, false, List, [], ◌∷◌, Option, Some, None, cond, sym, subst}
 use Rattle.std.specs.Prelude.{IfSome, nat_lt}
 use Rattle.std.specs.List.{AllByRecursion}
 use Rattle.rdm_line.specs.Events.{Makes}
@@ -7,12 +7,11 @@ use Rattle.rdm_line.specs.Scenes.{Stays, with_scene_device}
 use Rattle.rdm_line.specs.Sim.{SimState, SimStep}
 use Rattle.rdm_line.specs.declared.scene.SceneDevice.{SceneDevice}
 use Rattle.rdm_log.specs.declared.config.Setup.{Setup}
-use Rattle.rdm_log.specs.declared.entry.Entry.{Entry}
+use Rattle.rdm_log.specs.log.Entries.{exchanges}
 use Rattle.rdm_log.specs.log.Legal.{Legal}
 use Rattle.rdm_log.specs.log.LogState.{LogState}
-use Rattle.rdm_scenes.specs.Exchanges.{exchanges}
 use Rattle.rdm_scenes.specs.Reports.{IsLogOver}
-use Rattle.rdm_locked.specs.Exchanges.{exchanges_in, recorded}
+use Rattle.rdm_locked.specs.Exchanges.{recorded}
 use Rattle.rdm_locked.specs.declared.exchange.Exchange.{Exchange as Recorded}
 use Rattle.rdm_lanes.specs.Sessions.{SessionOver}
 
@@ -41,13 +40,9 @@ log_over_rings setup room places s t k over = record {
 }
 
 -- and as the record of a port and its end say it
-same_in_record : (h : List Entry) → exchanges_in h ≡ exchanges h
-unfolding exchanges
-same_in_record h = refl
-
 pub log_over_record : (s t : SimState) (k : LogState) (record_of : List Recorded) → Legal k.opening k.entries
-    → exchanges_in k.entries ≡ recorded record_of → Makes SimState SimStep s (recorded record_of) t → IsLogOver s t k
+    → exchanges k.entries ≡ recorded record_of → Makes SimState SimStep s (recorded record_of) t → IsLogOver s t k
 log_over_record s t k record_of legal same steps = record {
   legal = legal;
-  steps = subst (λ xs. Makes SimState SimStep s xs t) (sym same ∙ same_in_record k.entries) steps;
+  steps = subst (λ xs. Makes SimState SimStep s xs t) (sym same) steps;
 }

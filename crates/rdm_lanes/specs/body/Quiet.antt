@@ -3,10 +3,9 @@ use Rattle.std.specs.Prelude.{◌≡◌, Bool, true, false, List}
 use Rattle.std.specs.List.{AllByRecursion}
 use Rattle.rdm_log.specs.declared.entry.Entry.{Entry}
 use Rattle.rdm_log.specs.declared.entry.Entry.TheVariants.{Collect}
-use Rattle.rdm_log.specs.log.Entries.{joins}
+use Rattle.rdm_log.specs.log.Entries.{joins, exchanges}
 use Rattle.rdm_log.specs.log.LogState.{LogState, grown}
 use Rattle.rdm_lanes.specs.Views.{views_found}
-use Rattle.rdm_scenes.specs.Exchanges.{exchanges}
 
 -- the log grew; the line was asked nothing, nobody joined, and no view was added
 pub record NoExchange (old new : LogState) : Type 0 where

@@ -1,11 +1,12 @@
 //! How a session is taken out of its mutex.
 ghost use Rattle.std.specs.Prelude.{◌≡◌, ◌≢◌, ◌≤◌, ◌<◌, ◌+◌, length, Some, OnOk, IfOk, IfErr, IfNone};
 ghost use Rattle.std.specs.List.{sum_by};
+ghost use Rattle.rdm_log.specs.log.Entries.{exchanges as log_exchanges};
 ghost use Rattle.rdm_log.specs.log.History.{next_client};
 ghost use Rattle.rdm_log.specs.log.Legal.{Legal};
 ghost use Rattle.rdm_log.specs.promises.Promised.{Promised};
 ghost use Rattle.rdm_locked.specs.Calls.{count_calls};
-ghost use Rattle.rdm_locked.specs.Exchanges.{exchanges_in, recorded};
+ghost use Rattle.rdm_locked.specs.Exchanges.{recorded};
 
 use crate::exchange::{Exchange, has_exchanges};
 use crate::fault::FinishFault;
@@ -42,13 +43,13 @@ impl<L: Ledger> Inside<L> {
         ensures each { IfOk result (λ e. length shares.items ≡ next_client e.session.opening e.session.entries) }
         ensures calls { IfOk result (λ e. e.calls ≡ sum_by (λ s. s.count) shares.items) }
         ensures counted { IfOk result (λ e. e.calls ≡ count_calls e.session.entries) }
-        ensures exchanges { IfOk result (λ e. exchanges_in e.session.entries ≡ recorded exchanges.now) }
+        ensures exchanges { IfOk result (λ e. log_exchanges e.session.entries ≡ recorded exchanges.now) }
         ensures legal { IfOk result (λ e. Legal e.session.opening e.session.entries) }
         ensures promised { IfOk result (λ e. Promised e.session) }
         ensures back { IfErr result (λ e. (e.1 ≡ self) × (e.2 ≡ shares)) }
         ensures missing { IfErr result (λ e. e.0 ≡ FinishFault.SharesMissing → length shares.items < self.joined) }
         ensures differ { IfErr result (λ e. e.0 ≡ FinishFault.ExchangesDiffer → (self.joined ≤ length shares.items)
-            × (exchanges_in self.session.entries ≢ recorded exchanges.now)) }
+            × (log_exchanges self.session.entries ≢ recorded exchanges.now)) }
     {
         if let Some(fault) = self.finish_fault(shares.len(), exchanges) {
             return Err((fault, self, shares));
@@ -60,9 +61,9 @@ impl<L: Ledger> Inside<L> {
     fn finish_fault(&self, shares: usize, exchanges: &[Exchange]) -> Option<FinishFault>
         ensures missing { result ≡ Some FinishFault.SharesMissing → shares < self.now.joined }
         ensures differ { result ≡ Some FinishFault.ExchangesDiffer → (self.now.joined ≤ shares)
-            × (exchanges_in self.now.session.entries ≢ recorded exchanges.now) }
+            × (log_exchanges self.now.session.entries ≢ recorded exchanges.now) }
         ensures none { IfNone result ((self.now.joined ≤ shares)
-            × (exchanges_in self.now.session.entries ≡ recorded exchanges.now)) }
+            × (log_exchanges self.now.session.entries ≡ recorded exchanges.now)) }
     {
         if shares < usize::from(self.joined) {
             return Some(FinishFault::SharesMissing);
