@@ -110,10 +110,10 @@ module _ {J : Type 0} {h : Ghosts J} {C A : Type 0} where
     pub told : AllTold before ends
 
   same_told : (a : ClientEnd J C A h) → SameTold a a
-  same_told a = record { sent_are = refl; got_are = refl; unspent_is = refl; views_are = refl }
+  same_told a = record { sent_are = refl; got_are = refl; unspent_is = refl; views_are = refl; calls_slots = refl; replies_slots = refl }
 
   same_told_join : (a b d : ClientEnd J C A h) → SameTold a b → SameTold b d → SameTold a d
-  same_told_join a b d p q = record { sent_are = q.sent_are ∙ p.sent_are; got_are = q.got_are ∙ p.got_are; unspent_is = q.unspent_is ∙ p.unspent_is; views_are = q.views_are ∙ p.views_are }
+  same_told_join a b d p q = record { sent_are = q.sent_are ∙ p.sent_are; got_are = q.got_are ∙ p.got_are; unspent_is = q.unspent_is ∙ p.unspent_is; views_are = q.views_are ∙ p.views_are; calls_slots = q.calls_slots ∙ p.calls_slots; replies_slots = q.replies_slots ∙ p.replies_slots }
 
   pub comparing_none : (k : LogState) (lanes : List Lane) (ends : List (ClientEnd J C A h)) → AllFit k lanes → PairUp lanes ends → Comparing k lanes ends lanes ends 0
   comparing_none k lanes ends all pairs = record {

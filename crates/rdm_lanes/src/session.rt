@@ -4,6 +4,7 @@ ghost use Rattle.rdm_log.specs.log.Config.{steady};
 ghost use Rattle.rdm_log.specs.log.LogState.{blank_log};
 ghost use Rattle.rdm_client.specs.declared.worker_end.WorkerEnd.TheVariants.{Turns};
 ghost use Rattle.rdm_lanes.specs.Ended.{IsEnded};
+ghost use Rattle.rdm_lanes.specs.Ends.{AllHaveSlots};
 ghost use Rattle.rdm_lanes.specs.Lines.{exchange_count};
 ghost use Rattle.rdm_lanes.specs.Opened.{MayOpen, HasFirstFault};
 ghost use Rattle.rdm_lanes.specs.Sessions.{SessionOver};
@@ -30,7 +31,8 @@ use std::thread::Threads;
 /// its own, beside the worker with this many turns. There is no operator, so nobody pauses or closes. Where a thread
 /// can't be made its work is done in one that there is, after the other work there. `J` is the history of the views
 /// that the worker publishes. What was published, and what each client has read of it, is compared at the end too. The
-/// callbacks that a client left over are as many as its own calls without an outcome.
+/// callbacks that a client left over are as many as its own calls without an outcome. Both rings of each client have
+/// `ring` slots, as [`ClientEnd::slots`](crate::ClientEnd::slots) still shows at the end.
 ///
 /// The conditions are those of [`open_lanes`](crate::open_lanes), and there are as many bodies as places. Once the
 /// worker has stopped its clients' ends are compared, as at a [`ViewWorker::end`](crate::ViewWorker::end).
@@ -65,6 +67,7 @@ pub fn run_session<
     ensures session { IfOk result (λ end. SessionOver X.step (steady config) log.room places.now line
         end.line end.session) }
     ensures ended { IfOk result (IsEnded (length places.now)) }
+    ensures slots { IfOk result (λ end. AllHaveSlots ring end.ends.items) }
     ensures turns { IfOk result (λ end. (exchange_count end.session ≤ turns) × (turns ≡ 0 → end.worker ≡ Turns)) }
     ensures fault { HasFirstFault config.places log.room places.now (λ e. e.0) result }
     ensures back { IfErr result (λ e. (e.1 ≡ blank_log log.room) × (e.2 ≡ bodies) × (e.3 ≡ line)
@@ -112,6 +115,7 @@ pub fn run_session_with<
     ensures session { IfOk result (λ end. SessionOver X.step setup log.room places.now line
         end.line end.session) }
     ensures ended { IfOk result (IsEnded (length places.now)) }
+    ensures slots { IfOk result (λ end. AllHaveSlots ring end.ends.items) }
     ensures turns { IfOk result (λ end. (exchange_count end.session ≤ turns) × (turns ≡ 0 → end.worker ≡ Turns)) }
     ensures fault { HasFirstFault setup.config.places log.room places.now (λ e. e.0) result }
     ensures back { IfErr result (λ e. (e.1 ≡ blank_log log.room) × (e.2 ≡ bodies) × (e.3 ≡ line)
