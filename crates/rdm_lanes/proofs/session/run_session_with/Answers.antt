@@ -22,3 +22,6 @@ returns-in-Ok-clause-turns g c =
 pub returns-in-Ok-clause-slots : goal.returns-in-Ok-clause-slots
 returns-in-Ok-clause-slots g c =
     c.run_lanes.ensures.slots c.args.ring (new_slots c.args.ring c.args.places.now c.in-Ok.lanes.clients.items c.in-Ok.ensures.opened.clients)
+
+pub returns-in-Ok-clause-all_turns : goal.returns-in-Ok-clause-all_turns
+returns-in-Ok-clause-all_turns g c is = rw (c.in-Ok.ensures.opened.session, c.in-Ok.ensures.opened.published) at (c.run_lanes.ensures.all_turns is)
