@@ -121,7 +121,14 @@ module _ {J : Type 0} {h : Ghosts J} {C A : Type 0} where
     pub told : AllTold before ends
 
   same_told : (a : ClientEnd J C A h) → SameTold a a
-  same_told a = record { sent_are = refl; got_are = refl; unspent_is = refl; views_are = refl }
+  same_told a = record {
+    sent_are = refl;
+    got_are = refl;
+    unspent_is = refl;
+    views_are = refl;
+    calls_slots = refl;
+    replies_slots = refl;
+  }
 
   same_told_join : (a b d : ClientEnd J C A h) → SameTold a b → SameTold b d → SameTold a d
   same_told_join a b d p q = record {
@@ -129,6 +136,8 @@ module _ {J : Type 0} {h : Ghosts J} {C A : Type 0} where
     got_are = q.got_are ∙ p.got_are;
     unspent_is = q.unspent_is ∙ p.unspent_is;
     views_are = q.views_are ∙ p.views_are;
+    calls_slots = q.calls_slots ∙ p.calls_slots;
+    replies_slots = q.replies_slots ∙ p.replies_slots;
   }
 
   pub comparing_none : (k : LogState) (lanes : List Lane) (ends : List (ClientEnd J C A h)) → AllFit k lanes

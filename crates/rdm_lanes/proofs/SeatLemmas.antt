@@ -1,6 +1,7 @@
 -- Bodies and clients in their seats, and what is left of them.
-use Rattle.std.proofs.Common.{◌≡◌, ℕ, ◌+◌, ◌<◌, ◌≤◌, List, [], ◌∷◌, ◌++◌, length, map, take, drop, get_or, remove, Vec}
-use Rattle.std.proofs.Common.{vec_capacity, refl, sym, ap, ◌∙◌, subst, append_assoc, length-append, arith}
+use Rattle.std.proofs.Common.{◌≡◌, ℕ, ◌+◌, ◌<◌, ◌≤◌, List, [], ◌∷◌, ◌++◌, length, map, take, drop, get_or, remove, Some}
+use Rattle.std.proofs.Common.{slice_get, Vec, vec_capacity, refl, sym, ap, ◌∙◌, subst, append_assoc, length-append}
+use Rattle.std.proofs.Common.{arith}
 use Rattle.std.specs.Prelude.{slice_index_or}
 use Rattle.std.specs.declared.alloc.Global.{Global}
 use Rattle.std.proofs.lemmas.List.{map-append, length-map}
@@ -12,16 +13,21 @@ use Rattle.rdm_lanes.specs.declared.client.RingClient.{RingClient}
 use Rattle.rdm_lanes.specs.declared.client.ends.ClientEnd.{ClientEnd}
 use Rattle.rdm_lanes.specs.Clients.{SameClient}
 use Rattle.rdm_lanes.specs.Lanes.{SameLane, SameLanes}
-use Rattle.rdm_lanes.specs.Ends.{end_rings}
+use Rattle.rtrb.specs.Ring.{producer_capacity, consumer_capacity}
+use Rattle.rdm_lanes.specs.Ends.{end_rings, end_slots, AllHaveSlots, AllTold}
+use Rattle.rdm_lanes.specs.Opened.{AreNew}
 use Rattle.rdm_lanes.specs.Pairs.{Rings, ArePair, client_rings}
-use Rattle.rdm_lanes.specs.body.Seats.{seat_rings, SeatsPair, SameSeats}
-use Rattle.rdm_lanes.proofs.EndLemmas.{get_map, map_get}
+use Rattle.rdm_lanes.specs.body.Seats.{seat_rings, SeatsPair, SameSeats, RingsHaveSlots}
+use Rattle.rdm_lanes.proofs.EndLemmas.{get_map, map_get, within_get}
 
 -- a first element that was removed
 pub remove_first : {X : Type 0} (xs : List X) (x : X) (rest : List X) → 0 < length xs → x ≡ slice_index_or xs 0 x
     → rest ≡ remove xs 0 → xs ≡ x ∷ rest
 remove_first [] x rest some is left = absurd (omega (arith, some))
 remove_first (y ∷ xs) x rest some is left = rw (is, left) refl
+
+two_slots : (n m k : ℕ) → m ≡ n → k ≡ n → ◌≡◌ {A = ℕ × ℕ} (m, k) (n, n)
+two_slots n m k e f = rw (e, f) refl
 
 -- the rings are still pairs once the bodies and the worker have run
 module _ {J : Type 0} {h : Ghosts J} {C A : Type 0} where
@@ -43,6 +49,17 @@ module _ {J : Type 0} {h : Ghosts J} {C A : Type 0} where
           ∙ sym t.1.0.3,
     ),
   )
+
+  -- the rings of new clients have as many slots as were asked for
+  pub new_slots : (n : ℕ) (places : List ℕ) (clients : List (RingClient J C A h)) → AreNew n places clients
+      → RingsHaveSlots n (map client_rings clients)
+  new_slots n places clients new = record {
+    each = λ i r here.
+        let client = map_get client_rings clients i r here in
+        let p = within_get places i (omega (arith, slice_get_within clients i client.0 client.1, new.long)) in
+        subst (λ (q : Rings). (producer_capacity q.0 ≡ n) × (consumer_capacity q.1 ≡ n)) client.2
+        ((new.each i p.0 client.0 p.1 client.1).slots);
+  }
 
 module _ {J : Type 0} {h : Ghosts J} {B C A : Type 0} where
   pub whole : (seats left : List (Seat J B C A h)) → length left ≡ length seats
@@ -162,4 +179,31 @@ module _ {J : Type 0} {h : Ghosts J} {B C A : Type 0} where
         (rings_kept w.client x.client l m
         (p.each i l (seat_rings w) in_lanes (get_map seat_rings seats i w in_seats)) (rw now at kept)
         (s.each i l m in_lanes in_news));
+  }
+
+  -- the rings of new clients keep as many slots to their ends
+  pub slots_kept : (n : ℕ) (clients : List (RingClient J C A h)) (seats left : List (Seat J B C A h))
+      (before after : List (ClientEnd J C A h)) → map seat_rings seats ≡ map client_rings clients → SameSeats seats left
+      → map end_rings before ≡ map seat_rings left → AllTold before after → RingsHaveSlots n (map client_rings clients)
+      → AllHaveSlots n after
+  slots_kept n clients seats left before after seated same ends told has = record {
+    each = λ i e here.
+        let b = within_get before i (omega (arith, slice_get_within after i e here, told.long)) in
+        let kept = told.each i b.0 e b.1 here in
+        let found = map_get seat_rings left i (end_rings b.0)
+        (subst (λ (rs : List Rings). slice_get rs i ≡ Some (end_rings b.0)) ends
+        (get_map end_rings before i b.0 b.1)) in
+        let x = found.0 in
+        let low : i < length seats = omega (arith, slice_get_within left i x found.1, same.long) in
+        let w = get_or seats i x in
+        let in_seats = slice_get-get_or seats i x low in
+        let now : get_or left i x ≡ x = get_or_from_slice_get left i x x found.1 in
+        let both = same.each i x low in
+        let ran = rw now at both in
+        let first = has.each i (seat_rings w)
+        (subst (λ (rs : List Rings). slice_get rs i ≡ Some (seat_rings w)) seated
+        (get_map seat_rings seats i w in_seats)) in
+        two_slots n (producer_capacity e.calls) (consumer_capacity e.replies)
+        (kept.calls_slots ∙ ap (λ (r : Rings). producer_capacity r.0) (sym found.2) ∙ ran.0.1 ∙ first.0)
+        (kept.replies_slots ∙ ap (λ (r : Rings). consumer_capacity r.1) (sym found.2) ∙ ran.1.1 ∙ first.1);
   }

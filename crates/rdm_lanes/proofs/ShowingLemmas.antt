@@ -1,6 +1,6 @@
 -- What a worker publishes, as its session's log grows.
-use Rattle.std.proofs.Common.{◌≡◌, ◌+◌, ◌<◌, ◌≤◌, ℕ, List, [], ◌∷◌, ◌++◌, length, take, length-append, refl, sym, ap}
-use Rattle.std.proofs.Common.{◌∙◌, subst, inl, inr, arith}
+use Rattle.std.proofs.Common.{◌≡◌, ◌≢◌, ◌+◌, ◌<◌, ◌≤◌, ℕ, List, [], ◌∷◌, ◌++◌, length, take, length-append, refl, sym}
+use Rattle.std.proofs.Common.{ap, ◌∙◌, subst, inl, inr, arith}
 use Rattle.std.specs.Prelude.{◌⊎◌}
 use Rattle.rdm_wire.specs.declared.device.Device.{Device}
 use Rattle.rdm_client.specs.declared.view.DeviceView.{DeviceView}
@@ -196,3 +196,24 @@ publishes_still k p q is shown added = subst (λ (r : Publishing). Publishes k r
   where
     both : (p q : Publishing) → q.shown ≡ p.shown → q.added ≡ p.added → q ≡ p
     both p q e f i = record { shown = e i; added = f i }
+
+-- a view of a later run than those that were added isn't shown
+pub lacks_view : (k : LogState) (p q : Publishing) (run : ℕ) → Publishes k p → run ≡ devices_run k.opening k.entries
+    → last_view_run p.added < run → q.shown ≡ p.shown → q.shown ≢ all_views k.entries
+lacks_view k p q run is run_is less same whole = by_added (added_or_one (all_views k.entries) p is.showing)
+  where
+    by_added : (p.added ≡ all_views k.entries) ⊎ ((v : DeviceView) × (all_views k.entries ≡ p.added ++ v ∷ [])) → ⊥
+    by_added (inl all) = omega (arith, less, run_is, ap last_view_run all, last_run_is k p is)
+    by_added (inr lacks) =
+        omega (
+          arith,
+          ap length lacks.1 ∙ length-append p.added (lacks.0 ∷ []),
+          is.showing.no_more,
+          ap length whole,
+          ap length same,
+        )
+
+-- nor is what waits for its publication
+pub lacks_last : (k : LogState) (p q : Publishing) → p.added ≡ all_views k.entries → q.added ≡ p.added
+    → q.shown ≢ q.added → q.shown ≢ all_views k.entries
+lacks_last k p q all added apart whole = apart (whole ∙ sym all ∙ sym added)

@@ -4,6 +4,7 @@ use Rattle.std.specs.declared.alloc.Global.{Global}
 use Rattle.rtrb.specs.declared.AnyItems.{AnyItems}
 use Rattle.rtrb.specs.declared.producer.Producer.{Producer}
 use Rattle.rtrb.specs.Ring.{sent as pushed, received as popped, known_free, known_items, producer_capacity}
+use Rattle.rtrb.specs.Ring.{consumer_capacity}
 use Rattle.rdm_log.specs.promises.Outcomes.{OutcomeValue}
 use Rattle.rdm_log.specs.log.LogState.{LogState}
 use Rattle.rdm_lanes.specs.declared.views.history.ViewHistory.{Ghosts}
@@ -32,6 +33,14 @@ module _ {J : Type 0} {h : Ghosts J} {C A : Type 0} where
   -- the client's ends of its rings
   abbrev pub end_rings : ClientEnd J C A h → Rings
   end_rings e = (e.calls, e.replies)
+
+  -- how many slots they have: the ring of calls, and the ring of outcomes
+  abbrev pub end_slots : ClientEnd J C A h → ℕ × ℕ
+  end_slots e = (producer_capacity e.calls, consumer_capacity e.replies)
+
+  -- both rings of each client have this many slots
+  pub record AllHaveSlots (slots : ℕ) (ends : List (ClientEnd J C A h)) : Type 0 where
+    pub each : (i : ℕ) (e : ClientEnd J C A h) → slice_get ends i ≡ Some e → end_slots e ≡ (slots, slots)
 
   -- the ends are those of the lanes, each in its place
   abbrev pub PairUp : List Lane → List (ClientEnd J C A h) → Type 0
@@ -63,6 +72,8 @@ module _ {J : Type 0} {h : Ghosts J} {C A : Type 0} where
     pub got_are : popped b.replies ≡ popped a.replies
     pub unspent_is : b.unspent ≡ a.unspent
     pub views_are : b.views ≡ a.views
+    pub calls_slots : producer_capacity b.calls ≡ producer_capacity a.calls
+    pub replies_slots : consumer_capacity b.replies ≡ consumer_capacity a.replies
 
   -- each end after has what the same end before had
   pub record AllTold (before after : List (ClientEnd J C A h)) : Type 0 where

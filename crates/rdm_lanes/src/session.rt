@@ -3,10 +3,12 @@ ghost use Rattle.std.specs.Prelude.{◌≡◌, ◌≤◌, length, IfOk, IfErr};
 ghost use Rattle.rdm_log.specs.log.Config.{steady};
 ghost use Rattle.rdm_log.specs.log.LogState.{blank_log};
 ghost use Rattle.rdm_client.specs.declared.worker_end.WorkerEnd.TheVariants.{Turns};
-ghost use Rattle.rdm_lanes.specs.Ended.{IsEnded};
+ghost use Rattle.rdm_lanes.specs.Ended.{IsEnded, opened_state, end_state};
+ghost use Rattle.rdm_lanes.specs.Ends.{AllHaveSlots};
 ghost use Rattle.rdm_lanes.specs.Lines.{exchange_count};
 ghost use Rattle.rdm_lanes.specs.Opened.{MayOpen, HasFirstFault};
 ghost use Rattle.rdm_lanes.specs.Sessions.{SessionOver};
+ghost use Rattle.rdm_lanes.specs.Turns.{TurnsMade};
 ghost use Rattle.rdm_lanes.specs.Workers.{book_of};
 
 pub(crate) mod body;
@@ -30,7 +32,9 @@ use std::thread::Threads;
 /// its own, beside the worker with this many turns. There is no operator, so nobody pauses or closes. Where a thread
 /// can't be made its work is done in one that there is, after the other work there. `J` is the history of the views
 /// that the worker publishes. What was published, and what each client has read of it, is compared at the end too. The
-/// callbacks that a client left over are as many as its own calls without an outcome.
+/// callbacks that a client left over are as many as its own calls without an outcome. Both rings of each client have
+/// `ring` slots, as [`ClientEnd::slots`](crate::ClientEnd::slots) still shows at the end. If the worker ended with
+/// Turns, it made all its turns.
 ///
 /// The conditions are those of [`open_lanes`](crate::open_lanes), and there are as many bodies as places. Once the
 /// worker has stopped its clients' ends are compared, as at a [`ViewWorker::end`](crate::ViewWorker::end).
@@ -65,7 +69,10 @@ pub fn run_session<
     ensures session { IfOk result (λ end. SessionOver X.step (steady config) log.room places.now line
         end.line end.session) }
     ensures ended { IfOk result (IsEnded (length places.now)) }
+    ensures slots { IfOk result (λ end. AllHaveSlots ring end.ends.items) }
     ensures turns { IfOk result (λ end. (exchange_count end.session ≤ turns) × (turns ≡ 0 → end.worker ≡ Turns)) }
+    ensures all_turns { IfOk result (λ end. end.worker ≡ Turns
+        → TurnsMade turns (opened_state (steady config) log.room places.now) (end_state end)) }
     ensures fault { HasFirstFault config.places log.room places.now (λ e. e.0) result }
     ensures back { IfErr result (λ e. (e.1 ≡ blank_log log.room) × (e.2 ≡ bodies) × (e.3 ≡ line)
         × (book_of e.4 ≡ J.book)) }
@@ -112,7 +119,10 @@ pub fn run_session_with<
     ensures session { IfOk result (λ end. SessionOver X.step setup log.room places.now line
         end.line end.session) }
     ensures ended { IfOk result (IsEnded (length places.now)) }
+    ensures slots { IfOk result (λ end. AllHaveSlots ring end.ends.items) }
     ensures turns { IfOk result (λ end. (exchange_count end.session ≤ turns) × (turns ≡ 0 → end.worker ≡ Turns)) }
+    ensures all_turns { IfOk result (λ end. end.worker ≡ Turns
+        → TurnsMade turns (opened_state setup log.room places.now) (end_state end)) }
     ensures fault { HasFirstFault setup.config.places log.room places.now (λ e. e.0) result }
     ensures back { IfErr result (λ e. (e.1 ≡ blank_log log.room) × (e.2 ≡ bodies) × (e.3 ≡ line)
         × (book_of e.4 ≡ J.book)) }

@@ -4,6 +4,7 @@ mod faults;
 mod in_threads;
 mod openings;
 mod operated;
+mod owners;
 mod rows;
 mod scenes;
 mod tape_runs;

@@ -1,6 +1,6 @@
 -- Clients beside their bodies, and the rings that they keep.
 use Rattle.std.specs.Prelude.{◌≡◌, ℕ, ◌<◌, List, length, map, Some, slice_get, slice_index_or}
-use Rattle.rtrb.specs.Ring.{SameProducer, SameConsumer}
+use Rattle.rtrb.specs.Ring.{SameProducer, SameConsumer, producer_capacity, consumer_capacity}
 use Rattle.rdm_lanes.specs.declared.views.history.ViewHistory.{Ghosts}
 use Rattle.rdm_lanes.specs.declared.worker.lane.Lane.{Lane}
 use Rattle.rdm_lanes.specs.declared.opening.seat.Seat.{Seat}
@@ -12,6 +12,11 @@ pub record SameRings (old new : List Rings) : Type 0 where
   pub long : length new ≡ length old
   pub each : (i : ℕ) (a b : Rings) → slice_get old i ≡ Some a → slice_get new i ≡ Some b
       → SameProducer a.0 b.0 × SameConsumer a.1 b.1
+
+-- both rings of each client have this many slots
+pub record RingsHaveSlots (slots : ℕ) (all : List Rings) : Type 0 where
+  pub each : (i : ℕ) (rings : Rings) → slice_get all i ≡ Some rings
+      → (producer_capacity rings.0 ≡ slots) × (consumer_capacity rings.1 ≡ slots)
 
 module _ {J : Type 0} {h : Ghosts J} {B C A : Type 0} where
   abbrev pub seat_rings : Seat J B C A h → Rings

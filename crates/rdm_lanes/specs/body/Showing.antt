@@ -1,5 +1,5 @@
 -- What a publisher of views has, and what of it readers may take.
-use Rattle.std.specs.Prelude.{◌≡◌, ◌+◌, ◌<◌, ◌≤◌, ℕ, Bool, false, List, [], length, take, Option, Some, None}
+use Rattle.std.specs.Prelude.{◌≡◌, ◌≢◌, ◌+◌, ◌<◌, ◌≤◌, ℕ, Bool, true, false, List, [], length, take, Option, Some, None}
 use Rattle.std.specs.Prelude.{slice_get}
 use Rattle.std.specs.List.{AllByRecursion}
 use Rattle.rtrb.specs.Ring.{sent as pushed}
@@ -20,10 +20,12 @@ pub record Publishing : Type 0 where
 abbrev pub AreAll : List DeviceView → List (List DeviceView) → Type 0
 AreAll added pending = AllByRecursion (λ views. views ≡ added) pending
 
--- Readers may take all that was added, unless a publication waits to be made. What waits for it is all that was added.
+-- Readers may take all that was added, unless a publication waits to be made: then they lack something. What waits for
+-- it is all that was added.
 pub record IsPublishing (waiting : Bool) (shown added : List DeviceView) (pending : List (List DeviceView))
     : Type 0 where
   pub all : waiting ≡ false → (shown ≡ added) × (pending ≡ [])
+  pub lacks : waiting ≡ true → shown ≢ added
   pub next : AreAll added pending
 
 -- none of these views is of a later run than the last one

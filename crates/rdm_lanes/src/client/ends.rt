@@ -1,6 +1,6 @@
 //! What is left of a client.
 ghost use Rattle.std.specs.Prelude.{◌≡◌, ◌+◌, length};
-ghost use Rattle.rtrb.specs.Ring.{sent as pushed, received as popped};
+ghost use Rattle.rtrb.specs.Ring.{sent as pushed, received as popped, producer_capacity, consumer_capacity};
 ghost use Rattle.rdm_lanes.specs.Calls.{work_in};
 ghost use Rattle.rdm_lanes.specs.Callbacks.{HoldsItsOwn};
 ghost use Rattle.rdm_lanes.specs.Told.{values_in};
@@ -37,6 +37,13 @@ pub struct ClientEnd<J: ViewHistory, C = Callback, A = AskCallback> {
 }
 
 impl<J: ViewHistory, C, A> ClientEnd<J, C, A> {
+    /// How many slots its rings had: the one for its calls, and the one for its outcomes.
+    pub fn slots(&self) -> (usize, usize)
+        ensures { result ≡ (producer_capacity self.now.calls, consumer_capacity self.now.replies) }
+    {
+        (self.calls.capacity(), self.replies.capacity())
+    }
+
     /// The callbacks that were not spent; the rest goes.
     pub fn into_unspent(self) -> Unspent<C, A>
         ensures { result ≡ self.unspent }

@@ -7,6 +7,7 @@ ghost use Rattle.rdm_lanes.specs.Lines.{Exchanged, SameSwitches, exchange_count}
 ghost use Rattle.rdm_lanes.specs.Lanes.{SameLanes, AllHaveLeft};
 ghost use Rattle.rdm_lanes.specs.body.Seats.{SameSeats};
 ghost use Rattle.rdm_lanes.specs.Workers.{session_of, lanes_of, operator_has_left, HasPublishedAll};
+ghost use Rattle.rdm_lanes.specs.Turns.{TurnsMade, state_of};
 
 use crate::opening::seat::Seat;
 use crate::session::body::{Body, Gate, WORKER_STOPPED};
@@ -74,6 +75,7 @@ pub fn run_together<
     ensures full { result.3 ≡ FullLog → is_full_log (session_of result.0) ≡ true }
     ensures turns { (exchange_count (session_of result.0) ≤ exchange_count (session_of worker) + turns)
         × (turns ≡ 0 → result.3 ≡ Turns) }
+    ensures all_turns { result.3 ≡ Turns → TurnsMade turns (state_of worker) (state_of result.0) }
     ensures switches { operator_has_left worker ≡ true → SameSwitches (session_of worker) (session_of result.0) }
 {
     let mut worker = worker;

@@ -1,14 +1,17 @@
 //! A session over open lanes: the bodies in their seats, the worker beside them, and the comparison at the end.
-ghost use Rattle.std.specs.Prelude.{◌≡◌, ◌≤◌, ◌+◌, List, length};
+ghost use Rattle.std.specs.Prelude.{◌≡◌, ◌≤◌, ◌+◌, ℕ, List, length, map};
 ghost use Rattle.rdm_log.specs.log.Legal.{Legal};
 ghost use Rattle.rdm_log.specs.promises.Promised.{Promised};
 ghost use Rattle.rdm_client.specs.declared.worker_end.WorkerEnd.TheVariants.{Turns};
 ghost use Rattle.rdm_lanes.specs.declared.worker.lane.Lane.{Lane};
 ghost use Rattle.rdm_lanes.specs.Lines.{Exchanged, SameSwitches, IsBetweenTurns, exchange_count};
 ghost use Rattle.rdm_lanes.specs.Lanes.{AllFit};
-ghost use Rattle.rdm_lanes.specs.Ended.{IsEnded};
-ghost use Rattle.rdm_lanes.specs.Pairs.{ClientsPair};
+ghost use Rattle.rdm_lanes.specs.Ended.{IsEnded, end_state};
+ghost use Rattle.rdm_lanes.specs.Ends.{AllHaveSlots};
+ghost use Rattle.rdm_lanes.specs.Pairs.{ClientsPair, client_rings};
 ghost use Rattle.rdm_lanes.specs.body.Rooms.{HasRoomFor};
+ghost use Rattle.rdm_lanes.specs.body.Seats.{RingsHaveSlots};
+ghost use Rattle.rdm_lanes.specs.Turns.{TurnsMade, state_of};
 ghost use Rattle.rdm_lanes.specs.Workers.{session_of, lanes_of};
 
 use crate::client::ends::ClientEnd;
@@ -34,7 +37,7 @@ pub struct LanesEnd<J: ViewHistory, B, X, C = Callback, A = AskCallback> {
     pub ends: Vec<ClientEnd<J, C, A>>,
     /// Whether both ends of all rings could be compared. It is always true.
     pub matched: bool,
-    /// The bodies. Only tests show that they are in the order of their clients.
+    /// The bodies, in the order of their clients. Only a test shows that order.
     pub bodies: Vec<B>,
     /// Why the worker stopped.
     pub worker: WorkerEnd,
@@ -75,8 +78,11 @@ pub fn run_lanes<
     ensures fits { (lanes_left : List Lane) × (length lanes_left ≡ length (lanes_of lanes.worker))
         × AllFit result.session lanes_left }
     ensures ended { IsEnded (length bodies.items) result }
+    ensures slots { (n : ℕ) → RingsHaveSlots n (map client_rings lanes.clients.items)
+        → AllHaveSlots n result.ends.items }
     ensures turns { (exchange_count result.session ≤ exchange_count (session_of lanes.worker) + turns)
         × (turns ≡ 0 → result.worker ≡ Turns) }
+    ensures all_turns { result.worker ≡ Turns → TurnsMade turns (state_of lanes.worker) (end_state result) }
 {
     let Lanes {
         clients,

@@ -1,5 +1,6 @@
 //! How the worker publishes views of the devices.
-ghost use Rattle.std.specs.Prelude.{◌≡◌, ◌<◌, ◌≤◌, ◌^◌, ◌++◌, ◌∷◌, [], length, true, MatchBool, IfOk, IfErr, IfSome};
+ghost use Rattle.std.specs.Prelude.{◌≡◌, ◌≢◌, ◌<◌, ◌≤◌, ◌^◌, ◌++◌, ◌∷◌, [], length, true, false, MatchBool};
+ghost use Rattle.std.specs.Prelude.{IfOk, IfErr, IfSome};
 ghost use mathlib.Core.List.{IsPrefix};
 ghost use Rattle.left_right.specs.Handles.{published, pending};
 ghost use Rattle.rdm_lanes.specs.Views.{opening_view, last_view_run};
@@ -208,6 +209,7 @@ impl<J: ViewHistory, R: Wait + Drop> Publisher<J, Shown<J>, R> {
     pub fn show(&mut self) -> bool
         ensures added { self.new.added ≡ self.old.added }
         ensures shown { MatchBool result (self.new.shown ≡ self.new.added) (self.new.shown ≡ self.old.shown) }
+        ensures refused { result ≡ false → self.new.shown ≢ self.new.added }
     {
         if !self.waiting {
             return true;

@@ -1,6 +1,6 @@
 //! What the worker does in its turns. It publishes a view of the devices after each exchange that ends a run without
 //! fault, and before it moves that run's answers out.
-ghost use Rattle.std.specs.Prelude.{◌≡◌, ◌≢◌, ◌≤◌, ◌+◌, true, false, Some, None, IfSome};
+ghost use Rattle.std.specs.Prelude.{◌≡◌, ◌≢◌, ◌≤◌, ◌+◌, true, false, Some, None, IfSome, IfNone};
 ghost use mathlib.Core.List.{IsPrefix};
 ghost use Rattle.rtrb.specs.Ring.{SameConsumer};
 ghost use Rattle.rdm_log.specs.log.LogState.{is_full_log};
@@ -13,8 +13,10 @@ ghost use Rattle.rdm_lanes.specs.body.Showing.{Publishes, AllPublished};
 ghost use Rattle.rdm_lanes.specs.Operators.{switches, effective};
 ghost use Rattle.rdm_lanes.specs.Workers.{session_of, lanes_of, operator_has_left, published_by, HasPublishedAll};
 ghost use Rattle.rdm_lanes.specs.Workers.{operator_ring, received_by};
+ghost use Rattle.rdm_lanes.specs.Turns.{IsTurn, TurnsMade, state_of};
 ghost use Rattle.rdm_client.specs.declared.worker_end.WorkerEnd.TheVariants.{AllLeft, Turns, LogFull as FullLog};
 ghost use Rattle.rdm_lanes.specs.declared.worker.working.Attempt.TheVariants.{NothingToSend, LogFull as NoRoom};
+ghost use Rattle.rdm_lanes.specs.declared.worker.working.Attempt.TheVariants.{Exchanged as MadeOne};
 
 use crate::views::history::ViewHistory;
 use crate::views::publishing::{Publisher, Shown};
@@ -34,7 +36,8 @@ impl<J: ViewHistory, R: Wait + Drop> ViewWorker<J, Shown<J>, R> {
     /// - it makes at most one exchange, and publishes the devices that it found;
     /// - it moves outcomes to the clients' rings, while they have free slots.
     ///
-    /// It stops early once all have left, or once the log is full.
+    /// It stops early once all have left, or once the log is full. If it ends with Turns, it made all turns: each made
+    /// an exchange, found no frame to send, or had a publication refused.
     ///
     /// It looks at a ring's front first. While fewer than three entries of the log are free it takes no call. A submit
     /// waits for a place of its client in the session, and a discover until fewer than four of its client's are
@@ -55,6 +58,7 @@ impl<J: ViewHistory, R: Wait + Drop> ViewWorker<J, Shown<J>, R> {
         ensures lanes { SameLanes (lanes_of self.old) (lanes_of self.new) }
         ensures turns { (exchange_count (session_of self.new) ≤ exchange_count (session_of self.old) + turns)
             × (turns ≡ 0 → result ≡ Turns) }
+        ensures all_turns { result ≡ Turns → TurnsMade turns (state_of self.old) (state_of self.new) }
         ensures all_left { result ≡ AllLeft → AllHaveLeft (lanes_of self.new) × (operator_has_left self.new ≡ true)
             × NoSend (session_of self.new).opening (session_of self.new).entries }
         ensures published { result ≢ Turns → HasPublishedAll self.new }
@@ -78,6 +82,8 @@ impl<J: ViewHistory, R: Wait + Drop> ViewWorker<J, Shown<J>, R> {
         ensures exchanged { Exchanged X.step line.old self.old.server.session line.new self.new.server.session }
         ensures lanes { SameLanes self.old.server.lanes.items self.new.server.lanes.items }
         ensures one { exchange_count self.new.server.session ≤ exchange_count self.old.server.session + 1 }
+        ensures went_on { IfNone result (IsTurn (state_of self.old) (state_of self.new)) }
+        ensures no_turns { result ≢ Some Turns }
         ensures all_left { result ≡ Some AllLeft → AllHaveLeft self.new.server.lanes.items
             × (self.new.server.operator_left ≡ true)
             × NoSend self.new.server.session.opening self.new.server.session.entries }
@@ -104,9 +110,12 @@ impl<J: ViewHistory, R: Wait + Drop> ViewWorker<J, Shown<J>, R> {
         ensures exchanged { Exchanged X.step line.old self.old.server.session line.new self.new.server.session }
         ensures lanes { SameLanes self.old.server.lanes.items self.new.server.lanes.items }
         ensures one { exchange_count self.new.server.session ≤ exchange_count self.old.server.session + 1 }
+        ensures made { result ≡ Some MadeOne
+            → exchange_count self.new.server.session ≡ exchange_count self.old.server.session + 1 }
         ensures nothing { result ≡ Some NothingToSend
             → NoSend self.new.server.session.opening self.new.server.session.entries }
         ensures published { IfSome result (λ _. AllPublished self.new.server.session self.new.views) }
+        ensures refused { IfNone result (self.new.views.shown ≢ all_views self.new.server.session.entries) }
         ensures views { IsPrefix self.old.views.shown self.new.views.shown }
         ensures full { result ≡ Some NoRoom → is_full_log self.new.server.session ≡ true }
         ensures operator { self.old.server.operator_left ≡ true → (self.new.server.operator_left ≡ true)
@@ -144,6 +153,7 @@ impl<J: ViewHistory, R: Wait + Drop> ViewWorker<J, Shown<J>, R> {
     // Publishes what is still to be published, and says whether all is published.
     fn publish(&mut self, alloc: Global) -> bool
         ensures made { result ≡ true → AllPublished self.new.server.session self.new.views }
+        ensures refused { result ≡ false → self.new.views.shown ≢ all_views self.new.server.session.entries }
         ensures views { IsPrefix self.old.views.shown self.new.views.shown }
         ensures server { self.new.server ≡ self.old.server }
     {
@@ -157,6 +167,8 @@ impl<J: ViewHistory, R: Wait + Drop> ViewWorker<J, Shown<J>, R> {
         ensures exchanged { Exchanged X.step line.old self.old.server.session line.new self.new.server.session }
         ensures switches { SameSwitches self.old.server.session self.new.server.session }
         ensures one { exchange_count self.new.server.session ≤ exchange_count self.old.server.session + 1 }
+        ensures made { result ≡ MadeOne
+            → exchange_count self.new.server.session ≡ exchange_count self.old.server.session + 1 }
         ensures nothing { result ≡ NothingToSend
             → NoSend self.new.server.session.opening self.new.server.session.entries }
         ensures full { result ≡ NoRoom → is_full_log self.new.server.session ≡ true }
@@ -185,6 +197,7 @@ impl<J: ViewHistory, R: Wait + Drop> ViewWorker<J, Shown<J>, R> {
     pub(crate) fn without_operator(self) -> ViewWorker<J, Shown<J>, R>
         ensures same { (result.server.session ≡ self.server.session) × (result.server.lanes ≡ self.server.lanes) }
         ensures left { result.server.operator_left ≡ true }
+        ensures views { result.views ≡ self.views }
     {
         let mut worker = self;
         worker.server.operator_left = true;
@@ -202,6 +215,7 @@ fn publish_next<J: ViewHistory, R: Wait + Drop>(
     requires publishes { Publishes session.now views.old }
     ensures made { result ≡ true → AllPublished session.now views.new }
     ensures refused { result ≡ false → views.new.shown ≡ views.old.shown }
+    ensures lacks { result ≡ false → views.new.shown ≢ all_views session.now.entries }
     ensures publishes { Publishes session.now views.new }
 {
     if !add_next(alloc, session, views) {
@@ -222,6 +236,7 @@ fn add_next<J: ViewHistory, R: Wait + Drop>(
 ) -> bool
     requires publishes { Publishes session.now views.old }
     ensures added { result ≡ true → views.new.added ≡ all_views session.now.entries }
+    ensures lacks { result ≡ false → views.new.shown ≢ all_views session.now.entries }
     ensures shown { views.new.shown ≡ views.old.shown }
     ensures publishes { Publishes session.now views.new }
 {

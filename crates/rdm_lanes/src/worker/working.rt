@@ -10,6 +10,7 @@ ghost use Rattle.rdm_lanes.specs.Lanes.{SameLanes, AllHaveLeft};
 ghost use Rattle.rdm_lanes.specs.Views.{views_found};
 ghost use Rattle.rdm_lanes.specs.body.Gains.{GainOneAtMost};
 ghost use Rattle.rdm_lanes.specs.declared.worker.working.Attempt.TheVariants.{NothingToSend, LogFull as NoRoom};
+ghost use Rattle.rdm_lanes.specs.declared.worker.working.Attempt.TheVariants.{Exchanged as MadeOne};
 
 use crate::call::OperatorCall;
 use crate::worker::Worker;
@@ -112,6 +113,7 @@ impl Worker {
         ensures switches { SameSwitches self.old.session self.new.session }
         ensures found { GainOneAtMost (views_found self.old.session.entries) (views_found self.new.session.entries) }
         ensures one { exchange_count self.new.session ≤ exchange_count self.old.session + 1 }
+        ensures made { result ≡ MadeOne → exchange_count self.new.session ≡ exchange_count self.old.session + 1 }
         ensures nothing { result ≡ NothingToSend → NoSend self.new.session.opening self.new.session.entries }
         ensures full { result ≡ NoRoom → is_full_log self.new.session ≡ true }
         ensures lanes { self.new.lanes ≡ self.old.lanes }

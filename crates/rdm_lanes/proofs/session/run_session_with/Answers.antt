@@ -1,6 +1,7 @@
 use Rattle.std.proofs.Common.{◌∙◌, ◌≡◌, length, sym, arith}
 use Rattle.std.proofs.lemmas.List.{length-map}
 use Rattle.rdm_lanes.specs.Pairs.{client_rings}
+use Rattle.rdm_lanes.proofs.SeatLemmas.{new_slots}
 use Rattle.rdm_lanes.proofs.SessionLemmas.{session_over, nothing_exchanged}
 use Rattle.rdm_lanes.proofs.session.run_session_with.Goals as goal
 
@@ -22,3 +23,12 @@ returns-in-Ok-clause-turns g c =
     let none = nothing_exchanged c.args.setup c.args.log.room c.args.places.now c.in-Ok.lanes.worker.server.session
     c.in-Ok.ensures.opened.session in
     (omega (arith, none, c.run_lanes.ensures.turns.0), c.run_lanes.ensures.turns.1)
+
+pub returns-in-Ok-clause-slots : goal.returns-in-Ok-clause-slots
+returns-in-Ok-clause-slots g c =
+    c.run_lanes.ensures.slots c.args.ring
+    (new_slots c.args.ring c.args.places.now c.in-Ok.lanes.clients.items c.in-Ok.ensures.opened.clients)
+
+pub returns-in-Ok-clause-all_turns : goal.returns-in-Ok-clause-all_turns
+returns-in-Ok-clause-all_turns g c is =
+    rw (c.in-Ok.ensures.opened.session, c.in-Ok.ensures.opened.published) at (c.run_lanes.ensures.all_turns is)

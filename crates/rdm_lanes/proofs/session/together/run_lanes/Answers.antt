@@ -5,7 +5,7 @@ use Rattle.rdm_lanes.specs.Views.{all_views}
 use Rattle.rdm_lanes.specs.Pairs.{Rings, RingsPair}
 use Rattle.rdm_lanes.specs.body.Seats.{seat_rings}
 use Rattle.rdm_lanes.specs.Ends.{end_rings}
-use Rattle.rdm_lanes.proofs.SeatLemmas.{pairs_kept}
+use Rattle.rdm_lanes.proofs.SeatLemmas.{pairs_kept, slots_kept}
 use Rattle.rdm_lanes.proofs.session.together.run_lanes.Goals as goal
 
 pub end-session-requires : goal.end-session-requires
@@ -61,3 +61,16 @@ returns-clause-switches g c =
     rw c.end-session.ensures.log
     (rw c.without_operator-alone.ensures.same.0 at (c.run_together-worker.ensures.switches
     c.without_operator-alone.ensures.left))
+
+pub returns-clause-slots : goal.returns-clause-slots
+returns-clause-slots g c n has =
+    slots_kept n c.args.lanes.clients.items c.seated-taken.result.items c.run_together-worker.result.1.items
+    c.unseated-bodies.result.1.items c.end-session.result.ends.items
+    c.seated-taken.ensures.rings c.run_together-worker.ensures.seats c.unseated-bodies.ensures.ends
+    c.end-session.ensures.told has
+
+pub returns-clause-all_turns : goal.returns-clause-all_turns
+returns-clause-all_turns g c is =
+    let made = c.run_together-worker.ensures.all_turns is in
+    rw (c.end-session.ensures.log, c.end-session.ensures.shown)
+    (rw (c.without_operator-alone.ensures.same.0, c.without_operator-alone.ensures.views) at made)

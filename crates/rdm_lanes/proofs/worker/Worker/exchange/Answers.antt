@@ -80,6 +80,14 @@ returns-in-Ok-Some-clause-one g c =
           c.deliver.ensures.adds c.take.ensures.legal c.deliver.ensures.legal me.served),
     )
 
+pub returns-in-Ok-Some-clause-made : goal.returns-in-Ok-Some-clause-made
+returns-in-Ok-Some-clause-made g c is =
+    let me = c.args.self.now in
+    one_more me.session c.deliver.new.self c.in-Ok-Some.frame c.event_from-event.result
+    (exchange_made me.session c.take.new.self c.deliver.new.self c.in-Ok-Some.frame c.event_from-event.result
+    c.take.result c.deliver.result (c.in-Ok-Some.is ∙ ap (λ x. Ok x) c.in-Ok-Some.field-0-is) c.take.ensures.adds
+    c.deliver.ensures.adds c.take.ensures.legal c.deliver.ensures.legal me.served)
+
 pub returns-in-Ok-None-clause-nothing : goal.returns-in-Ok-None-clause-nothing
 returns-in-Ok-None-clause-nothing g c =
     λ is. none_to_send c.args.self.now.session c.take.new.self c.take.result

@@ -67,6 +67,17 @@ returns-clause-one g c =
     (collects_line c.exchange-attempt.new.self.server.session c.move_all.new.self.server.session collects) in
     omega (arith, before, after, c.exchange-attempt.ensures.one)
 
+pub returns-clause-made : goal.returns-clause-made
+returns-clause-made g c is =
+    let line = subst (λ (w : Worker). NoExchange w.session c.serve_calls.new.self.server.session)
+    c.publish.ensures.server c.serve_calls.ensures.line in
+    let collects = subst (λ (w : Worker). OnlyCollects w.session c.move_all.new.self.server.session)
+    c.publish-2.ensures.server c.move_all.ensures.collects in
+    let before = no_more _ _ line in
+    let after = no_more _ _
+    (collects_line c.exchange-attempt.new.self.server.session c.move_all.new.self.server.session collects) in
+    omega (arith, before, after, c.exchange-attempt.ensures.made (same_Some _ _ is))
+
 pub returns-clause-nothing : goal.returns-clause-nothing
 returns-clause-nothing g c is =
     let collects = subst (λ (w : Worker). OnlyCollects w.session c.move_all.new.self.server.session)

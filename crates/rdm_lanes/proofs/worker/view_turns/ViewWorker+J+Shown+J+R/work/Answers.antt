@@ -1,9 +1,10 @@
-use Rattle.std.proofs.Common.{◌∙◌, Some, ap, arith}
+use Rattle.std.proofs.Common.{◌≡◌, ◌∙◌, ℕ, Some, refl, ap, subst, arith}
 use Rattle.rdm_lanes.proofs.LaneLemmas.{same_lanes, same_lanes_join}
 use Rattle.rdm_lanes.proofs.LineLemmas.{line_same, switches_same, switches_join}
 use Rattle.rdm_lanes.proofs.ExchangeLemmas.{exchanged_none, exchanged_join}
 use Rattle.rdm_lanes.proofs.Fronts.{prefix_self, prefix_trans}
-use Rattle.rdm_lanes.proofs.WorkLemmas.{ring_same, ring_join}
+use Rattle.rdm_lanes.specs.Turns.{TurnsMade, state_of}
+use Rattle.rdm_lanes.proofs.WorkLemmas.{ring_same, ring_join, turns_more}
 use Rattle.rdm_lanes.proofs.worker.view_turns.ViewWorker+J+Shown+J+R.work.Goals as goal
 
 pub returns-in-Some-clause-exchanged : goal.returns-in-Some-clause-exchanged
@@ -36,6 +37,8 @@ loop-turn-preserved g c = record {
       c.loop-turn.invariant.views c.turn.ensures.views;
   ring = ring_join c.args.self.now.server.operator c.loop-turn.self.server.operator c.turn.new.self.server.operator
       c.loop-turn.invariant.ring c.turn.ensures.ring;
+  made = turns_more c.loop-turn._turn (state_of c.args.self.now) (state_of c.loop-turn.self) (state_of c.turn.new.self)
+      c.loop-turn.invariant.made (rw c.in_default.is at c.turn.ensures.went_on);
 }
 
 pub returns-in-Some-clause-turns : goal.returns-in-Some-clause-turns
@@ -68,6 +71,7 @@ loop-turn-init g c = record {
   operator = λ left. (left, switches_same c.args.self.now.server.session);
   views = prefix_self c.args.self.now.views.shown;
   ring = ring_same c.args.self.now.server.operator;
+  made = refl;
 }
 
 pub returns-in-Some-clause-published : goal.returns-in-Some-clause-published
@@ -82,3 +86,12 @@ pub returns-in-Some-clause-ring : goal.returns-in-Some-clause-ring
 returns-in-Some-clause-ring g c =
     ring_join c.args.self.now.server.operator c.loop-turn.self.server.operator c.turn.new.self.server.operator
     c.loop-turn.invariant.ring c.turn.ensures.ring
+
+pub returns-in-Some-clause-all_turns : goal.returns-in-Some-clause-all_turns
+returns-in-Some-clause-all_turns g c is = absurd (c.turn.ensures.no_turns (c.in-Some.is ∙ ap (λ x. Some x) is))
+
+pub returns-clause-all_turns : goal.returns-clause-all_turns
+returns-clause-all_turns g c is =
+    let past : c.loop-turn._turn ≡ c.args.turns = omega (arith, c.loop-turn-test.false) in
+    subst (λ (n : ℕ). TurnsMade n (state_of c.args.self.now) (state_of c.loop-turn.self)) past
+    c.loop-turn.invariant.made
