@@ -1,6 +1,6 @@
 use Rattle.std.proofs.Common.{◌∙◌, length, ap}
 use Rattle.std.proofs.lemmas.List.{length-map}
-use Rattle.rdm_scenes.specs.Exchanges.{exchanges}
+use Rattle.rdm_log.specs.log.Entries.{exchanges}
 use Rattle.rdm_locked.specs.Exchanges.{in_record}
 use Rattle.rdm_serving.proofs.serving.locked.finish.Goals as goal
 
