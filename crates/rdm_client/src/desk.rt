@@ -151,14 +151,15 @@ impl<C: Tells, A: TellsAsk> Desk<C, A> {
         if self.asks.is_empty() {
             return Err((Misdelivered, done));
         }
-        Ok(self.spend_oldest_ask(done))
+        Ok(self.call_oldest_ask(done))
     }
 
-    // Calls the oldest discovery's callback. It isn't inlined. If two arms moved one set, LLVM would split it into
-    // thousands of pieces, and take minutes.
+    /// Calls the oldest discovery's callback with how its discovery ended. A discovery's callback must be held, which
+    /// [`Desk::asks_held`] tests. Unlike [`Desk::settle_ask`] it has no error that returns the completion.
+    // It isn't inlined. If two arms moved one set, LLVM would split it into thousands of pieces, and take minutes.
     #[inline(never)]
-    fn spend_oldest_ask(&mut self, done: AskCompletion) -> AskTold
-        requires { 0 < length self.old.asks }
+    pub fn call_oldest_ask(&mut self, done: AskCompletion) -> AskTold
+        requires held { 0 < length self.old.asks }
         ensures called { OldestCalled A.calls self.old.asks done result }
         ensures told { ask_spent A.tag_of self.old.asks done ≡ Some result }
         ensures taken { self.new ≡ record self.old { asks = drop 1 self.old.asks } }
@@ -185,7 +186,7 @@ impl<C: Tells, A: TellsAsk> Desk<C, A> {
                 if self.asks.is_empty() {
                     return Err((Misdelivered, Outcome::Discovery { number, done }));
                 }
-                Ok(Collected::Ask(self.spend_oldest_ask(done)))
+                Ok(Collected::Ask(self.call_oldest_ask(done)))
             }
         }
     }

@@ -243,10 +243,7 @@ impl<'a, L: Ledger, C: Tells, A: TellsAsk> LockedClient<'a, L, C, A> {
         let end = collected?;
         done.run = end.run;
         done.fault = end.fault;
-        match desk.settle_ask(done) {
-            Ok(told) => Some(told),
-            Err(_) => unreachable!(),
-        }
+        Some(desk.call_oldest_ask(done))
     }
 
     // Collects a discovery's outcome. It isn't inlined, so that `collect` has no set for a request's.

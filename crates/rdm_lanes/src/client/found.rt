@@ -19,17 +19,17 @@ pub fn keep_found(found: &mut DeviceView, item: &RingOutcome)
     } = item
     {
         found.run = *run;
-        found.set = copy_of(set);
+        copy_boxed(&mut found.set, set);
     }
 }
 
-// A copy of the set that lies in memory of its own; none is the empty set.
-fn copy_of(set: &Option<Box<DeviceSet>>) -> DeviceSet
-    ensures { result ≡ devices_in set.now }
+/// Copies the set that lies in memory of its own, once, in place of what was there; none is the empty set.
+pub fn copy_boxed(to: &mut DeviceSet, set: &Option<Box<DeviceSet>>)
+    ensures { to.new ≡ devices_in set.now }
 {
     match set {
-        Some(set) => set.copied(),
-        None => DeviceSet::new(),
+        Some(set) => to.copy_from(set),
+        None => to.clear(),
     }
 }
 

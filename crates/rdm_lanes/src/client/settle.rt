@@ -2,9 +2,10 @@
 ghost use Rattle.std.specs.Prelude.{◌≡◌, Some};
 ghost use Rattle.rdm_client.specs.declared.told.Collected.TheVariants.{Request as RequestTold};
 ghost use Rattle.rdm_client.specs.Desks.{settled, without_oldest, Called};
-ghost use Rattle.rdm_lanes.specs.Told.{outcome_in, devices_in};
+ghost use Rattle.rdm_lanes.specs.Told.{outcome_in};
 ghost use Rattle.rdm_lanes.specs.body.Holding.{HoldsForRequest, HoldsForDiscovery};
 
+use crate::client::found::copy_boxed;
 use crate::ring_outcome::RingOutcome;
 use rdm_client::{Collected, Desk, Tells, TellsAsk, Told};
 use rdm_queue::AskCompletion;
@@ -44,25 +45,14 @@ pub fn settle_discovery<C: Tells, A: TellsAsk>(
             fault,
             set,
         } => {
-            let done = AskCompletion {
+            let mut done = AskCompletion {
                 run,
                 fault,
-                set: set_of(set),
+                set: DeviceSet::new(),
             };
-            match desk.settle_ask(done) {
-                Ok(told) => Collected::Ask(told),
-                Err(_) => unreachable!(),
-            }
+            copy_boxed(&mut done.set, &set);
+            drop(set);
+            Collected::Ask(desk.call_oldest_ask(done))
         }
-    }
-}
-
-// The set that lies in memory of its own; none is the empty set.
-fn set_of(set: Option<Box<DeviceSet>>) -> DeviceSet
-    ensures { result ≡ devices_in set }
-{
-    match set {
-        Some(set) => Box::into_inner(set),
-        None => DeviceSet::new(),
     }
 }

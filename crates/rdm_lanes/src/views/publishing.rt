@@ -190,8 +190,7 @@ impl<J: ViewHistory, R: Wait + Drop> Publisher<J, Shown<J>, R> {
         if self.waiting || self.latest.front.len() >= MOST_VIEWS {
             return false;
         }
-        let set = devices.copied();
-        let Ok(view) = Arc::new(alloc, DeviceView { run, set }) else {
+        let Some(view) = shared_view(alloc, run, devices) else {
             return false;
         };
         let mut front = self.latest.front.again();
@@ -247,10 +246,18 @@ impl<J: ViewHistory, R: Wait + Drop> Publisher<J, Shown<J>, R> {
 fn opening_shared(alloc: Global) -> Option<Arc<DeviceView>>
     ensures { IfSome result (λ view. view.value ≡ opening_view) }
 {
-    let view = DeviceView {
-        run: 0,
+    shared_view(alloc, 0, &DeviceSet::new())
+}
+
+// The view that this run found these devices, in memory that its owners share.
+fn shared_view(alloc: Global, run: u64, devices: &DeviceSet) -> Option<Arc<DeviceView>>
+    ensures { IfSome result (λ view. view.value ≡ record { run = run; set = devices.now }) }
+{
+    let mut view = DeviceView {
+        run,
         set: DeviceSet::new(),
     };
+    view.set.copy_from(devices);
     match Arc::new(alloc, view) {
         Ok(view) => Some(view),
         Err(_) => None,
