@@ -1,5 +1,5 @@
 -- What each step of the simulated line leaves as it was.
-use Rattle.std.proofs.Common.{◌≡◌, ℕ, List, ◌∷◌, Option, Some, None, refl, sym, ap, subst}
+use Rattle.std.proofs.Common.{◌≡◌, ℕ, List, [], ◌∷◌, Option, Some, None, refl, sym, ap, subst}
 use Rattle.std.specs.Prelude.{MatchOption}
 use Rattle.rdm_wire.specs.declared.command.Command.{Command}
 use Rattle.rdm_wire.specs.declared.command.Command.TheVariants.{Unmute, Branch, Mute, Request as Requested}

@@ -1,5 +1,5 @@
 -- The sample logs whose run fails or is aborted.
-use Rattle.std.proofs.Common.{◌≡◌, List, take, map, Some, refl, inl, arith}
+use Rattle.std.proofs.Common.{◌≡◌, List, [], take, map, Some, refl, inl, arith}
 use Rattle.std.proofs.lemmas.Bool.{false≢true}
 use Rattle.rdm_wire.specs.CommandFrames.{unmute_frame}
 use Rattle.rdm_wire.specs.Honest.{Seen}
