@@ -10,8 +10,9 @@ from .commands import file_case
 Entry = Dict[str, Any]
 
 # A client with a queue depth of 1 waits for the worker after each of its requests. Meanwhile the other client begins,
-# even with one processor: whoever finds nothing to collect yields.
-MANY = 200
+# even with one processor: whoever finds nothing to collect yields. So many requests take longer than a thread needs to
+# begin on a busy machine.
+MANY = 3_000
 TIMEOUT = 3
 
 
