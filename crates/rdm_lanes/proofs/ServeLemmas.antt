@@ -101,29 +101,20 @@ pub record IsLookedAt (c : ℕ) (k : LogState) (old new : Lane) : Type 0 where
   pub fits : Fits c k new
   pub rings : SameLane old new
 
-pub looked_for_calls : (c : ℕ) (k : LogState) (lane : Lane) (calls : Calls) → Fits c k lane
-    → ConsumerLooked lane.calls calls → IsLookedAt c k lane (record lane { calls = calls })
-looked_for_calls c k lane calls f look = record {
-  fits =
-      fits_looked c k lane (record lane { calls = calls }) f look.1
-      (record { told_are = refl; requests_are = refl; asks_are = refl }) refl;
-  rings = (look.0, ((refl, refl, refl, refl), refl), refl);
-}
-
-pub looked_for_slot : (c : ℕ) (k : LogState) (lane mid next : Lane) → IsLookedAt c k lane mid → LooksForSlot mid next
-    → IsLookedAt c k lane next
-looked_for_slot c k lane mid next is look = record {
-  fits = fits_slot c k mid next is.fits look;
-  rings = same_lane_join lane mid next is.rings same;
+pub looked_at : (c : ℕ) (k : LogState) (lane next : Lane) (calls : Calls) → Fits c k lane
+    → ConsumerLooked lane.calls calls → LooksForSlot (record lane { calls = calls }) next → IsLookedAt c k lane next
+looked_at c k lane next calls f look slot = record {
+  fits = fits_slot c k mid next
+      (fits_looked c k lane mid f look.1 (record { told_are = refl; requests_are = refl; asks_are = refl }) refl) slot;
+  rings = (
+    subst (λ (q : Calls). SameConsumer lane.calls q) (sym (ap (λ (l : Lane). l.calls) slot.rest)) look.0,
+    slot.looked.0,
+    ap (λ (l : Lane). l.places) slot.rest,
+  );
 }
   where
-    same : SameLane mid next
-    same = (
-      subst (λ (q : Calls). SameConsumer mid.calls q) (sym (ap (λ (l : Lane). l.calls) look.rest))
-          ((refl, refl, refl, refl), refl),
-      look.looked.0,
-      ap (λ (l : Lane). l.places) look.rest,
-    )
+    mid : Lane
+    mid = record lane { calls = calls }
 
 -- no call was made, or it is made with a lane that has the same rings
 pub serves_none : (c : ℕ) (k : LogState) (lane next : Lane) → Fits c k next → IsBetweenTurns k → SameLane lane next

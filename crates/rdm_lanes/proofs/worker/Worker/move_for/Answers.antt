@@ -37,5 +37,6 @@ pub invariant_of-self-clause-operated : goal.invariant_of-self-clause-operated
 invariant_of-self-clause-operated c =
     let me = c.args.self.now in
     let next = c.move_outcomes.new.session in
-    operated_quiet me.session next (popped me.operator) (collects_line me.session next c.move_outcomes.ensures.moves.collects)
-    (collects_switches me.session next c.move_outcomes.ensures.moves.collects) me.operated
+    let collects = c.move_outcomes.ensures.moves.collects in
+    operated_quiet me.session next (popped me.operator) (collects_line me.session next collects)
+    (collects_switches me.session next collects) me.operated

@@ -22,8 +22,8 @@ returns c =
     let legal = c.in-Some.ensures.legal in
     record {
       moves = record {
-        fits = fits_completion old new c.args.client number done (Request (Some number) done) c.args.lane.now _ adds legal
-            refl c.requires.fits
+        fits = fits_completion old new c.args.client number done (Request (Some number) done) c.args.lane.now _ adds
+            legal refl c.requires.fits
             (record { calls_are = refl; requests_are = refl; asks_are = refl; left_is = refl })
             c.push_reserved.ensures.sent.0;
         served = collect_served old new c.args.client outcome adds c.requires.served;

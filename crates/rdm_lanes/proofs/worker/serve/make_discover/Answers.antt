@@ -8,7 +8,8 @@ take_discover-requires c =
     let old = c.args.session.now in
     let new = c.discover-answer.new.self in
     let ready = c.requires in
-    can_take_discover old new c.args.client c.args.kind c.args.lane.now c.discover-answer.result c.discover-answer.ensures.adds ready.free ready.may
+    can_take_discover old new c.args.client c.args.kind c.args.lane.now c.discover-answer.result
+    c.discover-answer.ensures.adds ready.free ready.may
 
 pub returns-clause-serves : goal.returns-clause-serves
 returns-clause-serves c =
@@ -23,8 +24,8 @@ returns-clause-serves c =
     ready.fits in
     let step = discovers old new c.args.client c.args.kind answer adds rightly in
     record {
-      fits = fits_discover old new c.args.client c.args.kind lane c.take_discover.new.lane answer adds ready.free legal ready.may
-          ready.fits c.take_discover.ensures.after;
+      fits = fits_discover old new c.args.client c.args.kind lane c.take_discover.new.lane answer adds ready.free legal
+          ready.may ready.fits c.take_discover.ensures.after;
       served = step.quiet.served ready.served;
       others = λ other apart. others_wait_discover old new c.args.client c.args.kind answer adds legal other apart;
       line = step.quiet.line;

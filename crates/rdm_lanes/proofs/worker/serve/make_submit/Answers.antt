@@ -8,7 +8,8 @@ take_submit-requires c =
     let old = c.args.session.now in
     let new = c.submit-answer.new.self in
     let ready = c.requires in
-    can_take_submit old new c.args.client c.args.request c.args.lane.now c.submit-answer.result c.submit-answer.ensures.adds ready.free ready.may
+    can_take_submit old new c.args.client c.args.request c.args.lane.now c.submit-answer.result
+    c.submit-answer.ensures.adds ready.free ready.may
 
 pub returns-clause-serves : goal.returns-clause-serves
 returns-clause-serves c =
@@ -23,8 +24,8 @@ returns-clause-serves c =
     ready.fits in
     let step = submits old new c.args.client c.args.request answer adds rightly in
     record {
-      fits = fits_submit old new c.args.client c.args.request lane c.take_submit.new.lane answer adds ready.free legal ready.may
-          ready.fits c.take_submit.ensures.after;
+      fits = fits_submit old new c.args.client c.args.request lane c.take_submit.new.lane answer adds ready.free legal
+          ready.may ready.fits c.take_submit.ensures.after;
       served = step.quiet.served ready.served;
       others = λ other apart. others_wait_submit old new c.args.client c.args.request answer adds legal other apart;
       line = step.quiet.line;

@@ -5,8 +5,8 @@ use Rattle.rdm_lanes.specs.body.Serving.{MayMake}
 use Rattle.rtrb.specs.Ring.{received as popped, known_items}
 use Rattle.rdm_lanes.specs.declared.call.ClientCall.{ClientCall}
 use Rattle.rdm_lanes.proofs.LaneLemmas.{same_lane_join}
-use Rattle.rdm_lanes.proofs.ServeLemmas.{Calls, popped_more, front_of, fits_popped, fits_left, looked_for_calls}
-use Rattle.rdm_lanes.proofs.ServeLemmas.{looked_for_slot, serves_none, serves_after}
+use Rattle.rdm_lanes.proofs.ServeLemmas.{Calls, popped_more, front_of, fits_popped, fits_left, looked_at}
+use Rattle.rdm_lanes.proofs.ServeLemmas.{serves_none, serves_after}
 use Rattle.rdm_lanes.proofs.worker.serve.serve_call.Goals as goal
 
 pub make_submit-requires : goal.make_submit-requires
@@ -14,9 +14,8 @@ make_submit-requires c =
     let client = c.args.client.0 in
     let session = c.args.session.now in
     let lane = c.args.lane.now in
-    let front = looked_for_slot client session lane (record lane { calls = c.slots.new.self }) c.may_make.new.lane
-    (looked_for_calls client session lane c.slots.new.self c.requires.fits c.slots.ensures.looked)
-    c.may_make.ensures.lane in
+    let front = looked_at client session lane c.may_make.new.lane c.slots.new.self c.requires.fits
+    c.slots.ensures.looked c.may_make.ensures.lane in
     record {
       known = c.requires.known ∙ ap (λ (l : Lane). Some l.places) (sym c.may_make.ensures.lane.rest);
       fits =
@@ -36,9 +35,8 @@ returns-in-Submit-clause-serves c =
     let client = c.args.client.0 in
     let session = c.args.session.now in
     let lane = c.args.lane.now in
-    let front = looked_for_slot client session lane (record lane { calls = c.slots.new.self }) c.may_make.new.lane
-    (looked_for_calls client session lane c.slots.new.self c.requires.fits c.slots.ensures.looked)
-    c.may_make.ensures.lane in
+    let front = looked_at client session lane c.may_make.new.lane c.slots.new.self c.requires.fits
+    c.slots.ensures.looked c.may_make.ensures.lane in
     let taken = record c.may_make.new.lane { calls = c.pop_known.new.self } in
     serves_after client session c.make_submit.new.session lane taken c.make_submit.new.lane
     (same_lane_join lane c.may_make.new.lane taken front.rings
@@ -50,9 +48,8 @@ make_discover-requires c =
     let client = c.args.client.0 in
     let session = c.args.session.now in
     let lane = c.args.lane.now in
-    let front = looked_for_slot client session lane (record lane { calls = c.slots.new.self }) c.may_make.new.lane
-    (looked_for_calls client session lane c.slots.new.self c.requires.fits c.slots.ensures.looked)
-    c.may_make.ensures.lane in
+    let front = looked_at client session lane c.may_make.new.lane c.slots.new.self c.requires.fits
+    c.slots.ensures.looked c.may_make.ensures.lane in
     record {
       known = c.requires.known ∙ ap (λ (l : Lane). Some l.places) (sym c.may_make.ensures.lane.rest);
       fits =
@@ -72,9 +69,8 @@ returns-in-Discover-clause-serves c =
     let client = c.args.client.0 in
     let session = c.args.session.now in
     let lane = c.args.lane.now in
-    let front = looked_for_slot client session lane (record lane { calls = c.slots.new.self }) c.may_make.new.lane
-    (looked_for_calls client session lane c.slots.new.self c.requires.fits c.slots.ensures.looked)
-    c.may_make.ensures.lane in
+    let front = looked_at client session lane c.may_make.new.lane c.slots.new.self c.requires.fits
+    c.slots.ensures.looked c.may_make.ensures.lane in
     let taken = record c.may_make.new.lane { calls = c.pop_known.new.self } in
     serves_after client session c.make_discover.new.session lane taken c.make_discover.new.lane
     (same_lane_join lane c.may_make.new.lane taken front.rings
@@ -86,9 +82,8 @@ returns-in-Leave-clause-serves c =
     let client = c.args.client.0 in
     let session = c.args.session.now in
     let lane = c.args.lane.now in
-    let front = looked_for_slot client session lane (record lane { calls = c.slots.new.self }) c.may_make.new.lane
-    (looked_for_calls client session lane c.slots.new.self c.requires.fits c.slots.ensures.looked)
-    c.may_make.ensures.lane in
+    let front = looked_at client session lane c.may_make.new.lane c.slots.new.self c.requires.fits
+    c.slots.ensures.looked c.may_make.ensures.lane in
     let next = record c.may_make.new.lane { calls = c.pop_known.new.self; left = true } in
     serves_none client session lane next
     (fits_left client session c.may_make.new.lane next front.fits
