@@ -1,21 +1,14 @@
 -- What a client's outcomes leave, while they are moved.
-use Rattle.std.proofs.Common.{◌≢◌, ℕ}
+use Rattle.std.proofs.Common.{◌≡◌, ◌≢◌, ℕ, true≢false, false, Some, sym}
+use Rattle.rdm_log.specs.declared.outcome.OutcomeKind.TheVariants as kinds
+use Rattle.rdm_log.specs.promises.Outcomes.{oldest_kind}
 use Rattle.rdm_log.specs.log.LogState.{LogState}
 use Rattle.rdm_lanes.specs.declared.worker.lane.Lane.{Lane}
-use Rattle.rdm_lanes.specs.body.Quiet.{OnlyCollects}
 use Rattle.rdm_lanes.specs.Lines.{IsBetweenTurns}
 use Rattle.rdm_lanes.specs.Lanes.{Fits, SameLane}
-use Rattle.rdm_lanes.specs.body.Serving.{IsOnlyTold}
-use Rattle.rdm_lanes.proofs.LaneLemmas.{waits_join, waits_same, same_lane_join}
+use Rattle.rdm_lanes.specs.body.Doing.{MayMoveOne, MovesFor, MovesOne}
+use Rattle.rdm_lanes.proofs.LaneLemmas.{waits_join, waits_same, same_lane, same_lane_join}
 use Rattle.rdm_lanes.proofs.CollectLemmas.{collects_none, collects_join}
-
--- what was moved so far: the lane agrees with the log, and the other clients waited
-pub record MovesFor (c : ℕ) (old : LogState) (lane : Lane) (new : LogState) (next : Lane) : Type 0 where
-  pub fits : Fits c new next
-  pub served : IsBetweenTurns new
-  pub others : (d : ℕ) → d ≢ c → IsOnlyTold d old new
-  pub collects : OnlyCollects old new
-  pub rings : SameLane lane next
 
 pub moves_none : (c : ℕ) (k : LogState) (lane next : Lane) → Fits c k next → IsBetweenTurns k → SameLane lane next
     → MovesFor c k lane k next
@@ -26,6 +19,18 @@ moves_none c k lane next f s same = record {
   collects = collects_none k;
   rings = same;
 }
+
+pub moves_same : (c : ℕ) (k : LogState) (lane : Lane) → Fits c k lane → IsBetweenTurns k → MovesFor c k lane k lane
+moves_same c k lane f s = moves_none c k lane lane f s (same_lane lane)
+
+pub moves_nothing : (c : ℕ) (k new : LogState) (lane : Lane) → MayMoveOne c k lane → new ≡ k
+    → oldest_kind k.opening k.entries c ≢ Some kinds.Request → MovesOne c k lane false new lane
+moves_nothing c k new lane may same kind =
+    rw same (record {
+      moves = moves_same c k lane may.fits may.served;
+      moved = λ is. absurd (true≢false (sym is));
+      none = λ is. kind;
+    })
 
 pub moves_more : (c : ℕ) (a b d : LogState) (x y z : Lane) → MovesFor c a x b y → MovesFor c b y d z
     → MovesFor c a x d z

@@ -14,7 +14,7 @@ use Rattle.rdm_lanes.specs.declared.client.ends.ClientEnd.{ClientEnd}
 use Rattle.rdm_lanes.specs.Clients.{SameClient}
 use Rattle.rdm_lanes.specs.Lanes.{SameLane, SameLanes}
 use Rattle.rtrb.specs.Ring.{producer_capacity, consumer_capacity}
-use Rattle.rdm_lanes.specs.Ends.{end_rings, end_slots, AllHaveSlots, AllTold}
+use Rattle.rdm_lanes.specs.Ends.{end_rings, AllHaveSlots, AllTold}
 use Rattle.rdm_lanes.specs.Opened.{AreNew}
 use Rattle.rdm_lanes.specs.Pairs.{Rings, ArePair, client_rings}
 use Rattle.rdm_lanes.specs.body.Seats.{seat_rings, SeatsPair, SameSeats, RingsHaveSlots}

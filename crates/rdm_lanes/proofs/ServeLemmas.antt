@@ -1,20 +1,23 @@
 -- How a call comes out of a client's ring.
 use Rattle.std.proofs.Common.{◌≡◌, ℕ, Bool, true, false, List, [], ◌∷◌, ◌++◌, refl, sym, ap, ◌∙◌, slice_get}
-use Rattle.std.proofs.Common.{MatchOption, append-nil, length, ◌+◌, length-append, arith}
+use Rattle.std.proofs.Common.{subst, MatchOption, append-nil, length, length-append, arith}
 use Rattle.std.specs.Prelude.{⊤, ◌||◌}
 use Rattle.std.specs.List.{list_any}
 use Rattle.std.specs.declared.alloc.Global.{Global}
 use Rattle.rtrb.specs.declared.AnyItems.{AnyItems}
 use Rattle.rtrb.specs.declared.consumer.Consumer.{Consumer}
-use Rattle.rtrb.specs.Ring.{sent as pushed, received as popped}
+use Rattle.rtrb.specs.Ring.{sent as pushed, received as popped, SameConsumer, ConsumerLooked}
 use Rattle.rdm_log.specs.log.LogState.{LogState}
 use Rattle.rdm_lanes.specs.declared.call.ClientCall.{ClientCall}
 use Rattle.rdm_lanes.specs.declared.call.ClientCall.TheVariants.{Submit, Discover, Leave}
 use Rattle.rdm_lanes.specs.declared.worker.lane.Lane.{Lane}
 use Rattle.rdm_lanes.specs.Calls.{is_work, work_in}
-use Rattle.rdm_lanes.specs.Lanes.{FitsBut, Fits, is_leave}
-use Rattle.rdm_lanes.specs.body.Serving.{LooksForSlot}
+use Rattle.rdm_lanes.specs.Lanes.{FitsBut, Fits, SameLane, is_leave}
+use Rattle.rdm_lanes.specs.Lines.{IsBetweenTurns}
+use Rattle.rdm_lanes.specs.body.Serving.{LooksForSlot, ServesClient}
 use Rattle.rdm_lanes.proofs.Counting.{work_more, leave_more}
+use Rattle.rdm_lanes.proofs.LaneLemmas.{waits_same, same_lane_join}
+use Rattle.rdm_lanes.proofs.LineLemmas.{line_same, switches_same}
 
 -- the worker's end of a client's ring of calls
 abbrev pub Calls : Type 0
@@ -92,3 +95,46 @@ fits_slot c k lane next f look =
       requests_are = ap (λ (l : Lane). l.requests) look.rest;
       asks_are = ap (λ (l : Lane). l.asks) look.rest;
     }) (ap (λ (l : Lane). l.left) look.rest)
+
+-- the lane, once the worker looked at its calls, and may have looked for a free slot
+pub record IsLookedAt (c : ℕ) (k : LogState) (old new : Lane) : Type 0 where
+  pub fits : Fits c k new
+  pub rings : SameLane old new
+
+pub looked_at : (c : ℕ) (k : LogState) (lane next : Lane) (calls : Calls) → Fits c k lane
+    → ConsumerLooked lane.calls calls → LooksForSlot (record lane { calls = calls }) next → IsLookedAt c k lane next
+looked_at c k lane next calls f look slot = record {
+  fits = fits_slot c k mid next
+      (fits_looked c k lane mid f look.1 (record { told_are = refl; requests_are = refl; asks_are = refl }) refl) slot;
+  rings = (
+    subst (λ (q : Calls). SameConsumer lane.calls q) (sym (ap (λ (l : Lane). l.calls) slot.rest)) look.0,
+    slot.looked.0,
+    ap (λ (l : Lane). l.places) slot.rest,
+  );
+}
+  where
+    mid : Lane
+    mid = record lane { calls = calls }
+
+-- no call was made, or it is made with a lane that has the same rings
+pub serves_none : (c : ℕ) (k : LogState) (lane next : Lane) → Fits c k next → IsBetweenTurns k → SameLane lane next
+    → ServesClient c k lane k next
+serves_none c k lane next f s rings = record {
+  fits = f;
+  served = s;
+  others = λ d apart. waits_same d k;
+  line = line_same k;
+  switches = switches_same k;
+  rings = rings;
+}
+
+pub serves_after : (c : ℕ) (old new : LogState) (lane mid next : Lane) → SameLane lane mid
+    → ServesClient c old mid new next → ServesClient c old lane new next
+serves_after c old new lane mid next rings s = record {
+  fits = s.fits;
+  served = s.served;
+  others = s.others;
+  line = s.line;
+  switches = s.switches;
+  rings = same_lane_join lane mid next rings s.rings;
+}

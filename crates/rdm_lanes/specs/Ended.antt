@@ -1,4 +1,4 @@
--- How a session over rings ends.
+-- How a session with ring buffers ends.
 use Rattle.std.specs.Prelude.{◌≡◌, ◌≢◌, ℕ, true, List, [], ◌∷◌, length}
 use Rattle.rdm_client.specs.declared.worker_end.WorkerEnd.TheVariants.{AllLeft, Turns, LogFull}
 use Rattle.rdm_log.specs.declared.config.Setup.{Setup}
@@ -23,9 +23,10 @@ module _ {J B X C A : Type 0} {h : Ghosts J} where
   end_state end = record { log = end.session; shown = end.published }
 
   -- The end of a session with this many bodies. Its log agrees with the end of each client. If all have left, no call
-  -- is left in a ring, and no frame may be sent. Each client has as many callbacks left as own calls without an
-  -- outcome. The views that were published begin those of the log, and are all of them unless the turns ran out. What
-  -- the clients read agrees with them.
+  -- is left in a ring, and no frame may be sent. If the worker ended with LogFull, the log is full. There is one end
+  -- and one body for each of the bodies that were given, and both ends of all rings could be compared (`matched`).
+  -- Each client has as many callbacks left as own calls without an outcome. The published views are a prefix of the
+  -- log's, and are all of them unless the turns ran out. What the clients read agrees with them.
   pub record IsEnded (bodies : ℕ) (end : LanesEnd J B X C A h) : Type 0 where
     pub agree : AllAgree end.session end.ends.items
     pub all_left : end.worker ≡ AllLeft → AllRead end.ends.items × NoSend end.session.opening end.session.entries

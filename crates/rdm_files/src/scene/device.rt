@@ -12,7 +12,7 @@ use crate::scene::form::{Form, ListOf, Listed, given, optional, required};
 use crate::scene::key::{Keyed, UnknownKey, unknown_in_list, unknown_of};
 use crate::scene::parameter::ParameterForm;
 use crate::scene::values::{FourDigits, OwnUid, Whole};
-use rdm_line::{AddFault, Parameters, SceneDevice, SceneDevices};
+use rdm_line::{AddFault, LATEST_ARRIVAL, Parameters, SceneDevice, SceneDevices};
 use rdm_wire::{Device, MOST_DEVICES};
 use serde_json::Value;
 use std::alloc::Global;
@@ -25,7 +25,7 @@ const PREAMBLE: Whole = Whole {
 
 const FROM: Whole = Whole {
     least: 0,
-    most: 1_000_000_000,
+    most: LATEST_ARRIVAL,
     expected: "a whole number from 0 to 1000000000",
 };
 

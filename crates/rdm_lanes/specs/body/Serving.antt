@@ -1,5 +1,6 @@
 -- The steps by which a worker makes a client's call, and what they leave to the others.
-use Rattle.std.specs.Prelude.{◌≡◌, ℕ, ◌+◌, ◌<◌, List, [], ◌∷◌, ◌++◌, Option, None, Result, Ok, Err, MatchBool}
+use Rattle.std.specs.Prelude.{◌≡◌, ◌≢◌, ℕ, ◌+◌, ◌<◌, false, List, [], ◌∷◌, ◌++◌, Option, None, Some, Result, Ok, Err}
+use Rattle.std.specs.Prelude.{MatchBool, slice_get}
 use Rattle.rtrb.specs.Ring.{sent as pushed, known_free, SameProducer, ProducerLooked}
 use Rattle.rdm_wire.specs.declared.request.Request.{Request}
 use Rattle.rdm_join.specs.declared.status.Status.TheVariants.{FailedToSend}
@@ -9,15 +10,18 @@ use Rattle.rdm_log.specs.declared.fault.AskFault.{AskFault}
 use Rattle.rdm_log.specs.declared.fault.AskFault.TheVariants as ask_faults
 use Rattle.rdm_log.specs.promises.Outcomes.{OutcomeValue, completion_of, never_begun}
 use Rattle.rdm_log.specs.promises.Outcomes.OutcomeValue.{RequestValue, DiscoveryValue}
-use Rattle.rdm_log.specs.log.LogState.{LogState}
-use Rattle.rdm_log.specs.log.History.{is_closed}
+use Rattle.rdm_log.specs.log.LogState.{LogState, is_full_log}
+use Rattle.rdm_log.specs.log.History.{is_closed, places}
 use Rattle.rdm_log.specs.log.Clients.{uncollected, outstanding_requests, outstanding_discoveries}
 use Rattle.rdm_lanes.specs.declared.call.ClientCall.{ClientCall}
 use Rattle.rdm_lanes.specs.declared.call.ClientCall.TheVariants.{Submit, Discover, Leave}
 use Rattle.rdm_lanes.specs.declared.ring_outcome.RingOutcome.{RingOutcome}
 use Rattle.rdm_lanes.specs.declared.worker.lane.Lane.{Lane}
 use Rattle.rdm_lanes.specs.Calls.{calls_by}
+use Rattle.rdm_lanes.specs.Lanes.{Fits, FitsBut, SameLane}
+use Rattle.rdm_lanes.specs.Lines.{SameSwitches, IsBetweenTurns}
 use Rattle.rdm_lanes.specs.Told.{value_in, told_values, uncollected_values}
+use Rattle.rdm_lanes.specs.body.Quiet.{NoExchange}
 
 -- client c called nothing and collected nothing from old to new; it may have been told more, which it may collect
 pub record IsOnlyTold (c : ℕ) (old new : LogState) : Type 0 where
@@ -28,6 +32,15 @@ pub record IsOnlyTold (c : ℕ) (old new : LogState) : Type 0 where
       ≡ uncollected_values old.opening c old.entries ++ more
   pub requests_are : outstanding_requests new.opening c new.entries ≡ outstanding_requests old.opening c old.entries
   pub asks_are : outstanding_discoveries new.opening c new.entries ≡ outstanding_discoveries old.opening c old.entries
+
+-- At most a call of client c was made from old to new. Its lane, which was `lane` and is `next`, fits the log.
+pub record ServesClient (c : ℕ) (old : LogState) (lane : Lane) (new : LogState) (next : Lane) : Type 0 where
+  pub fits : Fits c new next
+  pub served : IsBetweenTurns new
+  pub others : (d : ℕ) → d ≢ c → IsOnlyTold d old new
+  pub line : NoExchange old new
+  pub switches : SameSwitches old new
+  pub rings : SameLane lane next
 
 -- all that client c is told is on its ring, which has a free slot
 abbrev pub MayTell : ℕ → LogState → Lane → Type 0
@@ -40,6 +53,15 @@ MayMake c k lane (Submit request) =
     MatchBool (is_closed k.opening k.entries) (MayTell c k lane) (lane.requests < lane.places)
 MayMake c k lane (Discover kind) = MatchBool (is_closed k.opening k.entries) (MayTell c k lane) (lane.asks < 4)
 MayMake c k lane Leave = Unit {0}
+
+-- The call was taken from the ring of client c, and may be made now. There is room for it in the log, and its lane fits
+-- the log but for this call.
+pub record IsReadyFor (call : ClientCall) (c : ℕ) (k : LogState) (lane : Lane) : Type 0 where
+  pub known : slice_get (places k.opening k.entries) c ≡ Some lane.places
+  pub fits : FitsBut (call ∷ []) c k lane
+  pub served : IsBetweenTurns k
+  pub free : is_full_log k ≡ false
+  pub may : MayMake c k lane call
 
 -- the worker looked for a free slot, and nothing else changed
 pub record LooksForSlot (old new : Lane) : Type 0 where

@@ -1,13 +1,10 @@
 //! How the worker moves outcomes to a client's ring.
-ghost use Rattle.std.specs.Prelude.{◌≡◌, ◌≢◌, ◌<◌, ◌+◌, ℕ, true, false, Some};
+ghost use Rattle.std.specs.Prelude.{◌≡◌, Some};
 ghost use Rattle.rdm_log.specs.declared.outcome.OutcomeKind.TheVariants as kinds;
 ghost use Rattle.rdm_log.specs.promises.Outcomes.{oldest_kind};
-ghost use Rattle.rtrb.specs.Ring.{known_free};
-ghost use Rattle.rdm_lanes.specs.body.Quiet.{OnlyCollects};
 ghost use Rattle.rdm_lanes.specs.Lines.{IsBetweenTurns};
-ghost use Rattle.rdm_lanes.specs.Lanes.{Fits, SameLane};
-ghost use Rattle.rdm_lanes.specs.body.Serving.{IsOnlyTold};
-ghost use Rattle.rdm_lanes.specs.body.Doing.{IsMoved};
+ghost use Rattle.rdm_lanes.specs.Lanes.{Fits};
+ghost use Rattle.rdm_lanes.specs.body.Doing.{IsMoved, MayMoveOne, MovesFor, MovesOne};
 
 use crate::ring_outcome::RingOutcome;
 use crate::worker::lane::Lane;
@@ -17,14 +14,11 @@ use std::alloc::Global;
 
 /// Moves a client's outcomes to its ring, oldest first, until there is none, or no slot is free. If an allocation for
 /// the set of a discovery fails, that outcome waits.
+#[tactic(auto, using(crate::proofs::MovingLemmas::moves_same))]
 pub fn move_outcomes(alloc: Global, session: &mut Session, client: ClientId, lane: &mut Lane)
     requires fits { Fits client.0 session.old lane.old }
     requires served { IsBetweenTurns session.old }
-    ensures fits { Fits client.0 session.new lane.new }
-    ensures served { IsBetweenTurns session.new }
-    ensures others { (c : ℕ) → c ≢ client.0 → IsOnlyTold c session.old session.new }
-    ensures collects { OnlyCollects session.old session.new }
-    ensures lane { SameLane lane.old lane.new }
+    ensures moves { MovesFor client.0 session.old lane.old session.new lane.new }
     ensures all { IsMoved client.0 session.new lane.new }
 {
     if session.oldest(client).is_none() {
@@ -39,18 +33,10 @@ pub fn move_outcomes(alloc: Global, session: &mut Session, client: ClientId, lan
 }
 
 // Moves the client's oldest outcome, and says whether it did.
-#[tactic(auto, using(crate::proofs::CollectLemmas::collects_none))]
+#[tactic(auto, using(crate::proofs::MovingLemmas::moves_nothing))]
 fn move_outcome(alloc: Global, session: &mut Session, client: ClientId, lane: &mut Lane) -> bool
-    requires fits { Fits client.0 session.old lane.old }
-    requires served { IsBetweenTurns session.old }
-    requires slot { 0 < known_free lane.old.replies }
-    ensures fits { Fits client.0 session.new lane.new }
-    ensures served { IsBetweenTurns session.new }
-    ensures others { (c : ℕ) → c ≢ client.0 → IsOnlyTold c session.old session.new }
-    ensures collects { OnlyCollects session.old session.new }
-    ensures lane { SameLane lane.old lane.new }
-    ensures moved { result ≡ true → known_free lane.old.replies ≡ known_free lane.new.replies + 1 }
-    ensures none { result ≡ false → oldest_kind session.new.opening session.new.entries client.0 ≢ Some kinds.Request }
+    requires { MayMoveOne client.0 session.old lane.old }
+    ensures { MovesOne client.0 session.old lane.old result session.new lane.new }
 {
     match session.oldest(client) {
         None => false,
@@ -60,18 +46,10 @@ fn move_outcome(alloc: Global, session: &mut Session, client: ClientId, lane: &m
 }
 
 // Moves a request's outcome. No device set is moved with it.
-#[tactic(auto, using(crate::proofs::CollectLemmas::collects_none))]
+#[tactic(auto, using(crate::proofs::MovingLemmas::moves_nothing))]
 fn move_completion(session: &mut Session, client: ClientId, lane: &mut Lane) -> bool
-    requires fits { Fits client.0 session.old lane.old }
-    requires served { IsBetweenTurns session.old }
-    requires slot { 0 < known_free lane.old.replies }
-    ensures fits { Fits client.0 session.new lane.new }
-    ensures served { IsBetweenTurns session.new }
-    ensures others { (c : ℕ) → c ≢ client.0 → IsOnlyTold c session.old session.new }
-    ensures collects { OnlyCollects session.old session.new }
-    ensures lane { SameLane lane.old lane.new }
-    ensures moved { result ≡ true → known_free lane.old.replies ≡ known_free lane.new.replies + 1 }
-    ensures none { result ≡ false → oldest_kind session.new.opening session.new.entries client.0 ≢ Some kinds.Request }
+    requires { MayMoveOne client.0 session.old lane.old }
+    ensures { MovesOne client.0 session.old lane.old result session.new lane.new }
 {
     let Some((number, done)) = session.next_completion(client) else {
         return false;
@@ -87,19 +65,11 @@ fn move_completion(session: &mut Session, client: ClientId, lane: &mut Lane) -> 
 // Moves a discovery's outcome. Its set goes into memory of its own, which is taken first. It isn't inlined, so that a
 // turn without a discovery has no set in its frame.
 #[inline(never)]
-#[tactic(auto, using(crate::proofs::CollectLemmas::collects_none))]
+#[tactic(auto, using(crate::proofs::MovingLemmas::moves_nothing))]
 fn move_discovery(alloc: Global, session: &mut Session, client: ClientId, lane: &mut Lane) -> bool
-    requires fits { Fits client.0 session.old lane.old }
-    requires served { IsBetweenTurns session.old }
-    requires slot { 0 < known_free lane.old.replies }
+    requires may { MayMoveOne client.0 session.old lane.old }
     requires oldest { oldest_kind session.old.opening session.old.entries client.0 ≡ Some kinds.Discovery }
-    ensures fits { Fits client.0 session.new lane.new }
-    ensures served { IsBetweenTurns session.new }
-    ensures others { (c : ℕ) → c ≢ client.0 → IsOnlyTold c session.old session.new }
-    ensures collects { OnlyCollects session.old session.new }
-    ensures lane { SameLane lane.old lane.new }
-    ensures moved { result ≡ true → known_free lane.old.replies ≡ known_free lane.new.replies + 1 }
-    ensures none { result ≡ false → oldest_kind session.new.opening session.new.entries client.0 ≢ Some kinds.Request }
+    ensures { MovesOne client.0 session.old lane.old result session.new lane.new }
 {
     let Ok(mut set) = Box::new(alloc, DeviceSet::new()) else {
         return false;

@@ -1,14 +1,12 @@
 //! How the worker makes a client's calls.
-ghost use Rattle.std.specs.Prelude.{◌≡◌, ◌≢◌, ℕ, [], ◌∷◌, MatchOption, slice_get, ⊤, true, false, length, ◌<◌, Some};
+ghost use Rattle.std.specs.Prelude.{◌≡◌, MatchOption, slice_get, ⊤, true, false, length, ◌<◌, Some};
 ghost use Rattle.rtrb.specs.Ring.{known_items};
 ghost use Rattle.rdm_log.specs.log.History.{places};
-ghost use Rattle.rdm_log.specs.log.LogState.{is_full_log};
 ghost use Rattle.rdm_lanes.specs.declared.call.ClientCall.TheVariants.{Submit, Discover};
 ghost use Rattle.rdm_lanes.specs.body.Doing.{IsServed, MayNotMakeNext};
-ghost use Rattle.rdm_lanes.specs.body.Quiet.{NoExchange};
-ghost use Rattle.rdm_lanes.specs.Lines.{SameSwitches, IsBetweenTurns};
-ghost use Rattle.rdm_lanes.specs.Lanes.{Fits, FitsBut, SameLane};
-ghost use Rattle.rdm_lanes.specs.body.Serving.{IsOnlyTold, MayTell, MayMake, LooksForSlot};
+ghost use Rattle.rdm_lanes.specs.Lines.{IsBetweenTurns};
+ghost use Rattle.rdm_lanes.specs.Lanes.{Fits, SameLane};
+ghost use Rattle.rdm_lanes.specs.body.Serving.{IsReadyFor, ServesClient, MayTell, MayMake, LooksForSlot};
 ghost use Rattle.rdm_lanes.specs.body.Serving.{AfterSubmit, AfterDiscover, CanTakeSubmit, CanTakeDiscover};
 
 use crate::call::ClientCall;
@@ -28,12 +26,7 @@ pub fn serve_call(alloc: Global, session: &mut Session, client: ClientId, lane: 
     requires known { slice_get (places session.old.opening session.old.entries) client.0 ≡ Some lane.old.places }
     requires fits { Fits client.0 session.old lane.old }
     requires served { IsBetweenTurns session.old }
-    ensures fits { Fits client.0 session.new lane.new }
-    ensures served { IsBetweenTurns session.new }
-    ensures others { (c : ℕ) → c ≢ client.0 → IsOnlyTold c session.old session.new }
-    ensures line { NoExchange session.old session.new }
-    ensures switches { SameSwitches session.old session.new }
-    ensures lane { SameLane lane.old lane.new }
+    ensures serves { ServesClient client.0 session.old lane.old session.new lane.new }
     ensures made { IsServed client.0 session.new lane.old lane.new }
 {
     if lane.calls.slots() == 0 || session.free() < LEAST_FREE {
@@ -94,17 +87,8 @@ fn make_submit(
     lane: &mut Lane,
     request: Request,
 )
-    requires known { slice_get (places session.old.opening session.old.entries) client.0 ≡ Some lane.old.places }
-    requires fits { FitsBut (Submit request ∷ []) client.0 session.old lane.old }
-    requires served { IsBetweenTurns session.old }
-    requires free { is_full_log session.old ≡ false }
-    requires may { MayMake client.0 session.old lane.old (Submit request) }
-    ensures fits { Fits client.0 session.new lane.new }
-    ensures served { IsBetweenTurns session.new }
-    ensures others { (c : ℕ) → c ≢ client.0 → IsOnlyTold c session.old session.new }
-    ensures line { NoExchange session.old session.new }
-    ensures switches { SameSwitches session.old session.new }
-    ensures lane { SameLane lane.old lane.new }
+    requires { IsReadyFor (Submit request) client.0 session.old lane.old }
+    ensures serves { ServesClient client.0 session.old lane.old session.new lane.new }
     ensures calls { lane.new.calls ≡ lane.old.calls }
 {
     let answer = session.submit(client, request);
@@ -134,17 +118,8 @@ fn take_submit(alloc: Global, lane: &mut Lane, answer: Result<u64, (SubmitFault,
 
 // Makes a discover. One that a close refuses is told at once.
 fn make_discover(session: &mut Session, client: ClientId, lane: &mut Lane, kind: Kind)
-    requires known { slice_get (places session.old.opening session.old.entries) client.0 ≡ Some lane.old.places }
-    requires fits { FitsBut (Discover kind ∷ []) client.0 session.old lane.old }
-    requires served { IsBetweenTurns session.old }
-    requires free { is_full_log session.old ≡ false }
-    requires may { MayMake client.0 session.old lane.old (Discover kind) }
-    ensures fits { Fits client.0 session.new lane.new }
-    ensures served { IsBetweenTurns session.new }
-    ensures others { (c : ℕ) → c ≢ client.0 → IsOnlyTold c session.old session.new }
-    ensures line { NoExchange session.old session.new }
-    ensures switches { SameSwitches session.old session.new }
-    ensures lane { SameLane lane.old lane.new }
+    requires { IsReadyFor (Discover kind) client.0 session.old lane.old }
+    ensures serves { ServesClient client.0 session.old lane.old session.new lane.new }
     ensures calls { lane.new.calls ≡ lane.old.calls }
 {
     let answer = session.discover(client, kind);

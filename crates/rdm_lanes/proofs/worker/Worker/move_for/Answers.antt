@@ -20,10 +20,10 @@ invariant_of-self-clause-fits c =
     let here = slice_get_read me.lanes.items (length me.lanes.items) c.args.at lane refl
     (omega (arith, c.requires, me.lanes.ok.0)) c.index_mut.ensures.value in
     all_set c.args.at me.session c.move_outcomes.new.session me.lanes.items lane c.move_outcomes.new.lane me.fits here
-    c.move_outcomes.ensures.lane c.move_outcomes.ensures.fits
+    c.move_outcomes.ensures.moves.rings c.move_outcomes.ensures.moves.fits
     (places_stay me.session c.move_outcomes.new.session
-    (collects_line me.session c.move_outcomes.new.session c.move_outcomes.ensures.collects))
-    c.move_outcomes.ensures.others
+    (collects_line me.session c.move_outcomes.new.session c.move_outcomes.ensures.moves.collects))
+    c.move_outcomes.ensures.moves.others
 
 pub returns-clause-lanes : goal.returns-clause-lanes
 returns-clause-lanes c =
@@ -31,11 +31,12 @@ returns-clause-lanes c =
     let lane = c.index_mut.result.now in
     same_lanes_set me.lanes.items c.args.at lane c.move_outcomes.new.lane
     (slice_get_read me.lanes.items (length me.lanes.items) c.args.at lane refl
-    (omega (arith, c.requires, me.lanes.ok.0)) c.index_mut.ensures.value) c.move_outcomes.ensures.lane
+    (omega (arith, c.requires, me.lanes.ok.0)) c.index_mut.ensures.value) c.move_outcomes.ensures.moves.rings
 
 pub invariant_of-self-clause-operated : goal.invariant_of-self-clause-operated
 invariant_of-self-clause-operated c =
     let me = c.args.self.now in
     let next = c.move_outcomes.new.session in
-    operated_quiet me.session next (popped me.operator) (collects_line me.session next c.move_outcomes.ensures.collects)
-    (collects_switches me.session next c.move_outcomes.ensures.collects) me.operated
+    let collects = c.move_outcomes.ensures.moves.collects in
+    operated_quiet me.session next (popped me.operator) (collects_line me.session next collects)
+    (collects_switches me.session next collects) me.operated

@@ -20,9 +20,9 @@ invariant_of-self-clause-fits c =
     let lane = c.index_mut.result.now in
     let here = slice_get_read me.lanes.items (length me.lanes.items) c.args.at lane refl
     (omega (arith, c.requires, me.lanes.ok.0)) c.index_mut.ensures.value in
+    let serves = c.serve_call.ensures.serves in
     all_set c.args.at me.session c.serve_call.new.session me.lanes.items lane c.serve_call.new.lane me.fits here
-    c.serve_call.ensures.lane c.serve_call.ensures.fits
-    (places_stay me.session c.serve_call.new.session c.serve_call.ensures.line) c.serve_call.ensures.others
+    serves.rings serves.fits (places_stay me.session c.serve_call.new.session serves.line) serves.others
 
 pub returns-clause-lanes : goal.returns-clause-lanes
 returns-clause-lanes c =
@@ -30,7 +30,7 @@ returns-clause-lanes c =
     let lane = c.index_mut.result.now in
     same_lanes_set me.lanes.items c.args.at lane c.serve_call.new.lane
     (slice_get_read me.lanes.items (length me.lanes.items) c.args.at lane refl
-    (omega (arith, c.requires, me.lanes.ok.0)) c.index_mut.ensures.value) c.serve_call.ensures.lane
+    (omega (arith, c.requires, me.lanes.ok.0)) c.index_mut.ensures.value) c.serve_call.ensures.serves.rings
 
 pub serve_call-requires-clause-known : goal.serve_call-requires-clause-known
 serve_call-requires-clause-known c =
@@ -44,5 +44,5 @@ serve_call-requires-clause-known c =
 pub invariant_of-self-clause-operated : goal.invariant_of-self-clause-operated
 invariant_of-self-clause-operated c =
     let me = c.args.self.now in
-    operated_quiet me.session c.serve_call.new.session (popped me.operator) c.serve_call.ensures.line
-    c.serve_call.ensures.switches me.operated
+    let serves = c.serve_call.ensures.serves in
+    operated_quiet me.session c.serve_call.new.session (popped me.operator) serves.line serves.switches me.operated

@@ -1,4 +1,4 @@
-use Rattle.std.proofs.Common.{refl}
+use Rattle.std.proofs.Common.{refl, true≢false}
 use Rattle.rdm_log.specs.declared.outcome.Outcome.TheVariants as outcomes
 use Rattle.std.proofs.Common.{Some}
 use Rattle.rdm_lanes.specs.declared.ring_outcome.RingOutcome.TheVariants.{Request}
@@ -11,25 +11,26 @@ overflow_sub-lane c =
     has_request c.args.session.now c.next_completion.new.self c.args.client c.in-Some.number c.in-Some.done
     c.args.lane.now c.in-Some.ensures.adds c.in-Some.ensures.legal c.requires.fits
 
-pub returns-clause-fits : goal.returns-clause-fits
-returns-clause-fits c =
-    fits_completion c.args.session.now c.next_completion.new.self c.args.client c.in-Some.number c.in-Some.done
-    (Request (Some c.in-Some.number) c.in-Some.done) c.args.lane.now _ c.in-Some.ensures.adds
-    c.in-Some.ensures.legal refl c.requires.fits
-    (record { calls_are = refl; requests_are = refl; asks_are = refl; left_is = refl }) c.push_reserved.ensures.sent.0
-
-pub returns-clause-served : goal.returns-clause-served
-returns-clause-served c =
-    collect_served c.args.session.now c.next_completion.new.self c.args.client
-    (outcomes.Request (Some c.in-Some.number) c.in-Some.done) c.in-Some.ensures.adds c.requires.served
-
-pub returns-clause-collects : goal.returns-clause-collects
-returns-clause-collects c =
-    collects c.args.session.now c.next_completion.new.self c.args.client
-    (outcomes.Request (Some c.in-Some.number) c.in-Some.done) c.in-Some.ensures.adds
-
-pub returns-clause-others : goal.returns-clause-others
-returns-clause-others c other apart =
-    others_wait_collect c.args.session.now c.next_completion.new.self c.args.client
-    (outcomes.Request (Some c.in-Some.number) c.in-Some.done) c.in-Some.ensures.adds c.in-Some.ensures.legal other
-    apart
+pub returns : goal.returns
+returns c =
+    let old = c.args.session.now in
+    let new = c.next_completion.new.self in
+    let number = c.in-Some.number in
+    let done = c.in-Some.done in
+    let outcome = outcomes.Request (Some number) done in
+    let adds = c.in-Some.ensures.adds in
+    let legal = c.in-Some.ensures.legal in
+    record {
+      moves = record {
+        fits = fits_completion old new c.args.client number done (Request (Some number) done) c.args.lane.now _ adds
+            legal refl c.requires.fits
+            (record { calls_are = refl; requests_are = refl; asks_are = refl; left_is = refl })
+            c.push_reserved.ensures.sent.0;
+        served = collect_served old new c.args.client outcome adds c.requires.served;
+        others = λ other apart. others_wait_collect old new c.args.client outcome adds legal other apart;
+        collects = collects old new c.args.client outcome adds;
+        rings = (((refl, refl, refl, refl), refl), c.push_reserved.ensures.ring, refl);
+      };
+      moved = λ is. c.push_reserved.ensures.sent.1;
+      none = λ is. absurd (true≢false is);
+    }

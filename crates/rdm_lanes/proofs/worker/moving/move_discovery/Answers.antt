@@ -1,4 +1,4 @@
-use Rattle.std.proofs.Common.{refl}
+use Rattle.std.proofs.Common.{refl, true≢false}
 use Rattle.rdm_log.specs.promises.Outcomes.{discovery_outcome}
 use Rattle.rdm_lanes.proofs.CollectedLemmas.{has_ask, fits_discovery}
 use Rattle.rdm_lanes.proofs.StepLemmas.{collects, collect_served, others_wait_collect}
@@ -8,27 +8,28 @@ pub overflow_sub-lane : goal.overflow_sub-lane
 overflow_sub-lane c =
     has_ask c.args.session.now c.next_discovery.new.self c.args.client c.in-Some.end.number
     (record { run = c.in-Some.end.run; fault = c.in-Some.end.fault; set = c.next_discovery.new.set })
-    c.args.lane.now c.in-Some.ensures.adds c.in-Some.ensures.legal c.requires.fits
+    c.args.lane.now c.in-Some.ensures.adds c.in-Some.ensures.legal c.requires.may.fits
 
-pub returns-clause-fits : goal.returns-clause-fits
-returns-clause-fits c =
-    fits_discovery c.args.session.now c.next_discovery.new.self c.args.client c.in-Some.end.number
-    (record { run = c.in-Some.end.run; fault = c.in-Some.end.fault; set = c.next_discovery.new.set }) _
-    c.args.lane.now _ c.in-Some.ensures.adds c.in-Some.ensures.legal refl c.requires.fits
-    (record { calls_are = refl; requests_are = refl; asks_are = refl; left_is = refl }) c.push_reserved.ensures.sent.0
-
-pub returns-clause-served : goal.returns-clause-served
-returns-clause-served c =
-    collect_served c.args.session.now c.next_discovery.new.self c.args.client
-    (discovery_outcome c.in-Some.end c.next_discovery.new.set) c.in-Some.ensures.adds c.requires.served
-
-pub returns-clause-collects : goal.returns-clause-collects
-returns-clause-collects c =
-    collects c.args.session.now c.next_discovery.new.self c.args.client
-    (discovery_outcome c.in-Some.end c.next_discovery.new.set) c.in-Some.ensures.adds
-
-pub returns-clause-others : goal.returns-clause-others
-returns-clause-others c other apart =
-    others_wait_collect c.args.session.now c.next_discovery.new.self c.args.client
-    (discovery_outcome c.in-Some.end c.next_discovery.new.set) c.in-Some.ensures.adds c.in-Some.ensures.legal other
-    apart
+pub returns : goal.returns
+returns c =
+    let old = c.args.session.now in
+    let new = c.next_discovery.new.self in
+    let end = c.in-Some.end in
+    let outcome = discovery_outcome end c.next_discovery.new.set in
+    let adds = c.in-Some.ensures.adds in
+    let legal = c.in-Some.ensures.legal in
+    record {
+      moves = record {
+        fits = fits_discovery old new c.args.client end.number
+            (record { run = end.run; fault = end.fault; set = c.next_discovery.new.set }) _ c.args.lane.now _ adds legal
+            refl c.requires.may.fits
+            (record { calls_are = refl; requests_are = refl; asks_are = refl; left_is = refl })
+            c.push_reserved.ensures.sent.0;
+        served = collect_served old new c.args.client outcome adds c.requires.may.served;
+        others = λ other apart. others_wait_collect old new c.args.client outcome adds legal other apart;
+        collects = collects old new c.args.client outcome adds;
+        rings = (((refl, refl, refl, refl), refl), c.push_reserved.ensures.ring, refl);
+      };
+      moved = λ is. c.push_reserved.ensures.sent.1;
+      none = λ is. absurd (true≢false is);
+    }

@@ -1,21 +1,12 @@
 use Rattle.std.proofs.Common.{refl}
-use Rattle.rdm_lanes.proofs.LaneLemmas.{waits_join}
 use Rattle.rdm_lanes.proofs.MovingLemmas.{moves_none, moves_more}
 use Rattle.rdm_lanes.proofs.ServeLemmas.{fits_looked}
 use Rattle.rdm_lanes.proofs.worker.moving.move_outcomes.Goals as goal
 
 pub loop-alloc-preserved : goal.loop-alloc-preserved
 loop-alloc-preserved c =
-    let more = c.move_outcome.ensures in
     moves_more c.args.client.0 c.args.session.now c.loop-alloc.session c.move_outcome.new.session c.args.lane.now
-    c.loop-alloc.lane c.move_outcome.new.lane c.loop-alloc.invariant
-    (record {
-      fits = more.fits;
-      served = more.served;
-      others = more.others;
-      collects = more.collects;
-      rings = more.lane;
-    })
+    c.loop-alloc.lane c.move_outcome.new.lane c.loop-alloc.invariant c.move_outcome.ensures.moves
 
 pub loop-alloc-init : goal.loop-alloc-init
 loop-alloc-init c =
@@ -27,7 +18,7 @@ loop-alloc-init c =
     }) refl)
     c.requires.served (((refl, refl, refl, refl), refl), c.slots.ensures.looked.0, refl)
 
-pub returns-then-not-move_outcome-clause-others : goal.returns-then-not-move_outcome-clause-others
-returns-then-not-move_outcome-clause-others c d apart =
-    waits_join d c.args.session.now c.loop-alloc.session c.move_outcome.new.session
-    (c.loop-alloc.invariant.others d apart) (c.move_outcome.ensures.others d apart)
+pub returns-then-not-move_outcome-clause-moves : goal.returns-then-not-move_outcome-clause-moves
+returns-then-not-move_outcome-clause-moves c =
+    moves_more c.args.client.0 c.args.session.now c.loop-alloc.session c.move_outcome.new.session c.args.lane.now
+    c.loop-alloc.lane c.move_outcome.new.lane c.loop-alloc.invariant c.move_outcome.ensures.moves

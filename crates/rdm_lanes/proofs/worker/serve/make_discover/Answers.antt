@@ -5,40 +5,30 @@ use Rattle.rdm_lanes.proofs.worker.serve.make_discover.Goals as goal
 
 pub take_discover-requires : goal.take_discover-requires
 take_discover-requires c =
-    can_take_discover c.args.session.now c.discover-answer.new.self c.args.client c.args.kind c.args.lane.now
-    c.discover-answer.result c.discover-answer.ensures.adds c.requires.free c.requires.may
+    let old = c.args.session.now in
+    let new = c.discover-answer.new.self in
+    let ready = c.requires in
+    can_take_discover old new c.args.client c.args.kind c.args.lane.now c.discover-answer.result
+    c.discover-answer.ensures.adds ready.free ready.may
 
-pub returns-clause-fits : goal.returns-clause-fits
-returns-clause-fits c =
-    fits_discover c.args.session.now c.discover-answer.new.self c.args.client c.args.kind c.args.lane.now
-    c.take_discover.new.lane c.discover-answer.result c.discover-answer.ensures.adds c.requires.free
-    c.discover-answer.ensures.legal c.requires.may c.requires.fits c.take_discover.ensures.after
-
-pub returns-clause-served : goal.returns-clause-served
-returns-clause-served c =
-    (discovers c.args.session.now c.discover-answer.new.self c.args.client c.args.kind c.discover-answer.result
-    c.discover-answer.ensures.adds
-    (discovers_rightly c.args.session.now c.discover-answer.new.self c.args.client c.args.kind c.args.lane.now
-    c.discover-answer.result c.discover-answer.ensures.adds c.requires.free c.requires.known c.requires.may
-    c.requires.fits)).quiet.served c.requires.served
-
-pub returns-clause-line : goal.returns-clause-line
-returns-clause-line c =
-    (discovers c.args.session.now c.discover-answer.new.self c.args.client c.args.kind c.discover-answer.result
-    c.discover-answer.ensures.adds
-    (discovers_rightly c.args.session.now c.discover-answer.new.self c.args.client c.args.kind c.args.lane.now
-    c.discover-answer.result c.discover-answer.ensures.adds c.requires.free c.requires.known c.requires.may
-    c.requires.fits)).quiet.line
-
-pub returns-clause-switches : goal.returns-clause-switches
-returns-clause-switches c =
-    (discovers c.args.session.now c.discover-answer.new.self c.args.client c.args.kind c.discover-answer.result
-    c.discover-answer.ensures.adds
-    (discovers_rightly c.args.session.now c.discover-answer.new.self c.args.client c.args.kind c.args.lane.now
-    c.discover-answer.result c.discover-answer.ensures.adds c.requires.free c.requires.known c.requires.may
-    c.requires.fits)).switches
-
-pub returns-clause-others : goal.returns-clause-others
-returns-clause-others c other apart =
-    others_wait_discover c.args.session.now c.discover-answer.new.self c.args.client c.args.kind
-    c.discover-answer.result c.discover-answer.ensures.adds c.discover-answer.ensures.legal other apart
+pub returns-clause-serves : goal.returns-clause-serves
+returns-clause-serves c =
+    let old = c.args.session.now in
+    let new = c.discover-answer.new.self in
+    let lane = c.args.lane.now in
+    let ready = c.requires in
+    let answer = c.discover-answer.result in
+    let adds = c.discover-answer.ensures.adds in
+    let legal = c.discover-answer.ensures.legal in
+    let rightly = discovers_rightly old new c.args.client c.args.kind lane answer adds ready.free ready.known ready.may
+    ready.fits in
+    let step = discovers old new c.args.client c.args.kind answer adds rightly in
+    record {
+      fits = fits_discover old new c.args.client c.args.kind lane c.take_discover.new.lane answer adds ready.free legal
+          ready.may ready.fits c.take_discover.ensures.after;
+      served = step.quiet.served ready.served;
+      others = λ other apart. others_wait_discover old new c.args.client c.args.kind answer adds legal other apart;
+      line = step.quiet.line;
+      switches = step.switches;
+      rings = c.take_discover.ensures.lane;
+    }

@@ -5,40 +5,30 @@ use Rattle.rdm_lanes.proofs.worker.serve.make_submit.Goals as goal
 
 pub take_submit-requires : goal.take_submit-requires
 take_submit-requires c =
-    can_take_submit c.args.session.now c.submit-answer.new.self c.args.client c.args.request c.args.lane.now
-    c.submit-answer.result c.submit-answer.ensures.adds c.requires.free c.requires.may
+    let old = c.args.session.now in
+    let new = c.submit-answer.new.self in
+    let ready = c.requires in
+    can_take_submit old new c.args.client c.args.request c.args.lane.now c.submit-answer.result
+    c.submit-answer.ensures.adds ready.free ready.may
 
-pub returns-clause-fits : goal.returns-clause-fits
-returns-clause-fits c =
-    fits_submit c.args.session.now c.submit-answer.new.self c.args.client c.args.request c.args.lane.now
-    c.take_submit.new.lane c.submit-answer.result c.submit-answer.ensures.adds c.requires.free
-    c.submit-answer.ensures.legal c.requires.may c.requires.fits c.take_submit.ensures.after
-
-pub returns-clause-served : goal.returns-clause-served
-returns-clause-served c =
-    (submits c.args.session.now c.submit-answer.new.self c.args.client c.args.request c.submit-answer.result
-    c.submit-answer.ensures.adds
-    (submits_rightly c.args.session.now c.submit-answer.new.self c.args.client c.args.request c.args.lane.now
-    c.submit-answer.result c.submit-answer.ensures.adds c.requires.free c.requires.known c.requires.may
-    c.requires.fits)).quiet.served c.requires.served
-
-pub returns-clause-line : goal.returns-clause-line
-returns-clause-line c =
-    (submits c.args.session.now c.submit-answer.new.self c.args.client c.args.request c.submit-answer.result
-    c.submit-answer.ensures.adds
-    (submits_rightly c.args.session.now c.submit-answer.new.self c.args.client c.args.request c.args.lane.now
-    c.submit-answer.result c.submit-answer.ensures.adds c.requires.free c.requires.known c.requires.may
-    c.requires.fits)).quiet.line
-
-pub returns-clause-switches : goal.returns-clause-switches
-returns-clause-switches c =
-    (submits c.args.session.now c.submit-answer.new.self c.args.client c.args.request c.submit-answer.result
-    c.submit-answer.ensures.adds
-    (submits_rightly c.args.session.now c.submit-answer.new.self c.args.client c.args.request c.args.lane.now
-    c.submit-answer.result c.submit-answer.ensures.adds c.requires.free c.requires.known c.requires.may
-    c.requires.fits)).switches
-
-pub returns-clause-others : goal.returns-clause-others
-returns-clause-others c other apart =
-    others_wait_submit c.args.session.now c.submit-answer.new.self c.args.client c.args.request c.submit-answer.result
-    c.submit-answer.ensures.adds c.submit-answer.ensures.legal other apart
+pub returns-clause-serves : goal.returns-clause-serves
+returns-clause-serves c =
+    let old = c.args.session.now in
+    let new = c.submit-answer.new.self in
+    let lane = c.args.lane.now in
+    let ready = c.requires in
+    let answer = c.submit-answer.result in
+    let adds = c.submit-answer.ensures.adds in
+    let legal = c.submit-answer.ensures.legal in
+    let rightly = submits_rightly old new c.args.client c.args.request lane answer adds ready.free ready.known ready.may
+    ready.fits in
+    let step = submits old new c.args.client c.args.request answer adds rightly in
+    record {
+      fits = fits_submit old new c.args.client c.args.request lane c.take_submit.new.lane answer adds ready.free legal
+          ready.may ready.fits c.take_submit.ensures.after;
+      served = step.quiet.served ready.served;
+      others = λ other apart. others_wait_submit old new c.args.client c.args.request answer adds legal other apart;
+      line = step.quiet.line;
+      switches = step.switches;
+      rings = c.take_submit.ensures.lane;
+    }
