@@ -13,6 +13,7 @@ Entry = Dict[str, Any]
 # even with one processor: whoever finds nothing to collect yields. So many requests take longer than a thread needs to
 # begin on a busy machine.
 MANY = 3_000
+ENTRIES = 100_000
 TIMEOUT = 3
 
 
@@ -27,7 +28,7 @@ def case_of(name: str, port: str, form: LogForm, clients: int, places: int, requ
     """So many clients make requests to a device that isn't there, and the log has the form."""
     call = {"get": "1234:00000001", "pid": "0060"}
     client = {"places": places, "calls": [call] * requests}
-    session = json.dumps({"scene": {"source": "7a70:00000100"}, "clients": [client] * clients})
+    session = json.dumps({"scene": {"source": "7a70:00000100"}, "clients": [client] * clients, "log": ENTRIES})
     out = "".join(f"client {c} request {k}: {TIMEOUT}\n" for c in range(clients) for k in range(requests))
     command = arguments_of("run", "--port", port, "--log", LOG_NAME, FILE_NAME)
     return file_case(name, (command,), session, Expected(out=out.encode(), log_form=form))
