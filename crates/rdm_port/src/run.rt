@@ -86,7 +86,11 @@ pub(crate) fn answer_served<'a, G: Write>(
     ensures memory { IfErr result (λ e. e.0 ≡ Fault.Memory) }
     ensures unlogged { OnErr result (log.new ≡ log.old) }
 {
-    let Served { outcomes, session } = served;
+    let Served {
+        outcomes,
+        session,
+        slots: _,
+    } = served;
     let Ok(text) = session_text(alloc, &outcomes) else {
         return Err((Fault::Memory, None));
     };

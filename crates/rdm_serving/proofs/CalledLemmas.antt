@@ -1,6 +1,6 @@
 -- Comparing the calls of a session file with those that a log has.
 use Rattle.std.proofs.Common.{◌≡◌, ℕ, suc, subst, ◌+◌, ◌<◌, List, [], ◌∷◌, ◌++◌, length, take, get_or, refl, ap, sym}
-use Rattle.std.proofs.Common.{◌∙◌, Option, Some, None, Bool, true, false, arith}
+use Rattle.std.proofs.Common.{◌∙◌, Bool, true, false, arith}
 use Rattle.std.specs.Prelude.{◌==◌}
 use Rattle.std.specs.Bool.{OnTrue}
 use Rattle.std.proofs.lemmas.Bool.{eqb-true}
@@ -8,7 +8,7 @@ use Rattle.std.proofs.Math.Seq.{take-suc}
 use Rattle.std.proofs.lemmas.List.{length-take-le}
 use Rattle.rdm_log.specs.declared.entry.Entry.{Entry}
 use Rattle.rdm_files.specs.declared.session.client.ClientFile.{ClientFile}
-use Rattle.rdm_serving.specs.LoggedCalls.{AllCalled, HasCalls, calls_logged}
+use Rattle.rdm_serving.specs.LoggedCalls.{AllCalled, calls_logged}
 
 -- where the first of both lists are the same, the rest decides
 pub same_next : {X : Type 0} {P : Type 0} (x : X) (xs : List X) (e : X) (left later : List X) → left ≡ e ∷ later → x ≡ e

@@ -6,3 +6,4 @@ pub mod PlaceLemmas
 pub mod LoggedLemmas
 pub mod CalledLemmas
 pub mod WritingLemmas
+pub mod RingLemmas

@@ -15,7 +15,6 @@ use Rattle.rdm_log.specs.declared.entry.Entry.{Entry}
 use Rattle.rdm_log.specs.declared.entry.Entry.TheVariants.{Join, Refuse, Accept, Ask, Send, Came, Finish, Answer}
 use Rattle.rdm_log.specs.declared.entry.Entry.TheVariants.{Collect, Pause, Resume, Close}
 use Rattle.rdm_log.specs.log.Entries.{accepted_of, asked_of, accepts, asks}
-use Rattle.rdm_agent.specs.declared.fault.AgentFault.{AgentFault}
 use Rattle.rdm_client.specs.declared.told.Told.{Told}
 use Rattle.rdm_client.specs.declared.told.AskTold.{AskTold}
 use Rattle.rdm_client.specs.declared.told.Collected.{Collected}

@@ -3,8 +3,8 @@
 //! [`discover_in`] makes a run on the line of a scene, and [`report`] returns what is printed for it. [`serve`] serves
 //! the clients of a session file, each in a thread of its own, and [`session_text`] returns what is printed for them.
 //! [`discover`] and [`serve_on_line`] do the same on any line. They report to a [`Progress`]. A [`LogOutput`] receives
-//! each exchange of a discovery, or, by [`write_entries`], the log of a session. All of it is the profile of this
-//! project.
+//! each exchange of a discovery, or, by [`write_entries`], the log of a session. [`play`] makes the calls of a client,
+//! and is public so that tests can give it a [`Player`] of their own. All of it is the profile of this project.
 #![tactic(auto)]
 
 mod discovery;

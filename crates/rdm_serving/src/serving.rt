@@ -5,7 +5,7 @@ ghost use Rattle.rdm_wire.specs.Uid.{IsDevice};
 ghost use Rattle.rdm_log.specs.log.Config.{IsConfig};
 ghost use Rattle.rdm_client.specs.declared.told.Told.{Told};
 ghost use Rattle.rdm_lanes.specs.Lines.{exchange_count};
-ghost use Rattle.rdm_serving.specs.Serving.{MayServe};
+ghost use Rattle.rdm_serving.specs.Serving.{MayServe, slots_by};
 ghost use Rattle.rdm_serving.specs.LoggedOutcomes.{IsLogOf};
 ghost use Rattle.rdm_serving.specs.LoggedCalls.{HasCalls};
 ghost use Rattle.rdm_serving.specs.SessionReport.{AllSettled, IsSettled, is_request, is_ask, places_of};
@@ -72,11 +72,15 @@ pub struct Served {
     pub outcomes: Vec<Outcomes>,
     /// The session, with its log.
     pub session: Session,
+    /// With ring buffers: how many slots the first client's rings had, the one for its calls and the one for its
+    /// outcomes. Those of the other clients had as many. None with a mutex, or without clients.
+    pub slots: Option<(usize, usize)>,
 }
 
 /// Serves a session on the line of its scene, and returns the outcomes of each client's calls, with the session and its
 /// log. The log has exactly the file's clients and calls. Each outcome has its call's tag. It agrees with that log in
-/// its status and the number of its bytes, or in its fault. The worker made at most as many exchanges as turns.
+/// its status and the number of its bytes, or in its fault. The worker made at most as many exchanges as turns. With
+/// ring buffers, each ring had as many slots as the file says.
 ///
 /// The file's fields must be in their ranges: the source isn't broadcast ([`Uid::is_broadcast`]), the budget and the
 /// ring are at least 1, and the log is at most [`MOST_FREE_ENTRIES`](rdm_queue::MOST_FREE_ENTRIES). Those of a file
@@ -96,6 +100,7 @@ pub fn serve<L: Ledger + Send + Sync, P: Progress + Send, R: Threads + Wait + Sy
     ensures logged { IfOk result (λ s. IsLogOf s.session.opening s.session.entries s.outcomes.items) }
     ensures called { IfOk result (λ s. HasCalls s.session.entries file.clients.items) }
     ensures in_turns { IfOk result (λ s. exchange_count s.session ≤ file.turns) }
+    ensures slots { IfOk result (λ s. s.slots ≡ slots_by port file.ring file.clients.items) }
 {
     let SessionFile {
         scene,
@@ -141,6 +146,7 @@ pub fn serve_on_line<
     ensures logged { IfOk result (λ s. IsLogOf s.session.opening s.session.entries s.outcomes.items) }
     ensures called { IfOk result (λ s. HasCalls s.session.entries file.clients.items) }
     ensures in_turns { IfOk result (λ s. exchange_count s.session ≤ file.turns) }
+    ensures slots { IfOk result (λ s. s.slots ≡ slots_by port file.ring file.clients.items) }
 {
     let LineSessionFile {
         source,

@@ -1,5 +1,5 @@
 //! Serves the clients of a session file with a mutex.
-ghost use Rattle.std.specs.Prelude.{◌≡◌, ◌≤◌, ◌+◌, [], ⊤, length, IfOk};
+ghost use Rattle.std.specs.Prelude.{◌≡◌, ◌≤◌, ◌+◌, [], ⊤, None, length, IfOk};
 ghost use Rattle.rdm_log.specs.log.Config.{IsConfig};
 ghost use Rattle.rdm_lanes.specs.Lines.{exchange_count};
 
@@ -40,6 +40,7 @@ pub fn serve_locked<L: Ledger + Send + Sync, X: Line + Send + Drop, R: Threads +
     requires config_is { IsConfig set_up.config }
     requires empty { set_up.log.entries ≡ [] }
     ensures in_turns { IfOk result (λ s. exchange_count s.session ≤ set_up.turns) }
+    ensures slots { IfOk result (λ s. s.slots ≡ None) }
 {
     let SetUp {
         search,
@@ -67,13 +68,15 @@ fn finish<L: Ledger>(
     record: &[Exchange],
 ) -> Result<Served, ServeFault>
     requires { L.parts ≡ 17 }
-    ensures { IfOk result (λ s. exchange_count s.session ≡ length «record».now) }
+    ensures exchanges { IfOk result (λ s. exchange_count s.session ≡ length «record».now) }
+    ensures slots { IfOk result (λ s. s.slots ≡ None) }
 {
     let Ended { outcomes, shares } = ended;
     match port.finish(shares, record) {
         Ok(end) => Ok(Served {
             outcomes,
             session: end.session,
+            slots: None,
         }),
         // This never happens: all shares are there, and the record is the worker's own.
         Err(_) => Err(ServeFault::Log),

@@ -1,10 +1,13 @@
 //! Serves the clients of a session file with ring buffers.
-ghost use Rattle.std.specs.Prelude.{◌≡◌, ◌≤◌, [], ⊤, length, IfSome, IfOk};
+ghost use Rattle.std.specs.Prelude.{◌≡◌, ◌≤◌, [], ⊤, length, slice_get, option_map, IfSome, IfOk};
 ghost use Rattle.std.proofs.Common.{rules};
 ghost use Rattle.rdm_log.specs.log.Config.{IsConfig};
+ghost use Rattle.rdm_words.specs.declared.port_kind.PortKind.TheVariants.{Rings};
 ghost use Rattle.rdm_lanes.specs.Clients.{SameClient};
+ghost use Rattle.rdm_lanes.specs.Ends.{end_slots};
 ghost use Rattle.rdm_lanes.specs.Lines.{exchange_count};
 ghost use Rattle.rdm_lanes.specs.Workers.{book_of};
+ghost use Rattle.rdm_serving.specs.Serving.{slots_by};
 
 use crate::outcomes::Outcomes;
 use crate::serving::calls::cancel_all;
@@ -42,6 +45,7 @@ pub fn serve_rings<X: Line + Send + Drop, R: Threads + Wait + Sync>(
     requires empty { set_up.log.entries ≡ [] }
     requires slots { 1 ≤ ring }
     ensures in_turns { IfOk result (λ s. exchange_count s.session ≤ set_up.turns) }
+    ensures slots { IfOk result (λ s. s.slots ≡ slots_by Rings ring clients.now) }
 {
     let history = BlankHistory::new();
     serve_views::<Brand, X, R>(rt, alloc, history, set_up, ring, clients, line)
@@ -62,6 +66,7 @@ fn serve_views<J: ViewHistory + Send + Sync, X: Line + Send + Drop, R: Threads +
     requires empty { set_up.log.entries ≡ [] }
     requires slots { 1 ≤ ring }
     ensures in_turns { IfOk result (λ s. exchange_count s.session ≤ set_up.turns) }
+    ensures slots { IfOk result (λ s. s.slots ≡ slots_by Rings ring clients.now) }
 {
     let SetUp {
         search,
@@ -84,9 +89,10 @@ fn serve_views<J: ViewHistory + Send + Sync, X: Line + Send + Drop, R: Threads +
     }
 }
 
-// The queue depths of the clients, and what they do. None: there was no memory.
+// The queue depths of the clients, and what they do, one each. None: there was no memory.
 fn seats_of(alloc: Global, clients: &[ClientFile], turns: u64) -> Option<(Vec<u8>, Vec<Caller<'_>>)>
-    ensures { IfSome result (λ seats. length seats.1.items ≡ length seats.0.items) }
+    ensures places { IfSome result (λ seats. length seats.0.items ≡ length clients.now) }
+    ensures callers { IfSome result (λ seats. length seats.1.items ≡ length seats.0.items) }
 {
     let mut places = Vec::new(alloc);
     let mut callers = Vec::new(alloc);
@@ -102,7 +108,8 @@ fn served<J: ViewHistory, X: Drop>(
     alloc: Global,
     end: LanesEnd<J, Caller<'_>, X, RequestTicket, AskTicket>,
 ) -> Result<Served, ServeFault>
-    ensures { IfOk result (λ s. s.session ≡ end.entry.session) }
+    ensures session { IfOk result (λ s. s.session ≡ end.entry.session) }
+    ensures slots { IfOk result (λ s. s.slots ≡ option_map end_slots (slice_get end.entry.ends.items 0)) }
 {
     let LanesEnd {
         session,
@@ -113,6 +120,7 @@ fn served<J: ViewHistory, X: Drop>(
         line: _,
         published: _,
     } = end;
+    let slots = slots_of(&ends);
     cancel_ends(alloc, ends);
     let mut outcomes = Vec::new(alloc);
     for caller in bodies {
@@ -120,7 +128,20 @@ fn served<J: ViewHistory, X: Drop>(
             return Err(ServeFault::Memory);
         }
     }
-    Ok(Served { outcomes, session })
+    Ok(Served {
+        outcomes,
+        session,
+        slots,
+    })
+}
+
+// How many slots the first client's rings had. None: there are no clients.
+fn slots_of<J: ViewHistory>(
+    ends: &[ClientEnd<J, RequestTicket, AskTicket>],
+) -> Option<(usize, usize)>
+    ensures { result ≡ option_map end_slots (slice_get ends.now 0) }
+{
+    ends.first().map(|end| end.slots())
 }
 
 // Cancels the callbacks that the clients held at their ends.

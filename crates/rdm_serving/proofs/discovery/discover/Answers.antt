@@ -1,11 +1,8 @@
 use Rattle.std.proofs.Common.{subst, arith, ◌≡◌, rules}
 use Rattle.rdm_agent.specs.Calls.{next_op}
 use Rattle.rdm_agent.specs.declared.op.Op.TheVariants.{End}
-use Rattle.rdm_serving.specs.Discovery.{HasDriven, IsDiscovery}
-use Rattle.rdm_serving.specs.LogText.{exchanges_text}
-use Rattle.rdm_serving.specs.Writing.{Logs}
+use Rattle.rdm_serving.specs.Discovery.{HasDriven}
 use Rattle.rdm_serving.proofs.DiscoveryLemmas.{none_logged, one_logged, all_driven, reported_logged}
-use Rattle.rdm_serving.proofs.WritingLemmas.{logs_none}
 use Rattle.rdm_serving.proofs.discovery.discover.Goals as goal
 use Rattle.rdm_serving.proofs.discovery.discover.Goals.{else-exchanges-test, then-exchanges-test+then-eq}
 

@@ -1,10 +1,8 @@
-use Rattle.std.proofs.Common.{◌≡◌, ◌≤◌, ◌-◌, ◌+◌, ◌==◌, Bool, true, false, refl, sym, ap, arith, ℕ, List, Option}
+use Rattle.std.proofs.Common.{◌≡◌, ◌≤◌, ◌-◌, ◌+◌, sym, ap, arith, ℕ, List, Option}
 use Rattle.std.proofs.Common.{length, take, drop, length-drop}
-use Rattle.std.specs.Bool.{OnFalse}
 use Rattle.std.specs.Io.KnownBytes.{Appends}
 use Rattle.std.proofs.KnownBytes.{Appends-trans}
 use Rattle.std.proofs.Math.Seq.{take-add}
-use Rattle.std.proofs.lemmas.Bool.{eqb-false}
 use Rattle.std.proofs.lemmas.List.{take-append-drop, take_rest}
 use Rattle.rdm_serving.specs.Writing.{IsCutShort}
 use Rattle.rdm_serving.proofs.WritingLemmas.{appends_kept}

@@ -1,4 +1,4 @@
-use Rattle.std.proofs.Common.{◌≡◌, ap, sym, subst, ◌∙◌, arith}
+use Rattle.std.proofs.Common.{◌≡◌, ap, sym, ◌∙◌, arith}
 use Rattle.rdm_files.specs.declared.session.client.ClientFile.{ClientFile}
 use Rattle.rdm_serving.specs.LoggedCalls.{calls_logged}
 use Rattle.rdm_serving.proofs.CalledLemmas.{called_next}

@@ -1,4 +1,3 @@
-use Rattle.std.proofs.Common.{arith, sym, ap, ◌∙◌}
 use Rattle.rdm_serving.proofs.LoggedLemmas.{no_ask, asks_skip, asks_next, asks_end}
 use Rattle.rdm_serving.proofs.serving.logged.discoverers.Goals as goal
 use Rattle.rdm_serving.proofs.serving.logged.discoverers.Goals.{in-Ask+in_ok-push, in_default}

@@ -1,4 +1,3 @@
-use Rattle.std.proofs.Common.{arith, sym, ap, ◌∙◌}
 use Rattle.rdm_serving.proofs.LoggedLemmas.{no_accept, accepts_skip, accepts_next, accepts_end}
 use Rattle.rdm_serving.proofs.serving.logged.submitters.Goals as goal
 use Rattle.rdm_serving.proofs.serving.logged.submitters.Goals.{in-Accept+in_ok-push, in_default}
