@@ -13,13 +13,16 @@ use rdm_join::{ReplyHead, Status};
 use rdm_wire::{AckType, Uid};
 use std::alloc::{AllocError, Global};
 
-/// The outcomes of a client's calls, those of its requests and of its discoveries, each as its callback returned it.
+/// The outcomes of a client's calls, those of its requests and of its discoveries, each as its callback returned it,
+/// and how many turns the client made.
 #[derive(Debug, Drop)]
 pub struct Outcomes {
     /// How its requests ended.
     pub requests: Vec<Told>,
     /// How its discoveries ended.
     pub discoveries: Vec<Discovered>,
+    /// How many turns the client made. A turn is one submit, discover or collect, with or without success.
+    pub turns: u64,
 }
 
 /// What a discovery's callback returned. It has memory only for the UIDs of these devices, not for a whole set.
@@ -38,10 +41,12 @@ impl Outcomes {
     pub fn new(alloc: Global) -> Outcomes
         ensures requests { result.requests.items ≡ [] }
         ensures discoveries { result.discoveries.items ≡ [] }
+        ensures turns { result.turns ≡ 0 }
     {
         Outcomes {
             requests: Vec::new(alloc),
             discoveries: Vec::new(alloc),
+            turns: 0,
         }
     }
 }

@@ -1,6 +1,7 @@
 //! Serves the clients of a session file on a line: each in a thread of its own, and a worker in another.
 ghost use Rattle.std.specs.Prelude.{◌≡◌, ◌≤◌, [], IfOk, map};
 ghost use Rattle.std.specs.Bool.{OnTrue};
+ghost use Rattle.std.specs.List.{All};
 ghost use Rattle.rdm_wire.specs.Uid.{IsDevice};
 ghost use Rattle.rdm_log.specs.log.Config.{IsConfig};
 ghost use Rattle.rdm_client.specs.declared.told.Told.{Told};
@@ -9,6 +10,7 @@ ghost use Rattle.rdm_serving.specs.Serving.{MayServe, slots_by};
 ghost use Rattle.rdm_serving.specs.LoggedOutcomes.{IsLogOf};
 ghost use Rattle.rdm_serving.specs.LoggedCalls.{HasCalls};
 ghost use Rattle.rdm_serving.specs.SessionReport.{AllSettled, IsSettled, is_request, is_ask, places_of};
+ghost use Rattle.rdm_serving.specs.declared.outcomes.Outcomes.{Outcomes as OutcomesState};
 ghost use Rattle.rdm_serving.specs.declared.outcomes.Discovered.{Discovered};
 
 mod called;
@@ -79,8 +81,8 @@ pub struct Served {
 
 /// Serves a session on the line of its scene, and returns the outcomes of each client's calls, with the session and its
 /// log. The log has exactly the file's clients and calls. Each outcome has its call's tag. It agrees with that log in
-/// its status and the number of its bytes, or in its fault. The worker made at most as many exchanges as turns. With
-/// ring buffers, each ring had as many slots as the file says.
+/// its status and the number of its bytes, or in its fault. The worker made at most as many exchanges as `turns` says,
+/// and each client at most as many turns. With ring buffers, each ring had as many slots as the file says.
 ///
 /// The file's fields must be in their ranges: the source isn't broadcast ([`Uid::is_broadcast`]), the budget and the
 /// ring are at least 1, and the log is at most [`MOST_FREE_ENTRIES`](rdm_queue::MOST_FREE_ENTRIES). Those of a file
@@ -100,6 +102,7 @@ pub fn serve<L: Ledger + Send + Sync, P: Progress + Send, R: Threads + Wait + Sy
     ensures logged { IfOk result (λ s. IsLogOf s.session.opening s.session.entries s.outcomes.items) }
     ensures called { IfOk result (λ s. HasCalls s.session.entries file.clients.items) }
     ensures in_turns { IfOk result (λ s. exchange_count s.session ≤ file.turns) }
+    ensures client_turns { IfOk result (λ s. All (λ (o : OutcomesState). o.turns ≤ file.turns) s.outcomes.items) }
     ensures slots { IfOk result (λ s. s.slots ≡ slots_by port file.ring file.clients.items) }
 {
     let SessionFile {
@@ -146,6 +149,7 @@ pub fn serve_on_line<
     ensures logged { IfOk result (λ s. IsLogOf s.session.opening s.session.entries s.outcomes.items) }
     ensures called { IfOk result (λ s. HasCalls s.session.entries file.clients.items) }
     ensures in_turns { IfOk result (λ s. exchange_count s.session ≤ file.turns) }
+    ensures client_turns { IfOk result (λ s. All (λ (o : OutcomesState). o.turns ≤ file.turns) s.outcomes.items) }
     ensures slots { IfOk result (λ s. s.slots ≡ slots_by port file.ring file.clients.items) }
 {
     let LineSessionFile {
@@ -173,18 +177,24 @@ pub fn serve_on_line<
         PortKind::Rings => serve_rings(rt, alloc, set_up, ring, &clients, line),
     };
     match served {
-        Ok(served) => settled(alloc, &clients, served),
+        Ok(served) => settled(alloc, &clients, turns, served),
         Err(fault) => Err(fault),
     }
 }
 
 // What is left of the session, if each call has an outcome. A log with fewer than three free entries would have
 // refused the worker's next frame, so it is full, even if no frame was left. It never happens that the log lacks an
-// outcome, or has other calls than the file's.
-fn settled(alloc: Global, clients: &[ClientFile], served: Served) -> Result<Served, ServeFault>
+// outcome, or has other calls than the file's, or that a client made more turns than these.
+fn settled(
+    alloc: Global,
+    clients: &[ClientFile],
+    turns: u64,
+    served: Served,
+) -> Result<Served, ServeFault>
     ensures settled { IfOk result (λ s. AllSettled clients.now s.outcomes.items) }
     ensures logged { IfOk result (λ s. IsLogOf s.session.opening s.session.entries s.outcomes.items) }
     ensures called { IfOk result (λ s. HasCalls s.session.entries clients.now) }
+    ensures client_turns { IfOk result (λ s. All (λ (o : OutcomesState). o.turns ≤ turns) s.outcomes.items) }
     ensures same { IfOk result (λ s. s ≡ served) }
 {
     if served.session.free() < LEAST_FREE {
@@ -195,7 +205,8 @@ fn settled(alloc: Global, clients: &[ClientFile], served: Served) -> Result<Serv
         return Err(ServeFault::Memory);
     };
     let is_called = has_calls(served.session.log().entries(), clients);
-    if is_logged && is_called && all_settled(clients, &served.outcomes) {
+    let are_in_turns = all_in_turns(turns, &served.outcomes);
+    if is_logged && is_called && are_in_turns && all_settled(clients, &served.outcomes) {
         Ok(served)
     } else {
         Err(ServeFault::Turns)
@@ -217,6 +228,13 @@ fn config_of(source: Uid, budget: u64, clients: &[ClientFile]) -> Config
         places: places.min(MOST_PLACES),
         budget,
     }
+}
+
+// Whether each client made at most this many turns.
+fn all_in_turns(turns: u64, outcomes: &[Outcomes]) -> bool
+    ensures { OnTrue result (All (λ (o : OutcomesState). o.turns ≤ turns) outcomes.now) }
+{
+    outcomes.iter().all(|client| client.turns <= turns)
 }
 
 // Whether each client's calls have all their outcomes.

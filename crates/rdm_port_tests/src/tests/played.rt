@@ -31,10 +31,10 @@ impl Late {
         }
     }
 
-    // Plays a discovery in this many turns.
-    fn play(&mut self, alloc: Global, turns: u64) -> Result<(), ServeFault> {
-        let (_outcomes, end) = play(alloc, &[ClientCall::Discover(Kind::Full)], self, &(), turns);
-        end
+    // Plays a discovery in this many turns. Returns how it ended, and how many turns it took.
+    fn play(&mut self, alloc: Global, turns: u64) -> (Result<(), ServeFault>, u64) {
+        let (outcomes, end) = play(alloc, &[ClientCall::Discover(Kind::Full)], self, &(), turns);
+        (end, outcomes.turns)
     }
 }
 
@@ -84,7 +84,9 @@ impl Player<()> for Late {
 #[test]
 fn a_client_looks_for_the_stop_before_it_collects(rt: HostRuntime) {
     let mut client = Late::new(0, true);
-    check(&rt, client.play(rt.alloc(), 100) == Ok(()));
+    let (end, turns) = client.play(rt.alloc(), 100);
+    check(&rt, end == Ok(()));
+    check(&rt, turns == 2);
 }
 
 // A call and three collects take four turns.
@@ -92,8 +94,11 @@ fn a_client_looks_for_the_stop_before_it_collects(rt: HostRuntime) {
 fn a_client_makes_all_its_turns_and_no_more(rt: HostRuntime) {
     let alloc = rt.alloc();
     let mut in_four = Late::new(3, false);
-    check(&rt, in_four.play(alloc, 4) == Ok(()));
+    let (end, turns) = in_four.play(alloc, 4);
+    check(&rt, end == Ok(()));
+    check(&rt, turns == 4);
     let mut in_three = Late::new(3, false);
-    check(&rt, in_three.play(alloc, 3) == Err(ServeFault::Turns));
-    check(&rt, in_three.turns == 3);
+    let (end, turns) = in_three.play(alloc, 3);
+    check(&rt, end == Err(ServeFault::Turns));
+    check(&rt, turns == 3 && in_three.turns == 3);
 }

@@ -49,8 +49,8 @@ pub trait Player<P> {
     ghost follows: { (a b c : Self) → same a b → same b c → same a c };
 }
 
-/// Makes these calls in order, and collects until each has its outcome. Returns the outcomes, and whether the turns
-/// sufficed. A turn is one submit, discover or collect, with or without success.
+/// Makes these calls in order, and collects until each has its outcome. Returns the outcomes, with the number of turns
+/// made, and whether the turns sufficed. A turn is one submit, discover or collect, with or without success.
 ///
 /// Err: there was no memory; the log is full; or not all outcomes have come, though all turns are made or the worker
 /// has stopped. The outcomes that came are returned too.
@@ -63,8 +63,9 @@ pub fn play<P, C: Player<P>>(
 ) -> (Outcomes, Result<(), ServeFault>)
     ensures settled { OnOk result.1
         (length result.0.requests.items + length result.0.discoveries.items ≡ length calls.now) }
-    ensures in_turns { OnOk result.1
-        (length result.0.requests.items + length result.0.discoveries.items ≤ turns) }
+    ensures in_turns { result.0.turns ≤ turns }
+    ensures counted { OnOk result.1
+        (length result.0.requests.items + length result.0.discoveries.items ≤ result.0.turns) }
     ensures same { C.same client.old client.new }
 {
     let mut script = Script::new(alloc, calls);
@@ -79,18 +80,24 @@ fn play_script<P, C: Player<P>>(
     beside: &P,
     turns: u64,
 ) -> Result<(), ServeFault>
+    requires fresh { script.old.outcomes.turns ≡ 0 }
     ensures settled { OnOk result (has_all script.new ≡ true) }
-    ensures in_turns { OnOk result (done_by script.new ≤ done_by script.old + turns) }
+    ensures in_turns { script.new.outcomes.turns ≤ turns }
+    ensures counted { OnOk result (done_by script.new ≤ done_by script.old + script.new.outcomes.turns) }
     ensures calls { script.new.calls ≡ script.old.calls }
     ensures same { C.same client.old client.new }
 {
     'turns: for _turn in 0..turns {
         match script.next() {
             Next::Call(call, place) => {
+                script.count_turn();
                 let is_accepted = client.make(alloc, beside, call, place)?;
                 script.tried(is_accepted);
             }
-            Next::Collect => collect(alloc, script, client, beside)?,
+            Next::Collect => {
+                script.count_turn();
+                collect(alloc, script, client, beside)?;
+            }
             Next::Done => return Ok(()),
         }
     }
@@ -109,7 +116,8 @@ fn collect<P, C: Player<P>>(
         ⊎ ((e ≡ ServeFault.Turns) × C.sees client.old true × C.collects client.old None client.new)) }
     ensures noted { OnOk result ((collected : Option CollectedState) × C.collects client.old collected client.new
         × Notes collected script.old.outcomes script.new.outcomes) }
-    ensures script { (script.new.calls ≡ script.old.calls) × (script.new.accepted ≡ script.old.accepted) }
+    ensures script { (script.new.calls ≡ script.old.calls) × (script.new.accepted ≡ script.old.accepted)
+        × (script.new.outcomes.turns ≡ script.old.outcomes.turns) }
     ensures same { C.same client.old client.new }
 {
     let has_stopped = client.has_stopped(beside);

@@ -1,6 +1,6 @@
 //! What a client of a session file does in its turns, whichever port it has.
-ghost use Rattle.std.specs.Prelude.{◌≡◌, ◌⊎◌, ◌+◌, ◌&&◌, ◌++◌, ◌∷◌, ◌↔◌, [], length, true, false, not, nat_lt};
-ghost use Rattle.std.specs.Prelude.{if◌then◌else◌, OnOk, IfErr, Ok, Err, None};
+ghost use Rattle.std.specs.Prelude.{◌≡◌, ◌⊎◌, ◌<◌, ◌+◌, ◌^◌, ◌&&◌, ◌++◌, ◌∷◌, ◌↔◌, [], length, true, false, not};
+ghost use Rattle.std.specs.Prelude.{nat_lt, if◌then◌else◌, OnOk, IfErr, Ok, Err, None};
 ghost use Rattle.rdm_serving.specs.body.Scripts.{IsNext, Notes, has_all};
 
 use crate::outcomes::{Discovered, Outcomes};
@@ -36,6 +36,7 @@ impl<'a> Script<'a> {
         ensures calls { result.calls.now ≡ calls.now }
         ensures none_made { (result.accepted ≡ 0) × (result.is_full ≡ false) }
         ensures none_told { (result.outcomes.requests.items ≡ []) × (result.outcomes.discoveries.items ≡ []) }
+        ensures no_turn { result.outcomes.turns ≡ 0 }
     {
         Script {
             calls,
@@ -57,6 +58,18 @@ impl<'a> Script<'a> {
             Some(call) if !self.is_full => Next::Call(call, self.accepted as u64),
             _ => Next::Collect,
         }
+    }
+
+    /// Counts a turn. The client has made fewer than [`u64::MAX`].
+    pub fn count_turn(&mut self)
+        requires countable { self.old.outcomes.turns + 1 < 2 ^ 64 }
+        ensures counted { self.new.outcomes.turns ≡ self.old.outcomes.turns + 1 }
+        ensures outcomes { (self.new.outcomes.requests ≡ self.old.outcomes.requests)
+            × (self.new.outcomes.discoveries ≡ self.old.outcomes.discoveries) }
+        ensures same { (self.new.calls ≡ self.old.calls) × (self.new.accepted ≡ self.old.accepted)
+            × (self.new.is_full ≡ self.old.is_full) }
+    {
+        self.outcomes.turns += 1;
     }
 
     /// Records whether a call was accepted. If not, the queue or the ring was full.
@@ -85,7 +98,8 @@ impl<'a> Script<'a> {
             ⊎ ((e ≡ ServeFault.Turns) × (collected ≡ None) × (has_stopped ≡ true))) }
         ensures stops { collected ≡ None → has_stopped ≡ true → result ≡ Err ServeFault.Turns }
         ensures room { self.new.is_full ≡ false }
-        ensures same { (self.new.calls ≡ self.old.calls) × (self.new.accepted ≡ self.old.accepted) }
+        ensures same { (self.new.calls ≡ self.old.calls) × (self.new.accepted ≡ self.old.accepted)
+            × (self.new.outcomes.turns ≡ self.old.outcomes.turns) }
     {
         self.is_full = false;
         match collected {
@@ -108,7 +122,7 @@ impl<'a> Script<'a> {
         ensures requests { self.new.outcomes.requests ≡ self.old.outcomes.requests }
         ensures fault { IfErr result (λ e. e ≡ ServeFault.Memory) }
         ensures same { (self.new.calls ≡ self.old.calls) × (self.new.accepted ≡ self.old.accepted)
-            × (self.new.is_full ≡ self.old.is_full) }
+            × (self.new.is_full ≡ self.old.is_full) × (self.new.outcomes.turns ≡ self.old.outcomes.turns) }
     {
         match self.outcomes.discoveries.push(discovered) {
             Ok(()) => Ok(()),
