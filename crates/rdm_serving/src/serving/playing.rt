@@ -16,7 +16,7 @@ pub trait Player<P> {
     /// That both are the same client, before and after it did something.
     ghost same: { Self → Self → Type 0 };
 
-    /// That this client, if it looks, sees whether the worker has stopped.
+    /// That this client sees this when it looks whether the worker has stopped.
     ghost sees: { Self → Bool → Type 0 };
 
     /// That a collect returned this.
@@ -52,8 +52,8 @@ pub trait Player<P> {
 /// Makes these calls in order, and collects until each has its outcome. Returns the outcomes, with the number of turns
 /// made, and whether the turns sufficed. A turn is one submit, discover or collect, with or without success.
 ///
-/// Err: there was no memory; the log is full; or not all outcomes have come, though all turns are made or the worker
-/// has stopped. The outcomes that came are returned too.
+/// Ok only if each call has its outcome. Err: there was no memory; the log is full; or not all outcomes have come,
+/// though all turns are made or the worker has stopped. The outcomes that came are returned too.
 pub fn play<P, C: Player<P>>(
     alloc: Global,
     calls: &[ClientCall],
