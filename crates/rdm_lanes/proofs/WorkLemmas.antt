@@ -1,5 +1,6 @@
 -- What the steps of a worker leave.
-use Rattle.std.proofs.Common.{◌≡◌, ◌≢◌, ◌≤◌, ◌+◌, ℕ, suc, true, List, refl, ◌∙◌, subst, arith}
+use Rattle.std.proofs.Common.{◌≡◌, ◌≢◌, ◌≤◌, ◌+◌, ℕ, true, List, refl, ◌∙◌}
+use Rattle.rdm_log.specs.log.LogState.{LogState}
 use Rattle.std.specs.Prelude.{◌⊎◌}
 use mathlib.Core.List.{IsPrefix}
 use Rattle.std.specs.declared.alloc.Global.{Global}
@@ -14,7 +15,7 @@ use Rattle.rdm_lanes.specs.body.Quiet.{NoExchange, OnlyCollects}
 use Rattle.rdm_lanes.specs.Lines.{SameSwitches, Exchanged, exchange_count}
 use Rattle.rdm_log.specs.log.MaySend.{NoSend}
 use Rattle.rdm_lanes.specs.Views.{all_views}
-use Rattle.rdm_lanes.specs.Turns.{WorkerState, IsTurn, TurnsMade}
+use Rattle.rdm_lanes.specs.body.Turns.{IsTurn}
 use Rattle.rdm_lanes.specs.Lanes.{SameLanes}
 use Rattle.rdm_lanes.proofs.LaneLemmas.{same_lanes, same_lanes_join}
 use Rattle.rdm_lanes.proofs.LineLemmas.{line_same, line_join, switches_same, switches_join}
@@ -69,33 +70,23 @@ moves_on a b d p q = record {
   ring = q.ring ∙ p.ring;
 }
 
--- the worker made this many turns, and these views were published before and after them
+-- the worker made this many turns, as it counted, and these views were published before and after them
 pub record Worked {L : Type 0} (step : L → Exchange → L → Type 0) (turns : ℕ) (before : L) (old : Worker) (after : L)
-    (new : Worker) (shown_before shown_after : List DeviceView) : Type 0 where
+    (new : Worker) (made : ℕ) (shown_before shown_after : List DeviceView) : Type 0 where
   pub exchanged : Exchanged step before old.session after new.session
   pub few : exchange_count new.session ≤ exchange_count old.session + turns
+  pub count : made ≡ turns
   pub lanes : SameLanes old.lanes.items new.lanes.items
   pub operator : old.operator_left ≡ true → (new.operator_left ≡ true) × SameSwitches old.session new.session
   pub views : IsPrefix shown_before shown_after
   pub ring : SameConsumer old.operator new.operator
-  pub made : TurnsMade turns (record { log = old.session; shown = shown_before }) (record {
-    log = new.session;
-    shown = shown_after;
-  })
-
--- a turn more
-pub turns_more : (n : ℕ) (a b d : WorkerState) → TurnsMade n a b → IsTurn b d → TurnsMade (n + 1) a d
-turns_more n a b d made last = subst (λ (m : ℕ). TurnsMade m a d) one_more (b, made, last)
-  where
-    one_more : suc n ≡ n + 1
-    one_more = omega arith
 
 -- what was done in a turn with an exchange, in one without a frame to send, and in one with a refused publication
-pub turn_did : {L : Type 0} (step : L → Exchange → L → Type 0) (a b : L) (old new : WorkerState)
-    → Exchanged step a old.log b new.log
-    → (exchange_count new.log ≡ exchange_count old.log + 1)
-    ⊎ (NoSend new.log.opening new.log.entries ⊎ (new.shown ≢ all_views new.log.entries)) → IsTurn old new
-turn_did step a b old new exchanged did = record { block = exchanged.block; grows = exchanged.grows; did = did }
+pub turn_did : {L : Type 0} (step : L → Exchange → L → Type 0) (a b : L) (old new : LogState)
+    (shown : List DeviceView) → Exchanged step a old b new
+    → (exchange_count new ≡ exchange_count old + 1)
+    ⊎ (NoSend new.opening new.entries ⊎ (shown ≢ all_views new.entries)) → IsTurn old new shown
+turn_did step a b old new shown exchanged did = record { block = exchanged.block; grows = exchanged.grows; did = did }
 
 -- the worker's end of the operator's ring
 abbrev pub OperatorEnd : Type 0

@@ -1,27 +1,16 @@
 -- How a session with ring buffers ends.
-use Rattle.std.specs.Prelude.{◌≡◌, ◌≢◌, ℕ, true, List, [], ◌∷◌, length}
+use Rattle.std.specs.Prelude.{◌≡◌, ◌≢◌, ℕ, true, length}
 use Rattle.rdm_client.specs.declared.worker_end.WorkerEnd.TheVariants.{AllLeft, Turns, LogFull}
-use Rattle.rdm_log.specs.declared.config.Setup.{Setup}
 use Rattle.rdm_log.specs.log.LogState.{is_full_log}
 use Rattle.rdm_log.specs.log.MaySend.{NoSend}
 use Rattle.rdm_lanes.specs.declared.views.history.ViewHistory.{Ghosts}
 use Rattle.rdm_lanes.specs.declared.session.together.LanesEnd.{LanesEnd}
 use Rattle.rdm_lanes.specs.Ends.{AllAgree, AllRead, AllHoldTheirOwn}
-use Rattle.rdm_lanes.specs.Opened.{opened_with}
 use Rattle.rdm_lanes.specs.Publishing.{IsPublished}
-use Rattle.rdm_lanes.specs.Turns.{WorkerState}
-use Rattle.rdm_lanes.specs.Views.{opening_view, all_views}
+use Rattle.rdm_lanes.specs.Views.{all_views}
 use Rattle.rdm_lanes.specs.ViewsRead.{AllViewsRead, AllShownFirst}
 
--- a worker whose session was opened with this set-up, and has done nothing yet
-abbrev pub opened_state : Setup → ℕ → List ℕ → WorkerState
-opened_state setup room places = record { log = opened_with setup room places; shown = opening_view ∷ [] }
-
 module _ {J B X C A : Type 0} {h : Ghosts J} where
-  -- the worker of a session at its end
-  abbrev pub end_state : LanesEnd J B X C A h → WorkerState
-  end_state end = record { log = end.session; shown = end.published }
-
   -- The end of a session with this many bodies. Its log agrees with the end of each client. If all have left, no call
   -- is left in a ring, and no frame may be sent. If the worker ended with LogFull, the log is full. There is one end
   -- and one body for each of the bodies that were given, and both ends of all rings could be compared (`matched`).

@@ -1,5 +1,5 @@
 -- A worker, an operator and a history, as contracts speak of them.
-use Rattle.std.specs.Prelude.{◌≡◌, Bool, List}
+use Rattle.std.specs.Prelude.{◌≡◌, ℕ, Bool, List}
 use Rattle.logbook.specs.Pages.{Book}
 use Rattle.std.specs.declared.alloc.Global.{Global}
 use Rattle.rtrb.specs.declared.AnyItems.{AnyItems}
@@ -21,6 +21,10 @@ module _ {J T R : Type 0} {h : Ghosts J} {v : Absorbs T (Shown J) (List DeviceVi
   -- the worker's session, by its log
   abbrev pub session_of : ViewWorker J T R h v → LogState
   session_of worker = worker.server.session
+
+  -- how many turns its last call of `work` made
+  abbrev pub turns_made_of : ViewWorker J T R h v → ℕ
+  turns_made_of worker = worker.turns_made
 
   -- its ends of the clients' rings, in the clients' order
   abbrev pub lanes_of : ViewWorker J T R h v → List Lane

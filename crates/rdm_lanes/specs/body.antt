@@ -12,3 +12,4 @@ pub mod Rooms
 pub mod Seats
 pub mod Serving
 pub mod Showing
+pub mod Turns

@@ -112,6 +112,7 @@ pub fn open_lanes_with<J: ViewHistory, C: Tells, A: TellsAsk, R: Wait + Drop>(
                     operator_left: false,
                 },
                 views,
+                turns_made: 0,
             },
         }),
         Err((fault, log)) => {

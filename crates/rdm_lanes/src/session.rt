@@ -3,12 +3,11 @@ ghost use Rattle.std.specs.Prelude.{◌≡◌, ◌≤◌, length, IfOk, IfErr};
 ghost use Rattle.rdm_log.specs.log.Config.{steady};
 ghost use Rattle.rdm_log.specs.log.LogState.{blank_log};
 ghost use Rattle.rdm_client.specs.declared.worker_end.WorkerEnd.TheVariants.{Turns};
-ghost use Rattle.rdm_lanes.specs.Ended.{IsEnded, opened_state, end_state};
+ghost use Rattle.rdm_lanes.specs.Ended.{IsEnded};
 ghost use Rattle.rdm_lanes.specs.Ends.{AllHaveSlots};
 ghost use Rattle.rdm_lanes.specs.Lines.{exchange_count};
 ghost use Rattle.rdm_lanes.specs.Opened.{MayOpen, HasFirstFault};
 ghost use Rattle.rdm_lanes.specs.Sessions.{SessionOver};
-ghost use Rattle.rdm_lanes.specs.Turns.{TurnsMade};
 ghost use Rattle.rdm_lanes.specs.Workers.{book_of};
 
 pub(crate) mod body;
@@ -34,7 +33,7 @@ use std::thread::Threads;
 /// that the worker publishes. What was published, and what each client has read of it, is compared at the end too. The
 /// callbacks that a client left over are as many as its own calls without an outcome. Both rings of each client have
 /// `ring` slots, as [`ClientEnd::slots`](crate::ClientEnd::slots) still shows at the end. If the worker ended with
-/// Turns, it made all its turns.
+/// Turns, it made all its turns, as [`LanesEnd::turns`] counts them.
 ///
 /// The conditions are those of [`open_lanes`](crate::open_lanes), and there are as many bodies as places. Once the
 /// worker has stopped its clients' ends are compared, as at a [`ViewWorker::end`](crate::ViewWorker::end).
@@ -70,9 +69,9 @@ pub fn run_session<
         end.line end.session) }
     ensures ended { IfOk result (IsEnded (length places.now)) }
     ensures slots { IfOk result (λ end. AllHaveSlots ring end.ends.items) }
-    ensures turns { IfOk result (λ end. (exchange_count end.session ≤ turns) × (turns ≡ 0 → end.worker ≡ Turns)) }
-    ensures all_turns { IfOk result (λ end. end.worker ≡ Turns
-        → TurnsMade turns (opened_state (steady config) log.room places.now) (end_state end)) }
+    ensures turns { IfOk result (λ end. (end.turns ≤ turns) × (turns ≡ 0 → end.worker ≡ Turns)) }
+    ensures all_turns { IfOk result (λ end. end.worker ≡ Turns → end.turns ≡ turns) }
+    ensures exchanges { IfOk result (λ end. exchange_count end.session ≤ end.turns) }
     ensures fault { HasFirstFault config.places log.room places.now (λ e. e.0) result }
     ensures back { IfErr result (λ e. (e.1 ≡ blank_log log.room) × (e.2 ≡ bodies) × (e.3 ≡ line)
         × (book_of e.4 ≡ J.book)) }
@@ -120,9 +119,9 @@ pub fn run_session_with<
         end.line end.session) }
     ensures ended { IfOk result (IsEnded (length places.now)) }
     ensures slots { IfOk result (λ end. AllHaveSlots ring end.ends.items) }
-    ensures turns { IfOk result (λ end. (exchange_count end.session ≤ turns) × (turns ≡ 0 → end.worker ≡ Turns)) }
-    ensures all_turns { IfOk result (λ end. end.worker ≡ Turns
-        → TurnsMade turns (opened_state setup log.room places.now) (end_state end)) }
+    ensures turns { IfOk result (λ end. (end.turns ≤ turns) × (turns ≡ 0 → end.worker ≡ Turns)) }
+    ensures all_turns { IfOk result (λ end. end.worker ≡ Turns → end.turns ≡ turns) }
+    ensures exchanges { IfOk result (λ end. exchange_count end.session ≤ end.turns) }
     ensures fault { HasFirstFault setup.config.places log.room places.now (λ e. e.0) result }
     ensures back { IfErr result (λ e. (e.1 ≡ blank_log log.room) × (e.2 ≡ bodies) × (e.3 ≡ line)
         × (book_of e.4 ≡ J.book)) }

@@ -243,6 +243,7 @@ fn over_of<J: ViewHistory, X: Drop>(
         line: _,
         bodies,
         worker,
+        turns: _,
         ends,
         matched,
         published,

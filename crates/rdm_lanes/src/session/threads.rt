@@ -6,8 +6,7 @@ ghost use Rattle.rdm_client.specs.declared.worker_end.WorkerEnd.TheVariants.{All
 ghost use Rattle.rdm_lanes.specs.Lines.{Exchanged, SameSwitches, exchange_count};
 ghost use Rattle.rdm_lanes.specs.Lanes.{SameLanes, AllHaveLeft};
 ghost use Rattle.rdm_lanes.specs.body.Seats.{SameSeats};
-ghost use Rattle.rdm_lanes.specs.Workers.{session_of, lanes_of, operator_has_left, HasPublishedAll};
-ghost use Rattle.rdm_lanes.specs.Turns.{TurnsMade, state_of};
+ghost use Rattle.rdm_lanes.specs.Workers.{session_of, lanes_of, operator_has_left, turns_made_of, HasPublishedAll};
 
 use crate::opening::seat::Seat;
 use crate::session::body::{Body, Gate, WORKER_STOPPED};
@@ -73,9 +72,10 @@ pub fn run_together<
         × NoSend (session_of result.0).opening (session_of result.0).entries }
     ensures published { result.3 ≢ Turns → HasPublishedAll result.0 }
     ensures full { result.3 ≡ FullLog → is_full_log (session_of result.0) ≡ true }
-    ensures turns { (exchange_count (session_of result.0) ≤ exchange_count (session_of worker) + turns)
-        × (turns ≡ 0 → result.3 ≡ Turns) }
-    ensures all_turns { result.3 ≡ Turns → TurnsMade turns (state_of worker) (state_of result.0) }
+    ensures turns { (turns_made_of result.0 ≤ turns) × (turns ≡ 0 → result.3 ≡ Turns) }
+    ensures all_turns { result.3 ≡ Turns → turns_made_of result.0 ≡ turns }
+    ensures exchanges { exchange_count (session_of result.0)
+        ≤ exchange_count (session_of worker) + turns_made_of result.0 }
     ensures switches { operator_has_left worker ≡ true → SameSwitches (session_of worker) (session_of result.0) }
 {
     let mut worker = worker;

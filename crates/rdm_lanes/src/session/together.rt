@@ -6,12 +6,11 @@ ghost use Rattle.rdm_client.specs.declared.worker_end.WorkerEnd.TheVariants.{Tur
 ghost use Rattle.rdm_lanes.specs.declared.worker.lane.Lane.{Lane};
 ghost use Rattle.rdm_lanes.specs.Lines.{Exchanged, SameSwitches, IsBetweenTurns, exchange_count};
 ghost use Rattle.rdm_lanes.specs.Lanes.{AllFit};
-ghost use Rattle.rdm_lanes.specs.Ended.{IsEnded, end_state};
+ghost use Rattle.rdm_lanes.specs.Ended.{IsEnded};
 ghost use Rattle.rdm_lanes.specs.Ends.{AllHaveSlots};
 ghost use Rattle.rdm_lanes.specs.Pairs.{ClientsPair, client_rings};
 ghost use Rattle.rdm_lanes.specs.body.Rooms.{HasRoomFor};
 ghost use Rattle.rdm_lanes.specs.body.Seats.{RingsHaveSlots};
-ghost use Rattle.rdm_lanes.specs.Turns.{TurnsMade, state_of};
 ghost use Rattle.rdm_lanes.specs.Workers.{session_of, lanes_of};
 
 use crate::client::ends::ClientEnd;
@@ -41,6 +40,8 @@ pub struct LanesEnd<J: ViewHistory, B, X, C = Callback, A = AskCallback> {
     pub bodies: Vec<B>,
     /// Why the worker stopped.
     pub worker: WorkerEnd,
+    /// How many turns the worker made.
+    pub turns: u64,
     /// The line.
     pub line: X,
     /// The views that were published. Their number is at hand; the views themselves are seen by contracts alone.
@@ -80,9 +81,9 @@ pub fn run_lanes<
     ensures ended { IsEnded (length bodies.items) result }
     ensures slots { (n : ℕ) → RingsHaveSlots n (map client_rings lanes.clients.items)
         → AllHaveSlots n result.ends.items }
-    ensures turns { (exchange_count result.session ≤ exchange_count (session_of lanes.worker) + turns)
-        × (turns ≡ 0 → result.worker ≡ Turns) }
-    ensures all_turns { result.worker ≡ Turns → TurnsMade turns (state_of lanes.worker) (end_state result) }
+    ensures turns { (result.turns ≤ turns) × (turns ≡ 0 → result.worker ≡ Turns) }
+    ensures all_turns { result.worker ≡ Turns → result.turns ≡ turns }
+    ensures exchanges { exchange_count result.session ≤ exchange_count (session_of lanes.worker) + result.turns }
 {
     let Lanes {
         clients,
@@ -98,6 +99,7 @@ pub fn run_lanes<
     let alone = worker.without_operator();
     let (worker, left, line, end) = run_together(rt, alloc, alone, taken, gate, line, turns);
     let (bodies, ends) = unseated(left, back, ends);
+    let turns = worker.turns_made;
     let Compared {
         session,
         ends,
@@ -110,6 +112,7 @@ pub fn run_lanes<
         matched,
         bodies,
         worker: end,
+        turns,
         line,
         published,
     }

@@ -73,7 +73,7 @@ impl<J: ViewHistory, R: Wait + Drop> ViewWorker<J, Shown<J>, R> {
         ensures views { AllViewsRead result.published result.ends.items }
         ensures shown_first { AllShownFirst result.published result.ends.items }
     {
-        let ViewWorker { server, views } = self;
+        let ViewWorker { server, views, .. } = self;
         let (session, ends, matched) = server.compared(ends);
         compare_views(views.front(), ends.as_slice());
         Compared {

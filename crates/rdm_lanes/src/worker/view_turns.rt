@@ -1,6 +1,6 @@
 //! What the worker does in its turns. It publishes a view of the devices after each exchange that ends a run without
 //! fault, and before it moves that run's answers out.
-ghost use Rattle.std.specs.Prelude.{◌≡◌, ◌≢◌, ◌≤◌, ◌+◌, true, false, Some, None, IfSome, IfNone};
+ghost use Rattle.std.specs.Prelude.{◌≡◌, ◌≢◌, ◌<◌, ◌≤◌, ◌+◌, ◌-◌, ◌^◌, true, false, Some, None, IfSome, IfNone};
 ghost use mathlib.Core.List.{IsPrefix};
 ghost use Rattle.rtrb.specs.Ring.{SameConsumer};
 ghost use Rattle.rdm_log.specs.log.LogState.{is_full_log};
@@ -12,8 +12,8 @@ ghost use Rattle.rdm_lanes.specs.Views.{all_views};
 ghost use Rattle.rdm_lanes.specs.body.Showing.{Publishes, AllPublished};
 ghost use Rattle.rdm_lanes.specs.Operators.{switches, effective};
 ghost use Rattle.rdm_lanes.specs.Workers.{session_of, lanes_of, operator_has_left, published_by, HasPublishedAll};
-ghost use Rattle.rdm_lanes.specs.Workers.{operator_ring, received_by};
-ghost use Rattle.rdm_lanes.specs.Turns.{IsTurn, TurnsMade, state_of};
+ghost use Rattle.rdm_lanes.specs.Workers.{operator_ring, received_by, turns_made_of};
+ghost use Rattle.rdm_lanes.specs.body.Turns.{IsTurn};
 ghost use Rattle.rdm_client.specs.declared.worker_end.WorkerEnd.TheVariants.{AllLeft, Turns, LogFull as FullLog};
 ghost use Rattle.rdm_lanes.specs.declared.worker.working.Attempt.TheVariants.{NothingToSend, LogFull as NoRoom};
 ghost use Rattle.rdm_lanes.specs.declared.worker.working.Attempt.TheVariants.{Exchanged as MadeOne};
@@ -36,8 +36,7 @@ impl<J: ViewHistory, R: Wait + Drop> ViewWorker<J, Shown<J>, R> {
     /// - it makes at most one exchange, and publishes the devices that it found;
     /// - it moves outcomes to the clients' rings, while they have free slots.
     ///
-    /// It stops early once all have left, or once the log is full. If it ends with Turns, it made all turns: each made
-    /// an exchange, found no frame to send, or had a publication refused.
+    /// It stops early once all have left, or once the log is full. If it ends with Turns, it made all its turns.
     ///
     /// It looks at a ring's front first. While fewer than three entries of the log are free it takes no call. A submit
     /// waits for a place of its client in the session, and a discover until fewer than four of its client's are
@@ -56,9 +55,10 @@ impl<J: ViewHistory, R: Wait + Drop> ViewWorker<J, Shown<J>, R> {
     pub fn work<X: Line>(&mut self, alloc: Global, line: &mut X, turns: u64) -> WorkerEnd
         ensures exchanged { Exchanged X.step line.old (session_of self.old) line.new (session_of self.new) }
         ensures lanes { SameLanes (lanes_of self.old) (lanes_of self.new) }
-        ensures turns { (exchange_count (session_of self.new) ≤ exchange_count (session_of self.old) + turns)
-            × (turns ≡ 0 → result ≡ Turns) }
-        ensures all_turns { result ≡ Turns → TurnsMade turns (state_of self.old) (state_of self.new) }
+        ensures turns { (turns_made_of self.new ≤ turns) × (turns ≡ 0 → result ≡ Turns) }
+        ensures all_turns { result ≡ Turns → turns_made_of self.new ≡ turns }
+        ensures exchanges { exchange_count (session_of self.new)
+            ≤ exchange_count (session_of self.old) + turns_made_of self.new }
         ensures all_left { result ≡ AllLeft → AllHaveLeft (lanes_of self.new) × (operator_has_left self.new ≡ true)
             × NoSend (session_of self.new).opening (session_of self.new).entries }
         ensures published { result ≢ Turns → HasPublishedAll self.new }
@@ -69,6 +69,7 @@ impl<J: ViewHistory, R: Wait + Drop> ViewWorker<J, Shown<J>, R> {
         ensures operated { switches (session_of self.new).entries ≡ effective (received_by self.new) }
         ensures ring { SameConsumer (operator_ring self.old) (operator_ring self.new) }
     {
+        self.turns_made = 0;
         for _turn in 0..turns {
             if let Some(end) = self.turn(alloc, line) {
                 return end;
@@ -77,12 +78,15 @@ impl<J: ViewHistory, R: Wait + Drop> ViewWorker<J, Shown<J>, R> {
         WorkerEnd::Turns
     }
 
-    // One turn. Some: the worker stops.
+    // One turn, which is counted first. Some: the worker stops.
     fn turn<X: Line>(&mut self, alloc: Global, line: &mut X) -> Option<WorkerEnd>
+        requires few { self.old.turns_made < 2 ^ 64 - 1 }
+        ensures counted { self.new.turns_made ≡ self.old.turns_made + 1 }
         ensures exchanged { Exchanged X.step line.old self.old.server.session line.new self.new.server.session }
         ensures lanes { SameLanes self.old.server.lanes.items self.new.server.lanes.items }
         ensures one { exchange_count self.new.server.session ≤ exchange_count self.old.server.session + 1 }
-        ensures went_on { IfNone result (IsTurn (state_of self.old) (state_of self.new)) }
+        ensures went_on { IfNone result (IsTurn self.old.server.session self.new.server.session
+            self.new.views.shown) }
         ensures no_turns { result ≢ Some Turns }
         ensures all_left { result ≡ Some AllLeft → AllHaveLeft self.new.server.lanes.items
             × (self.new.server.operator_left ≡ true)
@@ -94,6 +98,7 @@ impl<J: ViewHistory, R: Wait + Drop> ViewWorker<J, Shown<J>, R> {
             × SameSwitches self.old.server.session self.new.server.session }
         ensures ring { SameConsumer self.old.server.operator self.new.server.operator }
     {
+        self.turns_made += 1;
         match self.serve_all(alloc, line) {
             None => None,
             Some(Attempt::Exchanged) => None,
@@ -121,6 +126,7 @@ impl<J: ViewHistory, R: Wait + Drop> ViewWorker<J, Shown<J>, R> {
         ensures operator { self.old.server.operator_left ≡ true → (self.new.server.operator_left ≡ true)
             × SameSwitches self.old.server.session self.new.server.session }
         ensures ring { SameConsumer self.old.server.operator self.new.server.operator }
+        ensures count { self.new.turns_made ≡ self.old.turns_made }
     {
         if !self.publish(alloc) {
             return None;
@@ -145,6 +151,7 @@ impl<J: ViewHistory, R: Wait + Drop> ViewWorker<J, Shown<J>, R> {
         ensures operator { self.old.server.operator_left ≡ true → (self.new.server.operator_left ≡ true)
             × SameSwitches self.old.server.session self.new.server.session }
         ensures ring { SameConsumer self.old.server.operator self.new.server.operator }
+        ensures count { self.new.turns_made ≡ self.old.turns_made }
     {
         self.server.serve_clients(alloc);
         self.server.serve_operator();
@@ -156,8 +163,9 @@ impl<J: ViewHistory, R: Wait + Drop> ViewWorker<J, Shown<J>, R> {
         ensures refused { result ≡ false → self.new.views.shown ≢ all_views self.new.server.session.entries }
         ensures views { IsPrefix self.old.views.shown self.new.views.shown }
         ensures server { self.new.server ≡ self.old.server }
+        ensures count { self.new.turns_made ≡ self.old.turns_made }
     {
-        let ViewWorker { server, views } = self;
+        let ViewWorker { server, views, .. } = self;
         publish_next(alloc, &server.session, views)
     }
 
@@ -176,6 +184,7 @@ impl<J: ViewHistory, R: Wait + Drop> ViewWorker<J, Shown<J>, R> {
         ensures operator { self.new.server.operator_left ≡ self.old.server.operator_left }
         ensures ring { self.new.server.operator ≡ self.old.server.operator }
         ensures views { self.new.views ≡ self.old.views }
+        ensures count { self.new.turns_made ≡ self.old.turns_made }
     {
         self.server.exchange(alloc, line)
     }
@@ -189,6 +198,7 @@ impl<J: ViewHistory, R: Wait + Drop> ViewWorker<J, Shown<J>, R> {
         ensures ring { self.new.server.operator ≡ self.old.server.operator }
         ensures published { AllPublished self.new.server.session self.new.views }
         ensures views { self.new.views ≡ self.old.views }
+        ensures count { self.new.turns_made ≡ self.old.turns_made }
     {
         self.server.move_all(alloc);
     }

@@ -21,6 +21,8 @@ pub struct ViewWorker<
 > {
     pub(crate) server: Worker,
     pub(crate) views: Publisher<J, T, R>,
+    // How many turns the last call of `work` made, and 0 before the first.
+    pub(crate) turns_made: u64,
     ghost publishes: { Publishes server.session views },
     ghost shown_first: { AreShownFirst views.shown server.lanes.items },
 }

@@ -105,6 +105,7 @@ fn handed_back<J: ViewHistory, X: Drop>(
         matched: _,
         bodies,
         worker: _,
+        turns: _,
         line: _,
         published: _,
     } = end;

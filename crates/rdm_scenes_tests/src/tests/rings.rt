@@ -80,6 +80,7 @@ fn runs_in<J: ViewHistory + Send + Sync, R: Threads + Wait + Sync>(
         line: _,
         bodies,
         worker: _,
+        turns: _,
         ends,
         matched: _,
         published: _,

@@ -117,6 +117,7 @@ fn served<J: ViewHistory, X: Drop>(
         matched: _,
         bodies,
         worker: _,
+        turns: _,
         line: _,
         published: _,
     } = end;

@@ -18,17 +18,13 @@ returns-in-Ok-clause-session g c =
 pub returns-in-Ok-clause-ended : goal.returns-in-Ok-clause-ended
 returns-in-Ok-clause-ended g c = rw c.requires.one_each at c.run_lanes.ensures.ended
 
-pub returns-in-Ok-clause-turns : goal.returns-in-Ok-clause-turns
-returns-in-Ok-clause-turns g c =
+pub returns-in-Ok-clause-exchanges : goal.returns-in-Ok-clause-exchanges
+returns-in-Ok-clause-exchanges g c =
     let none = nothing_exchanged c.args.setup c.args.log.room c.args.places.now c.in-Ok.lanes.worker.server.session
     c.in-Ok.ensures.opened.session in
-    (omega (arith, none, c.run_lanes.ensures.turns.0), c.run_lanes.ensures.turns.1)
+    omega (arith, none, c.run_lanes.ensures.exchanges)
 
 pub returns-in-Ok-clause-slots : goal.returns-in-Ok-clause-slots
 returns-in-Ok-clause-slots g c =
     c.run_lanes.ensures.slots c.args.ring
     (new_slots c.args.ring c.args.places.now c.in-Ok.lanes.clients.items c.in-Ok.ensures.opened.clients)
-
-pub returns-in-Ok-clause-all_turns : goal.returns-in-Ok-clause-all_turns
-returns-in-Ok-clause-all_turns g c is =
-    rw (c.in-Ok.ensures.opened.session, c.in-Ok.ensures.opened.published) at (c.run_lanes.ensures.all_turns is)

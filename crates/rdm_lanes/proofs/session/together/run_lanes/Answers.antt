@@ -52,9 +52,9 @@ returns-clause-ended g c =
       shown_first = c.end-session.ensures.shown_first;
     }
 
-pub returns-clause-turns : goal.returns-clause-turns
-returns-clause-turns g c =
-    rw c.end-session.ensures.log (rw c.without_operator-alone.ensures.same.0 at c.run_together-worker.ensures.turns)
+pub returns-clause-exchanges : goal.returns-clause-exchanges
+returns-clause-exchanges g c =
+    rw c.end-session.ensures.log (rw c.without_operator-alone.ensures.same.0 at c.run_together-worker.ensures.exchanges)
 
 pub returns-clause-switches : goal.returns-clause-switches
 returns-clause-switches g c =
@@ -68,9 +68,3 @@ returns-clause-slots g c n has =
     c.unseated-bodies.result.1.items c.end-session.result.ends.items
     c.seated-taken.ensures.rings c.run_together-worker.ensures.seats c.unseated-bodies.ensures.ends
     c.end-session.ensures.told has
-
-pub returns-clause-all_turns : goal.returns-clause-all_turns
-returns-clause-all_turns g c is =
-    let made = c.run_together-worker.ensures.all_turns is in
-    rw (c.end-session.ensures.log, c.end-session.ensures.shown)
-    (rw (c.without_operator-alone.ensures.same.0, c.without_operator-alone.ensures.views) at made)

@@ -1,10 +1,9 @@
-use Rattle.std.proofs.Common.{◌≡◌, ◌∙◌, ℕ, Some, refl, ap, subst, arith}
+use Rattle.std.proofs.Common.{◌∙◌, Some, refl, ap, arith}
 use Rattle.rdm_lanes.proofs.LaneLemmas.{same_lanes, same_lanes_join}
 use Rattle.rdm_lanes.proofs.LineLemmas.{line_same, switches_same, switches_join}
 use Rattle.rdm_lanes.proofs.ExchangeLemmas.{exchanged_none, exchanged_join}
 use Rattle.rdm_lanes.proofs.Fronts.{prefix_self, prefix_trans}
-use Rattle.rdm_lanes.specs.Turns.{TurnsMade, state_of}
-use Rattle.rdm_lanes.proofs.WorkLemmas.{ring_same, ring_join, turns_more}
+use Rattle.rdm_lanes.proofs.WorkLemmas.{ring_same, ring_join}
 use Rattle.rdm_lanes.proofs.worker.view_turns.ViewWorker+J+Shown+J+R.work.Goals as goal
 
 pub returns-in-Some-clause-exchanged : goal.returns-in-Some-clause-exchanged
@@ -24,6 +23,7 @@ loop-turn-preserved g c = record {
       c.args.self.now.server.session c.loop-turn.self.server.session c.turn.new.self.server.session
       c.loop-turn.invariant.exchanged c.turn.ensures.exchanged;
   few = omega (arith, c.loop-turn.invariant.few, c.turn.ensures.one);
+  count = omega (arith, c.loop-turn.invariant.count, c.turn.ensures.counted);
   lanes = same_lanes_join c.args.self.now.server.lanes.items c.loop-turn.self.server.lanes.items
       c.turn.new.self.server.lanes.items c.loop-turn.invariant.lanes c.turn.ensures.lanes;
   operator = λ left.
@@ -37,15 +37,23 @@ loop-turn-preserved g c = record {
       c.loop-turn.invariant.views c.turn.ensures.views;
   ring = ring_join c.args.self.now.server.operator c.loop-turn.self.server.operator c.turn.new.self.server.operator
       c.loop-turn.invariant.ring c.turn.ensures.ring;
-  made = turns_more c.loop-turn._turn (state_of c.args.self.now) (state_of c.loop-turn.self) (state_of c.turn.new.self)
-      c.loop-turn.invariant.made (rw c.in_default.is at c.turn.ensures.went_on);
 }
 
 pub returns-in-Some-clause-turns : goal.returns-in-Some-clause-turns
 returns-in-Some-clause-turns g c = (
-  omega (arith, c.loop-turn.invariant.few, c.turn.ensures.one, c.loop-turn-test.true),
+  omega (arith, c.loop-turn.invariant.count, c.turn.ensures.counted, c.loop-turn-test.true),
   λ none. absurd (omega (arith, none, c.loop-turn-test.true)),
 )
+
+pub returns-in-Some-clause-exchanges : goal.returns-in-Some-clause-exchanges
+returns-in-Some-clause-exchanges g c =
+    omega (
+      arith,
+      c.loop-turn.invariant.few,
+      c.loop-turn.invariant.count,
+      c.turn.ensures.one,
+      c.turn.ensures.counted,
+    )
 
 pub returns-in-Some-clause-all_left : goal.returns-in-Some-clause-all_left
 returns-in-Some-clause-all_left g c is = c.turn.ensures.all_left (c.in-Some.is ∙ ap (λ x. Some x) is)
@@ -67,11 +75,11 @@ loop-turn-init g c = record {
   exchanged = exchanged_none g.X.Line.step c.args.line.now c.args.self.now.server.session c.args.self.now.server.session
       (line_same c.args.self.now.server.session);
   few = omega arith;
+  count = refl;
   lanes = same_lanes c.args.self.now.server.lanes.items;
   operator = λ left. (left, switches_same c.args.self.now.server.session);
   views = prefix_self c.args.self.now.views.shown;
   ring = ring_same c.args.self.now.server.operator;
-  made = refl;
 }
 
 pub returns-in-Some-clause-published : goal.returns-in-Some-clause-published
@@ -91,7 +99,4 @@ pub returns-in-Some-clause-all_turns : goal.returns-in-Some-clause-all_turns
 returns-in-Some-clause-all_turns g c is = absurd (c.turn.ensures.no_turns (c.in-Some.is ∙ ap (λ x. Some x) is))
 
 pub returns-clause-all_turns : goal.returns-clause-all_turns
-returns-clause-all_turns g c is =
-    let past : c.loop-turn._turn ≡ c.args.turns = omega (arith, c.loop-turn-test.false) in
-    subst (λ (n : ℕ). TurnsMade n (state_of c.args.self.now) (state_of c.loop-turn.self)) past
-    c.loop-turn.invariant.made
+returns-clause-all_turns g c is = omega (arith, c.loop-turn.invariant.count, c.loop-turn-test.false)
