@@ -3,4 +3,4 @@ use Rattle.std.proofs.Common.{◌+◌, length}
 use Rattle.rdm_lanes_tests.proofs.tests.owners.have_tags.Given as goal
 
 abbrev pub decreases-loop-left : goal.decreases-loop-left
-decreases-loop-left g l = length l.unspent.requests + length l.unspent.asks
+decreases-loop-left l = length l.unspent.requests + length l.unspent.asks
