@@ -18,7 +18,7 @@ has_answer n h = list_any (λ b. b.number == n) (answers h)
 abbrev pub AllAnswered : ℕ → List Entry → Type 0
 AllAnswered r h = AllByRecursion (λ a. has_answer a.number h ≡ true) (served r h)
 
--- a run is done: its exchanges have the certificate that it found all devices
+-- a run is done: its exchanges have the certificate for the devices that it found
 abbrev pub IsDone : Opening → List Entry → ℕ → Type 0
 IsDone o h r = Certificate (run_kind r h) (known_at_run o r h) (run_exchanges r h) (run_devices r h)
 

@@ -20,7 +20,7 @@ pub record Accepted : Type 0 where
   pub number : ℕ
   pub request : Request
 
--- a discovery that was asked: its client, its number and its kind
+-- a discovery that was asked for: its client, its number and its kind
 pub record AskedDiscovery : Type 0 where
   pub client : ℕ
   pub number : ℕ

@@ -14,7 +14,7 @@ use Rattle.rdm_log.specs.log.MaySend.{MaySend}
 use Rattle.rdm_log.specs.log.MayFinish.{MayFinish}
 use Rattle.rdm_log.specs.log.MayAnswer.{MayAnswer}
 
--- the entry may follow h: a Finish or an Answer if it is right, and any other entry only if nothing is due, too
+-- the entry may follow h: a Finish or an Answer if it is right, any other entry if it is right and nothing is due
 abbrev pub MayFollow : Opening → List Entry → Entry → Type 0
 MayFollow o h (Finish n status len) = MayFinish o h n status len
 MayFollow o h (Answer n r fault) = MayAnswer o h n r fault

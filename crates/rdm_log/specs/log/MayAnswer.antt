@@ -22,14 +22,15 @@ abbrev pub Shows : Opening → List Entry → ℕ → Option AgentFault → Type
 Shows o h r None = IsDone o h r
 Shows o h r (Some fault) = Cause o.budget (IsAborted o h r) fault (run_exchanges r h) × (IsDone o h r → ⊥)
 
--- an Answer by a run that serves the discovery: the run's exchanges show it, and the run's other Answers agree
+-- an Answer by a run that serves the discovery: no reply is awaited, the run has shown what the Answer says, and the
+-- run's other Answers agree
 pub record MayAnswerByRun (o : Opening) (h : List Entry) (n r : ℕ) (fault : Option AgentFault) : Type 0 where
   pub not_awaited : awaited h ≡ false
   pub serves : list_any (λ a. a.number == n) (served r h) ≡ true
   pub agrees : AllByRecursion (λ b. (b.run ≡ r) → b.fault ≡ fault) (answers h)
   pub shows : Shows o h r fault
 
--- an Answer to a discovery that no run serves, which a close ends after all Finishes
+-- an Answer with Aborted to a discovery that no run serves: a close ends what is left, and all requests are finished
 pub record MayAnswerUnserved (o : Opening) (h : List Entry) (fault : Option AgentFault) : Type 0 where
   pub closing : IsClosing o h
   pub aborted : fault ≡ Some Aborted

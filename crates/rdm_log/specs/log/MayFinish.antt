@@ -9,7 +9,7 @@ use Rattle.rdm_log.specs.log.Entries.{Accepted, result}
 use Rattle.rdm_log.specs.log.History.{awaited, is_closed, unfinished, unanswered}
 use Rattle.rdm_log.specs.log.Runs.{unserved}
 
--- a close ends the requests: the queue is closed, no reply is awaited, and no run has a discovery left to answer
+-- a close ends what is left: the queue is closed, no reply is awaited, and no run has a discovery left to answer
 pub record IsClosing (o : Opening) (h : List Entry) : Type 0 where
   pub closed : is_closed o h ≡ true
   pub not_awaited : awaited h ≡ false
@@ -21,7 +21,7 @@ Tells j status len =
     ((status ≡ j.status) × (len ≡ length j.data_))
     ⊎ ((status ≡ NoMemory) × (j.status ≡ Completed) × (j.data_ ≢ []) × (len ≡ 0))
 
--- they fit a decided result if they report it, and an open one as FailedToSend, if a close ends the request
+-- they fit a decided result if they report it; an open one as FailedToSend without data, if a close ends the request
 abbrev pub FitsResult : Type 0 → Option Joined → Status → ℕ → Type 0
 FitsResult closing None status len = closing × (status ≡ FailedToSend) × (len ≡ 0)
 FitsResult closing (Some j) status len = Tells j status len

@@ -61,12 +61,12 @@ unless_answered (Some r) h = if is_answered r h then None else Some r
 abbrev pub open_run : List Entry → Option ℕ
 open_run h = unless_answered (last_run h) h
 
--- how many discoveries were asked before the last run began
+-- how many discoveries were asked for before the last run began
 abbrev pub asked_before : Option ℕ → List Entry → ℕ
 asked_before None h = 0
 asked_before (Some r) h = length (asks (entries_before_run r h))
 
--- the Asks without an Answer that were asked after the last run began: no run serves them yet
+-- the Asks without an Answer that came after the last run began: no run serves them yet
 abbrev pub unserved : List Entry → List AskedDiscovery
 unserved h = drop (asked_before (last_run h) h - length (answers h)) (unanswered h)
 

@@ -30,7 +30,7 @@ use Rattle.rdm_log.specs.log.Refusals.{number_of_ask_fault}
 use Rattle.rdm_log.specs.promises.Outcomes.{outcome_of}
 use Rattle.rdm_log.specs.promises.Headline.{Begins}
 
--- the numbers of the discoveries that were asked, in order
+-- the numbers of the discoveries that were asked for, in order
 abbrev pub numbers_asked : List AskedDiscovery → List ℕ
 numbers_asked some = map (λ a. a.number) some
 
@@ -42,14 +42,14 @@ numbers_answered some = map (λ b. b.number) some
 abbrev pub answer_count : ℕ → List Entry → ℕ
 answer_count n h = length (filter (λ m. n == m) (numbers_answered (answers h)))
 
--- No discovery has two answers, only discoveries that were asked have one, and each of them has one once the queue is
--- closed and awaits no reply.
+-- No discovery has two answers, only discoveries that were asked for have one, and each of them has one once the queue
+-- is closed and awaits no reply.
 pub record OneAnswer (o : Opening) (h : List Entry) : Type 0 where
   -- no discovery has two
   pub at_most_one : (n : ℕ) → answer_count n h ≤ 1
   -- none has one that wasn't asked for
   pub asked : (n : ℕ) → 0 < answer_count n h → Contains (numbers_asked (asks h)) n
-  -- once closed, with no reply awaited, each discovery that was asked has one
+  -- once closed, with no reply awaited, each discovery that was asked for has one
   pub exactly_one : is_closed o h ≡ true → awaited h ≡ false → (n : ℕ) → Contains (numbers_asked (asks h)) n
       → answer_count n h ≡ 1
 
@@ -57,12 +57,12 @@ pub record OneAnswer (o : Opening) (h : List Entry) : Type 0 where
 pub record AnsweredInOrder (o : Opening) (h : List Entry) : Type 0 where
   -- numbers rise by one from the opening's, so no two discoveries share one
   pub numbered : numbers_asked (asks h) ≡ range_with_len o.next_ask (length (asks h))
-  -- discoveries are answered in the order in which they were asked
+  -- discoveries are answered in the order in which they were asked for
   pub all : Begins (numbers_answered (answers h)) (numbers_asked (asks h))
   -- so are each client's
   pub each : (c : ℕ) → Begins (numbers_answered (answers (answers_to o c h))) (numbers_asked (asks_by c h))
 
--- The devices of an Answer are those that its run showed on the line.
+-- The devices of an Answer are those that the line showed during its run.
 pub record TellsTheLine (o : Opening) (h : List Entry) : Type 0 where
   -- on an honest line whose devices stay: without fault exactly these, whatever bytes colliding replies make
   pub exactly : (front back : List Entry) (n r : ℕ) (present : List ℕ) → h ≡ front ++ Answer n r None ∷ back
@@ -115,7 +115,7 @@ pub record RunsAnswer (o : Opening) (h : List Entry) : Type 0 where
       → Contains (served b.run h) a → has_answer a.number h ≡ true
   pub by_one : (r i : ℕ) (b : Answered) (a : AskedDiscovery) → slice_get (answers h) i ≡ Some b
       → Contains (served r h) a → b.number ≡ a.number → b.run ≡ r
-  -- after its Answer no exchange is made for it, and its outcome is unchanged
+  -- after an Answer by a run no exchange is made for the run, and the outcome of that Answer is unchanged
   pub ended : (front back : List Entry) (n r : ℕ) (fault : Option AgentFault) → h ≡ front ++ Answer n r fault ∷ back
       → run_exchanges r h ≡ run_exchanges r front
   pub stays : (front back : List Entry) (n r : ℕ) (fault : Option AgentFault) → h ≡ front ++ Answer n r fault ∷ back
@@ -147,12 +147,12 @@ pub record FullRefusesDiscoveries (o : Opening) (h : List Entry) : Type 0 where
 
 -- All that clients are promised about discoveries, for each legal log.
 pub record DiscoveriesPromised (o : Opening) (h : List Entry) : Type 0 where
-  -- each discovery that was asked is answered at most once, and exactly once when the queue is closed and awaits no
-  -- reply
+  -- each discovery that was asked for is answered at most once, and exactly once when the queue is closed and awaits
+  -- no reply
   pub one_answer : OneAnswer o h
-  -- discoveries are answered in the order in which they were asked
+  -- discoveries are answered in the order in which they were asked for
   pub in_order : AnsweredInOrder o h
-  -- the devices of an Answer are those that its run showed on the line
+  -- the devices of an Answer are those that the line showed during its run
   pub tells_the_line : TellsTheLine o h
   -- a run answers the discoveries that were asked for before it began, all alike, and nothing changes its answers later
   pub runs_answer : RunsAnswer o h

@@ -120,7 +120,7 @@ abbrev pub IsOwnOutcome : Opening → List Entry → ℕ → Outcome → Type 0
 IsOwnOutcome o h c (outcomes.Request number done) = IsOwnResult o h c number (completion_value done)
 IsOwnOutcome o h c (outcomes.Discovery number done) = IsOwnReport o h c number (discovered done)
 
--- the devices of a discovery are those that its run showed on the line
+-- the devices of a discovery are those that the line showed during its run
 pub record ReportsTheLine (h : List Entry) (done : Discovered) : Type 0 where
   -- on an honest line whose devices stay: without fault exactly these, whatever bytes colliding replies make
   pub exactly : (present : List ℕ) → done.fault ≡ None → HonestTrace present (run_exchanges done.run h)
@@ -205,7 +205,7 @@ pub record EventsPromised (old : LogState) (es : List Event) (rs : List Answer) 
   pub collected : (i : ℕ) (c : ClientId) (outcome : BoxedOutcome) → slice_get es i ≡ Some (events.Collect c)
       → slice_get rs i ≡ Some (answers.Collect (Ok (Some outcome)))
       → IsOwnOutcome new.opening new.entries c.0 (unboxed outcome)
-  -- the devices that a Collect returned for a discovery are those that its run showed on the line
+  -- the devices that a Collect returned for a discovery are those that the line showed during its run
   pub reported : (i : ℕ) (outcome : BoxedOutcome) (number : Option ℕ) (done : AskCompletion)
       → slice_get rs i ≡ Some (answers.Collect (Ok (Some outcome))) → unboxed outcome ≡ outcomes.Discovery number done
       → ReportsTheLine new.entries (discovered done)

@@ -8,7 +8,7 @@ use Rattle.rdm_log.specs.log.LogState.{LogState, with_entries}
 use Rattle.rdm_log.specs.promises.InBound.{IsCalmRun}
 
 -- An Answer by a calm run has a fault only if the queue is closed. A run is calm if its exchanges are those of an
--- honest line whose devices stay, without a failure, and its budget suffices.
+-- honest line whose devices stay and are at most 1,024, without a failure, and its budget suffices.
 pub record InBound (k : LogState) : Type 0 where
   pub closed_first : (front back : List Entry) (n r : ℕ) (fault : AgentFault) (present : List ℕ)
       → k.entries ≡ front ++ Answer n r (Some fault) ∷ back → IsCalmRun (with_entries k front) r present

@@ -1,4 +1,4 @@
--- What one client called, and which outcomes it collects.
+-- What one client called, which outcomes it collects, and what is reported to it.
 use Rattle.std.specs.Prelude.{ℕ, Bool, false, ◌&&◌, ◌||◌, List, [], filter, Option, Some, None, ◌==◌, slice_get}
 use Rattle.std.specs.Prelude.{option_and_then}
 use Rattle.rdm_wire.specs.declared.device.Device.{Device}

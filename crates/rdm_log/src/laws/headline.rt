@@ -35,8 +35,8 @@ pub fn first_in_first_out()
     ensures { (o : Opening) (h : List Entry) → Legal o h → InOrder o h }
 {}
 
-/// A request is refused as full only if its client's queue is full. After the refusal's entry the log says the same
-/// about the queue as before.
+/// A request is refused as full only if its client's queue is full, and no request is accepted then. After a refusal's
+/// entry the log says the same about the queue as before.
 pub fn full_queue_refuses()
     ensures { (o : Opening) (h : List Entry) → Legal o h → FullRefuses o h }
 {}
