@@ -1,5 +1,8 @@
 //! What a program needs to embed the queue in one thread: the names of the crates below, so that it lists this one.
 //! Each name is documented where it is defined. Sessions in threads are in `rdm_locked` and `rdm_lanes`.
+//!
+//! A program's own contracts can cite the definitions of these crates by this one, such as
+//! `Rattle.rdm.specs.log.Legal.Legal`.
 #![tactic(auto)]
 
 pub use rdm_agent::{Agent, AgentFault, DEFAULT_BUDGET, Kind, Op, OpReply, Search};
