@@ -20,7 +20,7 @@ use crate::known::KnownLeft;
 use crate::limits::{MOST_RANGES, UNMUTES};
 use crate::op::{Op, OpReply};
 use crate::phase::Phase;
-use crate::progress::Progress;
+use crate::run_state::RunState;
 use crate::ranges::RangesBelow;
 use crate::search::Search;
 use rdm_wire::{DeviceSet, UidSet};
@@ -36,7 +36,7 @@ pub struct Agent {
     budget: u64,
     frames: u64,
     phase: Phase,
-    progress: Progress,
+    run_state: RunState,
 }
 
 // The size that the docs state.
@@ -49,10 +49,10 @@ impl Model for Agent {
 
     ghost Value = { AgentState };
 
-    ghost view = { λ a. state_of a.budget a.frames a.phase a.progress };
+    ghost view = { λ a. state_of a.budget a.frames a.phase a.run_state };
 
     ghost invariant = { λ a.
-        IsSound (seen_phase a.phase a.progress) × IsFresh (seen_phase a.phase a.progress) a.progress.below };
+        IsSound (seen_phase a.phase a.run_state) × IsFresh (seen_phase a.phase a.run_state) a.run_state.below };
 }
 
 impl Agent {
@@ -74,7 +74,7 @@ impl Agent {
             budget,
             frames: 0,
             phase: Phase::Unmuting { more: UNMUTES },
-            progress: Progress {
+            run_state: RunState {
                 search,
                 known: KnownLeft::new(kind, known),
                 found: DeviceSet::new(),
@@ -92,7 +92,7 @@ impl Agent {
         self.budget = budget;
         self.frames = 0;
         self.phase = Phase::Unmuting { more: UNMUTES };
-        self.progress.reset(search, kind, known);
+        self.run_state.reset(search, kind, known);
     }
 
     /// What it asks of the line next: three unmutes, then branches and mutes of devices. [`Op::End`]: the run has
@@ -130,7 +130,7 @@ impl Agent {
             StaysInBound self.new (with_exchange run (seen_op (next_op self.old, reply)))) }
     {
         self.frames += 1;
-        self.phase = self.progress.heard(self.phase, reply);
+        self.phase = self.run_state.heard(self.phase, reply);
     }
 
     /// The agent after the reply to what it asks next, as [`Agent::hear`] makes it; the whole agent is moved.
@@ -178,7 +178,7 @@ impl Agent {
         ensures value { result.now ≡ self.now.found }
         ensures report { AfterEach self.now (λ run. IsReport run.exchanges result.now) }
     {
-        &self.progress.found
+        &self.run_state.found
     }
 
     /// Why the run has no answer; None if it has one. The run must have ended (`next` returns [`Op::End`]). This is the
@@ -236,8 +236,8 @@ impl Agent {
     {
         // Each arm makes its own copy. If both moved one set, LLVM would split it into thousands of pieces.
         match self.phase.fault() {
-            None => Ok(self.progress.found.copied()),
-            Some(fault) => Err((fault, self.progress.found.copied())),
+            None => Ok(self.run_state.found.copied()),
+            Some(fault) => Err((fault, self.run_state.found.copied())),
         }
     }
 
@@ -254,7 +254,7 @@ impl Agent {
             | Phase::MutingRead { .. }
             | Phase::Sweeping { .. }
             | Phase::MutingSwept { .. }
-            | Phase::Doubting { .. } => self.progress.below.len() + 1,
+            | Phase::Doubting { .. } => self.run_state.below.len() + 1,
             Phase::Ended(_) => 0,
         }
     }

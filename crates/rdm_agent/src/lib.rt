@@ -9,7 +9,7 @@ pub mod laws;
 mod limits;
 mod op;
 mod phase;
-mod progress;
+mod run_state;
 mod ranges;
 mod search;
 mod sweep;

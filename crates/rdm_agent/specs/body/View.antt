@@ -9,7 +9,7 @@ use Rattle.rdm_agent.specs.declared.sweep.Sweep.{Sweep}
 use Rattle.rdm_agent.specs.declared.phase.Phase.{Phase}
 use Rattle.rdm_agent.specs.declared.phase.Phase.TheVariants.{Unmuting, MutingKnown, Searching, MutingRead, Ended}
 use Rattle.rdm_agent.specs.declared.phase.Phase.TheVariants.{Sweeping, MutingSwept, Doubting}
-use Rattle.rdm_agent.specs.declared.progress.Progress.{Progress}
+use Rattle.rdm_agent.specs.declared.run_state.RunState.{RunState}
 
 -- the machine's sweep
 abbrev pub sweep_of : Sweep → machine.Sweep
@@ -27,11 +27,11 @@ phase_of (Doubting top sweep) known below = doubting (sweep_of sweep) top below
 phase_of (Ended fault) known below = ended fault
 
 -- the same for all that a run keeps
-abbrev pub seen_phase : Phase → Progress → machine.Phase
+abbrev pub seen_phase : Phase → RunState → machine.Phase
 seen_phase phase p = phase_of phase p.known p.below
 
 -- the machine's state
-abbrev pub state_of : ℕ → ℕ → Phase → Progress → machine.AgentState
+abbrev pub state_of : ℕ → ℕ → Phase → RunState → machine.AgentState
 state_of budget frames phase p = record {
   budget = budget;
   frames = frames;
@@ -40,7 +40,7 @@ state_of budget frames phase p = record {
   phase = seen_phase phase p;
 }
 
--- the new phase and progress are those after the step, which counts one more exchange
-abbrev pub Steps : (machine.AgentState → machine.AgentState) → Phase → Progress → Phase → Progress → Type 0
+-- the new phase and state of the run are those after the step, which counts one more exchange
+abbrev pub Steps : (machine.AgentState → machine.AgentState) → Phase → RunState → Phase → RunState → Type 0
 Steps step phase old result new =
     (budget frames : ℕ) → state_of budget (frames + 1) result new ≡ step (state_of budget frames phase old)

@@ -1,0 +1,18 @@
+use Rattle.std.proofs.Common.{List, sym, subst, arith}
+use Rattle.rdm_wire.specs.Span.{Span}
+use Rattle.rdm_agent.specs.Machine.{first_phase}
+use Rattle.rdm_agent.specs.body.Sound.{IsSound}
+use Rattle.rdm_agent.specs.body.View.{phase_of}
+use Rattle.rdm_agent.specs.declared.search.Search.{Search}
+use Rattle.rdm_agent.specs.declared.search.Search.TheVariants.{Steady, Quick}
+use Rattle.rdm_agent.proofs.Stacks.{IsStack-whole}
+use Rattle.rdm_agent.proofs.run_state.RunState.next_known.Goals as goal
+
+begins : (search : Search) → IsSound (first_phase search)
+begins Steady = (omega arith, IsStack-whole)
+begins Quick = (omega arith, IsStack-whole)
+
+pub returns-in-None-clause-sound : goal.returns-in-None-clause-sound
+returns-in-None-clause-sound c =
+    subst (λ (rs : List Span). IsSound (phase_of c.first_phase.result c.next.new.self rs)) (sym c.requires.fresh)
+    (subst IsSound (sym (c.first_phase.ensures c.next.new.self)) (begins c.args.self.now.search))
