@@ -1,7 +1,7 @@
 //! Why a worker has stopped.
 
-/// Why a worker has stopped (profile of this project): that of a port, which works with a mutex, or that of open lanes,
-/// which works with ring buffers.
+/// Why a worker has stopped: that of a port, which works with a mutex, or that of open lanes, which works with ring
+/// buffers.
 #[derive(Clone, Copy, Debug, PartialEq, Eq)]
 pub enum WorkerEnd {
     /// Nobody is left to call, and there is no frame to send. With a mutex: each client that had joined by then has

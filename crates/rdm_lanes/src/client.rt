@@ -20,8 +20,8 @@ use rdm_client::{AskCallback, Callback, Desk, DeviceView};
 use rtrb::{Consumer, Producer};
 use std::alloc::Global;
 
-/// A client with a ring for its calls, one for its outcomes, and a reader of the worker's views (profile of this
-/// project). None of its calls waits for anybody, and none takes memory. Contracts see:
+/// A client with a ring for its calls, one for its outcomes, and a reader of the worker's views. None of its calls
+/// waits for anybody, and none takes memory. Contracts see:
 /// - what it sent, the submits and discovers in order;
 /// - what it got, the outcomes in order;
 /// - the published views that it has read up to, in order.

@@ -1,7 +1,7 @@
 //! Why a call is refused.
 use thiserror::Error;
 
-/// Why lanes can't be opened (profile of this project). They are tested in this order.
+/// Why lanes can't be opened. They are tested in this order.
 #[derive(Clone, Copy, Debug, PartialEq, Eq, Error)]
 pub enum OpenFault {
     /// 1: there are more than sixteen clients.
@@ -18,7 +18,7 @@ pub enum OpenFault {
     LogFull,
 }
 
-/// Why a client's call isn't sent (profile of this project). Left is tested first, then Full, then RingFull.
+/// Why a client's call isn't sent. Left is tested first, then Full, then RingFull.
 #[derive(Clone, Copy, Debug, PartialEq, Eq, Error)]
 pub enum RingFault {
     /// 1: the client holds callbacks of as many requests as it has places, or of four discoveries; or it has sent as
@@ -33,7 +33,7 @@ pub enum RingFault {
     Left,
 }
 
-/// The ring of calls has no free slot, and nothing has changed (profile of this project).
+/// The ring of calls has no free slot, and nothing has changed.
 #[derive(Clone, Copy, Debug, PartialEq, Eq, Error)]
 #[error("the ring of calls is full")]
 pub struct RingFull;

@@ -1,5 +1,5 @@
 //! Clients that never wait. Each has a ring for its calls and a ring for its outcomes. A worker has their other ends,
-//! and publishes device views, which each client reads.
+//! and publishes device views, which each client reads. All of it is the profile of this project.
 //!
 //! - `opening` makes the clients, the operator and the worker, and `session` runs all of them in threads.
 //! - `client` has one end of each ring, and `worker` the other. `call` and `ring_outcome` are what goes through them.

@@ -24,7 +24,7 @@ use rtrb::RingBuffer;
 use std::alloc::Global;
 use std::sync::Wait;
 
-/// The clients of a session, its operator and its worker (profile of this project). `T` is `Shown<J>`.
+/// The clients of a session, its operator and its worker. `T` is `Shown<J>`.
 pub struct Lanes<
     J: ViewHistory,
     T: Absorb<Shown<J>, State = [DeviceView; 0]> + Drop,
@@ -40,11 +40,11 @@ pub struct Lanes<
     pub worker: ViewWorker<J, T, R>,
 }
 
-/// A session with a client for each of these places, an operator and a worker (profile of this project). Its runs
-/// search steadily. Each client has a ring of this many slots for its calls and one for its outcomes, and the operator
-/// one for its calls. The memory of the rings is taken here, with that of what each client finds. A view takes its own
-/// when it is published. `J` is the history of the views that the worker publishes. The worker keeps the runtime, to
-/// wait for readers when it publishes; this call waits for nobody.
+/// A session with a client for each of these places, an operator and a worker. Its runs search steadily. Each client
+/// has a ring of this many slots for its calls and one for its outcomes, and the operator one for its calls. The memory
+/// of the rings is taken here, with that of what each client finds. A view takes its own when it is published. `J` is
+/// the history of the views that the worker publishes. The worker keeps the runtime, to wait for readers when it
+/// publishes; this call waits for nobody.
 ///
 /// The conditions are these:
 /// - the controller's UID isn't broadcast;

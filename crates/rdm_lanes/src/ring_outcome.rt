@@ -4,8 +4,8 @@ use rdm_queue::Completion;
 use rdm_wire::DeviceSet;
 use std::mem::size_of;
 
-/// An outcome on its way to its client (profile of this project). The set of a discovery is large, so it lies in
-/// memory of its own, which the worker takes.
+/// An outcome on its way to its client. The set of a discovery is large, so it lies in memory of its own, which the
+/// worker takes.
 #[derive(Debug, Drop)]
 pub enum RingOutcome {
     /// A request has ended.

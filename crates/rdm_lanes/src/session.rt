@@ -27,13 +27,13 @@ use std::alloc::Global;
 use std::sync::Wait;
 use std::thread::Threads;
 
-/// Runs a session (profile of this project): opens a client for each of these places, and runs its body in a thread of
-/// its own, beside the worker with this many turns. There is no operator, so nobody pauses or closes. Where a thread
-/// can't be made its work is done in one that there is, after the other work there. `J` is the history of the views
-/// that the worker publishes. What was published, and what each client has read of it, is compared at the end too. The
-/// callbacks that a client left over are as many as its own calls without an outcome. Both rings of each client have
-/// `ring` slots, as [`ClientEnd::slots`](crate::ClientEnd::slots) still shows at the end. If the worker ended with
-/// Turns, it made all its turns, as [`LanesEnd::turns`] counts them.
+/// Runs a session: opens a client for each of these places, and runs its body in a thread of its own, beside the worker
+/// with this many turns. There is no operator, so nobody pauses or closes. Where a thread can't be made its work is
+/// done in one that there is, after the other work there. `J` is the history of the views that the worker publishes.
+/// What was published, and what each client has read of it, is compared at the end too. The callbacks that a client
+/// left over are as many as its own calls without an outcome. Both rings of each client have `ring` slots, as
+/// [`ClientEnd::slots`](crate::ClientEnd::slots) still shows at the end. If the worker ended with Turns, it made all
+/// its turns, as [`LanesEnd::turns`] counts them.
 ///
 /// The conditions are those of [`open_lanes`](crate::open_lanes), and there are as many bodies as places. Once the
 /// worker has stopped its clients' ends are compared, as at a [`ViewWorker::end`](crate::ViewWorker::end).

@@ -30,8 +30,8 @@ use rdm_wire::{DeviceSet, Request};
 use std::alloc::Global;
 use std::sync::ledger::{Blank, Book, Ledger, Share};
 
-/// A session with a book of its clients' calls: what the mutex of a [`Port`](crate::Port) holds (profile of this
-/// project). Each of its calls is made with the mutex taken, and is one call of the session.
+/// A session with a book of its clients' calls: what the mutex of a [`Port`](crate::Port) holds. Each of its calls is
+/// made with the mutex taken, and is one call of the session.
 ///
 /// Whenever the mutex is free, these hold:
 /// - The log is legal and keeps all that clients are promised, and the session is the one that the log describes. One

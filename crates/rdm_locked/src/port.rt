@@ -25,9 +25,9 @@ use std::sync::ledger::{Blank, Ledger};
 use std::sync::{Mutex, Wait};
 use std::thread;
 
-/// A session with a mutex, for clients and a worker in threads of their own (profile of this project). The mutex is
-/// taken for one call of the session at a time, and never during an exchange with the line. `client`, `pause`,
-/// `resume`, `close` and `work` wait for it. `finish` doesn't, since whoever owns the port has it exclusively.
+/// A session with a mutex, for clients and a worker in threads of their own. The mutex is taken for one call of the
+/// session at a time, and never during an exchange with the line. `client`, `pause`, `resume`, `close` and `work` wait
+/// for it. `finish` doesn't, since whoever owns the port has it exclusively.
 ///
 /// `L` names the book of the clients' calls. The program picks it as `Brand` in the call that opens the port.
 #[derive(Drop)]

@@ -2,11 +2,10 @@
 use rdm_agent::Search;
 use rdm_wire::Uid;
 
-/// The greatest value of [`Config::places`]: a queue depth of 255 for each of sixteen clients (profile of this
-/// project).
+/// The greatest value of [`Config::places`]: a queue depth of 255 for each of sixteen clients.
 pub const MOST_PLACES: u16 = 4080;
 
-/// How a controller is set up (profile of this project).
+/// How a controller is set up.
 #[derive(Clone, Copy, Debug)]
 pub struct Config {
     /// The controller's own UID, which must not be broadcast.
@@ -31,8 +30,7 @@ impl Config {
     }
 }
 
-/// How a session is set up: the configuration of its controller, and how the discovery runs search (profile of this
-/// project).
+/// How a session is set up: the configuration of its controller, and how the discovery runs search.
 #[derive(Clone, Copy, Debug)]
 pub struct Setup {
     /// The configuration of the controller.

@@ -7,7 +7,7 @@ use rdm_join::LineEvent;
 use rdm_wire::{Frame, NoMemory, Request};
 use std::mem::size_of;
 
-/// A call of a session (profile of this project).
+/// A call of a session.
 #[derive(Debug, Drop)]
 pub enum Event {
     /// A client joins, with this queue depth.
@@ -30,7 +30,7 @@ pub enum Event {
     Collect(ClientId),
 }
 
-/// A session's answer to an event: the result of the call with that name (profile of this project).
+/// A session's answer to an event: the result of the call with that name.
 #[derive(Debug, Drop)]
 pub enum Answer {
     /// The client, or why it may not join.

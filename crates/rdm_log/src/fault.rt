@@ -1,22 +1,22 @@
 //! Why a call is refused.
 use thiserror::Error;
 
-/// The log has fewer than three free entries, and nothing has changed (profile of this project).
+/// The log has fewer than three free entries, and nothing has changed.
 #[derive(Clone, Copy, Debug, PartialEq, Eq, Error)]
 #[error("the log is full")]
 pub struct LogFull;
 
-/// No reply is awaited, and nothing has changed (profile of this project).
+/// No reply is awaited, and nothing has changed.
 #[derive(Clone, Copy, Debug, PartialEq, Eq, Error)]
 #[error("no reply is awaited")]
 pub struct NotAsked;
 
-/// The session isn't idle, and nothing has changed (profile of this project).
+/// The session isn't idle, and nothing has changed.
 #[derive(Clone, Copy, Debug, PartialEq, Eq, Error)]
 #[error("the session isn't idle")]
 pub struct NotIdle;
 
-/// Why a join is refused (profile of this project). LogFull is tested first, and then the others in this order.
+/// Why a join is refused. LogFull is tested first, and then the others in this order.
 #[derive(Clone, Copy, Debug, PartialEq, Eq, Error)]
 pub enum JoinFault {
     /// 1: the queue is closed.
@@ -36,7 +36,7 @@ pub enum JoinFault {
     LogFull,
 }
 
-/// Why a submit is refused (profile of this project). LogFull is tested first, and then the others in this order.
+/// Why a submit is refused. LogFull is tested first, and then the others in this order.
 #[derive(Clone, Copy, Debug, PartialEq, Eq, Error)]
 pub enum SubmitFault {
     /// 1: the queue is closed.
@@ -53,7 +53,7 @@ pub enum SubmitFault {
     LogFull,
 }
 
-/// Why a discover is refused (profile of this project). LogFull is tested first, and then the others in this order.
+/// Why a discover is refused. LogFull is tested first, and then the others in this order.
 #[derive(Clone, Copy, Debug, PartialEq, Eq, Error)]
 pub enum AskFault {
     /// 1: the queue is closed.

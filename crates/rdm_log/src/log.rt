@@ -6,14 +6,13 @@ use rdm_wire::{DeviceSet, NoMemory, Uid};
 use std::alloc::Global;
 use std::marker::Model;
 
-/// The greatest number of free entries that a log may be made with (profile of this project).
+/// The greatest number of free entries that a log may be made with.
 pub const MOST_FREE_ENTRIES: usize = 1_000_000;
 
-/// How many entries have to be free for each call that a full log refuses (profile of this project).
+/// How many entries have to be free for each call that a full log refuses.
 pub const LEAST_FREE: usize = 3;
 
-/// The entries of a session, oldest first, and the opening before them (profile of this project). Its memory is
-/// reserved when it is made.
+/// The entries of a session, oldest first, and the opening before them. Its memory is reserved when it is made.
 #[derive(Debug, Drop)]
 pub struct Log {
     // Boxed, because it contains a device set, and a log is moved often.

@@ -12,10 +12,10 @@ use rdm_wire::{DeviceSet, Frame, Request};
 use std::alloc::Global;
 use std::marker::Model;
 
-/// The queue of the requests and discoveries of up to sixteen clients on one RDM line (profile of this project). One
-/// request is sent at a time, the oldest first, whatever its client. All discoveries that wait are served by one run,
-/// before the requests that wait, but not between two parts of a request. It does no input or output: `take` returns
-/// each frame for the line, and `deliver` takes what the line answered.
+/// The queue of the requests and discoveries of up to sixteen clients on one RDM line. One request is sent at a time,
+/// the oldest first, whatever its client. All discoveries that wait are served by one run, before the requests that
+/// wait, but not between two parts of a request. It does no input or output: `take` returns each frame for the line,
+/// and `deliver` takes what the line answered.
 ///
 /// Contracts say which logs describe its state (`StandsAfter`), and what each call adds to such a log.
 #[derive(Debug, Drop)]

@@ -1,4 +1,5 @@
-//! A queue of requests and discoveries on one RDM line, with the log of all that it does.
+//! A queue of requests and discoveries on one RDM line, with the log of all that it does. All of it is the profile of
+//! this project.
 //!
 //! # What calls cost
 //!

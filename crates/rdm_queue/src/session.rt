@@ -20,7 +20,7 @@ use std::marker::Model;
 use std::mem;
 
 /// A controller with a log of all that it does. Contracts see the log. It is always legal, the controller's state is
-/// the one that it describes, and it has capacity for all reserved entries (profile of this project).
+/// the one that it describes, and it has capacity for all reserved entries.
 #[derive(Debug, Drop)]
 pub struct Session {
     controller: Controller,

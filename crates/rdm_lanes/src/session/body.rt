@@ -7,7 +7,7 @@ use crate::views::history::ViewHistory;
 /// The point at which the worker of a session arrives once it has stopped: nothing comes after what is on the rings.
 pub const WORKER_STOPPED: u8 = 255;
 
-/// Where the bodies of a session meet (profile of this project). Points 0 to 254 are theirs.
+/// Where the bodies of a session meet. Points 0 to 254 are theirs.
 pub trait Gate {
     /// Notes that this point is reached.
     fn arrive(&self, point: u8);
@@ -16,7 +16,7 @@ pub trait Gate {
     fn passed(&self, point: u8) -> bool;
 }
 
-/// What a client does in a session (profile of this project). It owes that it ends with the client that it was lent.
+/// What a client does in a session. It owes that it ends with the client that it was lent.
 pub trait Body<C, A> {
     /// Runs once, in a thread of its own where one can be made. A body that waits for another one gives up after a
     /// stated number of tries, since without threads they run one after the other.

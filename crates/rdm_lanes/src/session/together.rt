@@ -28,7 +28,7 @@ use std::alloc::Global;
 use std::sync::Wait;
 use std::thread::Threads;
 
-/// How a session over rings ended (profile of this project).
+/// How a session over rings ended.
 pub struct LanesEnd<J: ViewHistory, B, X, C = Callback, A = AskCallback> {
     /// The session, with its log.
     pub session: Session,

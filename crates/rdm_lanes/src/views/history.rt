@@ -57,7 +57,7 @@ impl Plain<DeviceView, DeviceView, u64> for Add {
     ghost state = { λ view. None };
 }
 
-/// Which history of views it is (profile of this project). The program's call that opens lanes picks it, as `Brand`.
+/// Which history of views it is. The program's call that opens lanes picks it, as `Brand`.
 pub trait ViewHistory {
     ghost use Rattle.logbook.specs.Pages.{Book};
 
@@ -68,7 +68,7 @@ impl ViewHistory for Brand {
     ghost book = { record { number = 0; log_name = 0; cells_name = 0 } };
 }
 
-/// A history with the opening view alone, that has no name yet (profile of this project).
+/// A history with the opening view alone, that has no name yet.
 #[derive(Drop)]
 pub struct BlankHistory {
     head: Word<DeviceView, u64, Rising>,
@@ -142,7 +142,7 @@ impl<J: ViewHistory> Model for Book<J> {
     ghost invariant = { λ b. b.head ≡ head_of J.book };
 }
 
-/// A beginning of the history that was seen (profile of this project). Contracts see the views.
+/// A beginning of the history that was seen. Contracts see the views.
 #[derive(Drop)]
 pub struct Front<J: ViewHistory> {
     views: u64,

@@ -22,7 +22,7 @@ use rdm_client::{AskCallback, Callback, Tells, TellsAsk};
 use rdm_queue::Session;
 use std::sync::Wait;
 
-/// What a worker and its clients leave, once both ends of all rings were compared (profile of this project).
+/// What a worker and its clients leave, once both ends of all rings were compared.
 pub struct Compared<J: ViewHistory, C = Callback, A = AskCallback> {
     /// The session, with its log.
     pub session: Session,

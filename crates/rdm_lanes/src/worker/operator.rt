@@ -10,9 +10,8 @@ use crate::fault::RingFull;
 use rtrb::Producer;
 use std::alloc::Global;
 
-/// Who pauses, resumes and closes a session (profile of this project). It has a ring for its calls; none of them waits
-/// for anybody, and none takes memory. The worker makes them in order, one in each of its turns. After its leave they
-/// are without effect.
+/// Who pauses, resumes and closes a session. It has a ring for its calls; none of them waits for anybody, and none
+/// takes memory. The worker makes them in order, one in each of its turns. After its leave they are without effect.
 #[derive(Drop)]
 pub struct Operator {
     pub(crate) calls: Producer<OperatorCall, Global>,
