@@ -33,12 +33,12 @@ pub record SameSwitches (old new : LogState) : Type 0 where
   pub paused : is_paused new.opening new.entries ≡ is_paused old.opening old.entries
   pub closed : is_closed new.opening new.entries ≡ is_closed old.opening old.entries
 
--- a call is refused only where the queue is closed, or the numbers of requests or of discoveries have run out
+-- whether a call may be refused: the queue is closed, or the numbers of requests or of discoveries have run out
 abbrev pub may_refuse : Opening → List Entry → Bool
 may_refuse o h =
     is_closed o h || (nat_le 18446744073709551615 (next_request o h) || nat_le 18446744073709551614 (next_ask o h))
 
--- What a close refuses its client is told; so no call is lost.
+-- No call is lost: each refusal is due to a close, which the client learns of, or to numbers that have run out.
 pub record NoCallLost (k : LogState) : Type 0 where
   pub rightly : (front back : List Entry) (c : Option ClientId) (call : Call) (cause : Cause)
       → k.entries ≡ front ++ Refuse c call cause ∷ back → may_refuse k.opening front ≡ true

@@ -1,4 +1,4 @@
--- What opening clients, an operator and a worker asks of its caller, and what it makes.
+-- What opening clients, an operator and a worker requires, and what it makes.
 use Rattle.std.specs.Prelude.{◌≡◌, ◌≢◌, ◌⊎◌, ℕ, ◌+◌, ◌<◌, ◌≤◌, false, List, [], ◌∷◌, length, sum, Option, Some, None}
 use Rattle.std.specs.Prelude.{nat_lt, slice_get, if◌then◌else◌, Result, IsErr, IfErr, MatchOption}
 use Rattle.logbook.specs.Pages.{Book}
@@ -31,7 +31,7 @@ pub record MayOpen (book : Book) (history : BlankHistory) (config : Config) (log
   pub empty : log.entries ≡ []
   pub slots : 1 ≤ ring
 
--- the first fault that the places show, where there are this many for all
+-- the first fault that the clients' places show, if all clients together may have this many
 abbrev pub places_fault : ℕ → List ℕ → Option OpenFault
 places_fault greatest places =
     if nat_lt 16 (length places) then Some TooManyClients
@@ -41,12 +41,12 @@ places_fault greatest places =
 abbrev pub IsFullFor : ℕ → List ℕ → Type 0
 IsFullFor room places = (places ≢ []) × (room < length places + 3)
 
--- where the places show no fault: there was no memory, or the log is full
+-- the fault of an opening whose places show none: out of memory, or the log is full
 abbrev pub IsLaterFault : ℕ → List ℕ → OpenFault → Type 0
 IsLaterFault room places fault = (fault ≡ NoMemory) ⊎ ((fault ≡ LogFull) × IsFullFor room places)
 
--- What an opening over a log with this room answers, if there are this many places for all. Where its clients' places
--- show a fault, it fails with the first one. Otherwise it fails where the log is full, and only with a later fault.
+-- What an opening over a log with this room returns, if all clients together may have this many places. If their places
+-- show a fault, it fails with the first one. Otherwise it fails if the log is full, and only with a later fault.
 abbrev pub HasFirstFault : {X E : Type 0} → ℕ → ℕ → List ℕ → (E → OpenFault) → Result X E → Type 0
 HasFirstFault greatest room places fault_in result =
     MatchOption (places_fault greatest places)
@@ -64,8 +64,8 @@ opened_with setup room places =
     record { opening = opened setup.config; entries = join_entries 0 places; room = room; search = setup.search }
 
 module _ {J : Type 0} {h : Ghosts J} {C A : Type 0} where
-  -- A client with this many places, and with rings of this many slots. It has neither sent nor got anything, nor left,
-  -- and it has read the opening view alone.
+  -- A client with this many places, and with rings of this many slots. It has sent and got nothing, hasn't left, and
+  -- has read only the opening view.
   pub record IsNew (ring places : ℕ) (client : RingClient J C A h) : Type 0 where
     pub nothing_sent : pushed client.calls ≡ []
     pub nothing_got : popped client.replies ≡ []

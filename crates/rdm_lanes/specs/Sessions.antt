@@ -1,4 +1,4 @@
--- What holds of a whole session over rings.
+-- What holds for a whole session with ring buffers.
 use Rattle.std.specs.Prelude.{◌≡◌, ℕ, ◌≤◌, false, List, [], length}
 use Rattle.rdm_line.specs.Events.{Exchange, Makes}
 use Rattle.rdm_log.specs.declared.config.Setup.{Setup}
