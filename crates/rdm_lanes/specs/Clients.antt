@@ -55,7 +55,7 @@ module _ {J : Type 0} {h : Ghosts J} {C A : Type 0} where
       × (settled tag_of ask_tag_of old.desk (outcome_in item) ≡ Some told)
       × (new.desk ≡ without_oldest old.desk (outcome_in item))
 
-  -- an end of the same rings
+  -- the client's rings are the same
   abbrev pub SameClient : RingClient J C A h → RingClient J C A h → Type 0
   SameClient old new = SameProducer old.calls new.calls × SameConsumer old.replies new.replies
 

@@ -7,10 +7,10 @@ pub enum OpenFault {
     /// 1: there are more than sixteen clients.
     #[error("there are more than sixteen clients")]
     TooManyClients,
-    /// 2: the places of all clients together are more than there are.
+    /// 2: all clients together have more places than the configuration allows.
     #[error("there are too few places")]
     NoPlaces,
-    /// 3: there is no memory.
+    /// 3: out of memory.
     #[error("out of memory")]
     NoMemory,
     /// 4: the log has fewer than three free entries before some client joins.
@@ -21,8 +21,8 @@ pub enum OpenFault {
 /// Why a client's call isn't sent. Left is tested first, then Full, then RingFull.
 #[derive(Clone, Copy, Debug, PartialEq, Eq, Error)]
 pub enum RingFault {
-    /// 1: the client holds callbacks of as many requests as it has places, or of four discoveries; or it has sent as
-    /// many calls as can be counted.
+    /// 1: the client holds as many requests' callbacks as it has places, or four discoveries' callbacks; or it has sent
+    /// `u64::MAX` calls.
     #[error("the client has as many calls outstanding as it may have")]
     Full,
     /// 2: the ring of calls has no free slot.

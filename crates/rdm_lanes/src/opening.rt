@@ -41,10 +41,10 @@ pub struct Lanes<
 }
 
 /// A session with a client for each of these places, an operator and a worker. Its runs search steadily. Each client
-/// has a ring of this many slots for its calls and one for its outcomes, and the operator one for its calls. The memory
-/// of the rings is taken here, with that of what each client finds. A view takes its own when it is published. `J` is
-/// the history of the views that the worker publishes. The worker keeps the runtime, to wait for readers when it
-/// publishes; this call waits for nobody.
+/// has a ring of this many slots for its calls and one for its outcomes, and the operator one for its calls. This call
+/// allocates the rings, and the memory for what each client finds. A view is allocated when it is published. `J` is the
+/// history of the views that the worker publishes. The worker keeps the runtime, to wait for readers when it publishes.
+/// This call waits for nobody.
 ///
 /// The conditions are these:
 /// - the controller's UID isn't broadcast;
@@ -53,8 +53,8 @@ pub struct Lanes<
 /// - the log has no entries;
 /// - a ring has at least one slot.
 ///
-/// Err: the first fault that stands. The log comes back without entries, as a new one with the same room, and the blank
-/// history as it was. So the same call can be made again, with more memory or with a larger log.
+/// Err: the first fault that applies. The log is returned without entries, like a new one with the same room, and the
+/// blank history is returned unchanged. So the same call can be made again, with more memory or with a larger log.
 pub fn open_lanes<J: ViewHistory, C: Tells, A: TellsAsk, R: Wait + Drop>(
     rt: R,
     alloc: Global,
@@ -72,7 +72,7 @@ pub fn open_lanes<J: ViewHistory, C: Tells, A: TellsAsk, R: Wait + Drop>(
     open_lanes_with(rt, alloc, history, Setup::steady(config), log, ring, places)
 }
 
-/// The same under the same conditions and with the same errors, with a set-up that also says how runs search.
+/// The same with a set-up, which also says how runs search. Conditions and errors are those of [`open_lanes`].
 pub fn open_lanes_with<J: ViewHistory, C: Tells, A: TellsAsk, R: Wait + Drop>(
     rt: R,
     alloc: Global,
@@ -122,7 +122,8 @@ pub fn open_lanes_with<J: ViewHistory, C: Tells, A: TellsAsk, R: Wait + Drop>(
     }
 }
 
-/// The first fault that the places show: there are too many clients, or their places together are more than there are.
+/// The first fault that the places show: there are too many clients, or together they have more places than the
+/// configuration allows.
 pub fn fault_of_places(config: &Config, places: &[u8]) -> Option<OpenFault>
     ensures { result ≡ places_fault config.now.places places.now }
 {

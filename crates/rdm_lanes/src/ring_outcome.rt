@@ -10,14 +10,14 @@ use std::mem::size_of;
 pub enum RingOutcome {
     /// A request has ended.
     Request {
-        /// Its number; None where a close refused it.
+        /// Its number; None if a close refused it.
         number: Option<u64>,
         /// How it ended.
         done: Completion,
     },
     /// A discovery has ended.
     Discovery {
-        /// Its number; None where a close refused it.
+        /// Its number; None if a close refused it.
         number: Option<u64>,
         /// The run that served it; 0 where none was begun for it.
         run: u64,
@@ -28,5 +28,5 @@ pub enum RingOutcome {
     },
 }
 
-// A slot of a ring is small.
+// A ring's slot is small.
 const _: () = prove!(size_of::<RingOutcome>() < 100);

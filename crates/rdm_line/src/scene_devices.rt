@@ -41,7 +41,7 @@ pub enum AddFault {
     /// There are 1,024 devices.
     #[error("there are 1,024 devices")]
     Full,
-    /// There was no memory.
+    /// Out of memory.
     #[error("out of memory")]
     NoMemory,
 }

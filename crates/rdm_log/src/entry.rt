@@ -32,7 +32,7 @@ pub enum Call {
     Discover(Kind),
 }
 
-/// Whose a frame is.
+/// What a frame belongs to.
 #[derive(Clone, Copy, Debug, PartialEq, Eq)]
 pub enum Owner {
     /// The request with this number.
@@ -85,7 +85,7 @@ pub enum Entry {
     },
     /// A frame was returned, for the line.
     Send {
-        /// Whose it is.
+        /// Its owner.
         owner: Owner,
         /// Its bytes.
         frame: Frame,

@@ -49,8 +49,8 @@ pub enum Answer {
     Take(Result<Option<Frame>, LogFull>),
     /// Done; or no reply was awaited, and the event is returned.
     Deliver(Result<(), (NotAsked, LineEvent)>),
-    /// The outcome, or None if there is none. Or there was no memory for the set of a discovery: nothing has changed,
-    /// and the client's next collect finds the same outcome.
+    /// The outcome, or None if there is none. Or no memory for the set of a discovery: nothing has changed, and the
+    /// client's next collect finds the same outcome.
     Collect(Result<Option<BoxedOutcome>, NoMemory>),
 }
 

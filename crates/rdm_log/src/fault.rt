@@ -74,7 +74,7 @@ impl JoinFault {
     ghost use Rattle.std.specs.Prelude.{◌≡◌};
     ghost use Rattle.rdm_log.specs.log.Refusals.{number_of_join_fault};
 
-    /// The fault's number, as an entry of the log has it; LogFull's stands in none.
+    /// The fault's number, as an entry of the log has it; LogFull's is in no entry.
     pub fn number(self) -> u8
         ensures { result ≡ number_of_join_fault self }
     {
@@ -92,7 +92,7 @@ impl SubmitFault {
     ghost use Rattle.std.specs.Prelude.{◌≡◌};
     ghost use Rattle.rdm_log.specs.log.Refusals.{number_of_submit_fault};
 
-    /// The fault's number, as an entry of the log has it; LogFull's stands in none.
+    /// The fault's number, as an entry of the log has it; LogFull's is in no entry.
     pub fn number(self) -> u8
         ensures { result ≡ number_of_submit_fault self }
     {
@@ -109,7 +109,7 @@ impl AskFault {
     ghost use Rattle.std.specs.Prelude.{◌≡◌};
     ghost use Rattle.rdm_log.specs.log.Refusals.{number_of_ask_fault};
 
-    /// The fault's number, as an entry of the log has it; LogFull's stands in none.
+    /// The fault's number, as an entry of the log has it; LogFull's is in no entry.
     pub fn number(self) -> u8
         ensures { result ≡ number_of_ask_fault self }
     {

@@ -19,7 +19,7 @@ pub struct Log {
     opening: Box<Opening>,
     entries: Vec<Entry>,
     room: usize,
-    /// How the runs of its session search. No entry says it, and no rule about logs depends on it.
+    /// How the runs of its session search. No entry says this, and no rule about logs depends on it.
     search: Search,
 }
 
@@ -81,7 +81,8 @@ impl Log {
         self.entries.as_slice()
     }
 
-    /// How the runs of its session search, as the session was set up. A log that no session has written says steadily.
+    /// How the runs of its session search, as the session was set up. If no session has written the log, this is
+    /// [`Search::Steady`].
     pub fn search(&self) -> Search
         ensures { result ≡ self.now.search }
     {

@@ -265,7 +265,7 @@ impl Queue {
         self.closed = true;
     }
 
-    /// The next frame for the line, and whose it is.
+    /// The next frame for the line, and its owner.
     pub(crate) fn take(&mut self) -> Option<(Owner, Frame)>
         ensures none { IfNone result ((to_send self.old ≡ None) × (self.new ≡ self.old)) }
         ensures frame { IfSome result (λ given. IsGiven self.old given.0 given.1 self.new) }

@@ -67,8 +67,8 @@ impl Session {
         Session::new_with(alloc, Setup::steady(config), log)
     }
 
-    /// The same under the same conditions and with the same error, with a set-up that also says how runs search. The
-    /// log says it too ([`Log::search`]).
+    /// The same with a set-up, which also says how runs search. The log has it too ([`Log::search`]). Conditions and
+    /// error are those of `new`.
     pub fn new_with(alloc: Global, setup: Setup, log: Log) -> Result<Session, (NoMemory, Log)>
         requires config_is { IsConfig setup.config }
         requires empty { log.entries ≡ [] }
@@ -85,9 +85,9 @@ impl Session {
         })
     }
 
-    /// Lets a client join, as [`Controller::join_client`] does. LogFull leaves no entry. Any other refusal is a Refuse
-    /// entry with the number of its fault.
-    /// Err: LogFull, or else the first other fault that applies; nothing changes but the log.
+    /// Lets a client join, as [`Controller::join_client`] does. LogFull adds no entry. Any other refusal is a Refuse
+    /// entry with the number of its fault. Err: LogFull, or else the first other fault that applies; nothing changes
+    /// but the log.
     pub fn join_client(&mut self, alloc: Global, places: u8) -> Result<ClientId, JoinFault>
         ensures adds { GrowsBy self.old (JoinLogs self.old places result) self.new }
         ensures legal { Legal self.new.opening self.new.entries }

@@ -37,8 +37,8 @@ pub record StateInvariant (s : QueueState) : Type 0 where
   pub serves : MatchOption s.run (Unit {0}) (λ r. 1 ≤ r.left)
   pub runs_numbered : s.next_run + (length s.asked - served_by s.run) ≤ s.next_ask + 1
 
--- each client's ring has the client's own requests of those that wait; its rings are as large as its queue depth needs,
--- and each discovery among its outcomes has its set
+-- each client's ring has those of the waiting requests that are the client's own; its rings are as large as its queue
+-- depth needs, and each discovery among its outcomes has its set
 pub record RingsInvariant (s : QueueState) (clients : List Client) : Type 0 where
   pub waiting : AreShares (λ a. a.client) (waiting_rings clients) s.waiting
   pub sizes : AllByRecursion HasRings clients
