@@ -5,7 +5,7 @@
 #[derive(Clone, Copy, Debug, PartialEq, Eq)]
 pub enum WorkerEnd {
     /// Nobody is left to call, and there is no frame to send. With a mutex: each client that had joined by then has
-    /// left. With ring buffers: all clients and the operator have left, and their rings of calls are empty; outcomes
+    /// left. With ring buffers: all clients and the operator have left, and their rings of calls are empty. Outcomes
     /// may still wait for a free slot of their client's ring, or for memory.
     AllLeft,
     /// It has made all its turns.

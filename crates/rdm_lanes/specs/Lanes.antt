@@ -32,7 +32,7 @@ pub record FitsBut (pending : List ClientCall) (c : ℕ) (k : LogState) (lane : 
 abbrev pub Fits : ℕ → LogState → Lane → Type 0
 Fits c k lane = FitsBut [] c k lane
 
--- the places of a lane's client
+-- the queue depth of a lane's client
 abbrev pub lane_places : Lane → ℕ
 lane_places lane = lane.places
 
@@ -42,7 +42,7 @@ pub record AllFit (k : LogState) (lanes : List Lane) : Type 0 where
   pub clients_are : places k.opening k.entries ≡ map lane_places lanes
   pub nobody_else : (c : ℕ) → length lanes ≤ c → calls_by c k.entries ≡ []
 
--- the lane has the same rings, and the same places
+-- the lane has the same rings, and its client the same queue depth
 abbrev pub SameLane : Lane → Lane → Type 0
 SameLane old new =
     SameConsumer old.calls new.calls × SameProducer old.replies new.replies × (new.places ≡ old.places)

@@ -16,8 +16,8 @@ use Rattle.rdm_lanes.specs.Operators.{switches}
 abbrev pub exchange_count : LogState → ℕ
 exchange_count k = length (exchanges k.entries)
 
--- The log grew. Its exchanges after those of old are the line's steps, from its value before to its value after: it got
--- each frame once, and the event that it returned was delivered. Nobody joined.
+-- The log grew. Its exchanges after those of old are the line's steps, from its value before to its value after. The
+-- line got each frame once, and the event that it returned was delivered. Nobody joined.
 pub record Exchanged {L : Type 0} (step : L → Exchange → L → Type 0) (before : L) (old : LogState) (after : L)
     (new : LogState) : Type 0 where
   pub block : List Entry

@@ -10,7 +10,7 @@ pub record IsPublished (all shown : List DeviceView) : Type 0 where
   pub lacks_one : length all ≤ length shown + 1
 
 -- What was published and what was read are prefixes of one list. If the last view read isn't of a later run than the
--- last one published, what was read is a prefix of what was published.
+-- last one published, `read` is a prefix of `shown`.
 pub record BeginOne (shown read : List DeviceView) : Type 0 where
   pub all : List DeviceView
   pub shown_begins : IsPrefix shown all

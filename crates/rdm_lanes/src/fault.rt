@@ -7,7 +7,7 @@ pub enum OpenFault {
     /// 1: there are more than sixteen clients.
     #[error("there are more than sixteen clients")]
     TooManyClients,
-    /// 2: all clients together have more places than the configuration allows.
+    /// 2: the sum of the clients' queue depths is more than the configuration allows.
     #[error("there are too few places")]
     NoPlaces,
     /// 3: out of memory.
@@ -21,8 +21,8 @@ pub enum OpenFault {
 /// Why a client's call isn't sent. Left is tested first, then Full, then RingFull.
 #[derive(Clone, Copy, Debug, PartialEq, Eq, Error)]
 pub enum RingFault {
-    /// 1: the client holds as many requests' callbacks as it has places, or four discoveries' callbacks; or it has sent
-    /// `u64::MAX` calls.
+    /// 1: the client holds as many requests' callbacks as its queue depth, or four discoveries' callbacks, or it has
+    /// sent `u64::MAX` calls.
     #[error("the client has as many calls outstanding as it may have")]
     Full,
     /// 2: the ring of calls has no free slot.

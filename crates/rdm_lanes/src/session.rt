@@ -27,21 +27,21 @@ use std::alloc::Global;
 use std::sync::Wait;
 use std::thread::Threads;
 
-/// Runs a session: opens a client for each of these places, and runs its body in a thread of its own, beside a worker
-/// with this many turns. There is no operator, so nobody pauses or closes. If a thread can't be made, its work is done
-/// in an existing one, after that one's own work. `J` is the history of the views that the worker publishes. At the
-/// end, what was published is compared with what each client has read. Each client still holds as many callbacks as it
-/// has own calls without an outcome. Both rings of each client have `ring` slots, as
+/// Runs a session. It opens a client with each of these queue depths, and runs each client's body in a thread of its
+/// own. The worker runs beside them, with this many turns. There is no operator, so nobody pauses or closes. If a
+/// thread can't be made, its work is done in an existing one, after that one's own work. `J` is the history of the
+/// views that the worker publishes. At the end, what was published is compared with what each client has read. Each
+/// client still holds a callback for each own call without an outcome. Both rings of each client have `ring` slots, as
 /// [`ClientEnd::slots`](crate::ClientEnd::slots) shows at the end. If the worker ended with Turns, it made all its
 /// turns, as [`LanesEnd::turns`] counts them.
 ///
-/// The conditions are those of [`open_lanes`](crate::open_lanes), and there are as many bodies as places. Once the
-/// worker has stopped, its clients' ends are compared, as by [`ViewWorker::end`](crate::ViewWorker::end). It waits for
-/// its threads.
+/// The conditions are those of [`open_lanes`](crate::open_lanes), and there are as many bodies as queue depths. Once
+/// the worker has stopped, its clients' ends are compared, as by [`ViewWorker::end`](crate::ViewWorker::end). It waits
+/// for its threads.
 ///
 /// Err: the first fault of `open_lanes` that applies; no body has run. The log is returned like a new one with the same
-/// room. The bodies, the line and the blank history are returned unchanged. So the same call can be made again, with
-/// more memory or with a larger log.
+/// capacity. The bodies, the line and the blank history are returned unchanged. So the same call can be made again,
+/// with more memory or with a larger log.
 pub fn run_session<
     J: ViewHistory + Send + Sync,
     B: Body<C, A> + Send,

@@ -26,7 +26,7 @@ IsRun s (x ∷ xs) new = (x.before ≡ s) × (next : SimState) × SimStep x.befo
 abbrev pub present_in : Step → List ℕ
 present_in x = present_at x.before.devices x.before.exchanges
 
--- an exchange: what was sent, and what came
+-- an exchange: what was asked, and what was heard
 abbrev pub seen_in : Step → Seen
 seen_in x = seen_event x.exchange
 

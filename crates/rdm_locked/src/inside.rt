@@ -297,7 +297,7 @@ impl<L: Ledger> Inside<L> {
         }
     }
 
-    /// The session. Whatever the calls were, its log is legal and keeps all that clients are promised, its calls are
+    /// The session. Whatever the calls were, its log is legal and keeps all that clients are promised. Its calls are
     /// those of the book, and its clients are those that joined.
     pub fn session(&self) -> &Session
         ensures session { result.now ≡ self.now.session }

@@ -117,12 +117,12 @@ impl<L: Ledger> Port<L> {
     }
 
     /// Serves the line for this many turns. It ends earlier if each client that has joined has left and no frame may be
-    /// sent, or if the log is full. A turn first reserves room in the record; if that allocation fails, the turn does
-    /// nothing else. Then it takes a frame with the mutex, makes the exchange without it, delivers what came with it,
-    /// and appends the exchange to the record. It never stops between taking and delivering.
+    /// sent, or if the log is full. A turn first reserves capacity in the record; if that allocation fails, the turn
+    /// does nothing else. Then it takes a frame with the mutex, makes the exchange without it, delivers what came with
+    /// it, and appends the exchange to the record. It never stops between taking and delivering.
     ///
-    /// A record without room doubles its capacity, which copies it. If you know how many exchanges come, reserve as
-    /// many first: each has 552 bytes, and then no turn allocates for it.
+    /// A full record doubles its capacity, which copies it. If you know how many exchanges come, reserve as many first:
+    /// each has 552 bytes, and then no turn allocates for it.
     pub fn work<X: Line, R: Wait>(
         &self,
         rt: &R,

@@ -10,8 +10,8 @@ ghost use Rattle.rdm_queue.specs.body.State.{QueueState};
 /// Each log that describes a controller's state (`StandsAfter`) is legal, so clients have all that they are promised
 /// for a legal log. That is everything except the bound on frames, which a clause of `deliver` keeps. A log without
 /// entries describes a new controller. The clauses of each call say which block it adds to each log that describes the
-/// controller, and that the longer log then describes it. So a reader of these clauses needs to know only this law
-/// about `StandsAfter`.
+/// controller. The longer log then describes it. So a reader of these clauses needs to know only this law about
+/// `StandsAfter`.
 pub fn controllers_keep_promises()
     ensures legal { (o : Opening) (h : List Entry) (s : QueueState) → StandsAfter o h s → Legal o h }
     ensures promised { (o : Opening) (h : List Entry) (s : QueueState) → StandsAfter o h s → LegalPromised o h }

@@ -209,8 +209,8 @@ impl Session {
         Ok(())
     }
 
-    /// Closes, as [`Controller::close`] does, with an entry if that has an effect, and then those of the requests that
-    /// it finishes and the discoveries that it answers. They always fit into the log.
+    /// Closes, as [`Controller::close`] does, with an entry if that has an effect. The entries of the requests that it
+    /// finishes and the discoveries that it answers follow. All of them always fit into the log.
     pub fn close(&mut self)
         ensures adds { GrowsBy self.old (CloseAdds self.old.opening self.old.entries) self.new }
         ensures legal { Legal self.new.opening self.new.entries }
@@ -240,9 +240,9 @@ impl Session {
         Ok(Some(frame))
     }
 
-    /// Takes what the line answered, as [`Controller::deliver`] does, with an entry, and then those of the requests
-    /// that it finishes and the discoveries that it answers. They always fit into the log. An Answer that it adds has a
-    /// fault only after a failure or a close, if these hold:
+    /// Takes what the line answered, as [`Controller::deliver`] does, with an entry. The entries of the requests that
+    /// it finishes and the discoveries that it answers follow. All of them always fit into the log. An Answer that it
+    /// adds has a fault only after a failure or a close, if these hold:
     /// - the line is honest, and its devices stay;
     /// - they are at most 1,024;
     /// - the budget is at least the bound on frames.

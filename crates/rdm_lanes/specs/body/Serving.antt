@@ -46,8 +46,8 @@ pub record ServesClient (c : ℕ) (old : LogState) (lane : Lane) (new : LogState
 abbrev pub MayTell : ℕ → LogState → Lane → Type 0
 MayTell c k lane = (uncollected k.opening c k.entries ≡ []) × (0 < known_free lane.replies)
 
--- The call of client c may be made: a leave always; a submit or a discover if the client has capacity for it, or, after
--- a close, if its ring can take the refusal.
+-- The call of client c may be made. A leave always may. A submit or a discover may if the client has capacity for it,
+-- or, after a close, if its ring can take the refusal.
 abbrev pub MayMake : ℕ → LogState → Lane → ClientCall → Type 0
 MayMake c k lane (Submit request) =
     MatchBool (is_closed k.opening k.entries) (MayTell c k lane) (lane.requests < lane.places)

@@ -19,7 +19,7 @@ pub trait Gate {
 /// What a client does in a session. It has to leave the client's rings in place.
 pub trait Body<C, A> {
     /// Runs once, in a thread of its own if one can be made. A body that waits for another one has to give up after a
-    /// fixed number of tries, since without threads they run one after the other.
+    /// fixed number of tries: without threads they run one by one.
     fn run<J: ViewHistory, G: Gate>(&mut self, client: &mut RingClient<J, C, A>, gate: &G)
         ensures { SameClient client.old client.new };
 }

@@ -116,7 +116,7 @@ pub struct Book<J: ViewHistory> {
 }
 
 impl<J: ViewHistory> Book<J> {
-    /// The blank history again. `front` may have only the opening view.
+    /// The blank history again. `front` must have only the opening view.
     pub fn blank(self, front: Front<J>) -> BlankHistory
         requires { front ≡ opening_view ∷ [] }
         ensures { result.seen.book ≡ J.book }

@@ -153,7 +153,7 @@ impl<J: ViewHistory, R: Wait + Drop> Publisher<J, Shown<J>, R> {
         })
     }
 
-    /// The blank history again. No view may have been added. It waits for reads that are under way.
+    /// The blank history again. The publisher must not have added a view. It waits for reads that are under way.
     pub fn into_blank(self) -> BlankHistory
         requires { self.added ≡ opening_view ∷ [] }
         ensures { result.seen.book ≡ J.book }
@@ -176,7 +176,7 @@ impl<J: ViewHistory, R: Wait + Drop> Publisher<J, Shown<J>, R> {
 
     /// Adds a view of a later run, without publishing it, and returns whether it did. If not, nothing changes: out of
     /// memory, the view before it isn't published, or there are 2^32 views. It doesn't either if the history is longer
-    /// than this publisher's views. Only another publisher could have made it longer.
+    /// than this publisher's views, which only another publisher could cause.
     // It isn't inlined, so that a turn that publishes nothing has no set in its frame.
     #[inline(never)]
     #[tactic(auto, using(crate::proofs::ViewFacts::last_added))]
@@ -203,7 +203,7 @@ impl<J: ViewHistory, R: Wait + Drop> Publisher<J, Shown<J>, R> {
     }
 
     /// Publishes the view that was added last, if it isn't published yet, and returns whether it now is. It isn't if an
-    /// allocation failed, or if the view has as many owners as can be counted; readers then see what they saw before.
+    /// allocation failed, or if the view has as many owners as can be counted. Readers then see what they saw before.
     /// It waits for reads of the view before the last one.
     pub fn show(&mut self) -> bool
         ensures added { self.new.added ≡ self.old.added }

@@ -42,10 +42,10 @@ impl<J: ViewHistory, R: Wait + Drop> ViewWorker<J, Shown<J>, R> {
     /// The pauses, resumes and closes in the log are those of the operator's calls that had an effect, in order. The
     /// calls are those that the worker received.
     ///
-    /// What each client sent is its calls in the log, in order, each once, and then what is left in its ring: nothing,
-    /// if its leave was received. What it got, then what is left in its ring of outcomes, and then what it hasn't
-    /// collected, is every outcome that the log has for it. Nobody else has joined or called anything. The log is
-    /// legal, and keeps what clients are promised.
+    /// What each client sent is its calls in the log, in order, each once. After those comes what is left in its ring,
+    /// which is nothing if its leave was received. The outcomes that the log has for a client are, in order, those that
+    /// it got, those left in its ring, and those not collected from the session yet. Nobody else has joined or called
+    /// anything. The log is legal, and keeps what clients are promised.
     ///
     /// Each client still holds one callback of the right kind for each own call without an outcome.
     ///

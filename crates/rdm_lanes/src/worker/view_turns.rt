@@ -1,5 +1,5 @@
-//! What the worker does in its turns. It publishes a view of the devices after each exchange that ends a run without
-//! fault, and before it moves that run's outcomes to the clients' rings.
+//! What the worker does in its turns. After each exchange that ends a run without fault it publishes a view of the
+//! devices. Only then does it move that run's outcomes to the clients' rings.
 ghost use Rattle.std.specs.Prelude.{◌≡◌, ◌≢◌, ◌<◌, ◌≤◌, ◌+◌, ◌-◌, ◌^◌, true, false, Some, None, IfSome, IfNone};
 ghost use mathlib.Core.List.{IsPrefix};
 ghost use Rattle.rtrb.specs.Ring.{SameConsumer};
@@ -39,10 +39,10 @@ impl<J: ViewHistory, R: Wait + Drop> ViewWorker<J, Shown<J>, R> {
     /// It stops early once all have left, or once the log is full. If it ends with Turns, it made all its turns.
     ///
     /// It only takes the call at a ring's front. While fewer than three entries of the log are free, it takes none. A
-    /// submit waits until its client has a free place in the session, and a discover until fewer than four of its
-    /// client's are outstanding there. After a close a client's call waits until that client's earlier outcomes are on
-    /// its ring, and a slot is free. Then it is refused, and its outcome is put there at once: status FailedToSend, or
-    /// Aborted and run 0, and no number.
+    /// submit waits until its client has fewer requests outstanding in the session than its queue depth, and a discover
+    /// until there are fewer than four discoveries. After a close a client's call waits until that client's earlier
+    /// outcomes are on its ring, and a slot is free. Then it is refused, and its outcome is put there at once: status
+    /// FailedToSend, or Aborted and run 0, and no number.
     ///
     /// It allocates memory for these:
     /// - joined data;
@@ -52,7 +52,7 @@ impl<J: ViewHistory, R: Wait + Drop> ViewWorker<J, Shown<J>, R> {
     /// It waits for reads that are under way when it publishes.
     ///
     /// A publication that fails changes nothing, and is tried again in the next turn. Until it is made, no call is
-    /// taken, no exchange is made, no outcome is moved, and the work doesn't end because all have left.
+    /// taken, no exchange is made and no outcome is moved. Nor does the work end because all have left.
     pub fn work<X: Line>(&mut self, alloc: Global, line: &mut X, turns: u64) -> WorkerEnd
         ensures exchanged { Exchanged X.step line.old (session_of self.old) line.new (session_of self.new) }
         ensures lanes { SameLanes (lanes_of self.old) (lanes_of self.new) }
@@ -110,8 +110,8 @@ impl<J: ViewHistory, R: Wait + Drop> ViewWorker<J, Shown<J>, R> {
     }
 
     // All that is done in a turn, and what its attempt at an exchange came to. None: a publication failed, and nothing
-    // was done after that. A view whose publication failed before comes first, since the outcome of a call that is
-    // taken after a close is put on its ring at once.
+    // was done after that. A view whose publication failed before comes first. A call that is taken after a close puts
+    // its outcome on the ring at once.
     fn serve_all<X: Line>(&mut self, alloc: Global, line: &mut X) -> Option<Attempt>
         ensures exchanged { Exchanged X.step line.old self.old.server.session line.new self.new.server.session }
         ensures lanes { SameLanes self.old.server.lanes.items self.new.server.lanes.items }

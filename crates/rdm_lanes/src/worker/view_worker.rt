@@ -11,8 +11,8 @@ use std::sync::Wait;
 /// Who makes the calls of the clients and of the operator, and the exchanges with the line. It has the session, and
 /// publishes the views of its log, in order: the devices that each run without fault found. It publishes a run's view
 /// before it moves an outcome of that run. What it has received from each client is that client's calls in the log.
-/// What it has sent to each client is the outcomes that the log has for it. Nobody else has joined or called anything.
-/// Dropping it waits for reads that are under way. `T` is `Shown<J>`.
+/// What it has sent to each client is that client's outcomes in the log, except those not collected from the session
+/// yet. Nobody else has joined or called anything. Dropping it waits for reads that are under way. `T` is `Shown<J>`.
 #[derive(Drop)]
 pub struct ViewWorker<
     J: ViewHistory,

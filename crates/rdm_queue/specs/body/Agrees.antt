@@ -61,8 +61,8 @@ IsPending o h s None = awaited h ≡ false
 IsPending o h s (Some (awaiting.Request sent)) = AwaitsRequest o h sent
 IsPending o h s (Some (awaiting.Run tn)) = AwaitsRun o h s tn
 
--- a run has begun, and not all discoveries that it serves are answered; the agent has made its exchanges, and was
--- stopped only by a close
+-- A run has begun, and not all discoveries that it serves are answered. The agent has made its exchanges, and was
+-- stopped only by a close.
 pub record IsRunning (o : Opening) (h : List Entry) (s : QueueState) (r : RunState) : Type 0 where
   pub last : last_run h ≡ Some r.number
   pub aborted : Bool
@@ -137,15 +137,15 @@ pub record StandsAmid (o : Opening) (h : List Entry) (s : QueueState) : Type 0 w
 abbrev pub ForEachBlock : QueueState → (Opening → List Entry → Type 0) → Type 0
 ForEachBlock s P = (o : Opening) (h : List Entry) → StandsAmid o h s → P o h
 
--- for each log that describes old and for which this holds, that log with one more entry describes new within a block;
--- runs search as before
+-- For each log that describes old and for which this holds, that log with one more entry describes new within a block.
+-- Runs search as before.
 pub record AddsAmid (old : QueueState) (May : Opening → List Entry → Type 0) (e : Entry) (new : QueueState)
     : Type 0 where
   pub search : new.search ≡ old.search
   pub each : (o : Opening) (h : List Entry) → StandsAfter o h old → May o h → StandsAmid o (h ++ e ∷ []) new
 
--- what was due next was ended with this entry, a Finish or an Answer in bound, for each log that describes old within a
--- block and says how it searches; runs search as before
+-- What was due next was ended with this entry, a Finish or an Answer in bound. This holds for each log that describes
+-- old within a block and says how it searches. Runs search as before.
 pub record Ends (old : QueueState) (e : Entry) (new : QueueState) : Type 0 where
   pub is : is_result e ≡ true
   pub search : new.search ≡ old.search
@@ -159,8 +159,8 @@ pub record FinishesAll (k : LogState) (new : QueueState) : Type 0 where
   pub in_bound : AnswersInBound k results
   pub after : StandsAfter k.opening (k.entries ++ results) new
 
--- all that was due was ended, for each log that describes old within a block and says how it searches; runs search as
--- before
+-- All that was due was ended, for each log that describes old within a block and says how it searches. Runs search as
+-- before.
 pub record FinishesEach (old new : QueueState) : Type 0 where
   pub search : new.search ≡ old.search
   pub each : (k : LogState) → old.search ≡ k.search → StandsAmid k.opening k.entries old → FinishesAll k new

@@ -11,8 +11,8 @@ use Rattle.rdm_queue.specs.body.Agrees.{StandsAfter}
 abbrev pub ForEachLog : QueueState → (Opening → List Entry → Type 0) → Type 0
 ForEachLog s P = (o : Opening) (h : List Entry) → StandsAfter o h s → P o h
 
--- a new controller with this set-up: the empty log that a session with this configuration begins with describes it, and
--- it searches as the set-up says
+-- A new controller with this set-up. The empty log with which a session with this configuration begins describes it,
+-- and it searches as the set-up says.
 pub record IsSetUp (setup : Setup) (s : QueueState) : Type 0 where
   pub after : StandsAfter (opened setup.config) [] s
   pub search : s.search ≡ setup.search

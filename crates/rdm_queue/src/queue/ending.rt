@@ -81,7 +81,7 @@ impl Queue {
 
     /// Ends what is due next, and returns the entry of its end; None if nothing is due. These are due: the discoveries
     /// of a run that has ended, and a request that has. If the queue is closed and awaits no reply, more is due: a run
-    /// that hasn't ended, then the requests that wait, and last the discoveries that no run serves.
+    /// that hasn't ended, the requests that wait, and last the discoveries without a run.
     pub(crate) fn finish_next(&mut self) -> Option<Entry>
         ensures ended { IfSome result (λ entry. IsEnded self.old entry self.new) }
         ensures none { IfNone result (HasNothingDue self.old × (self.new ≡ self.old)) }
