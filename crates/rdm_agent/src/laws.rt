@@ -203,7 +203,7 @@ pub fn honest_losses()
 {}
 
 /// Two devices that collide on an honest line are found. A line that fails is honest up to its failure. A line may be
-/// honest to one device alone.
+/// honest to only one device.
 pub fn honest_lines()
     ensures colliding { HonestTrace (sample_uid ∷ other_uid ∷ []) colliding_run }
     ensures both_found { Runs (start Full [] DEFAULT_BUDGET) colliding_run (record {

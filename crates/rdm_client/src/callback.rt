@@ -92,7 +92,7 @@ impl Tells for Callback {
     }
 }
 
-// For the proof alone: each byte is in the range of its type.
+// Only for the proof: each byte is in the range of its type.
 fn bytes_fit(bytes: &[u8])
     ensures { BytesFit bytes.now }
 {}

@@ -306,7 +306,7 @@ impl<L: Ledger> Inside<L> {
         ensures counted { count_calls self.now.session.entries ≡ self.now.calls.total }
         ensures clients { next_client self.now.session.opening self.now.session.entries ≡ self.now.joined }
     {
-        // For the proof alone: the log says that it is legal, and what it promises.
+        // Only for the proof: the log says that it is legal, and what it promises.
         self.session.log();
         &self.session
     }

@@ -31,7 +31,7 @@ impl<L: Ledger> CallShare<L> {
     {
         let CallShare { share, count } = self;
         book.add(share, calls);
-        // For the proof alone: the share has no more than the book, so its count doesn't overflow.
+        // Only for the proof: the share has no more than the book, so its count doesn't overflow.
         book.audit(share);
         *count += calls;
     }

@@ -24,7 +24,7 @@ impl Config {
     pub fn is_valid(&self) -> bool
         ensures { (result ≡ true) ↔ IsConfig self.now }
     {
-        // For the proof alone: a UID's number is below 2^48.
+        // Only for the proof: a UID's number is below 2^48.
         let _in_range = self.source.number();
         !self.source.is_broadcast() && self.places <= MOST_PLACES && 1 <= self.budget
     }

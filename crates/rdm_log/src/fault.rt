@@ -28,7 +28,7 @@ pub enum JoinFault {
     /// 3: the sum of the clients' queue depths would be too large.
     #[error("there are too few places")]
     NoPlaces,
-    /// 4: there is no memory for what the client may have outstanding.
+    /// 4: no memory for what the client may have outstanding.
     #[error("out of memory")]
     NoMemory,
     /// 5: the log has fewer than three free entries.

@@ -147,7 +147,7 @@ impl Queue {
             .sum()
     }
 
-    /// Lets a client join, whose memory is reserved here.
+    /// Lets a client join, and reserves its memory.
     pub(crate) fn join_client(&mut self, alloc: Global, places: u8) -> Result<ClientId, JoinFault>
         ensures joined { IfOk result (λ c. (first_join_fault self.old places ≡ None) × (c.0 ≡ length self.old.places)
             × (self.new ≡ joins_client self.old places)) }

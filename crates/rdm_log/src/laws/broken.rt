@@ -30,7 +30,7 @@ pub fn wrong_answers()
     ensures awaited { MayFollow sample_opening (sent_one ++ Close ∷ []) (Finish 0 FailedToSend 0) → ⊥ }
 {}
 
-/// A request that was answered in two parts is finished with both, not with the last one alone, nor after the first.
+/// A request that was answered in two parts is finished with both, not with only the last one, nor after the first.
 pub fn wrong_parts()
     ensures both { MayFollow wide_opening came_again (Finish 0 Completed 3) }
     ensures last_alone { MayFollow wide_opening came_again (Finish 0 Completed 1) → ⊥ }
