@@ -122,7 +122,7 @@ abbrev pub RunGoesOn : Option RunState → AgentState → Type 0
 RunGoesOn None agent = Unit {0}
 RunGoesOn (Some r) agent = next_op agent ≢ End
 
--- the log is legal, and describes the queue's state
+-- the log is legal and describes the queue's state, and a run that has begun hasn't ended
 pub record StandsAfter (o : Opening) (h : List Entry) (s : QueueState) : Type 0 where
   pub legal : Legal o h
   pub stands : Agrees o h s
