@@ -47,8 +47,8 @@ module _ {J : Type 0} {h : Ghosts J} {C A : Type 0} where
   PairUp lanes ends = RingsPair lanes (map end_rings ends)
 
   -- What client c sent is its calls in the log, in order, each once. After those come the submits and discovers that
-  -- are left in its ring. The outcomes that the log has for it are, in order, those that it got, those left in its
-  -- ring, and those not collected from the session yet.
+  -- are left in its ring. The outcomes that the log has for it come in three parts: those that it got, those left in
+  -- its ring, and those still in the session.
   pub record Agrees (c : ℕ) (k : LogState) (e : ClientEnd J C A h) : Type 0 where
     pub sent_are : end_sent e ≡ calls_by c k.entries ++ work_in (left_in e.calls)
     pub got_are : TellsAll k.opening c k.entries (end_got e ++ values_in (known_items e.replies))

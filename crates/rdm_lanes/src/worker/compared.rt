@@ -43,8 +43,8 @@ impl<J: ViewHistory, R: Wait + Drop> ViewWorker<J, Shown<J>, R> {
     /// calls are those that the worker received.
     ///
     /// What each client sent is its calls in the log, in order, each once. After those comes what is left in its ring,
-    /// which is nothing if its leave was received. The outcomes that the log has for a client are, in order, those that
-    /// it got, those left in its ring, and those not collected from the session yet. Nobody else has joined or called
+    /// which is nothing if its leave was received. The outcomes that the log has for a client come in three parts:
+    /// those that it got, those left in its ring, and those still in the session. Nobody else has joined or called
     /// anything. The log is legal, and keeps what clients are promised.
     ///
     /// Each client still holds one callback of the right kind for each own call without an outcome.
