@@ -43,9 +43,9 @@ pub fn serve_call(alloc: Global, session: &mut Session, client: ClientId, lane: 
 }
 
 // Whether the oldest call of the client's ring may be made. A submit waits until the client has fewer requests
-// outstanding than its queue depth. A discover waits until there are fewer than four discoveries. After a close both
-// wait until all earlier outcomes are on the client's ring and a slot is free. Their own outcomes are put there at
-// once. A leave never waits.
+// outstanding than its queue depth. A discover waits until the client has fewer than four discoveries outstanding.
+// After a close both wait until all earlier outcomes are on the client's ring and a slot is free. Their own outcomes
+// are put there at once. A leave never waits.
 fn may_make(session: &Session, client: ClientId, lane: &mut Lane) -> bool
     requires { 0 < length (known_items lane.old.calls) }
     ensures may { result ≡ true → MatchOption (slice_get (known_items lane.new.calls) 0) ⊤

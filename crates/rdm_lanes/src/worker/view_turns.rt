@@ -40,9 +40,9 @@ impl<J: ViewHistory, R: Wait + Drop> ViewWorker<J, Shown<J>, R> {
     ///
     /// It looks at a call before it takes it from a ring. While fewer than three entries of the log are free, it takes
     /// none. A submit waits until its client has fewer requests outstanding in the session than its queue depth. A
-    /// discover waits until there are fewer than four discoveries. After a close a client's call waits until that
-    /// client's earlier outcomes are on its ring, and a slot is free. Then it is refused, and its outcome is put there
-    /// at once: status FailedToSend, or Aborted and run 0, and no number.
+    /// discover waits until its client has fewer than four discoveries outstanding. After a close a client's call waits
+    /// until that client's earlier outcomes are on its ring, and a slot is free. Then it is refused, and its outcome is
+    /// put there at once: status FailedToSend, or Aborted and run 0, and no number.
     ///
     /// It allocates memory for these:
     /// - joined data;
