@@ -1,4 +1,4 @@
--- The agent as a machine over what it hears.
+-- The agent as a machine over the replies that it gets.
 use Rattle.std.specs.Prelude.{◌≡◌, ℕ, ◌+◌, ◌-◌, ◌*◌, Bool, false, ◌&&◌, not, List, [], ◌∷◌, length, fold}
 use Rattle.std.specs.Prelude.{Option, Some, None, ◌==◌, nat_lt, if◌then◌else◌}
 use Rattle.rdm_wire.specs.Uid.{has, is_within, is_broadcast}

@@ -31,7 +31,7 @@ impl KnownLeft {
         ensures value { result ≡ known_of kind known.now }
         ensures devices { IsDeviceSet known.now }
     {
-        // For the proof alone: a set's UIDs are devices'.
+        // Only for the proof: a set's UIDs are devices'.
         let _devices = known.len();
         let uids = match kind {
             Kind::Full => UidSet::new(),
@@ -45,7 +45,7 @@ impl KnownLeft {
         ensures value { self.new ≡ known_of kind known.now }
         ensures devices { IsDeviceSet known.now }
     {
-        // For the proof alone: a set's UIDs are devices'.
+        // Only for the proof: a set's UIDs are devices'.
         let _devices = known.len();
         self.taken = 0;
         match kind {

@@ -84,7 +84,7 @@ pub fn no_phantom()
 
 /// The bound: a run makes at most `8 + 370 n + 5 k` exchanges, where `n` devices are on the line and `k` UIDs are known
 /// (0 in a full run). Once it has made as many it has ended. At its end it has no fault, whatever bytes result from
-/// collisions. The premises:
+/// collisions. The conditions are these:
 /// - the line is honest, and has at most 1,024 devices;
 /// - no exchange failed;
 /// - the run's budget is no less than the bound.
@@ -96,8 +96,8 @@ pub fn honest_run_ends()
 {}
 
 /// The default budget suffices for each such run of the steady search, with up to 1,024 devices and as many known UIDs.
-/// For a quick one it suffices exactly if `370 n + 5 k` is at most 383,795: for instance for 1,023 devices and 1,024
-/// known UIDs, and for 1,024 devices and 983 known UIDs.
+/// For a quick one it suffices if and only if `370 n + 5 k` is at most 383,795. Examples are 1,023 devices with 1,024
+/// known UIDs, and 1,024 devices with 983 known UIDs.
 pub fn default_budget_suffices()
     ensures most { (present known : List ℕ) (kind : Kind) →
         length present ≤ 1024 → length known ≤ 1024 → enough_for present kind known ≤ DEFAULT_BUDGET }
@@ -202,8 +202,8 @@ pub fn honest_losses()
     ensures five_mutes { ¬ HonestTrace (sample_uid ∷ []) (lossy_run 0 5) }
 {}
 
-/// Two devices that collide on an honest line are found; a line that fails is honest up to its failure; and a line may
-/// be honest to one device alone.
+/// Two devices that collide on an honest line are found. A line that fails is honest up to its failure. A line may be
+/// honest to only one device.
 pub fn honest_lines()
     ensures colliding { HonestTrace (sample_uid ∷ other_uid ∷ []) colliding_run }
     ensures both_found { Runs (start Full [] DEFAULT_BUDGET) colliding_run (record {

@@ -31,7 +31,7 @@ pub enum Op {
 /// What the line replied to an [`Op`].
 #[derive(Clone, Copy, Debug, PartialEq, Eq)]
 pub enum OpReply {
-    /// The unmute was sent; it is not answered.
+    /// The unmute was sent; it isn't answered.
     Done,
     /// The acknowledgement of a mute, if one came.
     Mute(Option<MuteAck>),

@@ -10,7 +10,7 @@ use rdm_wire::{Uid, UidRange};
 pub(crate) struct Sweep {
     /// How many exchanges it has made.
     pub(crate) made: usize,
-    /// The UID that it gave up last: its mutes weren't acknowledged, or the range of it alone collided.
+    /// The UID that it gave up last: its mutes weren't acknowledged, or the range with only this UID collided.
     pub(crate) suspect: Option<Uid>,
 }
 

@@ -10,8 +10,8 @@ use rdm_agent::AgentFault;
 use rdm_queue::AskCompletion;
 use rdm_wire::{Device, DeviceSet};
 
-/// A discovery's callback: it is called once with how the discovery ended, and returns its tag and that completion
-/// (profile of this project). [`Tells`](crate::Tells) is the same for requests. [`AskCallback`] is a boxed closure.
+/// A discovery's callback: it is called once with how the discovery ended, and returns its tag and that completion.
+/// [`Tells`](crate::Tells) is the same for requests. [`AskCallback`] is a boxed closure.
 pub trait TellsAsk {
     /// The tag that it returns.
     ghost tag_of: { Self → ℕ };
@@ -30,7 +30,7 @@ pub trait TellsAsk {
         ensures told { result ≡ ask_told (tag_of self) ask_cancelled };
 }
 
-/// A boxed closure that is called once with a discovery's completion (profile of this project).
+/// A boxed closure that is called once with a discovery's completion.
 ///
 /// It is neither [`Clone`] nor [`Drop`]: it is called, cancelled or passed on, as a [`Callback`](crate::Callback) is.
 pub struct AskCallback {

@@ -9,9 +9,8 @@ use rdm_join::Status;
 use rdm_queue::Completion;
 use std::alloc::Global;
 
-/// A request's callback: it is called once with how the request ended, and returns its tag and that completion
-/// (profile of this project). [`Callback`] is a boxed closure. A program with one kind of callback may use a type of
-/// its own, without a box.
+/// A request's callback: it is called once with how the request ended, and returns its tag and that completion.
+/// [`Callback`] is a boxed closure. A program with one kind of callback may use a type of its own, without a box.
 ///
 /// A type that isn't [`Drop`] can't be forgotten. `spend` and `cancel` take it by value, so it is called once.
 pub trait Tells {
@@ -34,7 +33,7 @@ pub trait Tells {
         ensures done { IsCancelled result.done };
 }
 
-/// A boxed closure that is called once with a request's completion (profile of this project).
+/// A boxed closure that is called once with a request's completion.
 ///
 /// It is neither [`Clone`] nor [`Drop`]: it is called, cancelled or passed on. The compiler refuses each of these:
 ///
@@ -93,7 +92,7 @@ impl Tells for Callback {
     }
 }
 
-// For the proof alone: each byte is in the range of its type.
+// Only for the proof: each byte is in the range of its type.
 fn bytes_fit(bytes: &[u8])
     ensures { BytesFit bytes.now }
 {}

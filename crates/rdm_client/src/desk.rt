@@ -13,13 +13,12 @@ use std::alloc::Global;
 use std::collections::VecDeque;
 use std::marker::Model;
 
-/// How many discoveries' callbacks a desk holds at most: 4, as many as a client may have outstanding (profile of this
-/// project).
+/// How many discoveries' callbacks a desk holds at most: 4, as many as a client may have outstanding.
 pub const MOST_ASKS_HELD: usize = 4;
 
-/// The callbacks of one client's outstanding requests and discoveries, oldest first (profile of this project). It holds
-/// at most as many requests' callbacks as the client's queue depth, and [`MOST_ASKS_HELD`] of discoveries. Contracts
-/// see the two lists and the queue depth.
+/// The callbacks of one client's outstanding requests and discoveries, oldest first. It holds at most as many requests'
+/// callbacks as the client's queue depth, and [`MOST_ASKS_HELD`] of discoveries. Contracts see the two lists and the
+/// queue depth.
 ///
 /// A desk isn't [`Drop`]: [`Desk::end`] returns what it holds. All its memory is allocated when it is made.
 pub struct Desk<C = Callback, A = AskCallback> {

@@ -1,4 +1,5 @@
-//! Callbacks that are called once, and the desk that holds those of one client.
+//! Callbacks that are called once, and the desk that holds those of one client. All of it is the profile of this
+//! project.
 //!
 //! A client passes a callback with each request and each discovery. Its desk holds them, and calls the oldest one of a
 //! kind with each outcome of that kind. A callback is neither [`Clone`] nor [`Drop`]. So it is called once, and the

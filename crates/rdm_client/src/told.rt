@@ -19,7 +19,7 @@ pub struct AskTold {
     pub done: AskCompletion,
 }
 
-/// What a callback of either kind returned (profile of this project).
+/// What a callback of either kind returned.
 #[derive(Debug, Drop)]
 pub enum Collected {
     /// A request has ended.

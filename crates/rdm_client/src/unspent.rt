@@ -7,8 +7,7 @@ use crate::callback::{Callback, Tells};
 use std::collections::VecDeque;
 use std::marker::Model;
 
-/// The callbacks that a desk held at its end, oldest first (profile of this project). Contracts see the requests'
-/// callbacks and the discoveries'.
+/// The callbacks that a desk held at its end, oldest first. Contracts see the requests' callbacks and the discoveries'.
 ///
 /// It isn't [`Drop`]: its callbacks are taken out and called, cancelled or passed on. Then it is closed.
 pub struct Unspent<C = Callback, A = AskCallback> {
@@ -24,7 +23,7 @@ impl<C, A> Model for Unspent<C, A> {
     ghost view = { λ u. record { requests = u.requests.items; asks = u.asks.items } };
 }
 
-/// A callback that wasn't called (profile of this project).
+/// A callback that wasn't called.
 pub enum Unfinished<C = Callback, A = AskCallback> {
     /// A request's.
     Request(C),

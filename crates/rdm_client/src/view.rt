@@ -2,8 +2,8 @@
 use rdm_wire::DeviceSet;
 use std::mem::size_of;
 
-/// The devices that the last discovery without fault found, as a client sees them (profile of this project). It has
-/// 32 KB and no allocation, so it is best passed by reference.
+/// The devices that the last discovery without fault found, as a client sees them. It has 32 KB and no allocation, so
+/// it is best passed by reference.
 #[derive(Debug, PartialEq, Eq, Drop)]
 pub struct DeviceView {
     /// The run that found them, from 1; 0 if no run has ended without fault.

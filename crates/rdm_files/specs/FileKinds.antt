@@ -1,4 +1,4 @@
--- What a file looks like, by its keys alone.
+-- What a file looks like, judged only by its keys.
 use Rattle.std.specs.Prelude.{Bool, true, false, List, ℕ, Option, Some, None, codes, is_some}
 use Rattle.serde_json.specs.Data.{Data}
 use Rattle.serde_json.specs.Find.{get}

@@ -15,7 +15,7 @@ pub enum FileFault {
     TooLong,
     /// A read failed with an error of this kind.
     Unreadable(ErrorKind),
-    /// There was no memory.
+    /// Out of memory.
     NoMemory,
 }
 

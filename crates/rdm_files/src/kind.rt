@@ -17,9 +17,9 @@ pub enum FileKind {
     LineSession,
 }
 
-/// What a file looks like, by its keys alone. One with clients is a session. It is on a line of the caller's own if it
-/// has a source and no scene. Without clients it is a scene if it has a source and no scene, and a session if it has a
-/// scene and no source. None: it has no clients, and it has both a source and a scene or neither.
+/// What a file looks like, judged only by its keys. One with clients is a session. It is on a line of the caller's own
+/// if it has a source and no scene. Without clients it is a scene if it has a source and no scene, and a session if it
+/// has a scene and no source. None: it has no clients, and it has both a source and a scene or neither.
 pub fn looks_like(file: &Value) -> Option<FileKind>
     ensures { result ≡ looks_like (view file.now) }
 {

@@ -12,7 +12,7 @@ use std::alloc::{AllocError, Global};
 /// are several such numbers, the least is returned. None: no five are consecutive, so a line with these losses is
 /// honest.
 ///
-/// Err: there was no memory.
+/// Err: out of memory.
 pub fn five_losses(alloc: Global, losses: &[u64]) -> Result<Option<u64>, AllocError>
     ensures some { IfOk result (λ found. IfSome found (IsFirstOfFive losses.now)) }
     ensures none { IfOk result (λ found. IfNone found (NoFiveSuccessive losses.now)) }

@@ -359,8 +359,8 @@ pub fn rotate(session: &mut Session, alloc: Global, entries: usize) -> Result<Bo
     }
 }
 
-// What a rotation needs memory for. It is allocated before, so that the rotation can't run out of memory: the new log
-// of this many entries, a session in place of the one that rotates, and the box of the old log.
+// What a rotation needs memory for: the new log of this many entries, a session in place of the one that rotates, and
+// the old log's box. All are allocated before, so that the rotation can't run out of memory.
 fn places_of_a_rotation(alloc: Global, entries: usize) -> Result<(Log, Session, Box<Log>), NoMemory>
     requires { entries ≤ 1000000 }
     ensures { IfOk result (λ r. r.0 ≡ blank_log (entries + 1)) }

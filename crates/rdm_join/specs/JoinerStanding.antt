@@ -12,13 +12,13 @@ pub record JoinerStanding : Type 0 where
   pub stage : Stage
   pub data_ : List ℕ
 
--- the request at this stage has not ended
+-- the request at this stage hasn't ended
 abbrev pub IsOpenStage : Stage → Type 0
 IsOpenStage Waiting = Unit {0}
 IsOpenStage (Joining first parts) = Unit {0}
 IsOpenStage (Ended head) = ⊥
 
--- the request of this joiner has not ended
+-- the request of this joiner hasn't ended
 abbrev pub IsOpen : JoinerStanding → Type 0
 IsOpen s = IsOpenStage s.stage
 

@@ -229,8 +229,8 @@ impl Joiner {
     }
 
     /// A copy of the data: of the parts so far, or of the whole answer if the request is completed. If it has ended
-    /// with another status, there are none. This is the only call that allocates. `Err`: there was no memory. A copy of
-    /// no data needs no memory, and can't fail.
+    /// with another status, there are none. This is the only call that allocates. `Err`: out of memory. A copy of no
+    /// data needs no memory, and can't fail.
     pub fn take_data(&self, alloc: Global) -> Result<Vec<u8>, AllocError>
         ensures ok { IfOk result (λ v. v.items ≡ self.now.data_) }
         ensures err { OnErr result (0 < length self.now.data_) }

@@ -38,7 +38,7 @@ pub fn result_is_determined()
         result_of vs ≡ Some j → result_of (vs ++ more) ≡ Some j }
 {}
 
-/// A joiner that was given a list of verdicts is open exactly when they have no result. Otherwise it has the head and
+/// A joiner that was given a list of verdicts is open if and only if they have no result. Otherwise it has the head and
 /// the data of their result.
 pub fn joiners_stand_at_results()
     ensures is_open { (vs : List Judged) (s : JoinerStanding) → StandsAt vs s → IsOpen s ↔ (result_of vs ≡ None) }

@@ -25,8 +25,8 @@ abbrev pub is_of_discovery : OutcomeValue → Bool
 is_of_discovery (RequestValue number done) = false
 is_of_discovery (DiscoveryValue number done) = true
 
--- A client that sent these calls and got these outcomes holds as many callbacks as it has own calls without an
--- outcome: one for each submit, and one for each discover.
+-- A client that sent these calls and got these outcomes holds one callback for each own call without an outcome.
+-- Submits and discovers count separately.
 pub record HoldsItsOwn {C A : Type 0} (sent : List ClientCall) (got : List OutcomeValue) (requests : List C)
     (asks : List A) : Type 0 where
   pub requests_are : length (filter is_submit sent) ≡ length (filter is_of_request got) + length requests

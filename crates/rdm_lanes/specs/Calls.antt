@@ -10,7 +10,7 @@ use Rattle.rdm_lanes.specs.declared.call.ClientCall.{ClientCall}
 use Rattle.rdm_lanes.specs.declared.call.ClientCall.TheVariants.{Submit, Discover, Leave}
 use Rattle.rdm_lanes.specs.declared.call.OperatorCall.{OperatorCall}
 
--- a submit or a discover; a client's leave is none
+-- the call is a submit or a discover, not a leave
 abbrev pub is_work : ClientCall → Bool
 is_work (Submit request) = true
 is_work (Discover kind) = true
@@ -20,13 +20,13 @@ is_work Leave = false
 unfoldable pub work_in : List ClientCall → List ClientCall
 work_in items = filter is_work items
 
--- the call that was refused; a join isn't one of a client
+-- the refused call, if a client can make it; a join isn't one
 abbrev pub refused_call : Call → Option ClientCall
 refused_call (calls.Submit request) = Some (Submit request)
 refused_call (calls.Discover kind) = Some (Discover kind)
 refused_call (calls.Join places) = None
 
--- the call of client c that an entry tells of: it was accepted, or refused
+-- client c's call that an entry records as accepted or refused
 abbrev pub call_by : ℕ → Entry → Option ClientCall
 call_by c (Accept d n request) = if c == d.0 then Some (Submit request) else None
 call_by c (Ask d n kind) = if c == d.0 then Some (Discover kind) else None

@@ -19,8 +19,8 @@ use Rattle.rdm_lanes.specs.declared.ring_outcome.RingOutcome.{RingOutcome}
 use Rattle.rdm_lanes.specs.Calls.{work_in}
 use Rattle.rdm_lanes.specs.Told.{values_in, outcome_in}
 
--- the fault of a submit or a discover that a client shows: Left if it has left, or else Full if as many are held as it
--- may have or it has sent as many calls as can be counted. A full ring isn't shown here
+-- the fault that a client's state shows for a submit or a discover. Left if it has left. Else Full, if as many
+-- callbacks are held as it may have, or it has sent as many calls as can be counted. A full ring isn't shown here
 abbrev pub call_fault : Bool → ℕ → ℕ → ℕ → Option RingFault
 call_fault left places held sent =
     if left then Some Left
@@ -46,8 +46,8 @@ module _ {J : Type 0} {h : Ghosts J} {C A : Type 0} where
   abbrev pub discover_fault : RingClient J C A h → Option RingFault
   discover_fault client = call_fault client.left 4 (length client.desk.asks) client.sent
 
-  -- The client collected an outcome, and was told this. The outcome is the next one of its ring. The oldest callback of
-  -- the outcome's kind was called with it, and is held no longer.
+  -- The client collected an outcome, the next one of its ring. The oldest callback of the outcome's kind was called
+  -- with it, returned this, and is no longer held.
   abbrev pub Collects : (C → Completion → Told → Type 0) → (C → ℕ) → (A → AskCompletion → AskTold → Type 0) → (A → ℕ)
       → RingClient J C A h → Collected → RingClient J C A h → Type 0
   Collects calls tag_of ask_calls ask_tag_of old told new = (item : RingOutcome)
@@ -55,7 +55,7 @@ module _ {J : Type 0} {h : Ghosts J} {C A : Type 0} where
       × (settled tag_of ask_tag_of old.desk (outcome_in item) ≡ Some told)
       × (new.desk ≡ without_oldest old.desk (outcome_in item))
 
-  -- the same client, by its rings
+  -- the client's rings are the same
   abbrev pub SameClient : RingClient J C A h → RingClient J C A h → Type 0
   SameClient old new = SameProducer old.calls new.calls × SameConsumer old.replies new.replies
 

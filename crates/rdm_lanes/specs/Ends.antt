@@ -1,4 +1,4 @@
--- What both ends of each client's rings show, when they are compared.
+-- What both ends of each client's rings show when they are compared.
 use Rattle.std.specs.Prelude.{◌≡◌, ℕ, ◌-◌, List, [], ◌++◌, length, map, drop, Some, slice_get}
 use Rattle.std.specs.declared.alloc.Global.{Global}
 use Rattle.rtrb.specs.declared.AnyItems.{AnyItems}
@@ -16,8 +16,8 @@ use Rattle.rdm_lanes.specs.Callbacks.{HoldsItsOwn}
 use Rattle.rdm_lanes.specs.Told.{values_in, TellsAll}
 use Rattle.rdm_lanes.specs.Pairs.{Rings, RingsPair}
 
--- The calls that are left in a ring, as its client's end shows them: the last ones that it sent, as many as the ring
--- has slots that aren't free.
+-- The calls that are left in a ring, as its client's end shows them: the last ones sent, one for each slot that isn't
+-- free.
 abbrev pub left_in : Producer ClientCall Global AnyItems → List ClientCall
 left_in calls = drop (length (pushed calls) - (producer_capacity calls - known_free calls)) (pushed calls)
 
@@ -47,8 +47,8 @@ module _ {J : Type 0} {h : Ghosts J} {C A : Type 0} where
   PairUp lanes ends = RingsPair lanes (map end_rings ends)
 
   -- What client c sent is its calls in the log, in order, each once. After those come the submits and discovers that
-  -- are left in its ring. What it got, then what is left in its ring of outcomes, and then what it hasn't collected, is
-  -- all that the log tells it.
+  -- are left in its ring. The outcomes that the log has for it come in three parts: those that it got, those left in
+  -- its ring, and those still in the session.
   pub record Agrees (c : ℕ) (k : LogState) (e : ClientEnd J C A h) : Type 0 where
     pub sent_are : end_sent e ≡ calls_by c k.entries ++ work_in (left_in e.calls)
     pub got_are : TellsAll k.opening c k.entries (end_got e ++ values_in (known_items e.replies))
@@ -61,12 +61,12 @@ module _ {J : Type 0} {h : Ghosts J} {C A : Type 0} where
   pub record AllRead (ends : List (ClientEnd J C A h)) : Type 0 where
     pub each : (i : ℕ) (e : ClientEnd J C A h) → slice_get ends i ≡ Some e → left_in e.calls ≡ []
 
-  -- each client left over as many callbacks, of either kind, as it has own calls without an outcome
+  -- each client still holds one callback of the right kind for each own call without an outcome
   pub record AllHoldTheirOwn (ends : List (ClientEnd J C A h)) : Type 0 where
     pub each : (i : ℕ) (e : ClientEnd J C A h) → slice_get ends i ≡ Some e
         → HoldsItsOwn (end_sent e) (end_got e) e.unspent.requests e.unspent.asks
 
-  -- what an end tells is the same
+  -- both ends show the same
   pub record SameTold (a b : ClientEnd J C A h) : Type 0 where
     pub sent_are : pushed b.calls ≡ pushed a.calls
     pub got_are : popped b.replies ≡ popped a.replies
@@ -75,7 +75,7 @@ module _ {J : Type 0} {h : Ghosts J} {C A : Type 0} where
     pub calls_slots : producer_capacity b.calls ≡ producer_capacity a.calls
     pub replies_slots : consumer_capacity b.replies ≡ consumer_capacity a.replies
 
-  -- each end after has what the same end before had
+  -- each end shows the same before and after
   pub record AllTold (before after : List (ClientEnd J C A h)) : Type 0 where
     pub long : length after ≡ length before
     pub each : (i : ℕ) (a b : ClientEnd J C A h) → slice_get before i ≡ Some a → slice_get after i ≡ Some b

@@ -16,11 +16,11 @@ abbrev pub is_leave : ClientCall → Bool
 is_leave Leave = true
 is_leave _ = false
 
--- The lane of client c agrees with the log, but for these calls, which were received and are still to be made.
+-- The lane of client c agrees with the log, except for these calls, which were received but not made yet.
 pub record FitsBut (pending : List ClientCall) (c : ℕ) (k : LogState) (lane : Lane) : Type 0 where
   -- what was received is what the client called, in order
   pub calls_are : work_in (popped lane.calls) ≡ calls_by c k.entries ++ pending
-  -- what was moved to its ring, and then what it hasn't collected, is all that it is told
+  -- what was moved to its ring, and then what it hasn't collected, is every outcome that the log has for it
   pub told_are : TellsAll k.opening c k.entries (values_in (pushed lane.replies))
   -- the counts of what is outstanding
   pub requests_are : lane.requests ≡ outstanding_requests k.opening c k.entries
@@ -32,7 +32,7 @@ pub record FitsBut (pending : List ClientCall) (c : ℕ) (k : LogState) (lane : 
 abbrev pub Fits : ℕ → LogState → Lane → Type 0
 Fits c k lane = FitsBut [] c k lane
 
--- the places of a lane's client
+-- the queue depth of a lane's client
 abbrev pub lane_places : Lane → ℕ
 lane_places lane = lane.places
 
@@ -42,12 +42,12 @@ pub record AllFit (k : LogState) (lanes : List Lane) : Type 0 where
   pub clients_are : places k.opening k.entries ≡ map lane_places lanes
   pub nobody_else : (c : ℕ) → length lanes ≤ c → calls_by c k.entries ≡ []
 
--- the lane has the same rings, and the same places
+-- the lane has the same rings, and its client the same queue depth
 abbrev pub SameLane : Lane → Lane → Type 0
 SameLane old new =
     SameConsumer old.calls new.calls × SameProducer old.replies new.replies × (new.places ≡ old.places)
 
--- so has each lane
+-- the same for each lane
 pub record SameLanes (old new : List Lane) : Type 0 where
   pub long : length new ≡ length old
   pub each : (i : ℕ) (a b : Lane) → slice_get old i ≡ Some a → slice_get new i ≡ Some b → SameLane a b

@@ -16,8 +16,8 @@ use Rattle.rdm_lanes.specs.Operators.{switches}
 abbrev pub exchange_count : LogState → ℕ
 exchange_count k = length (exchanges k.entries)
 
--- The log grew. Its exchanges after those of old are the line's steps, from its value before to its value after: it was
--- asked each frame once, and its own event was delivered. Nobody joined.
+-- The log grew. Its exchanges after those of old are the line's steps, from its value before to its value after. The
+-- line got each frame once, and the event that it returned was delivered. Nobody joined.
 pub record Exchanged {L : Type 0} (step : L → Exchange → L → Type 0) (before : L) (old : LogState) (after : L)
     (new : LogState) : Type 0 where
   pub block : List Entry
@@ -33,12 +33,12 @@ pub record SameSwitches (old new : LogState) : Type 0 where
   pub paused : is_paused new.opening new.entries ≡ is_paused old.opening old.entries
   pub closed : is_closed new.opening new.entries ≡ is_closed old.opening old.entries
 
--- a call is refused only where the queue is closed, or the numbers of requests or of discoveries have run out
+-- whether a call may be refused: the queue is closed, or the numbers of requests or of discoveries have run out
 abbrev pub may_refuse : Opening → List Entry → Bool
 may_refuse o h =
     is_closed o h || (nat_le 18446744073709551615 (next_request o h) || nat_le 18446744073709551614 (next_ask o h))
 
--- What a close refuses its client is told; so no call is lost.
+-- Calls were refused only if they may be. A close's refusals are outcomes of their clients, so no call is lost.
 pub record NoCallLost (k : LogState) : Type 0 where
   pub rightly : (front back : List Entry) (c : Option ClientId) (call : Call) (cause : Cause)
       → k.entries ≡ front ++ Refuse c call cause ∷ back → may_refuse k.opening front ≡ true

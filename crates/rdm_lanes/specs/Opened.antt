@@ -1,4 +1,4 @@
--- What opening clients, an operator and a worker asks of its caller, and what it makes.
+-- What opening clients, an operator and a worker requires, and what it makes.
 use Rattle.std.specs.Prelude.{◌≡◌, ◌≢◌, ◌⊎◌, ℕ, ◌+◌, ◌<◌, ◌≤◌, false, List, [], ◌∷◌, length, sum, Option, Some, None}
 use Rattle.std.specs.Prelude.{nat_lt, slice_get, if◌then◌else◌, Result, IsErr, IfErr, MatchOption}
 use Rattle.logbook.specs.Pages.{Book}
@@ -31,41 +31,41 @@ pub record MayOpen (book : Book) (history : BlankHistory) (config : Config) (log
   pub empty : log.entries ≡ []
   pub slots : 1 ≤ ring
 
--- the first fault that the places show, where there are this many for all
+-- the first fault that these queue depths show, if their sum may be at most this
 abbrev pub places_fault : ℕ → List ℕ → Option OpenFault
 places_fault greatest places =
     if nat_lt 16 (length places) then Some TooManyClients
     else (if nat_lt greatest (sum places) then Some NoPlaces else None)
 
--- a log with this room has fewer than three free entries before some client with these places joins
+-- a log with this capacity has fewer than three free entries before some client with these queue depths joins
 abbrev pub IsFullFor : ℕ → List ℕ → Type 0
 IsFullFor room places = (places ≢ []) × (room < length places + 3)
 
--- where the places show no fault: there was no memory, or the log is full
+-- the fault of an opening whose queue depths show none: out of memory, or the log is full
 abbrev pub IsLaterFault : ℕ → List ℕ → OpenFault → Type 0
 IsLaterFault room places fault = (fault ≡ NoMemory) ⊎ ((fault ≡ LogFull) × IsFullFor room places)
 
--- What an opening over a log with this room answers, if there are this many places for all. Where its clients' places
--- show a fault, it fails with the first one. Otherwise it fails where the log is full, and only with a later fault.
+-- What an opening over a log with this capacity returns, if the queue depths' sum may be at most this. If the queue
+-- depths show a fault, it fails with the first one. Otherwise it fails if the log is full, and only with a later fault.
 abbrev pub HasFirstFault : {X E : Type 0} → ℕ → ℕ → List ℕ → (E → OpenFault) → Result X E → Type 0
 HasFirstFault greatest room places fault_in result =
     MatchOption (places_fault greatest places)
     ((IsFullFor room places → IsErr result) × IfErr result (λ e. IsLaterFault room places (fault_in e)))
     (λ fault. IsErr result × IfErr result (λ e. fault_in e ≡ fault))
 
--- clients join with these places, numbered from n
+-- clients join with these queue depths, numbered from n
 abbrev pub join_entries : ℕ → List ℕ → List Entry
 join_entries n [] = []
 join_entries n (p ∷ ps) = Join (record { 0 = n }) p ∷ join_entries (n + 1) ps
 
--- a session with this set-up, in which clients with these places have joined, and nothing else has happened
+-- a session with this set-up, in which clients with these queue depths have joined, and nothing else has happened
 abbrev pub opened_with : Setup → ℕ → List ℕ → LogState
 opened_with setup room places =
     record { opening = opened setup.config; entries = join_entries 0 places; room = room; search = setup.search }
 
 module _ {J : Type 0} {h : Ghosts J} {C A : Type 0} where
-  -- A client with this many places, and with rings of this many slots. It has neither sent nor got anything, nor left,
-  -- and it has read the opening view alone.
+  -- A client with this queue depth, and with rings of this many slots. It has sent and got nothing, hasn't left, and
+  -- has read only the opening view.
   pub record IsNew (ring places : ℕ) (client : RingClient J C A h) : Type 0 where
     pub nothing_sent : pushed client.calls ≡ []
     pub nothing_got : popped client.replies ≡ []
@@ -74,16 +74,16 @@ module _ {J : Type 0} {h : Ghosts J} {C A : Type 0} where
     pub slots : (producer_capacity client.calls ≡ ring) × (consumer_capacity client.replies ≡ ring)
     pub opening_read : client.views ≡ opening_view ∷ []
 
-  -- a client for each of these places, in order
+  -- a client for each of these queue depths, in order
   pub record AreNew (ring : ℕ) (places : List ℕ) (clients : List (RingClient J C A h)) : Type 0 where
     pub long : length clients ≡ length places
     pub each : (i p : ℕ) (client : RingClient J C A h) → slice_get places i ≡ Some p → slice_get clients i ≡ Some client
         → IsNew ring p client
 
 module _ {J T R C A : Type 0} {h : Ghosts J} {v : Absorbs T (Shown J) (List DeviceView)} where
-  -- A session with this set-up, in which clients with these places have joined. The clients are new. The operator has
-  -- called nothing, and neither it nor the worker knows of its leave. All rings are those of the worker, with this many
-  -- slots. The opening view is published.
+  -- A session with this set-up, in which clients with these queue depths have joined. The clients are new. The operator
+  -- has called nothing, and neither it nor the worker knows of its leave. All rings are those of the worker, with this
+  -- many slots. The opening view is published.
   pub record IsOpened (setup : Setup) (room ring : ℕ) (places : List ℕ) (lanes : Lanes J T R C A h v) : Type 0 where
     pub session : session_of lanes.worker ≡ opened_with setup room places
     pub clients : AreNew ring places lanes.clients.items

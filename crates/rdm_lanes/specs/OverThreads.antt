@@ -1,4 +1,4 @@
--- What a client of a session over a simulated line is told of discoveries.
+-- Which outcomes of discoveries a client gets in a session over a simulated line.
 use Rattle.std.specs.Prelude.{◌≡◌, ◌≤◌, ℕ, true, List, Option, Some, None, slice_get}
 use Rattle.rdm_agent.specs.Bound.{enough_by}
 use Rattle.rdm_agent.specs.declared.search.Search.TheVariants.{Steady}
@@ -17,12 +17,12 @@ use Rattle.rdm_lanes.specs.declared.client.ends.ClientEnd.{ClientEnd}
 use Rattle.rdm_lanes.specs.Ends.{end_got, Agrees}
 use Rattle.rdm_lanes.specs.Sessions.{SessionOver}
 
--- the budget is at least as large as this search's bound on frames asks, where all the scene's devices are known
+-- the budget is enough for this search's bound on frames, if all the scene's devices are known
 abbrev pub IsEnough : Setup → SimState → Type 0
 IsEnough setup s =
     enough_by setup.search (uids_of_scene s.devices) Incremental (uids_of_scene s.devices) ≤ setup.config.budget
 
--- it is the budget by default, and the search is steady
+-- the budget is the default one, and the search is steady
 abbrev pub IsByDefault : Setup → Type 0
 IsByDefault setup = (setup.config.budget ≡ DEFAULT_BUDGET) × (setup.search ≡ Steady)
 
@@ -37,7 +37,7 @@ module _ {J : Type 0} {h : Ghosts J} {C A : Type 0} where
     pub session : SessionOver SimStep setup room places s t k
     pub agrees : Agrees c k e
 
-  -- without fault exactly the line's devices
+  -- each discovery's outcome without fault has exactly the line's devices
   abbrev pub TellsTheDevices : SimState → ClientEnd J C A h → Type 0
   TellsTheDevices s e = (number : Option ℕ) (done : Discovered) → HasGot e number done → done.fault ≡ None
       → uids_of done.devices ≡ uids_of_scene s.devices
@@ -46,7 +46,8 @@ module _ {J : Type 0} {h : Ghosts J} {C A : Type 0} where
   abbrev pub TellsNoFault : ClientEnd J C A h → Type 0
   TellsNoFault e = (number : Option ℕ) (done : Discovered) → HasGot e number done → done.fault ≡ None
 
-  -- of devices that come and leave: without fault each that is always there, and none that never is
+  -- if devices come and leave: an outcome without fault has each that is always there, and no outcome has one that
+  -- never is
   pub record TellsTheChanging (s : SimState) (e : ClientEnd J C A h) : Type 0 where
     pub staying : (number : Option ℕ) (done : Discovered) (u : ℕ) → HasGot e number done → done.fault ≡ None
         → ((i : ℕ) → has (present_at s.devices i) u ≡ true) → has (uids_of done.devices) u ≡ true

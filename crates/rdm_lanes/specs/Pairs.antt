@@ -19,7 +19,7 @@ Rings = Producer ClientCall Global AnyItems × Consumer RingOutcome Global AnyIt
 abbrev pub ArePair : Rings → Lane → Type 0
 ArePair rings lane = IsPair rings.0 lane.calls × IsPair lane.replies rings.1
 
--- so is it at each place
+-- the same for each lane and the client's ends in its place
 pub record RingsPair (lanes : List Lane) (all : List Rings) : Type 0 where
   pub long : length all ≡ length lanes
   pub each : (i : ℕ) (lane : Lane) (rings : Rings) → slice_get lanes i ≡ Some lane → slice_get all i ≡ Some rings

@@ -4,13 +4,13 @@ use mathlib.Core.List.{IsPrefix}
 use Rattle.rdm_client.specs.declared.view.DeviceView.{DeviceView}
 use Rattle.rdm_lanes.specs.Views.{last_view_run}
 
--- what was published begins all views of a log, and lacks the last one at most
+-- the published views are a prefix of all views of a log, and lack the last one at most
 pub record IsPublished (all shown : List DeviceView) : Type 0 where
   pub begin : IsPrefix shown all
   pub lacks_one : length all ≤ length shown + 1
 
--- What was published and what was read are beginnings of one list. Where the last view that was read isn't of a later
--- run than the last that was published, what was read begins what was published.
+-- What was published and what was read are prefixes of one list. If the last view read isn't of a later run than the
+-- last one published, `read` is a prefix of `shown`.
 pub record BeginOne (shown read : List DeviceView) : Type 0 where
   pub all : List DeviceView
   pub shown_begins : IsPrefix shown all

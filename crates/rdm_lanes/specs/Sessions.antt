@@ -1,4 +1,4 @@
--- What holds of a whole session over rings.
+-- What holds for a whole session with ring buffers.
 use Rattle.std.specs.Prelude.{◌≡◌, ℕ, ◌≤◌, false, List, [], length}
 use Rattle.rdm_line.specs.Events.{Exchange, Makes}
 use Rattle.rdm_log.specs.declared.config.Setup.{Setup}
@@ -12,11 +12,10 @@ use Rattle.rdm_lanes.specs.Operators.{switches}
 use Rattle.rdm_lanes.specs.Lines.{NoCallLost}
 
 -- A session over a line, from its start to its end. The log has the opening and the search of this set-up, and this
--- room. One client joined with each of these places, in order, and nobody else called anything. Nobody paused, resumed
--- or closed. At the end no reply is awaited, and the session is neither paused nor closed. The log is legal and keeps
--- all that clients are promised. No call was lost.
--- The exchanges in the log are the line's steps, from its value before to its value after: the line was
--- asked each frame once, and its own event was delivered.
+-- capacity. One client joined with each of these queue depths, in order, and nobody else called anything. Nobody
+-- paused, resumed or closed. At the end no reply is awaited, and the session is neither paused nor closed. The log is
+-- legal and keeps all that clients are promised. No call was lost. The exchanges in the log are the line's steps, from
+-- its value before to its value after. The line got each frame once, and the event that it returned was delivered.
 pub record SessionOver {L : Type 0} (step : L → Exchange → L → Type 0) (setup : Setup) (room : ℕ) (places : List ℕ)
     (before after : L) (k : LogState) : Type 0 where
   pub opening_is : k.opening ≡ opened setup.config

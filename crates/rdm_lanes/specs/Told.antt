@@ -1,4 +1,4 @@
--- Outcomes on their way to a client, and what a log tells it.
+-- Outcomes on their way to a client, and those that a log has for it.
 use Rattle.std.specs.Prelude.{◌≡◌, ℕ, List, [], ◌++◌, map, Option, Some, None, Box}
 use Rattle.rdm_wire.specs.declared.device.Device.{Device}
 use Rattle.rdm_log.specs.declared.entry.Opening.{Opening}
@@ -15,7 +15,7 @@ abbrev pub devices_in : {Z : Type 0} → Option (Box (List Device) Z) → List D
 devices_in None = []
 devices_in (Some set) = set.value
 
--- the outcome that an item of a ring brings
+-- the outcome in an item of a ring
 abbrev pub outcome_in : RingOutcome → Outcome
 outcome_in (Request number done) = outcomes.Request number done
 outcome_in (Discovery number run fault set) =
@@ -29,14 +29,14 @@ value_in item = outcome_value (outcome_in item)
 unfoldable pub values_in : List RingOutcome → List OutcomeValue
 values_in items = map value_in items
 
--- what a log tells client c, in order: an outcome of each Finish, Answer and refusal by a close
+-- the outcomes that a log has for client c, in order: one for each Finish, Answer and refusal by a close
 unfoldable pub told_values : Opening → ℕ → List Entry → List (Option OutcomeValue)
 told_values o c h = map (outcome_of h) (told o c h)
 
--- of that, what client c hasn't collected
+-- those of them that client c hasn't collected
 unfoldable pub uncollected_values : Opening → ℕ → List Entry → List (Option OutcomeValue)
 uncollected_values o c h = map (outcome_of h) (uncollected o c h)
 
--- these outcomes, and then those that aren't collected, are all that client c is told
+-- these outcomes, and then those that aren't collected, are all that the log has for client c
 abbrev pub TellsAll : Opening → ℕ → List Entry → List OutcomeValue → Type 0
 TellsAll o c h values = map (λ (v : OutcomeValue). Some v) values ++ uncollected_values o c h ≡ told_values o c h

@@ -1,4 +1,4 @@
--- Published device views: the list of them, and how it goes on.
+-- Published device views, and how their list grows.
 use Rattle.std.specs.Prelude.{◌≡◌, ℕ, ◌<◌, ◌==◌, Bool, false, List, [], ◌∷◌, ◌++◌, fold, map, Option, Some, None}
 use Rattle.std.specs.Prelude.{nat_lt, if◌then◌else◌}
 use Rattle.rdm_wire.specs.declared.device.Device.{Device}
@@ -10,7 +10,7 @@ use Rattle.rdm_log.specs.promises.Outcomes.{OutcomeValue}
 use Rattle.rdm_log.specs.promises.Outcomes.OutcomeValue.{RequestValue, DiscoveryValue}
 use Rattle.rdm_client.specs.declared.view.DeviceView.{DeviceView}
 
--- what is seen before any run has ended without fault
+-- the view before any run has ended without fault
 abbrev pub opening_view : DeviceView
 opening_view = record { run = 0; set = [] }
 
@@ -22,7 +22,7 @@ last_view views = fold (λ before v. v) opening_view views
 abbrev pub last_view_run : List DeviceView → ℕ
 last_view_run views = (last_view views).run
 
--- the runs rise from view to view, above this one
+-- the runs rise from view to view, and are greater than this one
 abbrev pub RisesAbove : ℕ → List DeviceView → Type 0
 RisesAbove n [] = Unit {0}
 RisesAbove n (v ∷ views) = (n < v.run) × RisesAbove v.run views
@@ -59,7 +59,7 @@ runs_found h = fold (λ runs b. with_found runs b.fault b.run) [] (answers h)
 abbrev pub view_of : List Entry → ℕ → DeviceView
 view_of h r = record { run = r; set = run_devices r h }
 
--- each with its set
+-- the views of those runs
 abbrev pub views_found : List Entry → List DeviceView
 views_found h = map (view_of h) (runs_found h)
 
@@ -67,7 +67,7 @@ views_found h = map (view_of h) (runs_found h)
 abbrev pub all_views : List Entry → List DeviceView
 all_views h = opening_view ∷ views_found h
 
--- the later of two views, by run; the first, where they are of one run
+-- the later of two views, by run; the first if they are of the same run
 abbrev pub later_view : DeviceView → DeviceView → DeviceView
 later_view first second = if nat_lt first.run second.run then second else first
 

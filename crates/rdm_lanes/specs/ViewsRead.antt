@@ -1,4 +1,4 @@
--- What clients have read at their ends, of what was published.
+-- Which published views the clients have read at their ends.
 use Rattle.std.specs.Prelude.{◌≡◌, ℕ, ◌≤◌, List, Option, Some, None, slice_get}
 use mathlib.Core.List.{IsPrefix}
 use Rattle.rdm_client.specs.declared.view.DeviceView.{DeviceView}
@@ -10,8 +10,8 @@ use Rattle.rdm_lanes.specs.Views.{last_view_run}
 use Rattle.rdm_lanes.specs.Publishing.{BeginOne}
 
 module _ {J : Type 0} {h : Ghosts J} {C A : Type 0} where
-  -- each client's views and the published ones are beginnings of one list; where the client's run isn't later than that
-  -- of the last published view, its views begin the published ones
+  -- Each client's views and the published ones are prefixes of one list. If the client's run isn't later than that of
+  -- the last published view, its views are a prefix of the published ones.
   pub record AllViewsRead (shown : List DeviceView) (ends : List (ClientEnd J C A h)) : Type 0 where
     pub each : (i : ℕ) (e : ClientEnd J C A h) → slice_get ends i ≡ Some e → BeginOne shown e.views
     pub early : (i : ℕ) (e : ClientEnd J C A h) → slice_get ends i ≡ Some e → e.run ≤ last_view_run shown

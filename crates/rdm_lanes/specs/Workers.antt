@@ -1,4 +1,4 @@
--- A worker, an operator and a history, as contracts speak of them.
+-- A worker, an operator and a history, as contracts see them.
 use Rattle.std.specs.Prelude.{◌≡◌, ℕ, Bool, List}
 use Rattle.logbook.specs.Pages.{Book}
 use Rattle.std.specs.declared.alloc.Global.{Global}

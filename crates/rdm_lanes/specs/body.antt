@@ -1,4 +1,4 @@
--- What only proofs and the invariants of types need. Nothing here has to be trusted: no promise speaks of it.
+-- What only proofs and type invariants need. Nothing here has to be trusted, since no promise cites it.
 pub mod Counts
 pub mod Doing
 pub mod Gains

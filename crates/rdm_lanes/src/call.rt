@@ -2,7 +2,7 @@
 use rdm_agent::Kind;
 use rdm_wire::Request;
 
-/// What a client sends the worker (profile of this project).
+/// What a client sends the worker.
 #[derive(Debug, Drop)]
 pub enum ClientCall {
     /// A submit of this request.
@@ -13,7 +13,7 @@ pub enum ClientCall {
     Leave,
 }
 
-/// What an operator sends the worker (profile of this project).
+/// What an operator sends the worker.
 #[derive(Clone, Copy, Debug, PartialEq, Eq)]
 pub enum OperatorCall {
     /// A pause.

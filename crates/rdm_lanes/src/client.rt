@@ -20,19 +20,19 @@ use rdm_client::{AskCallback, Callback, Desk, DeviceView};
 use rtrb::{Consumer, Producer};
 use std::alloc::Global;
 
-/// A client with a ring for its calls, one for its outcomes, and a reader of the worker's views (profile of this
-/// project). None of its calls waits for anybody, and none takes memory. Contracts see:
+/// A client with a ring for its calls, one for its outcomes, and a reader of the worker's views. None of its calls
+/// waits for anybody, and none allocates. Contracts see:
 /// - what it sent, the submits and discovers in order;
 /// - what it got, the outcomes in order;
-/// - the published views that it has read up to, in order.
+/// - the published views up to the last one that it read, in order.
 ///
-/// It isn't [`Drop`]: [`RingClient::end`] hands back the callbacks that it holds.
+/// It isn't [`Drop`]: [`RingClient::end`] returns the callbacks that it holds.
 pub struct RingClient<J: ViewHistory, C = Callback, A = AskCallback> {
     pub(crate) desk: Desk<C, A>,
     pub(crate) calls: Producer<ClientCall, Global>,
     pub(crate) replies: Consumer<RingOutcome, Global>,
     pub(crate) views: ViewReader<J>,
-    // What its last discovery without fault found.
+    // What the client's last discovery without fault found.
     pub(crate) found: Box<DeviceView>,
     pub(crate) sent: u64,
     pub(crate) collected: u64,

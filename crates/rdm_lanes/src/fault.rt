@@ -1,16 +1,16 @@
 //! Why a call is refused.
 use thiserror::Error;
 
-/// Why lanes can't be opened (profile of this project). They are tested in this order.
+/// Why lanes can't be opened. They are tested in this order.
 #[derive(Clone, Copy, Debug, PartialEq, Eq, Error)]
 pub enum OpenFault {
     /// 1: there are more than sixteen clients.
     #[error("there are more than sixteen clients")]
     TooManyClients,
-    /// 2: the places of all clients together are more than there are.
+    /// 2: the sum of the clients' queue depths is more than the configuration allows.
     #[error("there are too few places")]
     NoPlaces,
-    /// 3: there is no memory.
+    /// 3: out of memory.
     #[error("out of memory")]
     NoMemory,
     /// 4: the log has fewer than three free entries before some client joins.
@@ -18,11 +18,11 @@ pub enum OpenFault {
     LogFull,
 }
 
-/// Why a client's call isn't sent (profile of this project). Left is tested first, then Full, then RingFull.
+/// Why a client's call isn't sent. Left is tested first, then Full, then RingFull.
 #[derive(Clone, Copy, Debug, PartialEq, Eq, Error)]
 pub enum RingFault {
-    /// 1: the client holds callbacks of as many requests as it has places, or of four discoveries; or it has sent as
-    /// many calls as can be counted.
+    /// 1: the client holds as many requests' callbacks as its queue depth, or four discoveries' callbacks, or it has
+    /// sent `u64::MAX` calls.
     #[error("the client has as many calls outstanding as it may have")]
     Full,
     /// 2: the ring of calls has no free slot.
@@ -33,7 +33,7 @@ pub enum RingFault {
     Left,
 }
 
-/// The ring of calls has no free slot, and nothing has changed (profile of this project).
+/// The ring of calls has no free slot, and nothing has changed.
 #[derive(Clone, Copy, Debug, PartialEq, Eq, Error)]
 #[error("the ring of calls is full")]
 pub struct RingFull;

@@ -1,4 +1,5 @@
-//! Laws over threads: what clients are told of a simulated line, whatever their bodies do and however their calls fall.
+//! Laws over threads: which outcomes clients get over a simulated line, whatever their bodies do, and whenever they
+//! call.
 ghost use Rattle.std.specs.Prelude.{ℕ, List};
 ghost use Rattle.rdm_line.specs.Sim.{SimState};
 ghost use Rattle.rdm_log.specs.declared.config.Setup.{Setup};
@@ -10,8 +11,8 @@ ghost use Rattle.rdm_lanes.specs.OverThreads.{IsEnough, IsByDefault, TellsNoFaul
 
 use crate::views::history::ViewHistory;
 
-/// Each discovery's outcome without fault that a client got has exactly the simulated line's devices. The premises: the
-/// line loses no five exchanges with successive numbers, and its devices stay. A session of
+/// Each discovery's outcome without fault that a client got has exactly the simulated line's devices. The conditions
+/// are that the line loses no five exchanges in a row, and that its devices stay. A session of
 /// [`run_session`](crate::run_session) is such a session.
 pub fn clients_get_the_devices<J: ViewHistory, C, A>()
     ensures { (setup : Setup) (room : ℕ) (places : List ℕ) (s t : SimState) (k : LogState)
@@ -19,8 +20,9 @@ pub fn clients_get_the_devices<J: ViewHistory, C, A>()
         → IsStayingScene s → TellsTheDevices s e }
 {}
 
-/// Where no exchange fails, either, and the budget is as large as the search's bound on frames asks, none has a fault.
-/// The budget by default is, for a steady search of at most 1,024 devices, which is as many as a scene may have.
+/// If, in addition, no exchange fails and the budget suffices for the search's bound on frames, no discovery's outcome
+/// has a fault. The default budget suffices for a steady search of at most 1,024 devices, which is as many as a scene
+/// may have.
 pub fn clients_get_no_fault<J: ViewHistory, C, A>()
     ensures enough { (setup : Setup) (room : ℕ) (places : List ℕ) (s t : SimState) (k : LogState)
         (c : ℕ) (e : ClientEnd J C A (record { book = J.book })) → IsEndOver setup room places s t k c e
@@ -30,7 +32,7 @@ pub fn clients_get_no_fault<J: ViewHistory, C, A>()
         → IsEndOver setup room places s t k c e → IsCalmScene s → IsByDefault setup → TellsNoFault e }
 {}
 
-/// Where devices come and leave, each outcome without fault has each device that is always there; and none has a device
+/// If devices come and leave, each outcome without fault has each device that is always there. No outcome has a device
 /// that never is.
 pub fn clients_get_no_stranger<J: ViewHistory, C, A>()
     ensures { (setup : Setup) (room : ℕ) (places : List ℕ) (s t : SimState) (k : LogState)

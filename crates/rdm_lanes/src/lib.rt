@@ -1,5 +1,5 @@
 //! Clients that never wait. Each has a ring for its calls and a ring for its outcomes. A worker has their other ends,
-//! and publishes device views, which each client reads.
+//! and publishes device views, which each client reads. All of it is the profile of this project.
 //!
 //! - `opening` makes the clients, the operator and the worker, and `session` runs all of them in threads.
 //! - `client` has one end of each ring, and `worker` the other. `call` and `ring_outcome` are what goes through them.
@@ -16,7 +16,7 @@ mod session;
 mod views;
 mod worker;
 
-// What a program calls, and what that answers.
+// What a program calls, and what the calls return.
 pub use client::RingClient;
 pub use client::ends::ClientEnd;
 pub use fault::{OpenFault, RingFault, RingFull};
@@ -29,8 +29,8 @@ pub use worker::compared::Compared;
 pub use worker::operator::Operator;
 pub use worker::view_worker::ViewWorker;
 
-// What the types above are made of. A program names the history by `ViewHistory`, begins it by `BlankHistory`, and
-// writes `Shown` as the worker's published value. Only measurements call a publisher and a reader of their own.
+// What the types above are made of. A program names the history by `ViewHistory`, begins it with `BlankHistory`, and
+// writes `Shown` as the worker's published value. Only measurements use a publisher and a reader directly.
 pub use views::history::{BlankHistory, ViewHistory};
 pub use views::publishing::{Publisher, Shown};
 pub use views::reading::ViewReader;

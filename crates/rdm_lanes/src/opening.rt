@@ -24,7 +24,7 @@ use rtrb::RingBuffer;
 use std::alloc::Global;
 use std::sync::Wait;
 
-/// The clients of a session, its operator and its worker (profile of this project). `T` is `Shown<J>`.
+/// The clients of a session, its operator and its worker. `T` is `Shown<J>`.
 pub struct Lanes<
     J: ViewHistory,
     T: Absorb<Shown<J>, State = [DeviceView; 0]> + Drop,
@@ -32,7 +32,7 @@ pub struct Lanes<
     C = Callback,
     A = AskCallback,
 > {
-    /// The clients, in the order of their places.
+    /// The clients, in the order of the queue depths that were passed.
     pub clients: Vec<RingClient<J, C, A>>,
     /// The operator.
     pub operator: Operator,
@@ -40,21 +40,21 @@ pub struct Lanes<
     pub worker: ViewWorker<J, T, R>,
 }
 
-/// A session with a client for each of these places, an operator and a worker (profile of this project). Its runs
-/// search steadily. Each client has a ring of this many slots for its calls and one for its outcomes, and the operator
-/// one for its calls. The memory of the rings is taken here, with that of what each client finds. A view takes its own
-/// when it is published. `J` is the history of the views that the worker publishes. The worker keeps the runtime, to
-/// wait for readers when it publishes; this call waits for nobody.
+/// A session with an operator, a worker, and a client for each of these queue depths. Its runs search steadily. Each
+/// client has a ring of this many slots for its calls and one for its outcomes, and the operator one for its calls.
+/// This call allocates the rings, and the memory for what each client finds. A view is allocated when it is published.
+/// `J` is the history of the views that the worker publishes. The worker keeps the runtime, to wait for readers when it
+/// publishes. This call waits for nobody.
 ///
 /// The conditions are these:
 /// - the controller's UID isn't broadcast;
-/// - there are at most [`MOST_PLACES`](rdm_queue::MOST_PLACES) places;
+/// - the greatest sum of queue depths is at most [`MOST_PLACES`](rdm_queue::MOST_PLACES);
 /// - the budget is at least 1;
 /// - the log has no entries;
 /// - a ring has at least one slot.
 ///
-/// Err: the first fault that stands. The log comes back without entries, as a new one with the same room, and the blank
-/// history as it was. So the same call can be made again, with more memory or with a larger log.
+/// Err: the first fault that applies. The log is returned without entries, like a new one with the same capacity, and
+/// the blank history is returned unchanged. So the same call can be made again, with more memory or with a larger log.
 pub fn open_lanes<J: ViewHistory, C: Tells, A: TellsAsk, R: Wait + Drop>(
     rt: R,
     alloc: Global,
@@ -72,7 +72,7 @@ pub fn open_lanes<J: ViewHistory, C: Tells, A: TellsAsk, R: Wait + Drop>(
     open_lanes_with(rt, alloc, history, Setup::steady(config), log, ring, places)
 }
 
-/// The same under the same conditions and with the same errors, with a set-up that also says how runs search.
+/// The same with a set-up, which also says how runs search. Conditions and errors are those of [`open_lanes`].
 pub fn open_lanes_with<J: ViewHistory, C: Tells, A: TellsAsk, R: Wait + Drop>(
     rt: R,
     alloc: Global,
@@ -122,7 +122,8 @@ pub fn open_lanes_with<J: ViewHistory, C: Tells, A: TellsAsk, R: Wait + Drop>(
     }
 }
 
-/// The first fault that the places show: there are too many clients, or their places together are more than there are.
+/// The first fault that the queue depths show: there are too many clients, or their queue depths' sum is more than the
+/// configuration allows.
 pub fn fault_of_places(config: &Config, places: &[u8]) -> Option<OpenFault>
     ensures { result ≡ places_fault config.now.places places.now }
 {

@@ -4,20 +4,20 @@ use rdm_queue::Completion;
 use rdm_wire::DeviceSet;
 use std::mem::size_of;
 
-/// An outcome on its way to its client (profile of this project). The set of a discovery is large, so it lies in
-/// memory of its own, which the worker takes.
+/// An outcome on its way to its client. The set of a discovery is large, so it lies in memory of its own, which the
+/// worker takes.
 #[derive(Debug, Drop)]
 pub enum RingOutcome {
     /// A request has ended.
     Request {
-        /// Its number; None where a close refused it.
+        /// Its number; None if a close refused it.
         number: Option<u64>,
         /// How it ended.
         done: Completion,
     },
     /// A discovery has ended.
     Discovery {
-        /// Its number; None where a close refused it.
+        /// Its number; None if a close refused it.
         number: Option<u64>,
         /// The run that served it; 0 where none was begun for it.
         run: u64,
@@ -28,5 +28,5 @@ pub enum RingOutcome {
     },
 }
 
-// A slot of a ring is small.
+// A ring's slot is small.
 const _: () = prove!(size_of::<RingOutcome>() < 100);

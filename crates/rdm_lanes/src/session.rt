@@ -27,21 +27,21 @@ use std::alloc::Global;
 use std::sync::Wait;
 use std::thread::Threads;
 
-/// Runs a session (profile of this project): opens a client for each of these places, and runs its body in a thread of
-/// its own, beside the worker with this many turns. There is no operator, so nobody pauses or closes. Where a thread
-/// can't be made its work is done in one that there is, after the other work there. `J` is the history of the views
-/// that the worker publishes. What was published, and what each client has read of it, is compared at the end too. The
-/// callbacks that a client left over are as many as its own calls without an outcome. Both rings of each client have
-/// `ring` slots, as [`ClientEnd::slots`](crate::ClientEnd::slots) still shows at the end. If the worker ended with
-/// Turns, it made all its turns, as [`LanesEnd::turns`] counts them.
+/// Runs a session. It opens a client with each of these queue depths, and runs each client's body in a thread of its
+/// own. The worker runs beside them, with this many turns. There is no operator, so nobody pauses or closes. If a
+/// thread can't be made, its work is done in an existing one, after that one's own work. `J` is the history of the
+/// views that the worker publishes. At the end, what was published is compared with what each client has read. Each
+/// client still holds a callback for each own call without an outcome. Both rings of each client have `ring` slots, as
+/// [`ClientEnd::slots`](crate::ClientEnd::slots) shows at the end. If the worker ended with Turns, it made all its
+/// turns, as [`LanesEnd::turns`] counts them.
 ///
-/// The conditions are those of [`open_lanes`](crate::open_lanes), and there are as many bodies as places. Once the
-/// worker has stopped its clients' ends are compared, as at a [`ViewWorker::end`](crate::ViewWorker::end).
-/// It waits for its threads.
+/// The conditions are those of [`open_lanes`](crate::open_lanes), and there are as many bodies as queue depths. Once
+/// the worker has stopped, its clients' ends are compared, as by [`ViewWorker::end`](crate::ViewWorker::end). It waits
+/// for its threads.
 ///
-/// Err: the first of the faults of `open_lanes` that stands, before any body ran. The log comes back as a new one with
-/// the same room, and the bodies, the line and the blank history as they were. So the same call can be made again, with
-/// more memory or with a larger log.
+/// Err: the first fault of `open_lanes` that applies; no body has run. The log is returned like a new one with the same
+/// capacity. The bodies, the line and the blank history are returned unchanged. So the same call can be made again,
+/// with more memory or with a larger log.
 pub fn run_session<
     J: ViewHistory + Send + Sync,
     B: Body<C, A> + Send,
@@ -91,7 +91,7 @@ pub fn run_session<
     )
 }
 
-/// The same under the same conditions and with the same errors, with a set-up that also says how runs search.
+/// The same with a set-up, which also says how runs search. Conditions and errors are those of [`run_session`].
 pub fn run_session_with<
     J: ViewHistory + Send + Sync,
     B: Body<C, A> + Send,

@@ -23,10 +23,10 @@ use rtrb::Consumer;
 use std::alloc::Global;
 
 /// What makes the calls of the clients and of the operator and the exchanges with the line, and moves outcomes.
-/// [`ViewWorker`](crate::ViewWorker) has it, and publishes views. It has the session. What it has received of each
-/// client is that client's calls in the session's log. What it has sent each is what the log tells that client. Nobody
-/// else has joined or called anything. The pauses, resumes and closes in the log are those of the operator's calls that
-/// had an effect.
+/// [`ViewWorker`](crate::ViewWorker) has it, and publishes views. It has the session. What it has received from each
+/// client is that client's calls in the session's log. What it has sent to each client is that client's outcomes in the
+/// log, except those not collected from the session yet. Nobody else has joined or called anything. The pauses, resumes
+/// and closes in the log are those of the operator's calls that had an effect.
 #[derive(Drop)]
 pub struct Worker {
     pub(crate) session: Session,

@@ -89,7 +89,7 @@ pub record KeepsSilent (s : SimState) (reply : List ℕ) (new : SimState) : Type
   pub silent : reply ≡ []
   pub same : new ≡ s
 
--- an unmute unmutes all devices, and is not answered
+-- an unmute unmutes all devices, and isn't answered
 pub record Unmutes (s : SimState) (reply : List ℕ) (new : SimState) : Type 0 where
   pub silent : reply ≡ []
   pub unmuted : new ≡ record s { muted = [] }
@@ -175,7 +175,7 @@ abbrev pub Acts : ℕ → SimState → Option (Command × ℕ × ℕ) → List �
 Acts i s None reply new = KeepsSilent s reply new
 Acts i s (Some sent) reply new = ActsOn i s sent.0 sent.1 sent.2 reply new
 
--- what is heard of a reply: nothing if it is lost
+-- what arrives of a reply: nothing if it is lost
 abbrev pub IsHeard : Bool → List ℕ → LineEvent → Type 0
 IsHeard lost reply event = event ≡ Reply (record { items = if lost then [] else reply })
 

@@ -11,10 +11,10 @@ ghost use Rattle.rdm_line.specs.Scenes.{IsScene, Stays, present_at, uids_of_scen
 ghost use Rattle.rdm_line.specs.declared.scene.SceneDevice.{SceneDevice};
 ghost use Rattle.std.specs.List.{AllByRecursion};
 
-/// A simulated line is honest towards the devices that are present at each exchange. The premise is that no five
-/// replies of a kind are lost in a row: to branches that a device is due to answer, and to mutes of a present
-/// device. This holds for a run of exchanges that begins at any moment, up to its first failure, if there is one. It
-/// holds for any frames and collisions, and for any devices that come and leave.
+/// A simulated line is honest towards the devices that are present at each exchange. The condition is that no five
+/// replies of a kind are lost in a row. The kinds are replies to branches that a device is due to answer, and to mutes
+/// of a present device. This holds for a run of exchanges that begins at any moment, up to its first failure, if there
+/// is one. It holds for any frames and collisions, and for any devices that come and leave.
 pub fn simulated_line_is_honest()
     ensures { (s new : SimState) (steps : List Step) →
         IsRun s steps new → LosesFew steps → HonestOver (map present_in steps) (map seen_in steps) }

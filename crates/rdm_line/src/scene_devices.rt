@@ -41,7 +41,7 @@ pub enum AddFault {
     /// There are 1,024 devices.
     #[error("there are 1,024 devices")]
     Full,
-    /// There was no memory.
+    /// Out of memory.
     #[error("out of memory")]
     NoMemory,
 }
@@ -110,7 +110,7 @@ impl SceneDevices {
         ensures few { length self.now ≤ MOST_DEVICES }
         ensures in_range { uid < 2 ^ 48 }
     {
-        // For the proof alone: a UID's number is below 2^48.
+        // Only for the proof: a UID's number is below 2^48.
         let _in_range = uid.number();
         let index = self.count_below(uid);
         if self.has_at(index, uid) {

@@ -69,8 +69,8 @@ impl Model for SimLine {
 }
 
 impl SimLine {
-    /// A line of the scene's devices, all of them unmuted, before its first exchange. [`NoMemory`]: there was no
-    /// memory, and the scene is returned.
+    /// A line of the scene's devices, all of them unmuted, before its first exchange. [`NoMemory`]: out of memory; the
+    /// scene is returned.
     pub fn new(alloc: Global, scene: Scene) -> Result<SimLine, (NoMemory, Scene)>
         ensures devices { IfOk result (λ s. s.devices ≡ scene.devices) }
         // The laws on simulated lines require this of the state in which a run begins.

@@ -31,7 +31,7 @@ type Text = ArrayVec<u8, MOST_LINE_BYTES>;
 ///
 /// A carriage return before the newline is no part of the line. The far end decides how long it waits for a device.
 ///
-/// An exchange also fails when either stream gives an error, and at the end of the input. A last line without a newline
+/// An exchange also fails if either stream returns an error, and at the end of the input. A last line without a newline
 /// is no reply, since it may have been cut off. Each exchange reads one line at most, and none unless its frame was
 /// written. A line that is longer than a reply is read to its end, and dropped.
 ///

@@ -11,8 +11,8 @@ in_record x = (x.frame, x.event)
 abbrev pub recorded : List Exchange → List LineExchange
 recorded xs = map in_record xs
 
--- the record grew from old to new by the exchanges that the line made from a to b, each by its own step; there are at
--- most as many as turns
+-- The record grew from old to new by the exchanges that the line made from a to b, each by its own step. There are at
+-- most as many as turns.
 pub record Records (L : Type 0) (step : L → LineExchange → L → Type 0) (a : L) (old : List Exchange) (b : L)
     (new : List Exchange) (turns : ℕ) : Type 0 where
   pub made : List Exchange

@@ -6,8 +6,8 @@ use Rattle.rdm_log.specs.promises.Blocks.{TakeLogs}
 use Rattle.rdm_locked.specs.declared.turn.Turn.{Turn}
 use Rattle.rdm_locked.specs.declared.turn.Turn.TheVariants as turns
 
--- a frame is taken; or none may be sent, while some client that joined hasn't left, or once all have; or the log is
--- full, and then no frame is taken
+-- A frame is taken. Or none may be sent, while some client that joined hasn't left, or once all have. Or the log is
+-- full, and then no frame is taken.
 abbrev pub TurnLogs : LogState → ℕ → ℕ → Turn → List Entry → Type 0
 TurnLogs k joined left (turns.Exchange frame) block = TakeLogs k (Ok (Some frame)) block
 TurnLogs k joined left turns.Nothing block = TakeLogs k (Ok None) block × (left ≢ joined)

@@ -15,8 +15,8 @@ use rdm_wire::{DeviceSet, Request};
 use std::sync::Wait;
 use std::sync::ledger::Ledger;
 
-/// A client of a session with a mutex, with the callbacks of what it has outstanding (profile of this project). It may
-/// be used in any thread. Its calls wait for the mutex; a callback runs after the mutex is released.
+/// A client of a session with a mutex, with the callbacks of what it has outstanding. It may be used in any thread. Its
+/// calls wait for the mutex; a callback runs after the mutex is released.
 ///
 /// It isn't [`Drop`]: [`LockedClient::leave`] returns what it holds.
 pub struct LockedClient<'a, L: Ledger, C = Callback, A = AskCallback> {
@@ -28,7 +28,7 @@ pub struct LockedClient<'a, L: Ledger, C = Callback, A = AskCallback> {
     stranded: bool,
 }
 
-/// What is left of a client (profile of this project).
+/// What is left of a client.
 pub struct Left<L: Ledger, C = Callback, A = AskCallback> {
     /// The callbacks that weren't called.
     pub unspent: Unspent<C, A>,

@@ -11,7 +11,7 @@ use rdm_join::LineEvent;
 use rdm_queue::{Entry, Log};
 use rdm_wire::Frame;
 
-/// A frame that went over the line, and what came back (profile of this project).
+/// A frame that went over the line, and what came back.
 #[derive(Debug, Drop)]
 pub struct Exchange {
     /// The frame's bytes.

@@ -1,7 +1,7 @@
 //! Why a port can't be ended.
 use thiserror::Error;
 
-/// Why a port can't be ended; nothing has changed (profile of this project). They are tested in this order.
+/// Why a port can't be ended; nothing has changed. They are tested in this order.
 #[derive(Clone, Copy, Debug, PartialEq, Eq, Error)]
 pub enum FinishFault {
     /// 1: the share of a client that joined is missing.

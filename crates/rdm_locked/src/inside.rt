@@ -30,8 +30,8 @@ use rdm_wire::{DeviceSet, Request};
 use std::alloc::Global;
 use std::sync::ledger::{Blank, Book, Ledger, Share};
 
-/// A session with a book of its clients' calls: what the mutex of a [`Port`](crate::Port) holds (profile of this
-/// project). Each of its calls is made with the mutex taken, and is one call of the session.
+/// A session with a book of its clients' calls: what the mutex of a [`Port`](crate::Port) holds. Each of its calls is
+/// made with the mutex taken, and is one call of the session.
 ///
 /// Whenever the mutex is free, these hold:
 /// - The log is legal and keeps all that clients are promised, and the session is the one that the log describes. One
@@ -297,7 +297,7 @@ impl<L: Ledger> Inside<L> {
         }
     }
 
-    /// The session. Whatever the calls were, its log is legal and keeps all that clients are promised, its calls are
+    /// The session. Whatever the calls were, its log is legal and keeps all that clients are promised. Its calls are
     /// those of the book, and its clients are those that joined.
     pub fn session(&self) -> &Session
         ensures session { result.now ≡ self.now.session }
@@ -306,7 +306,7 @@ impl<L: Ledger> Inside<L> {
         ensures counted { count_calls self.now.session.entries ≡ self.now.calls.total }
         ensures clients { next_client self.now.session.opening self.now.session.entries ≡ self.now.joined }
     {
-        // For the proof alone: the log says that it is legal, and what it promises.
+        // Only for the proof: the log says that it is legal, and what it promises.
         self.session.log();
         &self.session
     }

@@ -1,4 +1,4 @@
-//! A session with a mutex, for clients and a worker in threads of their own.
+//! A session with a mutex, for clients and a worker in threads of their own. All of it is the profile of this project.
 //!
 //! The mutex holds an [`Inside`]: a session with a book of its clients' calls. Each of its calls has a contract over
 //! the log. A [`Port`] and its clients take the mutex, make one such call, and release it. Their contracts are about

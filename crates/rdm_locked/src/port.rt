@@ -25,9 +25,9 @@ use std::sync::ledger::{Blank, Ledger};
 use std::sync::{Mutex, Wait};
 use std::thread;
 
-/// A session with a mutex, for clients and a worker in threads of their own (profile of this project). The mutex is
-/// taken for one call of the session at a time, and never during an exchange with the line. `client`, `pause`,
-/// `resume`, `close` and `work` wait for it. `finish` doesn't, since whoever owns the port has it exclusively.
+/// A session with a mutex, for clients and a worker in threads of their own. The mutex is taken for one call of the
+/// session at a time, and never during an exchange with the line. `client`, `pause`, `resume`, `close` and `work` wait
+/// for it. `finish` doesn't, since whoever owns the port has it exclusively.
 ///
 /// `L` names the book of the clients' calls. The program picks it as `Brand` in the call that opens the port.
 #[derive(Drop)]
@@ -117,12 +117,12 @@ impl<L: Ledger> Port<L> {
     }
 
     /// Serves the line for this many turns. It ends earlier if each client that has joined has left and no frame may be
-    /// sent, or if the log is full. A turn first reserves room in the record; if that allocation fails, the turn does
-    /// nothing else. Then it takes a frame with the mutex, makes the exchange without it, delivers what came with it,
-    /// and appends the exchange to the record. It never stops between taking and delivering.
+    /// sent, or if the log is full. A turn first reserves capacity in the record; if that allocation fails, the turn
+    /// does nothing else. Then it takes a frame with the mutex, makes the exchange without it, delivers what came with
+    /// it, and appends the exchange to the record. It never stops between taking and delivering.
     ///
-    /// A record without room doubles its capacity, which copies it. If you know how many exchanges come, reserve as
-    /// many first: each has 552 bytes, and then no turn allocates for it.
+    /// A full record doubles its capacity, which copies it. If you know how many exchanges come, reserve as many first:
+    /// each has 552 bytes, and then no turn allocates for it.
     pub fn work<X: Line, R: Wait>(
         &self,
         rt: &R,

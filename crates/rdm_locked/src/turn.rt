@@ -1,7 +1,7 @@
 //! What a worker has to do in its turn.
 use rdm_wire::Frame;
 
-/// What a worker has to do in its turn (profile of this project).
+/// What a worker has to do in its turn.
 #[derive(Debug, Drop)]
 pub enum Turn {
     /// Send this frame over the line, and deliver what comes back.

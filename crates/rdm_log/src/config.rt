@@ -2,11 +2,10 @@
 use rdm_agent::Search;
 use rdm_wire::Uid;
 
-/// The greatest value of [`Config::places`]: a queue depth of 255 for each of sixteen clients (profile of this
-/// project).
+/// The greatest value of [`Config::places`]: a queue depth of 255 for each of sixteen clients.
 pub const MOST_PLACES: u16 = 4080;
 
-/// How a controller is set up (profile of this project).
+/// How a controller is set up.
 #[derive(Clone, Copy, Debug)]
 pub struct Config {
     /// The controller's own UID, which must not be broadcast.
@@ -25,14 +24,13 @@ impl Config {
     pub fn is_valid(&self) -> bool
         ensures { (result ≡ true) ↔ IsConfig self.now }
     {
-        // For the proof alone: a UID's number is below 2^48.
+        // Only for the proof: a UID's number is below 2^48.
         let _in_range = self.source.number();
         !self.source.is_broadcast() && self.places <= MOST_PLACES && 1 <= self.budget
     }
 }
 
-/// How a session is set up: the configuration of its controller, and how the discovery runs search (profile of this
-/// project).
+/// How a session is set up: the configuration of its controller, and how the discovery runs search.
 #[derive(Clone, Copy, Debug)]
 pub struct Setup {
     /// The configuration of the controller.

@@ -5,24 +5,23 @@ use rdm_join::{LineEvent, Status};
 use rdm_wire::{DeviceSet, Frame, Request, Uid};
 use std::mem::size_of;
 
-/// How many clients may join (profile of this project).
+/// How many clients may join.
 pub const MOST_CLIENTS: usize = 16;
 
-/// The number that no request gets: if it would be the next one, the numbers have run out (profile of this project).
+/// The number that no request gets: if it would be the next one, the numbers have run out.
 pub const NEVER_GIVEN: u64 = u64::MAX;
 
-/// How many discoveries a client may have outstanding (profile of this project).
+/// How many discoveries a client may have outstanding.
 pub const MOST_DISCOVERIES: usize = 4;
 
-/// The number that no discovery gets: if it would be the next one, the numbers have run out (profile of this
-/// project).
+/// The number that no discovery gets: if it would be the next one, the numbers have run out.
 pub const NEVER_GIVEN_TO_A_DISCOVERY: u64 = u64::MAX - 1;
 
-/// A client, numbered from 0 in the order of joining (profile of this project).
+/// A client, numbered from 0 in the order of joining.
 #[derive(Clone, Copy, Debug, PartialEq, Eq)]
 pub struct ClientId(pub u8);
 
-/// A call that was refused, with its arguments (profile of this project).
+/// A call that was refused, with its arguments.
 #[derive(Debug, Drop)]
 pub enum Call {
     /// A join with this queue depth.
@@ -33,7 +32,7 @@ pub enum Call {
     Discover(Kind),
 }
 
-/// Whose a frame is (profile of this project).
+/// What a frame belongs to.
 #[derive(Clone, Copy, Debug, PartialEq, Eq)]
 pub enum Owner {
     /// The request with this number.
@@ -42,12 +41,12 @@ pub enum Owner {
     Run(u64),
 }
 
-/// The number of the fault that refused a call (profile of this project). The faults that leave an entry are numbered
-/// from 1 in the order in which they are tested.
+/// The number of the fault that refused a call. The faults that leave an entry are numbered from 1 in the order in
+/// which they are tested.
 #[derive(Clone, Copy, Debug, PartialEq, Eq)]
 pub struct Cause(pub u8);
 
-/// One entry of a log (profile of this project).
+/// One entry of a log.
 #[derive(Debug, Drop)]
 pub enum Entry {
     /// A client joined.
@@ -86,7 +85,7 @@ pub enum Entry {
     },
     /// A frame was returned, for the line.
     Send {
-        /// Whose it is.
+        /// Its owner.
         owner: Owner,
         /// Its bytes.
         frame: Frame,
@@ -131,8 +130,7 @@ pub enum Entry {
 
 const _: () = prove!(size_of::<Entry>() == 296);
 
-/// The state of the queue before a log's first entry. A number that is "next" is the one that will be used next
-/// (profile of this project).
+/// The state of the queue before a log's first entry. A number that is "next" is the one that will be used next.
 #[derive(Debug, Drop)]
 pub struct Opening {
     /// The controller's own UID.

@@ -7,7 +7,7 @@ use rdm_join::LineEvent;
 use rdm_wire::{Frame, NoMemory, Request};
 use std::mem::size_of;
 
-/// A call of a session (profile of this project).
+/// A call of a session.
 #[derive(Debug, Drop)]
 pub enum Event {
     /// A client joins, with this queue depth.
@@ -30,7 +30,7 @@ pub enum Event {
     Collect(ClientId),
 }
 
-/// A session's answer to an event: the result of the call with that name (profile of this project).
+/// A session's answer to an event: the result of the call with that name.
 #[derive(Debug, Drop)]
 pub enum Answer {
     /// The client, or why it may not join.
@@ -49,8 +49,8 @@ pub enum Answer {
     Take(Result<Option<Frame>, LogFull>),
     /// Done; or no reply was awaited, and the event is returned.
     Deliver(Result<(), (NotAsked, LineEvent)>),
-    /// The outcome, or None if there is none. Or there was no memory for the set of a discovery: nothing has changed,
-    /// and the client's next collect finds the same outcome.
+    /// The outcome, or None if there is none. Or no memory for the set of a discovery: nothing has changed, and the
+    /// client's next collect finds the same outcome.
     Collect(Result<Option<BoxedOutcome>, NoMemory>),
 }
 

@@ -1,22 +1,22 @@
 //! Why a call is refused.
 use thiserror::Error;
 
-/// The log has fewer than three free entries, and nothing has changed (profile of this project).
+/// The log has fewer than three free entries, and nothing has changed.
 #[derive(Clone, Copy, Debug, PartialEq, Eq, Error)]
 #[error("the log is full")]
 pub struct LogFull;
 
-/// No reply is awaited, and nothing has changed (profile of this project).
+/// No reply is awaited, and nothing has changed.
 #[derive(Clone, Copy, Debug, PartialEq, Eq, Error)]
 #[error("no reply is awaited")]
 pub struct NotAsked;
 
-/// The session isn't idle, and nothing has changed (profile of this project).
+/// The session isn't idle, and nothing has changed.
 #[derive(Clone, Copy, Debug, PartialEq, Eq, Error)]
 #[error("the session isn't idle")]
 pub struct NotIdle;
 
-/// Why a join is refused (profile of this project). LogFull is tested first, and then the others in this order.
+/// Why a join is refused. LogFull is tested first, and then the others in this order.
 #[derive(Clone, Copy, Debug, PartialEq, Eq, Error)]
 pub enum JoinFault {
     /// 1: the queue is closed.
@@ -28,7 +28,7 @@ pub enum JoinFault {
     /// 3: the sum of the clients' queue depths would be too large.
     #[error("there are too few places")]
     NoPlaces,
-    /// 4: there is no memory for what the client may have outstanding.
+    /// 4: no memory for what the client may have outstanding.
     #[error("out of memory")]
     NoMemory,
     /// 5: the log has fewer than three free entries.
@@ -36,7 +36,7 @@ pub enum JoinFault {
     LogFull,
 }
 
-/// Why a submit is refused (profile of this project). LogFull is tested first, and then the others in this order.
+/// Why a submit is refused. LogFull is tested first, and then the others in this order.
 #[derive(Clone, Copy, Debug, PartialEq, Eq, Error)]
 pub enum SubmitFault {
     /// 1: the queue is closed.
@@ -53,7 +53,7 @@ pub enum SubmitFault {
     LogFull,
 }
 
-/// Why a discover is refused (profile of this project). LogFull is tested first, and then the others in this order.
+/// Why a discover is refused. LogFull is tested first, and then the others in this order.
 #[derive(Clone, Copy, Debug, PartialEq, Eq, Error)]
 pub enum AskFault {
     /// 1: the queue is closed.
@@ -74,7 +74,7 @@ impl JoinFault {
     ghost use Rattle.std.specs.Prelude.{◌≡◌};
     ghost use Rattle.rdm_log.specs.log.Refusals.{number_of_join_fault};
 
-    /// The fault's number, as an entry of the log has it; LogFull's stands in none.
+    /// The fault's number, as an entry of the log has it; LogFull's is in no entry.
     pub fn number(self) -> u8
         ensures { result ≡ number_of_join_fault self }
     {
@@ -92,7 +92,7 @@ impl SubmitFault {
     ghost use Rattle.std.specs.Prelude.{◌≡◌};
     ghost use Rattle.rdm_log.specs.log.Refusals.{number_of_submit_fault};
 
-    /// The fault's number, as an entry of the log has it; LogFull's stands in none.
+    /// The fault's number, as an entry of the log has it; LogFull's is in no entry.
     pub fn number(self) -> u8
         ensures { result ≡ number_of_submit_fault self }
     {
@@ -109,7 +109,7 @@ impl AskFault {
     ghost use Rattle.std.specs.Prelude.{◌≡◌};
     ghost use Rattle.rdm_log.specs.log.Refusals.{number_of_ask_fault};
 
-    /// The fault's number, as an entry of the log has it; LogFull's stands in none.
+    /// The fault's number, as an entry of the log has it; LogFull's is in no entry.
     pub fn number(self) -> u8
         ensures { result ≡ number_of_ask_fault self }
     {

@@ -1,7 +1,7 @@
 //! The log of a queue of requests and discoveries on one RDM line: its entries, which logs are legal, and what a legal
-//! log promises.
+//! log promises. All of it is the profile of this project.
 //!
-//! The laws in [`laws`] are about logs alone. `rdm_queue` has the queue that writes such a log.
+//! The laws in [`laws`] are only about logs. `rdm_queue` has the queue that writes such a log.
 //!
 //! # What calls cost
 //!

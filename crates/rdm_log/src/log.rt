@@ -6,21 +6,20 @@ use rdm_wire::{DeviceSet, NoMemory, Uid};
 use std::alloc::Global;
 use std::marker::Model;
 
-/// The greatest number of free entries that a log may be made with (profile of this project).
+/// The greatest number of free entries that a log may be made with.
 pub const MOST_FREE_ENTRIES: usize = 1_000_000;
 
-/// How many entries have to be free for each call that a full log refuses (profile of this project).
+/// How many entries have to be free for each call that a full log refuses.
 pub const LEAST_FREE: usize = 3;
 
-/// The entries of a session, oldest first, and the opening before them (profile of this project). Its memory is
-/// reserved when it is made.
+/// The entries of a session, oldest first, and the opening before them. Its memory is reserved when it is made.
 #[derive(Debug, Drop)]
 pub struct Log {
     // Boxed, because it contains a device set, and a log is moved often.
     opening: Box<Opening>,
     entries: Vec<Entry>,
     room: usize,
-    /// How the runs of its session search. No entry says it, and no rule about logs depends on it.
+    /// How the runs of its session search. No entry says this, and no rule about logs depends on it.
     search: Search,
 }
 
@@ -82,7 +81,8 @@ impl Log {
         self.entries.as_slice()
     }
 
-    /// How the runs of its session search, as the session was set up. A log that no session has written says steadily.
+    /// How the runs of its session search, as the session was set up. If no session has written the log, this is
+    /// [`Search::Steady`].
     pub fn search(&self) -> Search
         ensures { result ≡ self.now.search }
     {

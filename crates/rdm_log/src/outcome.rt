@@ -4,7 +4,7 @@ use rdm_join::{ReplyHead, Status};
 use rdm_wire::DeviceSet;
 use std::mem::size_of;
 
-/// How a request ended, with the answer (profile of this project).
+/// How a request ended, with the answer.
 #[derive(Debug, Drop)]
 pub struct Completion {
     /// How it ended.
@@ -15,7 +15,7 @@ pub struct Completion {
     pub bytes: Vec<u8>,
 }
 
-/// How a discovery ended, and what its run found (profile of this project). The set makes it 32 KB in size.
+/// How a discovery ended, and what its run found. The set makes it 32 KB in size.
 #[derive(Debug, Drop)]
 pub struct AskCompletion {
     /// The run that served it; 0 if none was begun for it.
@@ -27,7 +27,7 @@ pub struct AskCompletion {
     pub set: DeviceSet,
 }
 
-/// What a client collects (profile of this project).
+/// What a client collects.
 #[derive(Debug, Drop)]
 pub enum Outcome {
     /// A request has ended.
@@ -48,8 +48,7 @@ pub enum Outcome {
 
 const _: () = prove!(size_of::<Outcome>() == 32_832);
 
-/// What a client collects by an event: an [`Outcome`], but with the set of a discovery in a box (profile of this
-/// project).
+/// What a client collects by an event: an [`Outcome`], but with the set of a discovery in a box.
 #[derive(Debug, Drop)]
 pub enum BoxedOutcome {
     /// A request has ended.
@@ -70,7 +69,7 @@ pub enum BoxedOutcome {
 
 const _: () = prove!(size_of::<BoxedOutcome>() == 56);
 
-/// The kind of an outcome (profile of this project).
+/// The kind of an outcome.
 #[derive(Clone, Copy, Debug, PartialEq, Eq)]
 pub enum OutcomeKind {
     /// A request has ended.
@@ -79,7 +78,7 @@ pub enum OutcomeKind {
     Discovery,
 }
 
-/// How a discovery ended, without what its run found (profile of this project).
+/// How a discovery ended, without what its run found.
 #[derive(Clone, Copy, Debug, PartialEq, Eq)]
 pub struct DiscoveryEnd {
     /// Its number.

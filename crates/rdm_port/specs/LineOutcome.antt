@@ -76,8 +76,8 @@ IsLineOutcome L step opens job text logged status =
     ⊎ ((fault : Fault) × IsLineFault job fault × (text ≡ line_of (fault_line fault))
     × IsLogUnreported (DiscoversOnLine L step opens job) fault logged × (status ≡ fault_status fault))
 
--- the texts have the outcomes and the log of the session that the file's bytes encode, and a line was opened by the
--- paths of its streams
+-- The texts have the outcomes and the log of the session that the file's bytes encode. A line was opened by the paths
+-- of its streams.
 pub record RunsOnLine (L : Type 0) (opens : Text → Text → L → Type 0) (job : LineRun) (known : Option (List ℕ))
     (text logged : List ℕ) (status : ℕ) : Type 0 where
   pub line : L

@@ -23,7 +23,7 @@ pub enum Fault {
     Log,
     /// A client or the worker has made all its turns.
     Turns,
-    /// There was no memory.
+    /// Out of memory.
     Memory,
 }
 

@@ -33,8 +33,8 @@ pub(crate) const NOT_WRITTEN: u8 = 1;
 /// `fault: json`; `fault: discovery command`; `fault: scene`; then those of the run, with `fault: log` before
 /// `fault: turns`. `fault: memory` is printed when it occurs. If the writer fails, it has a prefix of the text.
 ///
-/// The reader is for a command that reads a file. A reader whose reads fail stands for a file that can't be opened. No
-/// log is kept here: a command with a log is `fault: file` once its file has been read.
+/// The reader is for a command that reads a file. If the file can't be opened, pass a reader whose reads fail. No log
+/// is kept here: a command with a log is `fault: file` once its file has been read.
 pub fn perform<R: Read, W: Write, T: Threads + Wait + Sync>(
     rt: &T,
     alloc: Global,

@@ -41,7 +41,7 @@ pub enum Reason<'a> {
     ByteOrderMark,
     /// The file's JSON isn't a scene, or isn't a session.
     NoScene(Mismatch),
-    /// The same, and the file looks like one of the other kind.
+    /// The same, but the file looks like another kind.
     OtherKind(Mismatch, FileKind),
     /// The value under this key is too small for the session.
     TooLittle {

@@ -53,7 +53,7 @@ impl Client {
     ghost use Rattle.rdm_log.specs.promises.Outcomes.{outcome_value, request_outcome, discovery_outcome};
     ghost use Rattle.rdm_log.specs.declared.outcome.OutcomeKind.TheVariants as kinds;
 
-    /// A client without requests, whose memory is reserved here.
+    /// A client without requests. This call reserves its memory.
     pub(crate) fn with_places(alloc: Global, places: u8) -> Result<Client, AllocError>
         ensures { IfOk result (IsNewClient places) }
     {

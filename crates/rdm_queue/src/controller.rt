@@ -12,10 +12,10 @@ use rdm_wire::{DeviceSet, Frame, Request};
 use std::alloc::Global;
 use std::marker::Model;
 
-/// The queue of the requests and discoveries of up to sixteen clients on one RDM line (profile of this project). One
-/// request is sent at a time, the oldest first, whatever its client. All discoveries that wait are served by one run,
-/// before the requests that wait, but not between two parts of a request. It does no input or output: `take` returns
-/// each frame for the line, and `deliver` takes what the line answered.
+/// The queue of the requests and discoveries of up to sixteen clients on one RDM line. One request is sent at a time,
+/// the oldest first, whatever its client. All discoveries that wait are served by one run, before the requests that
+/// wait, but not between two parts of a request. It does no input or output: `take` returns each frame for the line,
+/// and `deliver` takes what the line answered.
 ///
 /// Contracts say which logs describe its state (`StandsAfter`), and what each call adds to such a log.
 #[derive(Debug, Drop)]
@@ -59,7 +59,7 @@ impl Controller {
         Controller::new_with(alloc, Setup::steady(config))
     }
 
-    /// The same under the same conditions and with the same error, with a set-up that also says how runs search.
+    /// The same with a set-up, which also says how runs search. Conditions and error are those of `new`.
     pub fn new_with(alloc: Global, setup: Setup) -> Result<Controller, NoMemory>
         requires { IsConfig setup.config }
         ensures { IfOk result (λ c. IsSetUp setup c) }
@@ -278,7 +278,7 @@ impl Controller {
         self.queue.is_paused() && !self.queue.is_closed()
     }
 
-    /// The next frame for the line, and whose it is.
+    /// The next frame for the line, and its owner.
     pub(crate) fn give(&mut self) -> Option<(Owner, Frame)>
         ensures frame { IfSome result (λ given. AddsToEach self.old
             (λ k block. MaySend k.opening k.entries given.0 given.1 × (block ≡ Send given.0 given.1 ∷ [])) self.new) }
@@ -287,14 +287,14 @@ impl Controller {
         self.queue.take()
     }
 
-    /// Closes, if it isn't closed. What is due then is still to be finished.
+    /// Closes, if it isn't closed. The caller has to end what is due then.
     pub(crate) fn shut(&mut self)
         ensures { AddsAmid self.old (λ o h. is_closed o h ≡ false) Close self.new }
     {
         self.queue.set_closed();
     }
 
-    /// Takes what the line answered, if a reply is awaited. What is due then is still to be finished.
+    /// Takes what the line answered, if a reply is awaited. The caller has to end what is due then.
     pub(crate) fn hear(&mut self, alloc: Global, event: &LineEvent)
         ensures { AddsAmid self.old (λ o h. awaited h ≡ true) (Came event.now) self.new }
     {

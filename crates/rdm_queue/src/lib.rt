@@ -1,4 +1,5 @@
-//! A queue of requests and discoveries on one RDM line, with the log of all that it does.
+//! A queue of requests and discoveries on one RDM line, with the log of all that it does. All of it is the profile of
+//! this project.
 //!
 //! # What calls cost
 //!
@@ -18,9 +19,8 @@
 //! - The other calls take constant time. So does each entry of a [`Log`], whose memory is reserved when it is made.
 //! - A log's opening contains a set of devices, of 32 KB. It is filled when a log is made or cleared, when a session
 //!   begins, and when it continues with a new log.
-//! - A [`Session`] copies each request and each frame once, into its log; `answer` and `run`, which are lent their
-//!   events, copy each request and each event once more. The joined data of a request are copied once,
-//!   into its outcome.
+//! - A [`Session`] copies each request and each frame once, into its log. `answer` and `run` borrow their events, so
+//!   they copy each request and each event once more. The joined data of a request are copied once, into its outcome.
 #![tactic(auto)]
 
 mod client;

@@ -7,10 +7,10 @@ ghost use Rattle.rdm_log.specs.promises.Promised.{LegalPromised};
 ghost use Rattle.rdm_queue.specs.body.Agrees.{StandsAfter};
 ghost use Rattle.rdm_queue.specs.body.State.{QueueState};
 
-/// Each log that a controller stands after is legal, so clients have all that they are promised for a legal log. That
-/// is everything except the bound on frames, which a clause of `deliver` keeps. A new controller stands after a log
-/// without entries. The clauses of each call say which block it adds to each log that the controller stands after, and
-/// that it then stands after the longer log. So a reader of these clauses needs to know only this law about
+/// Each log that describes a controller's state (`StandsAfter`) is legal, so clients have all that they are promised
+/// for a legal log. That is everything except the bound on frames, which a clause of `deliver` keeps. A log without
+/// entries describes a new controller. The clauses of each call say which block it adds to each log that describes the
+/// controller. The longer log then describes it. So a reader of these clauses needs to know only this law about
 /// `StandsAfter`.
 pub fn controllers_keep_promises()
     ensures legal { (o : Opening) (h : List Entry) (s : QueueState) → StandsAfter o h s → Legal o h }

@@ -147,7 +147,7 @@ impl Queue {
             .sum()
     }
 
-    /// Lets a client join, whose memory is reserved here.
+    /// Lets a client join, and reserves its memory.
     pub(crate) fn join_client(&mut self, alloc: Global, places: u8) -> Result<ClientId, JoinFault>
         ensures joined { IfOk result (λ c. (first_join_fault self.old places ≡ None) × (c.0 ≡ length self.old.places)
             × (self.new ≡ joins_client self.old places)) }
@@ -265,7 +265,7 @@ impl Queue {
         self.closed = true;
     }
 
-    /// The next frame for the line, and whose it is.
+    /// The next frame for the line, and its owner.
     pub(crate) fn take(&mut self) -> Option<(Owner, Frame)>
         ensures none { IfNone result ((to_send self.old ≡ None) × (self.new ≡ self.old)) }
         ensures frame { IfSome result (λ given. IsGiven self.old given.0 given.1 self.new) }

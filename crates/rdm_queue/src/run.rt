@@ -38,8 +38,8 @@ impl Session {
     }
 
     /// Answers each event by its call, in order, and returns the answers: one for each event, as `answer` returns it.
-    /// Each takes 296 bytes, and the set of each discovery that is collected 32 KB more.
-    /// Err: there was no memory for the list of answers; the session is unchanged, and no call was made.
+    /// Each takes 296 bytes, and the set of each discovery that is collected 32 KB more. Err: no memory for the list of
+    /// answers; the session is unchanged, and no call was made.
     pub fn run(&mut self, alloc: Global, events: &[Event]) -> Result<Vec<Answer>, NoMemory>
         ensures explains { IfOk result (λ answers. Explains self.old events.now answers.items self.new) }
         ensures promised { IfOk result (λ answers. EventsPromised self.old events.now answers.items self.new) }

@@ -20,7 +20,7 @@ use std::marker::Model;
 use std::mem;
 
 /// A controller with a log of all that it does. Contracts see the log. It is always legal, the controller's state is
-/// the one that it describes, and it has capacity for all reserved entries (profile of this project).
+/// the one that it describes, and it has capacity for all reserved entries.
 #[derive(Debug, Drop)]
 pub struct Session {
     controller: Controller,
@@ -67,8 +67,8 @@ impl Session {
         Session::new_with(alloc, Setup::steady(config), log)
     }
 
-    /// The same under the same conditions and with the same error, with a set-up that also says how runs search. The
-    /// log says it too ([`Log::search`]).
+    /// The same with a set-up, which also says how runs search. The log has it too ([`Log::search`]). Conditions and
+    /// error are those of `new`.
     pub fn new_with(alloc: Global, setup: Setup, log: Log) -> Result<Session, (NoMemory, Log)>
         requires config_is { IsConfig setup.config }
         requires empty { log.entries ≡ [] }
@@ -85,9 +85,9 @@ impl Session {
         })
     }
 
-    /// Lets a client join, as [`Controller::join_client`] does. LogFull leaves no entry. Any other refusal is a Refuse
-    /// entry with the number of its fault.
-    /// Err: LogFull, or else the first other fault that applies; nothing changes but the log.
+    /// Lets a client join, as [`Controller::join_client`] does. LogFull adds no entry. Any other refusal is a Refuse
+    /// entry with the number of its fault. Err: LogFull, or else the first other fault that applies; nothing changes
+    /// but the log.
     pub fn join_client(&mut self, alloc: Global, places: u8) -> Result<ClientId, JoinFault>
         ensures adds { GrowsBy self.old (JoinLogs self.old places result) self.new }
         ensures legal { Legal self.new.opening self.new.entries }
@@ -209,8 +209,8 @@ impl Session {
         Ok(())
     }
 
-    /// Closes, as [`Controller::close`] does, with an entry if that has an effect, and then those of the requests that
-    /// it finishes and the discoveries that it answers. They always fit into the log.
+    /// Closes, as [`Controller::close`] does, with an entry if that has an effect. The entries of the requests that it
+    /// finishes and the discoveries that it answers follow. All of them always fit into the log.
     pub fn close(&mut self)
         ensures adds { GrowsBy self.old (CloseAdds self.old.opening self.old.entries) self.new }
         ensures legal { Legal self.new.opening self.new.entries }
@@ -240,9 +240,9 @@ impl Session {
         Ok(Some(frame))
     }
 
-    /// Takes what the line answered, as [`Controller::deliver`] does, with an entry, and then those of the requests
-    /// that it finishes and the discoveries that it answers. They always fit into the log. An Answer that it adds has a
-    /// fault only after a failure or a close, if these hold:
+    /// Takes what the line answered, as [`Controller::deliver`] does, with an entry. The entries of the requests that
+    /// it finishes and the discoveries that it answers follow. All of them always fit into the log. An Answer that it
+    /// adds has a fault only after a failure or a close, if these hold:
     /// - the line is honest, and its devices stay;
     /// - they are at most 1,024;
     /// - the budget is at least the bound on frames.

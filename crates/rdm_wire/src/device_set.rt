@@ -161,7 +161,7 @@ impl DeviceSet {
         ensures fits { length self.now ≤ MOST_DEVICES }
         ensures devices { IsDeviceSet (uids_of self.now) }
     {
-        // For the proof alone: a UID's number is below 2^48.
+        // Only for the proof: a UID's number is below 2^48.
         let _in_range = uid.number();
         self.as_slice()
             .binary_search_by_key(&uid, |device| device.uid)

@@ -41,7 +41,7 @@ pub fn one_text()
     ensures two { (b : List ℕ) (u v : ℕ) → BranchText b u → BranchText b v → u ≡ v }
 {}
 
-/// Bytes decode to a response exactly when they begin with its packet, and an acknowledgement is read with its data.
+/// Bytes decode to a response if and only if they begin with its packet, and an acknowledgement is read with its data.
 pub fn responses_decode()
     ensures decode { (r : Response) (b : List ℕ) → Reads r b → decoded b ≡ Ok r }
     ensures reads { (r : Response) (b : List ℕ) → IsBytes b → decoded b ≡ Ok r → Reads r b }

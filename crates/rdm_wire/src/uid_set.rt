@@ -135,7 +135,7 @@ impl UidSet {
         ensures fits { length self.now ≤ MOST_DEVICES }
         ensures devices { IsDeviceSet self.now }
     {
-        // For the proof alone: a UID's number is below 2^48.
+        // Only for the proof: a UID's number is below 2^48.
         let _in_range = uid.number();
         match self.as_slice().binary_search(&uid) {
             Ok(_) => None,

@@ -12,7 +12,7 @@ use std::{fmt, str};
 pub enum SceneFault {
     /// A value isn't what is expected at its path.
     Mismatch(Mismatch),
-    /// There was no memory.
+    /// Out of memory.
     NoMemory,
 }
 

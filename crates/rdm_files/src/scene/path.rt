@@ -18,7 +18,7 @@ pub struct Step {
     item: Option<usize>,
 }
 
-// How deep the keys of a file nest: four in a scene, and two more about it.
+// How deep the keys of a file nest: four levels in a scene, and two more around it.
 const MOST_STEPS: usize = 6;
 
 impl Path {

@@ -1,4 +1,4 @@
--- The rule of the history of views that a session's parts share, and what its steps tell.
+-- The rule of the view history that a session's parts share, and what its steps show.
 use Rattle.std.specs.Prelude.{◌≡◌, ℕ, ◌==◌, true, List, [], ◌∷◌, ◌++◌, length, MatchBool}
 use Rattle.logbook.specs.Pages.{Cell, Step, View, Book, Named}
 use Rattle.rdm_client.specs.declared.view.DeviceView.{DeviceView}

@@ -1,4 +1,4 @@
--- What a client holds for what it is told.
+-- Which callbacks a client holds for an outcome.
 use Rattle.std.specs.Prelude.{◌<◌, length}
 use Rattle.rdm_client.specs.Desks.{Held}
 use Rattle.rdm_lanes.specs.declared.ring_outcome.RingOutcome.{RingOutcome}

@@ -9,7 +9,7 @@ use Rattle.rdm_lanes.specs.Pairs.{ArePair, client_rings}
 use Rattle.rdm_lanes.specs.Opened.{IsNew}
 
 module _ {J : Type 0} {h : Ghosts J} {C A : Type 0} where
-  -- with its lane
+  -- a new client with its lane
   pub record IsNewWith (ring places : ℕ) (client : RingClient J C A h) (lane : Lane) : Type 0 where
     pub new : IsNew ring places client
     pub nothing_received : popped lane.calls ≡ []
@@ -28,7 +28,7 @@ module _ {J : Type 0} {h : Ghosts J} {C A : Type 0} where
     pub each : (i p : ℕ) (client : RingClient J C A h) (lane : Lane) → slice_get places i ≡ Some p
         → slice_get clients i ≡ Some client → slice_get lanes i ≡ Some lane → IsNewWith ring p client lane
 
-  -- none holds a callback
+  -- no client holds a callback
   pub record HoldNothing (clients : List (RingClient J C A h)) : Type 0 where
     pub each : (i : ℕ) (client : RingClient J C A h) → slice_get clients i ≡ Some client
         → (client.desk.requests ≡ []) × (client.desk.asks ≡ [])

@@ -1,4 +1,4 @@
--- Parts of a turn in which the line is asked nothing.
+-- Parts of a turn without an exchange.
 use Rattle.std.specs.Prelude.{◌≡◌, Bool, true, false, List}
 use Rattle.std.specs.List.{AllByRecursion}
 use Rattle.rdm_log.specs.declared.entry.Entry.{Entry}
@@ -7,7 +7,7 @@ use Rattle.rdm_log.specs.log.Entries.{joins, exchanges}
 use Rattle.rdm_log.specs.log.LogState.{LogState, grown}
 use Rattle.rdm_lanes.specs.Views.{views_found}
 
--- the log grew; the line was asked nothing, nobody joined, and no view was added
+-- the log grew, but nothing was sent or received, nobody joined, and no view was added
 pub record NoExchange (old new : LogState) : Type 0 where
   pub block : List Entry
   pub grows : new ≡ grown old block

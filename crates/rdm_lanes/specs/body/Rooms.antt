@@ -1,4 +1,4 @@
--- Room that is reserved before the bodies of a session run.
+-- Capacity that is reserved before the bodies of a session run.
 use Rattle.std.specs.Prelude.{◌≡◌, ℕ, ◌≤◌, [], vec_capacity}
 use Rattle.rdm_lanes.specs.declared.views.history.ViewHistory.{Ghosts}
 use Rattle.rdm_lanes.specs.declared.opening.rooms.Rooms.{Rooms}

@@ -7,7 +7,7 @@ use Rattle.rdm_lanes.specs.declared.opening.seat.Seat.{Seat}
 use Rattle.rdm_lanes.specs.Clients.{SameClient}
 use Rattle.rdm_lanes.specs.Pairs.{Rings, RingsPair, client_rings}
 
--- each is an end of the ring that it was an end of
+-- each end still belongs to the same ring
 pub record SameRings (old new : List Rings) : Type 0 where
   pub long : length new ≡ length old
   pub each : (i : ℕ) (a b : Rings) → slice_get old i ≡ Some a → slice_get new i ≡ Some b
@@ -22,11 +22,11 @@ module _ {J : Type 0} {h : Ghosts J} {B C A : Type 0} where
   abbrev pub seat_rings : Seat J B C A h → Rings
   seat_rings seat = client_rings seat.client
 
-  -- the same of the clients beside their bodies
+  -- the rings of the clients beside their bodies are those of the lanes, each in its place
   abbrev pub SeatsPair : List Lane → List (Seat J B C A h) → Type 0
   SeatsPair lanes seats = RingsPair lanes (map seat_rings seats)
 
-  -- each seat has the client that it had
+  -- each seat's client still has the same rings
   pub record SameSeats (old new : List (Seat J B C A h)) : Type 0 where
     pub long : length new ≡ length old
     pub each : (i : ℕ) (d : Seat J B C A h) → i < length old

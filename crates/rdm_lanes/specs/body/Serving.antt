@@ -1,4 +1,4 @@
--- The steps by which a worker makes a client's call, and what they leave to the others.
+-- The steps in which a worker makes a client's call, and what they leave unchanged for the other clients.
 use Rattle.std.specs.Prelude.{◌≡◌, ◌≢◌, ℕ, ◌+◌, ◌<◌, false, List, [], ◌∷◌, ◌++◌, Option, None, Some, Result, Ok, Err}
 use Rattle.std.specs.Prelude.{MatchBool, slice_get}
 use Rattle.rtrb.specs.Ring.{sent as pushed, known_free, SameProducer, ProducerLooked}
@@ -23,7 +23,7 @@ use Rattle.rdm_lanes.specs.Lines.{SameSwitches, IsBetweenTurns}
 use Rattle.rdm_lanes.specs.Told.{value_in, told_values, uncollected_values}
 use Rattle.rdm_lanes.specs.body.Quiet.{NoExchange}
 
--- client c called nothing and collected nothing from old to new; it may have been told more, which it may collect
+-- client c called nothing and collected nothing from old to new; there may be more outcomes for it to collect
 pub record IsOnlyTold (c : ℕ) (old new : LogState) : Type 0 where
   pub calls_are : calls_by c new.entries ≡ calls_by c old.entries
   pub more : List (Option OutcomeValue)
@@ -42,20 +42,20 @@ pub record ServesClient (c : ℕ) (old : LogState) (lane : Lane) (new : LogState
   pub switches : SameSwitches old new
   pub rings : SameLane lane next
 
--- all that client c is told is on its ring, which has a free slot
+-- all outcomes of client c are on its ring, which has a free slot
 abbrev pub MayTell : ℕ → LogState → Lane → Type 0
 MayTell c k lane = (uncollected k.opening c k.entries ≡ []) × (0 < known_free lane.replies)
 
--- The call of client c may be made: a leave always; a submit or a discover where the client has a place for it, or,
--- after a close, where it may be told of the refusal.
+-- The call of client c may be made. A leave always may. A submit or a discover may if the client has capacity for it,
+-- or, after a close, if its ring can take the refusal.
 abbrev pub MayMake : ℕ → LogState → Lane → ClientCall → Type 0
 MayMake c k lane (Submit request) =
     MatchBool (is_closed k.opening k.entries) (MayTell c k lane) (lane.requests < lane.places)
 MayMake c k lane (Discover kind) = MatchBool (is_closed k.opening k.entries) (MayTell c k lane) (lane.asks < 4)
 MayMake c k lane Leave = Unit {0}
 
--- The call was taken from the ring of client c, and may be made now. There is room for it in the log, and its lane fits
--- the log but for this call.
+-- The call was taken from the ring of client c, and may be made now. The log isn't full, and the lane fits the log
+-- except for this call.
 pub record IsReadyFor (call : ClientCall) (c : ℕ) (k : LogState) (lane : Lane) : Type 0 where
   pub known : slice_get (places k.opening k.entries) c ≡ Some lane.places
   pub fits : FitsBut (call ∷ []) c k lane
@@ -74,13 +74,13 @@ pub record PutsOn (item : RingOutcome) (old new : Lane) : Type 0 where
   pub put : pushed new.replies ≡ pushed old.replies ++ item ∷ []
   pub rest : new ≡ record old { replies = new.replies }
 
--- an outcome was put there that its client sees so
+-- an outcome that its client sees as this value was put there
 pub record PutsValue (value : OutcomeValue) (old new : Lane) : Type 0 where
   pub item : RingOutcome
   pub is : value_in item ≡ value
   pub puts : PutsOn item old new
 
--- what the worker does with the answer to a submit: it counts a request more, or tells a refusal by a close
+-- what the worker does with the answer to a submit: it counts one more request, or puts a close's refusal on the ring
 abbrev pub AfterSubmitFault : Lane → SubmitFault → Lane → Type 0
 AfterSubmitFault old submit_faults.Closed new = PutsValue (RequestValue None (completion_of FailedToSend None)) old new
 AfterSubmitFault old _ new = new ≡ old
@@ -89,7 +89,7 @@ abbrev pub AfterSubmit : Lane → Result ℕ (SubmitFault × Request) → Lane �
 AfterSubmit old (Ok n) new = new ≡ record old { requests = old.requests + 1 }
 AfterSubmit old (Err e) new = AfterSubmitFault old e.0 new
 
--- and to a discover
+-- the same for a discover's answer
 abbrev pub AfterAskFault : Lane → AskFault → Lane → Type 0
 AfterAskFault old ask_faults.Closed new = PutsValue (DiscoveryValue None never_begun) old new
 AfterAskFault old _ new = new ≡ old
@@ -98,7 +98,7 @@ abbrev pub AfterDiscover : Lane → Result ℕ AskFault → Lane → Type 0
 AfterDiscover old (Ok n) new = new ≡ record old { asks = old.asks + 1 }
 AfterDiscover old (Err fault) new = AfterAskFault old fault new
 
--- there is room for that
+-- the lane has capacity for that
 abbrev pub CanTakeSubmit : Lane → Result ℕ (SubmitFault × Request) → Type 0
 CanTakeSubmit lane (Ok n) = lane.requests < lane.places
 CanTakeSubmit lane (Err e) = e.0 ≡ submit_faults.Closed → 0 < known_free lane.replies

@@ -1,4 +1,4 @@
--- What a publisher of views has, and what of it readers may take.
+-- What a publisher of views has, and which of it readers may take.
 use Rattle.std.specs.Prelude.{◌≡◌, ◌≢◌, ◌+◌, ◌<◌, ◌≤◌, ℕ, Bool, true, false, List, [], length, take, Option, Some, None}
 use Rattle.std.specs.Prelude.{slice_get}
 use Rattle.std.specs.List.{AllByRecursion}
@@ -16,12 +16,12 @@ pub record Publishing : Type 0 where
   pub shown : List DeviceView
   pub added : List DeviceView
 
--- each is this one
+-- each of these lists is this one
 abbrev pub AreAll : List DeviceView → List (List DeviceView) → Type 0
 AreAll added pending = AllByRecursion (λ views. views ≡ added) pending
 
--- Readers may take all that was added, unless a publication waits to be made: then they lack something. What waits for
--- it is all that was added.
+-- Readers may take all that was added, unless a publication is still to be made: then they lack something. What is to
+-- be published is all that was added.
 pub record IsPublishing (waiting : Bool) (shown added : List DeviceView) (pending : List (List DeviceView))
     : Type 0 where
   pub all : waiting ≡ false → (shown ≡ added) × (pending ≡ [])
@@ -42,7 +42,7 @@ pub record IsShowing (all : List DeviceView) (p : Publishing) : Type 0 where
   pub no_more : length p.shown ≤ length p.added
   pub later : length p.added < length all → last_view_run p.added < last_view_run all
 
--- so of the log of a session that didn't begin with the devices of another one
+-- the same for a session's log, if the session didn't begin with another one's devices
 pub record Publishes (k : LogState) (p : Publishing) : Type 0 where
   pub no_run : k.opening.devices_run ≡ 0
   pub no_devices : k.opening.devices ≡ []
@@ -53,7 +53,7 @@ pub record AllPublished (k : LogState) (p : Publishing) : Type 0 where
   pub shown : p.shown ≡ all_views k.entries
   pub added : p.added ≡ all_views k.entries
 
--- Where a discovery's outcome without fault was put on a client's ring, its run isn't later than that of the last
+-- If a discovery's outcome without fault was put on a client's ring, its run isn't later than that of the last
 -- published view.
 pub record AreShownFirst (shown : List DeviceView) (lanes : List Lane) : Type 0 where
   pub each : (i j : ℕ) (lane : Lane) (number : Option ℕ) (done : Discovered) → slice_get lanes i ≡ Some lane

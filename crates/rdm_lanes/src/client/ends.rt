@@ -15,8 +15,8 @@ use rdm_client::{AskCallback, Callback, Unspent};
 use rtrb::{Consumer, Producer};
 use std::alloc::Global;
 
-/// What is left of a client at its end, and how much it did (profile of this project). It isn't [`Drop`]: the
-/// callbacks that were not spent are taken out of it.
+/// What is left of a client at its end, and how much it did. It isn't [`Drop`]: the callbacks that were not spent are
+/// taken out of it.
 pub struct ClientEnd<J: ViewHistory, C = Callback, A = AskCallback> {
     /// The callbacks that were not called: as many of either kind as the client has own calls without an outcome.
     pub unspent: Unspent<C, A>,

@@ -1,4 +1,4 @@
-//! Room for what a session hands back, and bodies beside their clients.
+//! Capacity for what a session returns, and bodies beside their clients.
 ghost use Rattle.std.specs.Prelude.{◌≡◌, ◌≤◌, [], length, map, vec_capacity, IfSome};
 ghost use Rattle.rdm_lanes.specs.Ends.{end_rings};
 ghost use Rattle.rdm_lanes.specs.Pairs.{client_rings};
@@ -12,7 +12,7 @@ use crate::views::history::ViewHistory;
 use rdm_client::{AskCallback, Callback, Tells, TellsAsk};
 use std::alloc::Global;
 
-/// Room for the seats of a session, and for what it hands back. It is taken before any body runs.
+/// Capacity for a session's seats, and for what it returns. It is allocated before any body runs.
 pub struct Rooms<J: ViewHistory, B, C = Callback, A = AskCallback> {
     /// For the bodies beside their clients.
     pub seats: Vec<Seat<J, B, C, A>>,
@@ -22,7 +22,7 @@ pub struct Rooms<J: ViewHistory, B, C = Callback, A = AskCallback> {
     pub bodies: Vec<B>,
 }
 
-/// Room for this many bodies. None: there was no memory.
+/// Capacity for this many bodies. None: out of memory.
 pub fn rooms_for<J: ViewHistory, B, C, A>(alloc: Global, count: usize) -> Option<Rooms<J, B, C, A>>
     ensures { IfSome result (λ rooms. HasRoomFor count rooms) }
 {
@@ -46,7 +46,7 @@ pub fn rooms_for<J: ViewHistory, B, C, A>(alloc: Global, count: usize) -> Option
 }
 
 impl<J: ViewHistory, B, C, A> Rooms<J, B, C, A> {
-    /// Gives back room that isn't used.
+    /// Frees capacity that isn't used.
     pub fn give_up(self)
         requires { (self.seats.items ≡ []) × (self.ends.items ≡ []) × (self.bodies.items ≡ []) }
     {
@@ -61,7 +61,7 @@ impl<J: ViewHistory, B, C, A> Rooms<J, B, C, A> {
     }
 }
 
-/// Each body beside its client, in the room that is given.
+/// Each body beside its client, in the vector that is passed.
 pub fn seated<J: ViewHistory, B, C, A>(
     bodies: Vec<B>,
     clients: Vec<RingClient<J, C, A>>,
@@ -86,7 +86,7 @@ pub fn seated<J: ViewHistory, B, C, A>(
     seats
 }
 
-/// The bodies, and the ends of their clients, in the rooms that are given.
+/// The bodies, and the ends of their clients, in the vectors that are passed.
 pub fn unseated<J: ViewHistory, B, C: Tells, A: TellsAsk>(
     seats: Vec<Seat<J, B, C, A>>,
     bodies: Vec<B>,

@@ -21,7 +21,7 @@ use rtrb::RingBuffer;
 use std::alloc::Global;
 use std::sync::Wait;
 
-/// The sum of the places of at most sixteen clients.
+/// The sum of the queue depths of at most sixteen clients.
 pub fn total(places: &[u8]) -> u16
     requires { length places.now ≤ 16 }
     ensures { result ≡ sum places.now }
@@ -33,7 +33,7 @@ pub fn total(places: &[u8]) -> u16
     all
 }
 
-/// A client with this many places, and its lane. None: there was no memory.
+/// A client with this queue depth, and its lane. None: out of memory, or [`Publisher::reader`] failed.
 #[tactic(auto, using(crate::proofs::OpenLemmas::counted_new))]
 pub fn open_client<J: ViewHistory, C: Tells, A: TellsAsk, R: Wait + Drop>(
     alloc: Global,
@@ -80,7 +80,7 @@ pub fn open_client<J: ViewHistory, C: Tells, A: TellsAsk, R: Wait + Drop>(
     Some((client, lane))
 }
 
-// What a client knows of devices at first, in memory of its own. It isn't inlined, so that only it holds a set.
+// What a client knows of devices at first, in a box. It isn't inlined, so that only its own frame has a set.
 #[inline(never)]
 fn opening_found(alloc: Global) -> Option<Box<DeviceView>>
     ensures { IfSome result (λ found. found.value ≡ opening_view) }
@@ -95,7 +95,7 @@ fn opening_found(alloc: Global) -> Option<Box<DeviceView>>
     .ok()
 }
 
-/// A client with its lane for each of these places. None: there was no memory.
+/// A client with its lane for each of these queue depths. None: out of memory, or [`Publisher::reader`] failed.
 pub fn open_clients<J: ViewHistory, C: Tells, A: TellsAsk, R: Wait + Drop>(
     alloc: Global,
     publisher: &Publisher<J, Shown<J>, R>,
@@ -143,8 +143,8 @@ pub fn discard<J: ViewHistory, C: Tells, A: TellsAsk>(clients: Vec<RingClient<J,
     clients.destroy_empty();
 }
 
-/// A session with this set-up, in which a client has joined with each of these places.
-/// Err: there was no memory, or the log is full; it comes back as a new one with the same room.
+/// A session with this set-up, in which a client has joined with each of these queue depths. Err: out of memory, or the
+/// log is full. The log is returned like a new one with the same capacity.
 pub fn joined(
     alloc: Global,
     setup: Setup,
@@ -172,7 +172,7 @@ pub fn joined(
     }
 }
 
-// Lets a client join with each of these places.
+// Lets a client join with each of these queue depths.
 fn join_all(alloc: Global, session: &mut Session, places: &[u8]) -> Result<(), OpenFault>
     requires empty { session.old.entries ≡ [] }
     requires no_clients { session.old.opening.places.items ≡ [] }

@@ -4,22 +4,22 @@ ghost use Rattle.rdm_lanes.specs.Clients.{SameClient};
 use crate::client::RingClient;
 use crate::views::history::ViewHistory;
 
-/// The point at which the worker of a session arrives once it has stopped: nothing comes after what is on the rings.
+/// The point at which a session's worker arrives once it has stopped: it puts no more outcomes on the rings.
 pub const WORKER_STOPPED: u8 = 255;
 
-/// Where the bodies of a session meet (profile of this project). Points 0 to 254 are theirs.
+/// Where the bodies of a session meet. Points 0 to 254 are theirs.
 pub trait Gate {
-    /// Notes that this point is reached.
+    /// Records that this point is reached.
     fn arrive(&self, point: u8);
 
     /// Whether somebody has arrived at this point.
     fn passed(&self, point: u8) -> bool;
 }
 
-/// What a client does in a session (profile of this project). It owes that it ends with the client that it was lent.
+/// What a client does in a session. It has to leave the client's rings in place.
 pub trait Body<C, A> {
-    /// Runs once, in a thread of its own where one can be made. A body that waits for another one gives up after a
-    /// stated number of tries, since without threads they run one after the other.
+    /// Runs once, in a thread of its own if one can be made. A body that waits for another one has to give up after a
+    /// fixed number of tries: without threads they run one by one.
     fn run<J: ViewHistory, G: Gate>(&mut self, client: &mut RingClient<J, C, A>, gate: &G)
         ensures { SameClient client.old client.new };
 }

@@ -21,7 +21,7 @@ use std::sync::Wait;
 use std::thread;
 use std::thread::Threads;
 
-/// Runs each body in a thread of its own, where one can be made.
+/// Runs each body in a thread of its own, if one can be made.
 pub fn run_bodies<
     J: ViewHistory + Send + Sync,
     B: Body<C, A> + Send,

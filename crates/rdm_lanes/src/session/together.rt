@@ -28,7 +28,7 @@ use std::alloc::Global;
 use std::sync::Wait;
 use std::thread::Threads;
 
-/// How a session over rings ended (profile of this project).
+/// How a session with ring buffers ended.
 pub struct LanesEnd<J: ViewHistory, B, X, C = Callback, A = AskCallback> {
     /// The session, with its log.
     pub session: Session,
@@ -36,7 +36,7 @@ pub struct LanesEnd<J: ViewHistory, B, X, C = Callback, A = AskCallback> {
     pub ends: Vec<ClientEnd<J, C, A>>,
     /// Whether both ends of all rings could be compared. It is always true.
     pub matched: bool,
-    /// The bodies, in the order of their clients. Only a test shows that order.
+    /// The bodies, in the order of their clients. That order is only tested.
     pub bodies: Vec<B>,
     /// Why the worker stopped.
     pub worker: WorkerEnd,
@@ -44,7 +44,7 @@ pub struct LanesEnd<J: ViewHistory, B, X, C = Callback, A = AskCallback> {
     pub turns: u64,
     /// The line.
     pub line: X,
-    /// The views that were published. Their number is at hand; the views themselves are seen by contracts alone.
+    /// The views that were published. [`Front::len`] is their number; only contracts see the views themselves.
     pub published: Front<J>,
 }
 

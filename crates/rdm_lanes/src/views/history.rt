@@ -1,5 +1,5 @@
-//! The history of the views that a session's worker publishes. It exists in proofs alone: what lies in memory is its
-//! length. All that read it or write it name it by a type parameter, so that whatever they have seen can be compared.
+//! The history of the views that a session's worker publishes. It exists only in proofs; in memory there is only its
+//! length. Whatever reads or writes it names it by a type parameter, so what they have seen can be compared.
 ghost use Rattle.std.specs.Prelude.{◌≡◌, ◌+◌, ◌<◌, ◌≤◌, ◌^◌, ◌++◌, ◌∷◌, ◌⊎◌, [], length, MatchBool};
 ghost use mathlib.Core.List.{IsPrefix};
 ghost use Rattle.rdm_lanes.specs.Views.{opening_view, last_view_run, AreViews};
@@ -31,7 +31,7 @@ impl Rule<DeviceView, u64> for Rising {
     ghost moves = { λ ask before after answer. Unit {0} };
 }
 
-/// Nobody trades anything.
+/// No rights are exchanged.
 pub struct Nothing;
 
 impl Gain<DeviceView, u64> for Nothing {
@@ -57,7 +57,7 @@ impl Plain<DeviceView, DeviceView, u64> for Add {
     ghost state = { λ view. None };
 }
 
-/// Which history of views it is (profile of this project). The program's call that opens lanes picks it, as `Brand`.
+/// Which history of views it is. The program's call that opens lanes picks it, as `Brand`.
 pub trait ViewHistory {
     ghost use Rattle.logbook.specs.Pages.{Book};
 
@@ -68,7 +68,7 @@ impl ViewHistory for Brand {
     ghost book = { record { number = 0; log_name = 0; cells_name = 0 } };
 }
 
-/// A history with the opening view alone, that has no name yet (profile of this project).
+/// A history with only the opening view, which has no name yet.
 #[derive(Drop)]
 pub struct BlankHistory {
     head: Word<DeviceView, u64, Rising>,
@@ -78,7 +78,7 @@ pub struct BlankHistory {
 }
 
 impl BlankHistory {
-    /// A new history. It takes no memory.
+    /// A new history. It allocates nothing.
     pub fn new() -> BlankHistory {
         let (seen, mut first, _second) = Seen::open(Start::alone(), 1, 0);
         BlankHistory {
@@ -87,7 +87,8 @@ impl BlankHistory {
         }
     }
 
-    /// The right to add to the history, and what is seen of it so far, under a name. [`Book::blank`] undoes this.
+    /// The right to add to the history, and the views that have been seen so far, under a name. [`Book::blank`] undoes
+    /// this.
     pub fn named<J: ViewHistory>(self) -> (Book<J>, Front<J>)
         requires { self.seen.book ≡ J.book }
         ensures { result.1 ≡ opening_view ∷ [] }
@@ -115,7 +116,7 @@ pub struct Book<J: ViewHistory> {
 }
 
 impl<J: ViewHistory> Book<J> {
-    /// The blank history again, if nothing was added to it.
+    /// The blank history again. `front` must have only the opening view.
     pub fn blank(self, front: Front<J>) -> BlankHistory
         requires { front ≡ opening_view ∷ [] }
         ensures { result.seen.book ≡ J.book }
@@ -142,7 +143,7 @@ impl<J: ViewHistory> Model for Book<J> {
     ghost invariant = { λ b. b.head ≡ head_of J.book };
 }
 
-/// A beginning of the history that was seen (profile of this project). Contracts see the views.
+/// A prefix of the history, as far as it was seen. Contracts see the views.
 #[derive(Drop)]
 pub struct Front<J: ViewHistory> {
     views: u64,
@@ -182,7 +183,7 @@ impl<J: ViewHistory> Front<J> {
         }
     }
 
-    /// The longer of two beginnings, which the other begins.
+    /// The longer of two prefixes. The other is a prefix of it.
     pub fn longer(&self, other: &Front<J>) -> Front<J>
         ensures one { (result ≡ self.now) ⊎ (result ≡ other.now) }
         ensures length { length other.now ≤ length self.now → result ≡ self.now }
@@ -200,8 +201,8 @@ impl<J: ViewHistory> Front<J> {
         }
     }
 
-    /// Adds a view of a later run to all that was seen, and says whether it did. It did not where the history is
-    /// longer.
+    /// Adds a view of a later run to all that was seen, and returns whether it did. It doesn't if the history is longer
+    /// than what was seen.
     pub fn add(&mut self, book: &Book<J>, view: &DeviceView) -> bool
         requires room { length self.old < 2 ^ 62 }
         requires later { last_view_run self.old < view.now.run }

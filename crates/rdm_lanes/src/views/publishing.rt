@@ -14,10 +14,10 @@ use std::alloc::{AllocError, Global};
 use std::marker::Model;
 use std::sync::{Arc, Wait};
 
-// This many views can be numbered; no session makes as many.
+// At most this many views are added; no session makes as many.
 const MOST_VIEWS: u64 = 1 << 32;
 
-/// What readers take: a view, and the views up to it. Contracts see these.
+/// What readers take: a view, and the views up to it. Contracts see the views.
 #[derive(Drop)]
 pub struct Shown<J: ViewHistory> {
     /// The last view.
@@ -92,8 +92,8 @@ impl<J: ViewHistory> Absorb<Shown<J>> for Shown<J> {
     }
 }
 
-/// Publishes views. Contracts see the views that were added, and those that readers may take. These are all that were
-/// added, unless the last one waits to be published. One that is dropped waits for the reads that are under way.
+/// Publishes views. Contracts see the views that were added, and those that readers may take. These are the same,
+/// unless the last one isn't published yet. Dropping it waits for the reads that are under way.
 #[derive(Drop)]
 pub struct Publisher<
     J: ViewHistory,
@@ -120,8 +120,8 @@ impl<J: ViewHistory, T: Absorb<Shown<J>, State = [DeviceView; 0]> + Drop, R: Wai
 }
 
 impl<J: ViewHistory, R: Wait + Drop> Publisher<J, Shown<J>, R> {
-    /// A publisher that shows the opening view, with room for this many readers. Err: there was no memory; the history
-    /// comes back.
+    /// A publisher that shows the opening view, with capacity for this many readers. Err: out of memory; the history is
+    /// returned.
     #[tactic(auto, using(crate::proofs::ViewFacts::last_opening))]
     pub fn new(
         alloc: Global,
@@ -153,7 +153,7 @@ impl<J: ViewHistory, R: Wait + Drop> Publisher<J, Shown<J>, R> {
         })
     }
 
-    /// The blank history again, if no view was added. It waits for reads that are under way.
+    /// The blank history again. The publisher must not have added a view. It waits for reads that are under way.
     pub fn into_blank(self) -> BlankHistory
         requires { self.added ≡ opening_view ∷ [] }
         ensures { result.seen.book ≡ J.book }
@@ -174,9 +174,9 @@ impl<J: ViewHistory, R: Wait + Drop> Publisher<J, Shown<J>, R> {
         self.latest.view.run
     }
 
-    /// Adds a view of a later run, and says whether it did. It isn't published yet. If it didn't, nothing changes:
-    /// there was no memory for it, the view before it isn't published, or 2^32 views were added. Nor does it if the
-    /// history is longer than its views, which no other than its publisher could make it.
+    /// Adds a view of a later run, without publishing it, and returns whether it did. If not, nothing changes: out of
+    /// memory, the view before it isn't published, or there are 2^32 views. It doesn't either if the history is longer
+    /// than this publisher's views, which only another publisher could cause.
     // It isn't inlined, so that a turn that publishes nothing has no set in its frame.
     #[inline(never)]
     #[tactic(auto, using(crate::proofs::ViewFacts::last_added))]
@@ -202,9 +202,9 @@ impl<J: ViewHistory, R: Wait + Drop> Publisher<J, Shown<J>, R> {
         true
     }
 
-    /// Publishes the view that was added last, unless that is done, and says whether it is. It isn't if there was no
-    /// memory, or if the view has as many owners as can be counted; readers then see what they saw. It waits for those
-    /// that still read the view before the last one.
+    /// Publishes the view that was added last, if it isn't published yet, and returns whether it now is. It isn't if an
+    /// allocation failed, or if the view has as many owners as can be counted. Readers then see what they saw before.
+    /// It waits for reads of the view before the last one.
     pub fn show(&mut self) -> bool
         ensures added { self.new.added ≡ self.old.added }
         ensures shown { MatchBool result (self.new.shown ≡ self.new.added) (self.new.shown ≡ self.old.shown) }
@@ -228,8 +228,8 @@ impl<J: ViewHistory, R: Wait + Drop> Publisher<J, Shown<J>, R> {
         self.shown.published().again()
     }
 
-    /// A handle for a reader. Err: there is no memory, each place for a reader is in use, or something has as many
-    /// owners as can be counted.
+    /// A handle for a reader. Err: out of memory, each place for a reader is in use, or something has as many owners as
+    /// can be counted.
     pub fn handle(&self) -> Result<ReadHandle<Shown<J>>, AllocError> {
         self.shown.handle()
     }
@@ -264,7 +264,7 @@ fn shared_view(alloc: Global, run: u64, devices: &DeviceSet) -> Option<Arc<Devic
     }
 }
 
-// Puts a view up for publication, unless it is.
+// Prepares a view for publication, unless that is done.
 #[tactic(auto, using(crate::proofs::PublishLemmas::all_put, crate::proofs::PublishLemmas::some_put))]
 fn put<J: ViewHistory, R: Wait + Drop>(
     shown: &mut WriteHandle<Shown<J>, Shown<J>, R>,
@@ -284,7 +284,7 @@ fn put<J: ViewHistory, R: Wait + Drop>(
     }
 }
 
-// Publishes it.
+// Publishes the view that is prepared.
 #[tactic(auto, using(crate::proofs::PublishLemmas::last_put))]
 fn publish<J: ViewHistory, R: Wait + Drop>(
     shown: &mut WriteHandle<Shown<J>, Shown<J>, R>,

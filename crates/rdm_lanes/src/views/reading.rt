@@ -11,7 +11,7 @@ use std::alloc::AllocError;
 use std::marker::Model;
 use std::sync::Wait;
 
-/// Reads views. Contracts see the published views that it has read up to, the last of which it keeps.
+/// Reads views. Contracts see the published views up to the last one that it read. It keeps that one.
 #[derive(Drop)]
 pub struct ViewReader<J: ViewHistory> {
     handle: ReadHandle<Shown<J>>,
@@ -28,8 +28,8 @@ impl<J: ViewHistory> Model for ViewReader<J> {
 }
 
 impl<J: ViewHistory> ViewReader<J> {
-    /// Reads what is published. It goes on from what was read before, and copies no set. Where nothing can be read, as
-    /// when the worker is gone, it stays with what was read. No Wait.
+    /// Reads what is published. It continues from what was read before, and copies no set. If nothing can be read, as
+    /// when the worker is gone, it keeps what it had read. It never waits.
     #[tactic(auto, using(crate::proofs::Fronts::prefix_self))]
     pub fn read(&mut self)
         ensures { IsPrefix self.old self.new }

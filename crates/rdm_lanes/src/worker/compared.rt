@@ -22,7 +22,7 @@ use rdm_client::{AskCallback, Callback, Tells, TellsAsk};
 use rdm_queue::Session;
 use std::sync::Wait;
 
-/// What a worker and its clients leave, once both ends of all rings were compared (profile of this project).
+/// What is left of a worker and its clients, once both ends of all rings were compared.
 pub struct Compared<J: ViewHistory, C = Callback, A = AskCallback> {
     /// The session, with its log.
     pub session: Session,
@@ -30,28 +30,29 @@ pub struct Compared<J: ViewHistory, C = Callback, A = AskCallback> {
     pub ends: Vec<ClientEnd<J, C, A>>,
     /// Whether all ends could be compared. It is always true.
     pub matched: bool,
-    /// The views that were published. Their number is at hand; the views themselves are seen by contracts alone.
+    /// The views that were published. [`Front::len`] is their number; only contracts see the views themselves.
     pub published: Front<J>,
 }
 
 impl<J: ViewHistory, R: Wait + Drop> ViewWorker<J, Shown<J>, R> {
     /// Ends the worker, and compares both ends of each client's rings. The ends are those of the clients that were
-    /// opened with this worker, in their order: the clauses of all that was lent the clients since then carry this.
+    /// opened with this worker, in their order. Callers know this from the clauses of whatever has used the clients
+    /// since then.
     ///
     /// The pauses, resumes and closes in the log are those of the operator's calls that had an effect, in order. The
     /// calls are those that the worker received.
     ///
-    /// What each client sent is its calls in the log, in order, each once, and then what is left in its ring: nothing,
-    /// where its leave was received. What it got, then what is left in its ring of outcomes, and then what it hasn't
-    /// collected, is all that the log tells it. Nobody else has joined or called anything. The log is legal, and keeps
-    /// what clients are promised.
+    /// What each client sent is its calls in the log, in order, each once. After those comes what is left in its ring,
+    /// which is nothing if its leave was received. The outcomes that the log has for a client come in three parts:
+    /// those that it got, those left in its ring, and those still in the session. Nobody else has joined or called
+    /// anything. The log is legal, and keeps what clients are promised.
     ///
-    /// A client left over as many callbacks, of either kind, as it has own calls without an outcome.
+    /// Each client still holds one callback of the right kind for each own call without an outcome.
     ///
-    /// The views that were published begin those of the log, and lack the last one at most. They and those that a
-    /// client has read are beginnings of one list. A client whose run isn't later than that of the last published view
-    /// has read a beginning of the published ones. No client has got an outcome without fault of a discovery whose run
-    /// is later than that of the last published view.
+    /// The published views are a prefix of the log's, and lack the last one at most. They and those that a client has
+    /// read are prefixes of one list. If a client's run isn't later than that of the last published view, it has read a
+    /// prefix of the published ones. No client has got an outcome without fault of a later run than that of the last
+    /// published view.
     ///
     /// The flag says whether all ends could be compared. It is always true, since the ends are the worker's own. The
     /// call waits for reads that are under way.
@@ -114,7 +115,7 @@ fn compare_views<J: ViewHistory, C, A>(shown: &Front<J>, ends: &[ClientEnd<J, C,
     }
 }
 
-// Two fronts begin one list.
+// Both fronts are prefixes of one list.
 #[tactic(auto, using(crate::proofs::ReadLemmas::begin_one_list))]
 fn begin_one<J: ViewHistory>(shown: &Front<J>, read: &Front<J>)
     ensures { BeginOne shown.now read.now }

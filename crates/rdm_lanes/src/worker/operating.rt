@@ -6,7 +6,7 @@ ghost use Rattle.rdm_lanes.specs.body.Operated.{IsOperatorStep};
 use crate::call::OperatorCall;
 use rdm_queue::Session;
 
-/// Makes a call of the operator in the session, whose log isn't full. A leave does nothing there.
+/// Makes a call of the operator in the session, whose log must not be full. A leave does nothing there.
 pub fn operate(session: &mut Session, call: OperatorCall)
     requires free { is_full_log session.old ≡ false }
     ensures { IsOperatorStep call session.old session.new }
@@ -19,7 +19,7 @@ pub fn operate(session: &mut Session, call: OperatorCall)
     }
 }
 
-// Pauses the session, whose log isn't full.
+// Pauses the session, whose log must not be full.
 fn pause(session: &mut Session)
     requires free { is_full_log session.old ≡ false }
     ensures { IsOperatorStep OperatorCall.Pause session.old session.new }
@@ -27,7 +27,7 @@ fn pause(session: &mut Session)
     let _ = session.pause();
 }
 
-// Resumes the session, whose log isn't full.
+// Resumes the session, whose log must not be full.
 fn resume(session: &mut Session)
     requires free { is_full_log session.old ≡ false }
     ensures { IsOperatorStep OperatorCall.Resume session.old session.new }

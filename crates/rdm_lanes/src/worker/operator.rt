@@ -10,9 +10,8 @@ use crate::fault::RingFull;
 use rtrb::Producer;
 use std::alloc::Global;
 
-/// Who pauses, resumes and closes a session (profile of this project). It has a ring for its calls; none of them waits
-/// for anybody, and none takes memory. The worker makes them in order, one in each of its turns. After its leave they
-/// are without effect.
+/// Who pauses, resumes and closes a session. It has a ring for its calls. None of them waits for anybody, and none
+/// allocates. The worker makes them in order, one in each of its turns. They have no effect after its leave.
 #[derive(Drop)]
 pub struct Operator {
     pub(crate) calls: Producer<OperatorCall, Global>,
@@ -20,8 +19,8 @@ pub struct Operator {
 }
 
 impl Operator {
-    /// Sends a pause, as [`Session::pause`](rdm_queue::Session::pause) makes it.
-    /// Err: the ring has no free slot; nothing has changed.
+    /// Sends a pause, for the worker to call [`Session::pause`](rdm_queue::Session::pause). Err: the ring has no free
+    /// slot; nothing has changed.
     pub fn pause(&mut self) -> Result<(), RingFull>
         ensures sent { OnOk result (called_by self.new ≡ called_by self.old ++ unless (has_left self.old) Pause) }
         ensures full { OnErr result (called_by self.new ≡ called_by self.old) }
@@ -31,8 +30,8 @@ impl Operator {
         self.send(OperatorCall::Pause)
     }
 
-    /// Sends a resume, as [`Session::resume`](rdm_queue::Session::resume) makes it.
-    /// Err: the ring has no free slot; nothing has changed.
+    /// Sends a resume, for the worker to call [`Session::resume`](rdm_queue::Session::resume). Err: the ring has no
+    /// free slot; nothing has changed.
     pub fn resume(&mut self) -> Result<(), RingFull>
         ensures sent { OnOk result (called_by self.new ≡ called_by self.old ++ unless (has_left self.old) Resume) }
         ensures full { OnErr result (called_by self.new ≡ called_by self.old) }
@@ -42,8 +41,8 @@ impl Operator {
         self.send(OperatorCall::Resume)
     }
 
-    /// Sends a close, as [`Session::close`](rdm_queue::Session::close) makes it.
-    /// Err: the ring has no free slot; nothing has changed.
+    /// Sends a close, for the worker to call [`Session::close`](rdm_queue::Session::close). Err: the ring has no free
+    /// slot; nothing has changed.
     pub fn close(&mut self) -> Result<(), RingFull>
         ensures sent { OnOk result (called_by self.new ≡ called_by self.old ++ unless (has_left self.old) Close) }
         ensures full { OnErr result (called_by self.new ≡ called_by self.old) }
@@ -53,8 +52,7 @@ impl Operator {
         self.send(OperatorCall::Close)
     }
 
-    /// Tells the worker that the operator leaves. Its calls after this are without effect.
-    /// Err: the ring has no free slot; nothing has changed.
+    /// Leaves: the operator's calls have no effect after this. Err: the ring has no free slot; nothing has changed.
     pub fn leave(&mut self) -> Result<(), RingFull>
         ensures sent { OnOk result (called_by self.new ≡ called_by self.old ++ unless (has_left self.old) Leave) }
         ensures full { OnErr result (called_by self.new ≡ called_by self.old) }

@@ -42,9 +42,10 @@ pub fn serve_call(alloc: Global, session: &mut Session, client: ClientId, lane: 
     }
 }
 
-// Whether the oldest call of the client's ring may be made. A submit waits for a place of the client, and a discover
-// until fewer than four are outstanding. After a close both wait until all earlier outcomes are on the client's ring
-// and a slot is free: their own outcomes are put there at once. A leave waits for nothing.
+// Whether the oldest call of the client's ring may be made. A submit waits until the client has fewer requests
+// outstanding than its queue depth. A discover waits until the client has fewer than four discoveries outstanding.
+// After a close both wait until all earlier outcomes are on the client's ring and a slot is free. Their own outcomes
+// are put there at once. A leave never waits.
 fn may_make(session: &Session, client: ClientId, lane: &mut Lane) -> bool
     requires { 0 < length (known_items lane.old.calls) }
     ensures may { result ≡ true → MatchOption (slice_get (known_items lane.new.calls) 0) ⊤
@@ -69,7 +70,7 @@ fn may_make(session: &Session, client: ClientId, lane: &mut Lane) -> bool
     }
 }
 
-// Whether all that the client is told is on its ring, and that has a free slot.
+// Whether all outcomes of the client are on its ring, which has a free slot.
 #[tactic(auto, using(rdm_log::proofs::PromiseLemmas::OutcomeLemmas::nothing_uncollected))]
 fn may_tell(session: &Session, client: ClientId, lane: &mut Lane) -> bool
     ensures may { result ≡ true → MayTell client.0 session.now lane.new }
@@ -79,7 +80,7 @@ fn may_tell(session: &Session, client: ClientId, lane: &mut Lane) -> bool
     lane.replies.slots() > 0 && session.oldest(client).is_none()
 }
 
-// Makes a submit. One that a close refuses is told at once.
+// Makes a submit. If a close refuses it, its outcome is put on the ring at once.
 fn make_submit(
     alloc: Global,
     session: &mut Session,
@@ -95,7 +96,7 @@ fn make_submit(
     take_submit(alloc, lane, answer);
 }
 
-// Counts a request that was accepted, or tells of one that a close refused.
+// Counts an accepted request, or puts the outcome of one that a close refused on the ring.
 fn take_submit(alloc: Global, lane: &mut Lane, answer: Result<u64, (SubmitFault, Request)>)
     requires { CanTakeSubmit lane.old answer }
     ensures after { AfterSubmit lane.old answer lane.new }
@@ -116,7 +117,7 @@ fn take_submit(alloc: Global, lane: &mut Lane, answer: Result<u64, (SubmitFault,
     }
 }
 
-// Makes a discover. One that a close refuses is told at once.
+// Makes a discover. If a close refuses it, its outcome is put on the ring at once.
 fn make_discover(session: &mut Session, client: ClientId, lane: &mut Lane, kind: Kind)
     requires { IsReadyFor (Discover kind) client.0 session.old lane.old }
     ensures serves { ServesClient client.0 session.old lane.old session.new lane.new }
@@ -126,7 +127,7 @@ fn make_discover(session: &mut Session, client: ClientId, lane: &mut Lane, kind:
     take_discover(lane, answer);
 }
 
-// Counts a discovery that was accepted, or tells of one that a close refused.
+// Counts an accepted discovery, or puts the outcome of one that a close refused on the ring.
 fn take_discover(lane: &mut Lane, answer: Result<u64, AskFault>)
     requires { CanTakeDiscover lane.old answer }
     ensures after { AfterDiscover lane.old answer lane.new }

@@ -1,5 +1,5 @@
-//! What the worker does in its turns. It publishes a view of the devices after each exchange that ends a run without
-//! fault, and before it moves that run's answers out.
+//! What the worker does in its turns. After each exchange that ends a run without fault it publishes a view of the
+//! devices. Only then does it move that run's outcomes to the clients' rings.
 ghost use Rattle.std.specs.Prelude.{◌≡◌, ◌≢◌, ◌<◌, ◌≤◌, ◌+◌, ◌-◌, ◌^◌, true, false, Some, None, IfSome, IfNone};
 ghost use mathlib.Core.List.{IsPrefix};
 ghost use Rattle.rtrb.specs.Ring.{SameConsumer};
@@ -31,27 +31,28 @@ use std::sync::Wait;
 
 impl<J: ViewHistory, R: Wait + Drop> ViewWorker<J, Shown<J>, R> {
     /// Works for this many turns at most. In one turn it does these, in order:
-    /// - it publishes a view whose publication was refused;
+    /// - it publishes a view whose publication failed before;
     /// - it takes at most one call from each client's ring, in the clients' order, and then one from the operator's;
     /// - it makes at most one exchange, and publishes the devices that it found;
     /// - it moves outcomes to the clients' rings, while they have free slots.
     ///
     /// It stops early once all have left, or once the log is full. If it ends with Turns, it made all its turns.
     ///
-    /// It looks at a ring's front first. While fewer than three entries of the log are free it takes no call. A submit
-    /// waits for a place of its client in the session, and a discover until fewer than four of its client's are
-    /// outstanding there. After a close a client's call waits until that client's earlier outcomes are on its ring, and
-    /// a slot is free: it is refused, and told at once, with status FailedToSend, or Aborted and run 0, and no number.
+    /// It looks at a call before it takes it from a ring. While fewer than three entries of the log are free, it takes
+    /// none. A submit waits until its client has fewer requests outstanding in the session than its queue depth. A
+    /// discover waits until its client has fewer than four discoveries outstanding. After a close a client's call waits
+    /// until that client's earlier outcomes are on its ring, and a slot is free. Then it is refused, and its outcome is
+    /// put there at once: status FailedToSend, or Aborted and run 0, and no number.
     ///
-    /// Memory is taken for these:
+    /// It allocates memory for these:
     /// - joined data;
-    /// - the set of each discovery's outcome, which waits where memory is refused;
+    /// - the set of each discovery's outcome, which waits while the allocation fails;
     /// - each view.
     ///
     /// It waits for reads that are under way when it publishes.
     ///
-    /// A publication that is refused changes nothing, and is tried again in the next turn. Until it is made, no call is
-    /// taken, no exchange is made, no outcome is moved, and the work doesn't end because all have left.
+    /// A publication that fails changes nothing, and is tried again in the next turn. Until it is made, no call is
+    /// taken, no exchange is made and no outcome is moved. Nor does the work end because all have left.
     pub fn work<X: Line>(&mut self, alloc: Global, line: &mut X, turns: u64) -> WorkerEnd
         ensures exchanged { Exchanged X.step line.old (session_of self.old) line.new (session_of self.new) }
         ensures lanes { SameLanes (lanes_of self.old) (lanes_of self.new) }
@@ -108,9 +109,9 @@ impl<J: ViewHistory, R: Wait + Drop> ViewWorker<J, Shown<J>, R> {
         }
     }
 
-    // All that is done in a turn, and what its attempt at an exchange came to. None: a publication was refused, and
-    // nothing was done after that. A view that was refused before comes first, since a call that is taken after a close
-    // is told at once.
+    // All that is done in a turn, and what its attempt at an exchange came to. None: a publication failed, and nothing
+    // was done after that. A view whose publication failed before comes first. A call that is taken after a close puts
+    // its outcome on the ring at once.
     fn serve_all<X: Line>(&mut self, alloc: Global, line: &mut X) -> Option<Attempt>
         ensures exchanged { Exchanged X.step line.old self.old.server.session line.new self.new.server.session }
         ensures lanes { SameLanes self.old.server.lanes.items self.new.server.lanes.items }
@@ -157,7 +158,7 @@ impl<J: ViewHistory, R: Wait + Drop> ViewWorker<J, Shown<J>, R> {
         self.server.serve_operator();
     }
 
-    // Publishes what is still to be published, and says whether all is published.
+    // Publishes what isn't published yet, and returns whether all is published.
     fn publish(&mut self, alloc: Global) -> bool
         ensures made { result ≡ true → AllPublished self.new.server.session self.new.views }
         ensures refused { result ≡ false → self.new.views.shown ≢ all_views self.new.server.session.entries }
@@ -169,7 +170,7 @@ impl<J: ViewHistory, R: Wait + Drop> ViewWorker<J, Shown<J>, R> {
         publish_next(alloc, &server.session, views)
     }
 
-    // Makes an exchange with the line, if there is a frame to send. What it found is still to be published.
+    // Makes an exchange with the line, if there is a frame to send. What it found isn't published yet.
     fn exchange<X: Line>(&mut self, alloc: Global, line: &mut X) -> Attempt
         requires { AllPublished self.old.server.session self.old.views }
         ensures exchanged { Exchanged X.step line.old self.old.server.session line.new self.new.server.session }
@@ -215,7 +216,7 @@ impl<J: ViewHistory, R: Wait + Drop> ViewWorker<J, Shown<J>, R> {
     }
 }
 
-// Adds the view that is lacking, if one is, and publishes the last one. It says whether all are published.
+// Adds the missing view, if there is one, and publishes the last one. It returns whether all are published.
 #[tactic(auto, using(crate::proofs::ShowingLemmas::publishes_still, crate::proofs::ShowingLemmas::publishes_shown, crate::proofs::ShowingLemmas::all_published))]
 fn publish_next<J: ViewHistory, R: Wait + Drop>(
     alloc: Global,
@@ -237,7 +238,7 @@ fn publish_next<J: ViewHistory, R: Wait + Drop>(
     true
 }
 
-// Adds the view that is lacking, if one is, and says whether all views are added.
+// Adds the missing view, if there is one, and returns whether all views are added.
 #[tactic(auto, using(crate::proofs::ShowingLemmas::publishes_still, crate::proofs::ShowingLemmas::publishes_next, crate::proofs::ShowingLemmas::added_all, crate::proofs::ShowingLemmas::added_next))]
 fn add_next<J: ViewHistory, R: Wait + Drop>(
     alloc: Global,

@@ -8,11 +8,11 @@ use left_right::Absorb;
 use rdm_client::DeviceView;
 use std::sync::Wait;
 
-/// Who makes the calls of the clients and of the operator, and the exchanges with the line (profile of this project).
-/// It has the session, and publishes the views of its log, in order: the devices that each run found which was answered
-/// without fault. It publishes a run's view before it moves an outcome of that run. What it has received of each client
-/// is that client's calls in the log. What it has sent each is what the log tells that client. Nobody else has
-/// joined or called anything. One that is dropped waits for the reads that are under way. `T` is `Shown<J>`.
+/// Who makes the calls of the clients and of the operator, and the exchanges with the line. It has the session, and
+/// publishes the views of its log, in order: the devices that each run without fault found. It publishes a run's view
+/// before it moves an outcome of that run. What it has received from each client is that client's calls in the log.
+/// What it has sent to each client is that client's outcomes in the log, except those not collected from the session
+/// yet. Nobody else has joined or called anything. Dropping it waits for reads that are under way. `T` is `Shown<J>`.
 #[derive(Drop)]
 pub struct ViewWorker<
     J: ViewHistory,

@@ -22,7 +22,7 @@ use rdm_line::{Line, LineFault};
 use rdm_queue::{ClientId, LEAST_FREE, LogFull};
 use std::alloc::Global;
 
-/// What an attempt at an exchange came to.
+/// How an attempt at an exchange ended.
 #[derive(Clone, Copy, PartialEq, Eq)]
 pub enum Attempt {
     /// An exchange was made.
@@ -131,7 +131,7 @@ impl Worker {
         }
     }
 
-    // Whether all have left. Nobody sends anything after that, so the rings of calls are then empty.
+    // Whether all have left. Nobody sends anything after a leave, so the rings of calls are then empty.
     pub(crate) fn have_all_left(&self) -> bool
         ensures { result ≡ true → AllHaveLeft self.now.lanes.items × (self.now.operator_left ≡ true) }
     {
@@ -139,7 +139,7 @@ impl Worker {
     }
 }
 
-// What an exchange's answer says that came.
+// The event for an exchange's answer.
 fn event_from(answer: Result<LineReply, LineFault>) -> LineEvent
     ensures { result ≡ event_of answer }
 {

@@ -15,7 +15,7 @@ use crate::share::CallShare;
 use rdm_queue::Session;
 use std::sync::ledger::{Book, Ledger, Share};
 
-/// A session that was taken out of its mutex, and how many calls its clients made (profile of this project).
+/// A session that was taken out of its mutex, and how many calls its clients made.
 #[derive(Debug, Drop)]
 pub struct SessionEnd {
     /// The session.

@@ -19,8 +19,8 @@ pub fn wrong_results()
     ensures not_accepted { MayFollow sample_opening (join_only ++ Close ∷ []) (Finish 0 FailedToSend 0) → ⊥ }
 {}
 
-/// A request that was answered by silence isn't finished as if it had been answered, nor with data, nor with
-/// NoMemory; and one that wasn't sent isn't finished before a close.
+/// A request that was answered by silence isn't finished as if it had been answered, nor with data, nor with NoMemory.
+/// One that wasn't sent isn't finished before a close.
 pub fn wrong_answers()
     ensures status { MayFollow sample_opening came_one (Finish 0 Completed 0) → ⊥ }
     ensures length { MayFollow sample_opening came_one (Finish 0 Timeout 1) → ⊥ }
@@ -30,15 +30,15 @@ pub fn wrong_answers()
     ensures awaited { MayFollow sample_opening (sent_one ++ Close ∷ []) (Finish 0 FailedToSend 0) → ⊥ }
 {}
 
-/// A request that was answered in two parts is finished with both, not with the last one alone, nor after the first.
+/// A request that was answered in two parts is finished with both, not with only the last one, nor after the first.
 pub fn wrong_parts()
     ensures both { MayFollow wide_opening came_again (Finish 0 Completed 3) }
     ensures last_alone { MayFollow wide_opening came_again (Finish 0 Completed 1) → ⊥ }
     ensures first_alone { MayFollow wide_opening came_part (Finish 0 Completed 2) → ⊥ }
 {}
 
-/// Between two parts the same request is sent again, with the next transaction number, and no other one; and nothing
-/// is sent while sending is paused.
+/// Between two parts the same request is sent again, with the next transaction number, and no other one. Nothing is
+/// sent while sending is paused.
 pub fn wrong_frames()
     ensures same { MaySend wide_opening came_part (Request 0) (record { items = second_frame }) }
     ensures other { MaySend wide_opening came_part (Request 1) (record { items = second_frame }) → ⊥ }

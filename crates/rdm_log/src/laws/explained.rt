@@ -59,14 +59,14 @@ pub fn not_explained()
     // A discover is refused as full while the client has one outstanding.
     ensures discovery { (new : LogState) → Explains (logged_with asked_one)
         (events.Discover (record { 0 = 0 }) Full ∷ []) (answers.Discover (Err ask_faults.Full) ∷ []) new → ⊥ }
-    // A request or a discovery waits, and no frame is returned for it, or the log is said to be full.
+    // A request or a discovery waits, but no frame is returned for it, or LogFull is.
     ensures no_frame { (new : LogState)
         → Explains (logged_with accepted_one) (events.Take ∷ []) (answers.Take (Ok None) ∷ []) new → ⊥ }
     ensures no_run { (new : LogState)
         → Explains (logged_with asked_one) (events.Take ∷ []) (answers.Take (Ok None) ∷ []) new → ⊥ }
     ensures no_room { (new : LogState)
         → Explains (logged_with accepted_one) (events.Take ∷ []) (answers.Take (Err (record {})) ∷ []) new → ⊥ }
-    // There is said to be no memory for a request's outcome; or a discovery's outcome is gone after that answer.
+    // NoMemory is returned for a request's outcome, or a discovery's outcome is gone after NoMemory.
     ensures request { (new : LogState) → Explains (logged_with finished_one)
         (events.Collect first_client ∷ []) (answers.Collect (Err (record {})) ∷ []) new → ⊥ }
     ensures lost { Explains (logged_with aborted_log) (events.Collect first_client ∷ [])

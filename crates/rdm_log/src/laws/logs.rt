@@ -31,7 +31,7 @@ pub fn log_grows()
     ensures empty { (o : Opening) → Legal o [] }
 {}
 
-/// After a legal log, no frame may be sent exactly if no Send keeps the log legal.
+/// After a legal log, no frame may be sent if and only if no Send keeps the log legal.
 pub fn no_send_is_no_legal_send()
     ensures { (o : Opening) (h : List Entry) → Legal o h
         → NoSend o h ↔ ((owner : Owner) (frame : ArrayVec ℕ) → Legal o (h ++ Send owner frame ∷ []) → ⊥) }

@@ -1,4 +1,4 @@
--- Which logs a queue stands after: those that say what it holds.
+-- Which logs describe a queue's state: those that say what it holds.
 use Rattle.std.specs.Prelude.{◌≡◌, ◌≢◌, ℕ, ◌+◌, ◌≤◌, Bool, true, false, List, [], ◌∷◌, ◌++◌, length, filter_map}
 use Rattle.std.specs.Prelude.{Option, Some, None, slice_get}
 use Rattle.arrayvec.specs.ArrayVec.{ArrayVec}
@@ -61,8 +61,8 @@ IsPending o h s None = awaited h ≡ false
 IsPending o h s (Some (awaiting.Request sent)) = AwaitsRequest o h sent
 IsPending o h s (Some (awaiting.Run tn)) = AwaitsRun o h s tn
 
--- a run has begun, and not all that it serves are answered: the agent has made its exchanges, and was stopped only by a
--- close
+-- A run has begun, and not all discoveries that it serves are answered. The agent has made its exchanges, and was
+-- stopped only by a close.
 pub record IsRunning (o : Opening) (h : List Entry) (s : QueueState) (r : RunState) : Type 0 where
   pub last : last_run h ≡ Some r.number
   pub aborted : Bool
@@ -82,7 +82,7 @@ pub record IsRunning (o : Opening) (h : List Entry) (s : QueueState) (r : RunSta
   -- no request is between two parts
   pub no_request : s.under_way ≡ false
 
--- no run has begun that has an answer left to give
+-- each run that has begun has given all its answers
 pub record IsNotRunning (o : Opening) (h : List Entry) : Type 0 where
   pub none_open : open_run h ≡ None
   pub none_left : asked_before (last_run h) h ≤ length (answers h)
@@ -117,35 +117,35 @@ pub record Agrees (o : Opening) (h : List Entry) (s : QueueState) : Type 0 where
   -- runs are numbered from 1
   pub first_run : 1 ≤ o.next_run
 
--- the run that has begun, if any, has not ended
+-- the run that has begun, if any, hasn't ended
 abbrev pub RunGoesOn : Option RunState → AgentState → Type 0
 RunGoesOn None agent = Unit {0}
 RunGoesOn (Some r) agent = next_op agent ≢ End
 
--- a queue stands after a log that is legal
+-- the log is legal and describes the queue's state, and a run that has begun hasn't ended
 pub record StandsAfter (o : Opening) (h : List Entry) (s : QueueState) : Type 0 where
   pub legal : Legal o h
   pub stands : Agrees o h s
   pub goes_on : RunGoesOn s.run s.agent
 
--- a queue stands amid a block of entries: Finishes and Answers may still be due
+-- the log describes the queue's state within a block of entries: Finishes and Answers may still be due
 pub record StandsAmid (o : Opening) (h : List Entry) (s : QueueState) : Type 0 where
   pub each : EachAfter (MayFollow o) h
   pub stands : Agrees o h s
 
--- this holds for each log that a queue stands amid
+-- this holds for each log that describes the queue's state within a block
 abbrev pub ForEachBlock : QueueState → (Opening → List Entry → Type 0) → Type 0
 ForEachBlock s P = (o : Opening) (h : List Entry) → StandsAmid o h s → P o h
 
--- for each log that old stands after and for which this holds, new stands amid it with one more entry; its runs search
--- as before
+-- For each log that describes old and for which this holds, that log with one more entry describes new within a block.
+-- Runs search as before.
 pub record AddsAmid (old : QueueState) (May : Opening → List Entry → Type 0) (e : Entry) (new : QueueState)
     : Type 0 where
   pub search : new.search ≡ old.search
   pub each : (o : Opening) (h : List Entry) → StandsAfter o h old → May o h → StandsAmid o (h ++ e ∷ []) new
 
--- what was due next was ended with this entry, a Finish or an Answer in bound, for each log that old stands amid and
--- that says how it searches; runs search as before
+-- What was due next was ended with this entry, a Finish or an Answer in bound. This holds for each log that describes
+-- old within a block and says how it searches. Runs search as before.
 pub record Ends (old : QueueState) (e : Entry) (new : QueueState) : Type 0 where
   pub is : is_result e ≡ true
   pub search : new.search ≡ old.search
@@ -159,7 +159,8 @@ pub record FinishesAll (k : LogState) (new : QueueState) : Type 0 where
   pub in_bound : AnswersInBound k results
   pub after : StandsAfter k.opening (k.entries ++ results) new
 
--- all that was due was ended, for each log that old stands amid and that says how it searches; runs search as before
+-- All that was due was ended, for each log that describes old within a block and says how it searches. Runs search as
+-- before.
 pub record FinishesEach (old new : QueueState) : Type 0 where
   pub search : new.search ≡ old.search
   pub each : (k : LogState) → old.search ≡ k.search → StandsAmid k.opening k.entries old → FinishesAll k new

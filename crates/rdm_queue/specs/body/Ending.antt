@@ -72,7 +72,7 @@ pub record AnswersByRun (old : QueueState) (entry : Entry) (new : QueueState) : 
   pub entry_is : entry ≡ answer_of asked run.number (fault_of (agent_at_end old).phase)
   pub new_is : new ≡ answers_by_run old run asked
 
--- the run has not ended, and isn't ended by a close
+-- the run hasn't ended, and isn't ended by a close
 pub record HasRunUnderWay (s : QueueState) : Type 0 where
   pub goes_on : next_op (agent_at_end s) ≢ End
 

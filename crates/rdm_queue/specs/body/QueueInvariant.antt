@@ -19,8 +19,8 @@ abbrev pub served_by : Option RunState → ℕ
 served_by None = 0
 served_by (Some r) = r.left
 
--- no client has more outstanding than its queue depth, nor more than four discoveries; numbers rise in the order of
--- acceptance; the joiner takes verdicts; and each run serves a discovery that no other serves
+-- No client has more outstanding than its queue depth, nor more than four discoveries. Numbers rise in the order of
+-- acceptance. The joiner takes verdicts. Each run serves a discovery that no other serves.
 pub record StateInvariant (s : QueueState) : Type 0 where
   pub source : IsDevice s.source
   pub greatest : s.greatest ≤ 4080
@@ -37,8 +37,8 @@ pub record StateInvariant (s : QueueState) : Type 0 where
   pub serves : MatchOption s.run (Unit {0}) (λ r. 1 ≤ r.left)
   pub runs_numbered : s.next_run + (length s.asked - served_by s.run) ≤ s.next_ask + 1
 
--- each client's ring has the client's own requests of those that wait; its rings are as large as its queue depth needs,
--- and each discovery among its outcomes has its set
+-- Each client's ring has those of the waiting requests that are the client's own. Its rings are as large as its queue
+-- depth needs, and each discovery among its outcomes has its set.
 pub record RingsInvariant (s : QueueState) (clients : List Client) : Type 0 where
   pub waiting : AreShares (λ a. a.client) (waiting_rings clients) s.waiting
   pub sizes : AllByRecursion HasRings clients

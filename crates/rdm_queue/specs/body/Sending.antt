@@ -135,7 +135,7 @@ pub record IsGiven (old : QueueState) (owner : Owner) (frame : ArrayVec ℕ) (ne
   pub not_closed : old.closed ≡ false
   pub which : WhichGives old owner frame new
 
--- the agent heard what came for its next operation, sent with this transaction number
+-- the agent got what came for its next operation, sent with this transaction number
 abbrev pub hears_run : ℕ → LineEvent → QueueState → QueueState
 hears_run tn event s = record s {
   awaited = None;

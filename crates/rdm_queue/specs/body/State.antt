@@ -31,7 +31,7 @@ use Rattle.rdm_log.specs.promises.Outcomes.OutcomeValue.{RequestValue, Discovery
 use Rattle.rdm_log.specs.declared.outcome.OutcomeKind.{OutcomeKind}
 use Rattle.rdm_log.specs.declared.outcome.OutcomeKind.TheVariants as kinds
 
--- how a request ended, which its client is owed
+-- how a request ended, until its client collects it
 pub record OwedOutcome : Type 0 where
   pub client : ℕ
   pub number : ℕ
@@ -155,7 +155,7 @@ owed_value d = RequestValue (Some d.number) d.done
 abbrev pub finish_of : OwedOutcome → Entry
 finish_of d = Finish d.number d.done.status (length d.done.data_)
 
--- what is owed for a request that ended like this
+-- the outcome of a request that ended like this
 abbrev pub owed_for : Joined → Accepted → OwedOutcome
 owed_for j a = record { client = a.client; number = a.number; done = j }
 
@@ -171,13 +171,13 @@ is_closing s = s.closed && not (is_some s.awaited)
 abbrev pub end_of_oldest : QueueState → Option Joined
 end_of_oldest s = or_if_open s.decided (if is_closing s then Some (ended FailedToSend) else None)
 
--- what is owed for the oldest of these, if it has ended
+-- the outcome of the oldest of these, if it has ended
 abbrev pub owed_next : Option Joined → List Accepted → Option OwedOutcome
 owed_next (Some done) (a ∷ waiting) = Some (owed_for done a)
 owed_next (Some done) [] = None
 owed_next None waiting = None
 
--- what the request that is due to be finished will be owed
+-- the outcome of the request that is due to be finished
 abbrev pub due : QueueState → Option OwedOutcome
 due s = owed_next (end_of_oldest s) s.waiting
 
@@ -198,7 +198,7 @@ pub record IsFinished (old : QueueState) (entry : Entry) (new : QueueState) : Ty
   pub entry_is : entry ≡ finish_of owed
   pub new_is : new ≡ finishes_oldest old owed
 
--- how a client's request is kept once it is accepted
+-- a client's request, as the queue holds it once it is accepted
 abbrev pub accepted_as : QueueState → ℕ → Request → Accepted
 accepted_as s c request = record { client = c; number = s.next_request; request = request }
 
@@ -206,7 +206,7 @@ abbrev pub accepts_request : QueueState → ℕ → Request → QueueState
 accepts_request s c request =
     record s { next_request = s.next_request + 1; waiting = s.waiting ++ accepted_as s c request ∷ [] }
 
--- how a client's discovery is kept once it is accepted
+-- a client's discovery, as the queue holds it once it is accepted
 abbrev pub asked_as : QueueState → ℕ → Kind → AskedDiscovery
 asked_as s c kind = record { client = c; number = s.next_ask; kind = kind }
 
@@ -260,12 +260,12 @@ ProgressAt (Some j) vs decided joiner =
 abbrev pub IsProgress : List Judged → Option Joined → JoinerStanding → Type 0
 IsProgress vs decided joiner = ProgressAt (result_of vs) vs decided joiner
 
--- what came was heard, and these are the verdicts on the oldest request then
+-- what came was taken, and these are then the verdicts on the oldest request
 pub record Hears (vs : List Judged) (old new : QueueState) : Type 0 where
   pub progress : IsProgress vs new.decided new.joiner
   pub new_is : new ≡ record old { awaited = None; joiner = new.joiner; decided = new.decided }
 
--- what came for this frame of the oldest request, which hadn't ended, was heard
+-- what came for this frame of the oldest request, which hadn't ended, was taken
 abbrev pub HearsRequest : Sent → LineEvent → QueueState → QueueState → Type 0
 HearsRequest sent event old new =
     (vs : List Judged) → old.decided ≡ None → StandsAt vs old.joiner → Hears (vs ++ verdict sent event ∷ []) old new

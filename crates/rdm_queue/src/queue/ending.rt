@@ -1,4 +1,4 @@
-//! How requests and discoveries end: replies are heard, requests are finished, and discoveries are answered.
+//! How requests and discoveries end: replies are taken, requests are finished, and discoveries are answered.
 ghost use Rattle.std.specs.Prelude.{◌≡◌, ◌⊎◌, ◌<◌, length};
 ghost use Rattle.rdm_join.specs.Result.{ended};
 ghost use Rattle.rdm_join.specs.JoinerStanding.{head_of_standing};
@@ -29,8 +29,8 @@ impl Queue {
     ghost use Rattle.rdm_queue.specs.body.Ending.{devices_run_after, answer_of, answers_oldest, one_less};
     ghost use Rattle.rdm_queue.specs.declared.pending.Awaited.TheVariants as awaiting;
 
-    /// Takes what the line answered to the last frame. That belongs to the oldest request, which hasn't ended yet, or
-    /// to the run, whose agent hasn't.
+    /// Takes what the line answered to the last frame. That frame belongs to the oldest request, which hasn't ended
+    /// yet, or to the run, whose agent hasn't.
     pub(crate) fn hear(&mut self, alloc: Global, event: &LineEvent)
         ensures free { self.new.awaited ≡ None }
         ensures heard { (sent : Sent) → self.old.awaited ≡ Some (awaiting.Request sent)
@@ -81,7 +81,7 @@ impl Queue {
 
     /// Ends what is due next, and returns the entry of its end; None if nothing is due. These are due: the discoveries
     /// of a run that has ended, and a request that has. If the queue is closed and awaits no reply, more is due: a run
-    /// that hasn't ended, then the requests that wait, and last the discoveries that no run serves.
+    /// that hasn't ended, the requests that wait, and last the discoveries without a run.
     pub(crate) fn finish_next(&mut self) -> Option<Entry>
         ensures ended { IfSome result (λ entry. IsEnded self.old entry self.new) }
         ensures none { IfNone result (HasNothingDue self.old × (self.new ≡ self.old)) }
@@ -199,7 +199,7 @@ impl Queue {
         Some(self.finish(at, done))
     }
 
-    // How the oldest request has ended. That is taken out.
+    // Takes out how the oldest request has ended.
     fn end_of_oldest(&mut self) -> Option<Completion>
         ensures end { option_map completion_value result ≡ end_of_oldest self.old }
         ensures taken { OnSome result (self.new ≡ record self.old { decided = None }) }
