@@ -148,8 +148,8 @@ unserved_amid o h s new entry none none_left answers_ amid = rw (answers_.entry_
       devices = s.devices;
       devices_run = s.devices_run;
     }) s.run
-    left_over = subst
-        (λ q. RunIs o k
+    left_over =
+        subst (λ q. RunIs o k
         (record (answers_oldest s a 0 (Some Aborted) [])
         { run = s.run; agent = s.agent; devices = s.devices; devices_run = s.devices_run }) q) (sym none) (record {
           none_open = rw same_last (still_none (last_run h) before.none_open);
@@ -171,7 +171,8 @@ ends_amid o h s new entry (ByClose e) amid = unserved_amid o h s new entry e.no_
 -- an Answer with a fault needs a close, on a calm line with a sufficient budget
 in_bound_at : (k : LogState) (n r : ℕ) (a : AgentState) (aborted : Bool)
     → HasRunBy k.search (run_kind r k.entries) (known_at_run k.opening r k.entries) k.opening.budget aborted
-    (run_exchanges r k.entries) a → (aborted ≡ true → is_closed k.opening k.entries ≡ true) → next_op a ≡ ops.End
+    (run_exchanges r k.entries) a
+    → (aborted ≡ true → is_closed k.opening k.entries ≡ true) → next_op a ≡ ops.End
     → (f : Option AgentFault) → fault_of a.phase ≡ f → FaultNeedsClose k (Answer n r f)
 in_bound_at k n r a aborted s closed end None is = tt
 in_bound_at k n r a true s closed end (Some fault) is = λ present calm. closed refl

@@ -68,7 +68,8 @@ at_end o h s r run stands = by_closing (is_closing s) refl
     Ends : AgentState → Type 0
     Ends a = (aborted : Bool)
         × HasRunBy s.search (run_kind r.number h) (known_at_run o r.number h) o.budget aborted
-        (run_exchanges r.number h) a × (aborted ≡ true → is_closed o h ≡ true)
+        (run_exchanges r.number h) a
+        × (aborted ≡ true → is_closed o h ≡ true)
 
     stays : Ends s.agent
     stays = (run.aborted, run.has_run, λ is. (run.stopped is).0)
@@ -104,8 +105,8 @@ at_end o h s r run stands = by_closing (is_closing s) refl
     shown : (a : AgentState) → agent_at_end s ≡ a → Ends a → AtEnd o h s r
     shown a is ends = record {
       aborted = ends.0;
-      has_run = subst
-          (λ b. HasRunBy s.search (run_kind r.number h) (known_at_run o r.number h) o.budget ends.0
+      has_run =
+          subst (λ b. HasRunBy s.search (run_kind r.number h) (known_at_run o r.number h) o.budget ends.0
           (run_exchanges r.number h) b) (sym is) ends.1;
       closed = ends.2;
     }

@@ -8,22 +8,20 @@ use Rattle.rdm_queue.proofs.queue.first_in_line.Goals as goal
 
 pub loop-at-preserved-in_default : goal.loop-at-preserved-in_default
 loop-at-preserved-in_default c =
-    let at : slice_get c.args.clients.now c.loop-at.at
-    ≡ Some c.index-clients-at.result =
+    let at : slice_get c.args.clients.now c.loop-at.at ≡ Some c.index-clients-at.result =
     slice_get-get_or c.args.clients.now c.loop-at.at c.index-clients-at.result c.loop-at-test.true
     ∙ ap (λ k. Some k) (sym c.index-clients-at.is) in
-    let none : slice_get c.index-clients-at.result.waiting.items 0
-    ≡ None = rw c.in_default.is at (sym c.oldest.ensures) in
+    let none : slice_get c.index-clients-at.result.waiting.items 0 ≡ None =
+    rw c.in_default.is at (sym c.oldest.ensures) in
     none_more c.args.clients.now c.loop-at.at c.index-clients-at.result c.loop-at.first at none c.loop-at.invariant
 
 pub loop-at-preserved : goal.loop-at-preserved
 loop-at-preserved c =
-    let at : slice_get c.args.clients.now c.loop-at.at
-    ≡ Some c.index-clients-at.result =
+    let at : slice_get c.args.clients.now c.loop-at.at ≡ Some c.index-clients-at.result =
     slice_get-get_or c.args.clients.now c.loop-at.at c.index-clients-at.result c.loop-at-test.true
     ∙ ap (λ k. Some k) (sym c.index-clients-at.is) in
-    let front : slice_get c.index-clients-at.result.waiting.items 0
-    ≡ Some c.in-Some.oldest.now = rw c.in-Some.is at (sym c.oldest.ensures) in
+    let front : slice_get c.index-clients-at.result.waiting.items 0 ≡ Some c.in-Some.oldest.now =
+    rw c.in-Some.is at (sym c.oldest.ensures) in
     elim c.match-first.branch [
       | in-Some-first w ↦ rw (w.first-is, w.in-Some-first.is)
           (first_stays c.args.clients.now c.loop-at.at c.index-clients-at.result
