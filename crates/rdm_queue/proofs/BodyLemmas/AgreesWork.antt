@@ -1,6 +1,6 @@
 -- A queue follows the log, entry by entry.
 use Rattle.std.proofs.Common.{◌≡◌, ℕ, ◌+◌, ◌≤◌, ◌<◌, ◌%◌, Bool, true, false, List, [], ◌∷◌, ◌++◌, length, drop, filter}
-use Rattle.std.proofs.Common.{map, sum, set, get_or, Option, Some, None, slice_get, refl, sym, ap, ◌∙◌, inl, inr, zero}
+use Rattle.std.proofs.Common.{get_or, Option, Some, None, slice_get, refl, sym, ap, ◌∙◌, inl, inr, zero}
 use Rattle.std.proofs.Common.{suc, length-append, append-nil, arith, filter_map, if◌then◌else◌}
 use Rattle.std.specs.Prelude.{◌⊎◌, ◌==◌, ◌||◌}
 use Rattle.std.specs.List.{list_any}
@@ -8,7 +8,6 @@ use Rattle.std.proofs.lemmas.Bool.{cases_Bool, cases_eq, cases_lt, ne_eqb, eq-eq
 use Rattle.std.proofs.lemmas.List.{same_from_push, length-set, length-drop, drop-drop, get_or-set_same}
 use Rattle.std.proofs.lemmas.List.{get_or-set_other, get_or_past}
 use Rattle.std.proofs.lemmas.List.Folds.{list_any-append}
-use Rattle.std.proofs.lemmas.List.Sums.{sum_by-cons}
 use Rattle.std.proofs.lemmas.List.Elements.{filter-append, filter_map-append}
 use Rattle.arrayvec.specs.ArrayVec.{ArrayVec}
 use Rattle.rdm_wire.specs.Lists.{EachAfter}
@@ -52,6 +51,7 @@ use Rattle.rdm_log.proofs.LogLemmas.ClientFacts.{ClientFacts}
 use Rattle.rdm_log.proofs.LogLemmas.RunLemmas.{last_run_same, last_run_sent, SameRuns, same_runs_sent}
 use Rattle.rdm_log.proofs.PromiseLemmas.OutcomeLemmas.{outcomes_step, known_step, uncollected_more, outcomes_rest}
 use Rattle.rdm_log.proofs.PromiseLemmas.OutcomeLemmas.{answers_passed}
+use Rattle.rdm_queue.proofs.BodyLemmas.OutstandingLemmas.{in_all, in_all-cons, taken_at, put_at}
 use Rattle.rdm_queue.proofs.BodyLemmas.OutstandingLemmas.{owes-own, owes-other}
 use Rattle.rdm_log.proofs.LogLemmas.RunningLemmas.{same_running, same_running_came, asked_stays}
 use Rattle.rdm_queue.proofs.BodyLemmas.RunningLemmas.{run_same}
@@ -312,39 +312,31 @@ stands_came o h s sent event decided joiner each may facts was progress stands =
 
 -- an outcome is collected
 taken_rest : (lists : List (List OutcomeValue)) (c n : ℕ)
-    → get_or (set lists c (drop 1 (get_or lists c []))) n []
-    ≡ (if n == c then drop 1 (get_or lists n []) else get_or lists n [])
+    → get_or (taken_at lists c) n [] ≡ (if n == c then drop 1 (get_or lists n []) else get_or lists n [])
 taken_rest lists c n = by_client (cases_eq n c) (cases_lt c (length lists))
   where
     none : {ds es : List OutcomeValue} → ds ≡ [] → es ≡ [] → ds ≡ drop 1 es
     none p q = p ∙ ap (drop 1) (sym q)
 
     by_client : (n ≡ c) ⊎ (n ≡ c → ⊥) → (c < length lists) ⊎ (length lists ≤ c)
-        → get_or (set lists c (drop 1 (get_or lists c []))) n []
-        ≡ (if n == c then drop 1 (get_or lists n []) else get_or lists n [])
+        → get_or (taken_at lists c) n [] ≡ (if n == c then drop 1 (get_or lists n []) else get_or lists n [])
     by_client (inl same) (inl within) =
         rw (eq-eqb n c same, same) (get_or-set_same lists c (drop 1 (get_or lists c [])) [] within)
     by_client (inl same) (inr past) =
         rw (eq-eqb n c same, same)
-        (none (get_or_past (set lists c (drop 1 (get_or lists c []))) c []
+        (none (get_or_past (taken_at lists c) c []
         (let long = length-set lists c (drop 1 (get_or lists c [])) in omega arith)) (get_or_past lists c [] past))
     by_client (inr other) within =
         rw (ne_eqb n c other) (get_or-set_other lists c n (drop 1 (get_or lists c [])) [] other)
 
 count_less : (lists : List (List OutcomeValue)) (c : ℕ) (d : OutcomeValue) → slice_get (get_or lists c []) 0 ≡ Some d
-    → sum (map (λ (ds : List OutcomeValue). length ds) (set lists c (drop 1 (get_or lists c [])))) + 1
-    ≡ sum (map (λ (ds : List OutcomeValue). length ds) lists)
+    → in_all (taken_at lists c) + 1 ≡ in_all lists
 count_less [] c d at = cc
 count_less (ds ∷ lists) zero d at =
-    let rest = sum_by-cons (λ (n : ℕ). n) (length (drop 1 ds)) (map (λ (es : List OutcomeValue). length es) lists) in
-    let whole = sum_by-cons (λ (n : ℕ). n) (length ds) (map (λ (es : List OutcomeValue). length es) lists) in
-    let one = length-drop 1 ds in let some = place_within ds 0 d at in omega arith
+    let some = place_within ds 0 d at in
+    omega (arith, length-drop 1 ds, in_all-cons (drop 1 ds) lists, in_all-cons ds lists)
 count_less (ds ∷ lists) (suc c) d at =
-    let later = count_less lists c d at in
-    let rest = sum_by-cons (λ (n : ℕ). n) (length ds)
-    (map (λ (es : List OutcomeValue). length es) (set lists c (drop 1 (get_or lists c [])))) in
-    let whole = sum_by-cons (λ (n : ℕ). n) (length ds) (map (λ (es : List OutcomeValue). length es) lists) in
-    omega arith
+    omega (arith, count_less lists c d at, in_all-cons ds (taken_at lists c), in_all-cons ds lists)
 
 pub stands_collect : (o : Opening) (h : List Entry) (s : QueueState) (c : ClientId) (d : OutcomeValue)
     → EachAfter (MayFollow o) h → MayFollow o h (Collect c) → slice_get (owed_to c.0 s) 0 ≡ Some d → Agrees o h s
@@ -436,19 +428,13 @@ last_owner ss xs ys n r frame other is also =
 
 -- one more outcome
 pub count_more : (lists : List (List OutcomeValue)) (c : ℕ) (d : OutcomeValue) → c < length lists
-    → sum (map (λ (ds : List OutcomeValue). length ds) (set lists c (get_or lists c [] ++ d ∷ [])))
-    ≡ sum (map (λ (ds : List OutcomeValue). length ds) lists) + 1
+    → in_all (put_at lists c d) ≡ in_all lists + 1
 count_more [] c d within = absurd (omega arith)
 count_more (ds ∷ lists) zero d within =
-    let rest = sum_by-cons (λ (n : ℕ). n) (length (ds ++ d ∷ [])) (map (λ (es : List OutcomeValue). length es) lists) in
-    let whole = sum_by-cons (λ (n : ℕ). n) (length ds) (map (λ (es : List OutcomeValue). length es) lists) in
-    let one = length-append ds (d ∷ []) in omega arith
+    omega (arith, length-append ds (d ∷ []), in_all-cons (ds ++ d ∷ []) lists, in_all-cons ds lists)
 count_more (ds ∷ lists) (suc c) d within =
     let later = count_more lists c d (omega arith) in
-    let rest = sum_by-cons (λ (n : ℕ). n) (length ds)
-    (map (λ (es : List OutcomeValue). length es) (set lists c (get_or lists c [] ++ d ∷ []))) in
-    let whole = sum_by-cons (λ (n : ℕ). n) (length ds) (map (λ (es : List OutcomeValue). length es) lists) in
-    omega arith
+    omega (arith, in_all-cons ds (put_at lists c d), in_all-cons ds lists)
 
 pub owed_more : (o : Opening) (h k : List Entry) (e : Entry) (s : QueueState) (client : ℕ) (d : OutcomeValue)
     → client < length s.owed → ((c : ℕ) → (c == client) ≡ true → answers_to o c k ≡ answers_to o c h ++ e ∷ [])
