@@ -41,7 +41,7 @@ use Rattle.rdm_log.proofs.LogLemmas.PushLemmas.{finishes_more, collectors_same, 
 use Rattle.rdm_log.proofs.LogLemmas.PushLemmas.{is_paused-push, is_closed-push, unfinished_same, unfinished_accept}
 use Rattle.rdm_log.proofs.LogLemmas.PushLemmas.{unfinished_finish, unanswered_ask}
 use Rattle.rdm_log.proofs.LogLemmas.Places.{place_within}
-use Rattle.rdm_log.proofs.LogLemmas.ExchangeLemmas.{IsUnanswered, verdicts_same, verdicts_sent, verdicts_came_own}
+use Rattle.rdm_log.proofs.LogLemmas.ExchangeLemmas.{IsUnanswered, verdicts_sent, verdicts_came_own}
 use Rattle.rdm_log.proofs.LogLemmas.ExchangeLemmas.{verdicts_unsent, result_same}
 use Rattle.rdm_log.proofs.LogLemmas.LegalFacts.{LogFacts, unfinished_number, unfinished_place}
 use Rattle.rdm_log.proofs.LogLemmas.AskFacts.{AskFacts}
@@ -55,7 +55,7 @@ use Rattle.rdm_queue.proofs.BodyLemmas.OutstandingLemmas.{in_all, in_all-cons, t
 use Rattle.rdm_queue.proofs.BodyLemmas.OutstandingLemmas.{owes-own, owes-other}
 use Rattle.rdm_log.proofs.LogLemmas.RunningLemmas.{same_running, same_running_came, asked_stays}
 use Rattle.rdm_queue.proofs.BodyLemmas.RunningLemmas.{run_same}
-use Rattle.rdm_queue.proofs.BodyLemmas.AgreesSame.{pending_same, devices_run_same}
+use Rattle.rdm_queue.proofs.BodyLemmas.AgreesSame.{devices_run_same, AgreesOnLine, same_line, line_same, traded}
 
 -- a request is accepted
 pub stands_accept : (o : Opening) (h : List Entry) (s : QueueState) (c : ClientId) (n : ℕ) (request : Request)
@@ -70,22 +70,17 @@ stands_accept o h s c n request each may facts ask_facts number stands = record 
   closed_is = stands.closed_is ∙ sym (is_closed-push o h e);
   next_request_is =
       rw (accepts_more h e a refl, length-append (accepts h) (a ∷ [])) (omega (arith, stands.next_request_is));
-  next_tn_is = rw (sends_same h e refl) stands.next_tn_is;
+  next_tn_is = line.next_tn_is;
   waiting_are =
       rw (unfinished_accept h c n request facts.finished_within, number)
       (ap (λ l. l ++ record { client = c.0; number = s.next_request; request = request } ∷ []) stands.waiting_are);
-  awaited_is =
-      pending_same o h k s new s.awaited (sends_same h e refl) (awaited-push h e) (finishes_same h e refl) refl refl
-      stands.awaited_is;
-  under_way_is = rw (sends_same h e refl, finishes_same h e refl) stands.under_way_is;
-  progress = rw (
-    finishes_same h e refl,
-    verdicts_same h k (oldest_number o h) (sends_same h e refl) (cames_same h e refl),
-  ) stands.progress;
+  awaited_is = line.awaited_is;
+  under_way_is = line.under_way_is;
+  progress = line.progress;
   next_ask_is = rw (asks_same h e refl) stands.next_ask_is;
-  next_run_is = rw (last_run_same h k (sends_same h e refl)) stands.next_run_is;
+  next_run_is = line.next_run_is;
   asked_are = rw (asks_same h e refl, answered_same h e refl) stands.asked_are;
-  run_is = run_same o h k s new s.run (same_running o h e refl refl refl) refl refl (inl refl) stands.run_is;
+  run_is = line.run_is;
   devices_are = stands.devices_are ∙ sym (known_step o h e each may (answered_same h e refl));
   devices_run_is = devices_run_same o h k s.devices_run (answered_same h e refl) stands.devices_run_is;
   owed_for_each = rw (joins_same h e refl) stands.owed_for_each;
@@ -102,8 +97,8 @@ stands_accept o h s c n request each may facts ask_facts number stands = record 
     k : List Entry
     k = h ++ e ∷ []
 
-    new : QueueState
-    new = accepts_request s c.0 request
+    line : AgreesOnLine o k (accepts_request s c.0 request)
+    line = line_same o h k s (accepts_request s c.0 request) (same_line o h e refl refl refl refl) stands
 
     a : Accepted
     a = record { client = c.0; number = n; request = request }
@@ -120,21 +115,16 @@ stands_ask o h s c n kind each may facts ask_facts number stands = record {
   paused_is = stands.paused_is ∙ sym (is_paused-push o h e);
   closed_is = stands.closed_is ∙ sym (is_closed-push o h e);
   next_request_is = rw (accepts_same h e refl) stands.next_request_is;
-  next_tn_is = rw (sends_same h e refl) stands.next_tn_is;
+  next_tn_is = line.next_tn_is;
   waiting_are = stands.waiting_are ∙ sym (unfinished_same h k (accepts_same h e refl) (finishes_same h e refl));
-  awaited_is =
-      pending_same o h k s new s.awaited (sends_same h e refl) (awaited-push h e) (finishes_same h e refl) refl refl
-      stands.awaited_is;
-  under_way_is = rw (sends_same h e refl, finishes_same h e refl) stands.under_way_is;
-  progress = rw (
-    finishes_same h e refl,
-    verdicts_same h k (oldest_number o h) (sends_same h e refl) (cames_same h e refl),
-  ) stands.progress;
+  awaited_is = line.awaited_is;
+  under_way_is = line.under_way_is;
+  progress = line.progress;
   next_ask_is = rw (asks_more h e a refl, length-append (asks h) (a ∷ [])) (omega (arith, stands.next_ask_is));
-  next_run_is = rw (last_run_same h k (sends_same h e refl)) stands.next_run_is;
+  next_run_is = line.next_run_is;
   asked_are = rw (unanswered_ask h e a refl refl ask_facts.answered_within, number)
       (ap (λ l. l ++ record { client = c.0; number = s.next_ask; kind = kind } ∷ []) stands.asked_are);
-  run_is = run_same o h k s new s.run (same_running o h e refl refl refl) refl refl (inl refl) stands.run_is;
+  run_is = line.run_is;
   devices_are = stands.devices_are ∙ sym (known_step o h e each may (answered_same h e refl));
   devices_run_is = devices_run_same o h k s.devices_run (answered_same h e refl) stands.devices_run_is;
   owed_for_each = rw (joins_same h e refl) stands.owed_for_each;
@@ -151,8 +141,8 @@ stands_ask o h s c n kind each may facts ask_facts number stands = record {
     k : List Entry
     k = h ++ e ∷ []
 
-    new : QueueState
-    new = asks_discovery s c.0 kind
+    line : AgreesOnLine o k (asks_discovery s c.0 kind)
+    line = line_same o h k s (asks_discovery s c.0 kind) (same_line o h e refl refl refl refl) stands
 
     a : AskedDiscovery
     a = record { client = c.0; number = n; kind = kind }
@@ -173,51 +163,8 @@ pub stands_send : (o : Opening) (h : List Entry) (s : QueueState) (a : Accepted)
     → EachAfter (MayFollow o) h → MayFollow o h (Send (owners.Request a.number) frame)
     → length (sends h) ≡ length (cames h) → a.number ≡ oldest_number o h → sent_by frame.items ≡ sent_for s a
     → s.run ≡ None → Agrees o h s → Agrees o (h ++ Send (owners.Request a.number) frame ∷ []) (sends_request s a)
-stands_send o h s a frame each may even number sent none stands = record {
-  source_is = stands.source_is;
-  greatest_is = stands.greatest_is;
-  budget_is = stands.budget_is;
-  places_are = rw (joins_same h e refl) stands.places_are;
-  paused_is = stands.paused_is ∙ sym (is_paused-push o h e);
-  closed_is = stands.closed_is ∙ sym (is_closed-push o h e);
-  next_request_is = rw (accepts_same h e refl) stands.next_request_is;
-  next_tn_is =
-      rw (sends_more h e x refl, length-append (sends h) (x ∷ []))
-      (rw stands.next_tn_is (counted o.next_tn (length (sends h))));
-  waiting_are = stands.waiting_are ∙ sym (unfinished_same h k (accepts_same h e refl) (finishes_same h e refl));
-  awaited_is = record {
-    frame = frame;
-    last = record {
-      waits = awaited-push h e;
-      earlier = sends h;
-      sends_are = rw (finishes_same h e refl, ← number) (sends_more h e x refl);
-    };
-    same = sent;
-  };
-  under_way_is =
-      rw (sends_more h e x refl, finishes_same h e refl, ← number) (sym (was_sent_own a.number (sends h) frame));
-  progress = rw (finishes_same h e refl, verdicts_sent h (owners.Request a.number) frame (oldest_number o h) even)
-      stands.progress;
-  next_ask_is = rw (asks_same h e refl) stands.next_ask_is;
-  next_run_is = rw (last_run_sent h (owners.Request a.number) frame) stands.next_run_is;
-  asked_are = rw (asks_same h e refl, answered_same h e refl) stands.asked_are;
-  run_is = rw none (record {
-    none_open = runs.same_open ∙ before.none_open;
-    none_left = rw (
-      last_run_sent h (owners.Request a.number) frame,
-      asked_stays h e (last_run h) refl,
-      answered_same h e refl,
-    ) before.none_left;
-  });
-  devices_are = stands.devices_are ∙ sym (known_step o h e each may (answered_same h e refl));
-  devices_run_is = devices_run_same o h k s.devices_run (answered_same h e refl) stands.devices_run_is;
-  owed_for_each = rw (joins_same h e refl) stands.owed_for_each;
-  outcomes_are =
-      λ c. rw (answers_same o c h e refl refl, collectors_same h e refl)
-      (stands.outcomes_are c ∙ sym (outcomes_step o h e each may c));
-  all_outcomes = rw (collectors_same h e refl, finishes_same h e refl, answered_same h e refl) stands.all_outcomes;
-  first_run = stands.first_run;
-}
+stands_send o h s a frame each may even number sent none stands =
+    traded o h e s new each may refl stands line
   where
     e : Entry
     e = Send (owners.Request a.number) frame
@@ -239,6 +186,35 @@ stands_send o h s a frame each may even number sent none stands = record {
 
     counted : (n m : ℕ) → ((n + m) % 256 + 1) % 256 ≡ (n + (m + 1)) % 256
     counted n m = omega arith
+
+    line : AgreesOnLine o k new
+    line = record {
+      next_tn_is =
+          rw (sends_more h e x refl, length-append (sends h) (x ∷ []))
+          (rw stands.next_tn_is (counted o.next_tn (length (sends h))));
+      awaited_is = record {
+        frame = frame;
+        last = record {
+          waits = awaited-push h e;
+          earlier = sends h;
+          sends_are = rw (finishes_same h e refl, ← number) (sends_more h e x refl);
+        };
+        same = sent;
+      };
+      under_way_is =
+          rw (sends_more h e x refl, finishes_same h e refl, ← number) (sym (was_sent_own a.number (sends h) frame));
+      progress = rw (finishes_same h e refl, verdicts_sent h (owners.Request a.number) frame (oldest_number o h) even)
+          stands.progress;
+      next_run_is = rw (last_run_sent h (owners.Request a.number) frame) stands.next_run_is;
+      run_is = rw none (record {
+        none_open = runs.same_open ∙ before.none_open;
+        none_left = rw (
+          last_run_sent h (owners.Request a.number) frame,
+          asked_stays h e (last_run h) refl,
+          answered_same h e refl,
+        ) before.none_left;
+      });
+    }
 
 -- a request's reply is heard
 came_verdicts : (o : Opening) (h : List Entry) (sent : Sent) (event : LineEvent) → LogFacts o h
@@ -267,33 +243,8 @@ pub stands_came : (o : Opening) (h : List Entry) (s : QueueState) (sent : Sent) 
     → LogFacts o h → s.awaited ≡ Some (awaiting.Request sent)
     → IsProgress (verdicts (oldest_number o h) h ++ verdict sent event ∷ []) decided joiner → Agrees o h s
     → Agrees o (h ++ Came event ∷ []) (record s { awaited = None; joiner = joiner; decided = decided })
-stands_came o h s sent event decided joiner each may facts was progress stands = record {
-  source_is = stands.source_is;
-  greatest_is = stands.greatest_is;
-  budget_is = stands.budget_is;
-  places_are = rw (joins_same h e refl) stands.places_are;
-  paused_is = stands.paused_is ∙ sym (is_paused-push o h e);
-  closed_is = stands.closed_is ∙ sym (is_closed-push o h e);
-  next_request_is = rw (accepts_same h e refl) stands.next_request_is;
-  next_tn_is = rw (sends_same h e refl) stands.next_tn_is;
-  waiting_are = stands.waiting_are ∙ sym (unfinished_same h k (accepts_same h e refl) (finishes_same h e refl));
-  awaited_is = awaited-push h e;
-  under_way_is = rw (sends_same h e refl, finishes_same h e refl) stands.under_way_is;
-  progress = rw (finishes_same h e refl) (rw (came_verdicts o h sent event facts w x) progress);
-  next_ask_is = rw (asks_same h e refl) stands.next_ask_is;
-  next_run_is = rw (last_run_same h k (sends_same h e refl)) stands.next_run_is;
-  asked_are = rw (asks_same h e refl, answered_same h e refl) stands.asked_are;
-  run_is = run_same o h k s new s.run (same_running_came o h (oldest_number o h) w.frame event x) refl refl (inl refl)
-      stands.run_is;
-  devices_are = stands.devices_are ∙ sym (known_step o h e each may (answered_same h e refl));
-  devices_run_is = devices_run_same o h k s.devices_run (answered_same h e refl) stands.devices_run_is;
-  owed_for_each = rw (joins_same h e refl) stands.owed_for_each;
-  outcomes_are =
-      λ c. rw (answers_same o c h e refl refl, collectors_same h e refl)
-      (stands.outcomes_are c ∙ sym (outcomes_step o h e each may c));
-  all_outcomes = rw (collectors_same h e refl, finishes_same h e refl, answered_same h e refl) stands.all_outcomes;
-  first_run = stands.first_run;
-}
+stands_came o h s sent event decided joiner each may facts was progress stands =
+    traded o h e s new each may refl stands line
   where
     e : Entry
     e = Came event
@@ -309,6 +260,18 @@ stands_came o h s sent event decided joiner each may facts was progress stands =
 
     x : IsUnanswered h (record { owner = owners.Request (oldest_number o h); frame = w.frame })
     x = unanswered_of o h _ facts w.last
+
+    line : AgreesOnLine o k new
+    line = record {
+      next_tn_is = rw (sends_same h e refl) stands.next_tn_is;
+      awaited_is = awaited-push h e;
+      under_way_is = rw (sends_same h e refl, finishes_same h e refl) stands.under_way_is;
+      progress = rw (finishes_same h e refl) (rw (came_verdicts o h sent event facts w x) progress);
+      next_run_is = rw (last_run_same h k (sends_same h e refl)) stands.next_run_is;
+      run_is =
+          run_same o h k s new s.run (same_running_came o h (oldest_number o h) w.frame event x) refl refl (inl refl)
+          stands.run_is;
+    }
 
 -- an outcome is collected
 taken_rest : (lists : List (List OutcomeValue)) (c n : ℕ)
@@ -349,20 +312,15 @@ stands_collect o h s c d each may first stands = record {
   paused_is = stands.paused_is ∙ sym (is_paused-push o h e);
   closed_is = stands.closed_is ∙ sym (is_closed-push o h e);
   next_request_is = rw (accepts_same h e refl) stands.next_request_is;
-  next_tn_is = rw (sends_same h e refl) stands.next_tn_is;
+  next_tn_is = line.next_tn_is;
   waiting_are = stands.waiting_are ∙ sym (unfinished_same h k (accepts_same h e refl) (finishes_same h e refl));
-  awaited_is =
-      pending_same o h k s new s.awaited (sends_same h e refl) (awaited-push h e) (finishes_same h e refl) refl refl
-      stands.awaited_is;
-  under_way_is = rw (sends_same h e refl, finishes_same h e refl) stands.under_way_is;
-  progress = rw (
-    finishes_same h e refl,
-    verdicts_same h k (oldest_number o h) (sends_same h e refl) (cames_same h e refl),
-  ) stands.progress;
+  awaited_is = line.awaited_is;
+  under_way_is = line.under_way_is;
+  progress = line.progress;
   next_ask_is = rw (asks_same h e refl) stands.next_ask_is;
-  next_run_is = rw (last_run_same h k (sends_same h e refl)) stands.next_run_is;
+  next_run_is = line.next_run_is;
   asked_are = rw (asks_same h e refl, answered_same h e refl) stands.asked_are;
-  run_is = run_same o h k s new s.run (same_running o h e refl refl refl) refl refl (inl refl) stands.run_is;
+  run_is = line.run_is;
   devices_are = stands.devices_are ∙ sym (known_step o h e each may (answered_same h e refl));
   devices_run_is = devices_run_same o h k s.devices_run (answered_same h e refl) stands.devices_run_is;
   owed_for_each = length-set s.owed c.0 _ ∙ rw (joins_same h e refl) stands.owed_for_each;
@@ -384,8 +342,8 @@ stands_collect o h s c d each may first stands = record {
     k : List Entry
     k = h ++ e ∷ []
 
-    new : QueueState
-    new = collects_oldest s c.0
+    line : AgreesOnLine o k (collects_oldest s c.0)
+    line = line_same o h k s (collects_oldest s c.0) (same_line o h e refl refl refl refl) stands
 
     collects : (client : ℕ) → collects_by client k ≡ collects_by client h ++ filter (λ b. client == b) (c.0 ∷ [])
     collects client =
