@@ -53,19 +53,20 @@ finished c =
     c.finish_oldest.result c.requires.oldest.0 (own_clients c.self.inside c.self.invariant)
     (can (goal.at.returns c).After-index-deref_mut-at) c.requires.oldest.2 c.finish_oldest.ensures
 
+taken : (c : goal.After-self-2-1) → (state_of c.self.inside).decided ≡ None
+taken c = ap (λ (t : QueueState). t.decided) c.self.view_is ∙ c.requires.taken
+
 pub invariant_of-self : goal.invariant_of-self
 invariant_of-self c =
     let clients : List Client = c.self.inside.clients.items in
     let are = finished c in
-    let taken : (state_of c.self.inside).decided ≡ None =
-    ap (λ (t : QueueState). t.decided) c.self.view_is ∙ c.requires.taken in
     rw (
       written clients c.deref_mut.result.now c.args.at c.finish_oldest.new.self c.deref_mut.ensures.value,
       are.places,
       are.waiting,
       are.owed,
       c.reset.ensures.stands,
-      taken,
+      taken c,
     ) are.kept
 
 pub returns : goal.returns
@@ -73,8 +74,6 @@ returns c =
     let clients : List Client = c.self.inside.clients.items in
     let before = can (goal.at.returns c).After-index-deref_mut-at in
     let are = finished c in
-    let taken : (state_of c.self.inside).decided ≡ None =
-    ap (λ (t : QueueState). t.decided) c.self.view_is ∙ c.requires.taken in
     record {
       finished = rw (← c.self.view_is) (
         c.requires.oldest.0,
@@ -90,7 +89,7 @@ returns c =
           are.waiting,
           are.owed,
           c.reset.ensures.stands,
-          taken,
+          taken c,
         ) refl,
       );
     }
