@@ -356,21 +356,23 @@ pub run_after : (o : Opening) (h : List Entry) (n q : ℕ) (f : Option AgentFaul
 run_after o h n q None = sym (rw (without_fault_after h n q None) refl)
 run_after o h n q (Some fault) = sym (rw (without_fault_after h n q (Some fault)) refl)
 
--- the oldest discovery is answered
+-- the oldest discovery is answered, with this run, agent and known devices afterwards
+abbrev pub answers_with : QueueState → AskedDiscovery → ℕ → Option AgentFault → List Device → Option RunState
+    → AgentState → List Device → ℕ → QueueState
+answers_with s a q f found run agent devices devices_from = record (answers_oldest s a q f found) {
+  run = run;
+  agent = agent;
+  devices = devices;
+  devices_run = devices_from;
+}
+
 pub stands_answer : (o : Opening) (h : List Entry) (s : QueueState) (a : AskedDiscovery) (q : ℕ) (f : Option AgentFault)
     (found : List Device) (run : Option RunState) (agent : AgentState) (devices : List Device) (devices_from : ℕ)
     → EachAfter (MayFollow o) h → MayFollow o h (answer_of a q f) → AskFacts o h → ClientFacts o h
     → slice_get (unanswered h) 0 ≡ Some a → found ≡ answer_devices q h → s.awaited ≡ None
     → devices ≡ known_devices o (h ++ answer_of a q f ∷ []) → devices_from ≡ devices_run o (h ++ answer_of a q f ∷ [])
-    → RunIs o (h ++ answer_of a q f ∷ [])
-    (record (answers_oldest s a q f found)
-    { run = run; agent = agent; devices = devices; devices_run = devices_from }) run → Agrees o h s
-    → Agrees o (h ++ answer_of a q f ∷ []) (record (answers_oldest s a q f found) {
-      run = run;
-      agent = agent;
-      devices = devices;
-      devices_run = devices_from;
-    })
+    → RunIs o (h ++ answer_of a q f ∷ []) (answers_with s a q f found run agent devices devices_from) run
+    → Agrees o h s → Agrees o (h ++ answer_of a q f ∷ []) (answers_with s a q f found run agent devices devices_from)
 stands_answer o h s a q f found run agent devices devices_from each may asked_facts clients oldest is idle known from
     runs stands = record {
       source_is = stands.source_is;
@@ -414,14 +416,6 @@ stands_answer o h s a q f found run agent devices devices_from each may asked_fa
 
     k : List Entry
     k = h ++ e ∷ []
-
-    new : QueueState
-    new = record (answers_oldest s a q f found) {
-      run = run;
-      agent = agent;
-      devices = devices;
-      devices_run = devices_from;
-    }
 
     within : a.client < length s.owed
     within = rw stands.owed_for_each (asked_facts.askers (length (answers h) + 0) a (unanswered_place h 0 a oldest))
