@@ -1,4 +1,4 @@
-use Rattle.std.proofs.Common.{List, length, get_or, set, ap, refl, arith}
+use Rattle.std.proofs.Common.{◌≡◌, List, length, get_or, set, Some, slice_get, ap, refl, arith}
 use Rattle.rdm_queue.specs.declared.client.Client.{Client}
 use Rattle.rdm_log.specs.log.Entries.{AskedDiscovery}
 use Rattle.rdm_queue.specs.body.Fields.{state_of, asked_is, run_is}
@@ -8,20 +8,25 @@ use Rattle.rdm_queue.proofs.BodyLemmas.FieldLemmas.{written}
 use Rattle.rdm_queue.proofs.BodyLemmas.RingFields.{AreClientsOf, own_clients}
 use Rattle.rdm_queue.proofs.BodyLemmas.AnswerLemmas.{front_served, asked_rest, asked_within, CanAnswer, can_answer}
 use Rattle.rdm_queue.proofs.BodyLemmas.AnswerLemmas.{serves_less, clients-answer}
-use Rattle.rdm_queue.proofs.queue.Queue.answer_served.Goals.{After-found}
+use Rattle.rdm_queue.proofs.queue.Queue.answer_served.Goals.{After-remove-asked, After-found}
 use Rattle.rdm_queue.proofs.queue.Queue.answer_served.Goals as goal
+
+-- the oldest discovery
+oldest : (c : After-remove-asked)
+    → slice_get (state_of c.self.inside).asked 0 ≡ Some (asked_is c.remove-asked.result)
+oldest c =
+    front_served c.self.inside c.remove-asked.result (run_is c.args.run.now) c.self.invariant
+    (rw (← c.self.view_is) at c.requires) c.remove-asked.ensures.value
 
 pub bounds-deref_mut-from : goal.bounds-deref_mut-from
 bounds-deref_mut-from c =
     let within = asked_within (state_of c.self.inside) c.self.inside.clients.items (asked_is c.remove-asked.result)
-    (own_clients c.self.inside c.self.invariant)
-    (front_served c.self.inside c.remove-asked.result (run_is c.args.run.now) c.self.invariant
-    (rw (← c.self.view_is) at c.requires) c.remove-asked.ensures.value) in
+    (own_clients c.self.inside c.self.invariant) (oldest (goal.at.bounds-deref_mut-from c).After-remove-asked) in
     let same = ap (λ l. length l) c.deref_mut.ensures.value in
     let place = c.from.ensures in
     omega arith
 
--- the oldest discovery, its client, and the capacity for its answer
+-- its client, and the capacity for its answer
 abbrev asked : After-found → AskedDiscovery
 asked c = asked_is c.remove-asked.result
 
@@ -33,9 +38,7 @@ can : (c : After-found)
 can c =
     can_answer (state_of c.self.inside) c.self.inside.clients.items c.deref_mut.result.now (asked c) c.from.result
     c.index-deref_mut-from.result (own_clients c.self.inside c.self.invariant)
-    (front_served c.self.inside c.remove-asked.result (run_is c.args.run.now) c.self.invariant
-    (rw (← c.self.view_is) at c.requires) c.remove-asked.ensures.value)
-    c.from.ensures c.deref_mut.ensures.value
+    (oldest (goal.at.answer-requires-clause-sets c).After-remove-asked) c.from.ensures c.deref_mut.ensures.value
 
 pub answer-requires-clause-sets : goal.answer-requires-clause-sets
 answer-requires-clause-sets c = (can c).sets
