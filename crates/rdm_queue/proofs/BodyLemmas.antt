@@ -6,6 +6,7 @@ pub mod RingSteps
 pub mod FrontLemmas
 pub mod OutstandingLemmas
 pub mod FieldLemmas
+pub mod RingFields
 pub mod AnswerLemmas
 pub mod RunningLemmas
 pub mod HeardLemmas

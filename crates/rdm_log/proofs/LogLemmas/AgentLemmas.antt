@@ -40,8 +40,8 @@ goes_by_runs {search} o h r a aborted s b runs goes = record {
   not_corrupt = open_.1;
   all_reported = all_reported_by search kind known o.budget x b _ s.devices runs next;
   in_budget = below (cases_lt (length x) o.budget);
-  not_done = λ done. goes
-      (ap_none (certificate_ends_by search kind known o.budget x b s.devices runs (run_devices r h) done).0);
+  not_done = λ done.
+      goes (ap_none (certificate_ends_by search kind known o.budget x b s.devices runs (run_devices r h) done).0);
 }
   where
     kind : Kind

@@ -155,8 +155,9 @@ facts_finish o h n status len log may facts = record {
         ∙ length_filter_cons (λ a. c == a.client) may.accepted (drop 1 (unfinished h))
 
     finished_by : (c : ℕ) → ((c == may.accepted.client) ≡ true) ⊎ ((c == may.accepted.client) ≡ false)
-        → length (finishes (answers_to o c (h ++ e ∷ []))) + length
-        (filter (λ a. c == a.client) (drop 1 (unfinished h))) ≡ length (accepts_by c h)
+        → length (finishes (answers_to o c (h ++ e ∷ [])))
+        + length (filter (λ a. c == a.client) (drop 1 (unfinished h)))
+        ≡ length (accepts_by c h)
     finished_by c (inl own) =
         rw (
           answers_finish_own o c h n status len may.accepted.client client own,

@@ -102,7 +102,8 @@ unfolding answers_to
 answers-push o c h e none =
     filter_agree (is_answer_to o c (h ++ e ∷ [])) (is_answer_to o c h)
     (answer_same o c h (h ++ e ∷ []) (accepts_same h e (no_accept e none)) (asks_same h e (no_ask e none)))
-    (h ++ e ∷ []) ∙ filter-append (is_answer_to o c h) h (e ∷ [])
+    (h ++ e ∷ [])
+    ∙ filter-append (is_answer_to o c h) h (e ∷ [])
 
 -- an entry that neither brings nor ends work
 pub answers_same : (o : Opening) (c : ℕ) (h : List Entry) (e : Entry) → brings_work e ≡ false → ends_work e ≡ false

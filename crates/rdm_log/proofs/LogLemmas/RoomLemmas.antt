@@ -172,8 +172,9 @@ taken_answer o h n r fault some within =
     ) (omega arith)
 
 taken_collect : (o : Opening) (h : List Entry) (c : ClientId)
-    → length (collectors (h ++ Collect c ∷ [])) ≤ length (finishes (h ++ Collect c ∷ [])) + length
-    (answers (h ++ Collect c ∷ [])) → taken o (h ++ Collect c ∷ []) ≡ taken o h + 0
+    → length (collectors (h ++ Collect c ∷ []))
+    ≤ length (finishes (h ++ Collect c ∷ [])) + length (answers (h ++ Collect c ∷ []))
+    → taken o (h ++ Collect c ∷ []) ≡ taken o h + 0
 taken_collect o h c within =
     let e = Collect c in
     let more = length_push (collectors h) c.0 in

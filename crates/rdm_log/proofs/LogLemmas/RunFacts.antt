@@ -349,16 +349,16 @@ facts_answer o h n r fault may facts = record {
     agree i j x y at_i at_j run same =
         by_places (slice_get-push (answers h) b i x at_i) (slice_get-push (answers h) b j y at_j)
       where
-        by_places : (slice_get (answers h) i ≡ Some x) ⊎ IsPushed (answers h) b i x → (slice_get (answers h) j ≡ Some y)
-            ⊎ IsPushed (answers h) b j y → x.fault ≡ y.fault
+        by_places : (slice_get (answers h) i ≡ Some x) ⊎ IsPushed (answers h) b i x
+            → (slice_get (answers h) j ≡ Some y) ⊎ IsPushed (answers h) b j y → x.fault ≡ y.fault
         by_places (inl first) (inl second) = facts.agree i j x y first second run same
         by_places (inl first) (inr second) =
             rw second.is
             (agree_last i x first (λ none. run (same ∙ ap (λ (z : Answered). z.run) second.is ∙ none))
             (same ∙ ap (λ (z : Answered). z.run) second.is))
         by_places (inr first) (inl second) =
-            rw first.is (sym
-            (agree_last j y second (λ none. run (ap (λ (z : Answered). z.run) first.is ∙ none))
+            rw first.is
+            (sym (agree_last j y second (λ none. run (ap (λ (z : Answered). z.run) first.is ∙ none))
             (sym same ∙ ap (λ (z : Answered). z.run) first.is)))
         by_places (inr first) (inr second) = rw (first.is, second.is) refl
 

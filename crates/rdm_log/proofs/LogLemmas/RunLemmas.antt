@@ -190,8 +190,8 @@ run_exchanges_came_other h s event r waits other =
 
 -- a run has no more exchanges than frames, and none before it begins
 length_exchanges_of : (r : ℕ) (ss : List Sending) (es : List LineEvent)
-    → length (map seen_of (filter (λ (t : Traded). is_run r t.owner) (map traded_of (zip ss es)))) ≤ length
-    (filter (λ (s : Sending). is_run r s.owner) ss)
+    → length (map seen_of (filter (λ (t : Traded). is_run r t.owner) (map traded_of (zip ss es))))
+    ≤ length (filter (λ (s : Sending). is_run r s.owner) ss)
 length_exchanges_of r [] es = omega arith
 length_exchanges_of r (s ∷ ss) [] = omega arith
 length_exchanges_of r (s ∷ ss) (e ∷ es) = by_test (is_run r s.owner) (length_exchanges_of r ss es)

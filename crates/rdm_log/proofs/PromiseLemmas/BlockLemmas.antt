@@ -35,9 +35,9 @@ submit_full k c request block is = not_refused (is_full_log k) (λ refused. neve
     never : ◌≡◌ {A = Result ℕ (SubmitFault × Request)} (Err (submit_faults.Full, request))
         (Err (submit_faults.LogFull, request)) → ⊥
     never same =
-        let pair : ◌≡◌ {A = SubmitFault × Request} (submit_faults.Full, request)
-        (submit_faults.LogFull, request) =
-        cc in let faults : submit_faults.Full ≡ submit_faults.LogFull = ap (λ p. p.0) pair in cc
+        let pair : ◌≡◌ {A = SubmitFault × Request} (submit_faults.Full, request) (submit_faults.LogFull, request) =
+        cc in
+        let faults : submit_faults.Full ≡ submit_faults.LogFull = ap (λ p. p.0) pair in cc
 
 pub discover_ok : (k : LogState) (c : ClientId) (kind : Kind) (n : ℕ) (block : List Entry)
     → DiscoverLogs k c kind (Ok n) block → DiscoverAdds k.opening k.entries c kind (Ok n) block

@@ -62,8 +62,8 @@ unfolding accepts
 number_contained h c n request has =
     let e : Entry = Accept c n request in
     let a : Accepted = record { client = c.0; number = n; request = request } in
-    let found = filter_map_has accepted_of h has.0 e a (slice_get-get_or h has.0 e has.1 ∙ ap (λ x. Some x) has.2)
-    refl in
+    let found = filter_map_has accepted_of h has.0 e a
+    (slice_get-get_or h has.0 e has.1 ∙ ap (λ x. Some x) has.2) refl in
     contains_from_get (numbers_accepted (accepts h)) found.0 n
     (slice_get-map (λ b. b.number) (accepts h) found.0 ∙ ap (option_map (λ b. b.number)) found.1)
 

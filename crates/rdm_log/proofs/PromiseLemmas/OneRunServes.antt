@@ -377,5 +377,5 @@ pub served_by_one : (o : Opening) (h : List Entry) → EachAfter (MayFollow o) h
     → (r i : ℕ) (b : Answered) (a : AskedDiscovery) → slice_get (answers h) i ≡ Some b → Contains (served r h) a
     → b.number ≡ a.number → b.run ≡ r
 served_by_one o h each r i b a at has same =
-    along o ServedByOne by_one_none (by_one_step o) h each i b r has.0
-    a at (slice_get-get_or (served r h) has.0 a has.1 ∙ ap (λ y. Some y) has.2) same
+    along o ServedByOne by_one_none (by_one_step o) h each i b r has.0 a at
+    (slice_get-get_or (served r h) has.0 a has.1 ∙ ap (λ y. Some y) has.2) same

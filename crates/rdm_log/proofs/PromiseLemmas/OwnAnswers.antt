@@ -84,7 +84,8 @@ of_tests false false false false false true v from = with_status statuses.Invali
 of_tests false false false false false false v from = from
 
 of_packet : (sent : Sent) (packet : Result Response PacketFault) → IsFromLine (verdict_of_packet sent packet)
-of_packet sent (Ok r) = of_tests
+of_packet sent (Ok r) =
+    of_tests
     (not (r.tn == sent.tn))
     (not (r.sub_device == sent.sub_device) && not (sent.sub_device == ALL_SUB_DEVICES)
     && not (sent.pid == QUEUED_MESSAGE))

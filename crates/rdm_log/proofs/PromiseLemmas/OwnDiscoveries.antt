@@ -113,9 +113,9 @@ asked_by o h legal c n r fault has facts = (
     ask = ask_in h (n - o.next_ask) a.0 a.1
 
     number_is : a.0.number ≡ n
-    number_is = by_place
-        (filter_map_has answered_of h own.0 (Answer n r fault) (record { number = n; run = r; fault = fault }) own.1
-        refl)
+    number_is =
+        by_place (filter_map_has answered_of h own.0 (Answer n r fault)
+        (record { number = n; run = r; fault = fault }) own.1 refl)
       where
         by_place : (j : ℕ)
             × (slice_get (filter_map answered_of h) j ≡ Some (record { number = n; run = r; fault = fault }))

@@ -178,7 +178,7 @@ runs_answer o h legal = record {
   all_served = all_served o h legal;
   by_one = served_by_one o h legal.each;
   ended = ended o h legal.each;
-  stays = λ front back n r fault is. ap
-      (λ (ds : List Device). Some (DiscoveryValue (Some n) (record { run = r; fault = fault; devices = ds })))
+  stays = λ front back n r fault is.
+      ap (λ (ds : List Device). Some (DiscoveryValue (Some n) (record { run = r; fault = fault; devices = ds })))
       (devices_stay front h r (ended o h legal.each front back n r fault is));
 }

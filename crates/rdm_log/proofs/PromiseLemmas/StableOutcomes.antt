@@ -55,7 +55,8 @@ outcome_stays o h more c i x each at = by_kind (uncollected_answer o h (legal_fa
         rw f.is (ap (λ r. Some (RequestValue (Some f.number) (completion_of f.status r)))
         (finished_stays o h more f.number each f.finished))
     by_kind (inr f) =
-        rw f.is (ap (λ (ds : List Device). Some
-        (DiscoveryValue (Some f.number) (record { run = f.run; fault = f.fault; devices = ds })))
+        rw f.is
+        (ap (λ (ds : List Device).
+        Some (DiscoveryValue (Some f.number) (record { run = f.run; fault = f.fault; devices = ds })))
         (devices_stay o h more f.run each
         (named_in h found.0 f.number f.run f.fault (found.1 ∙ ap (λ y. Some y) f.is))))

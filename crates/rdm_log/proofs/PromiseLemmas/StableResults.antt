@@ -99,8 +99,8 @@ answer_at o h facts c j (Finish n status len) at answers = inl (record {
   status = status;
   len = len;
   is = refl;
-  finished = by_place
-      (filter_map_has finished_of h j (Finish n status len)
+  finished =
+      by_place (filter_map_has finished_of h j (Finish n status len)
       (record { number = n; status = status; len = len }) at refl);
 })
   where

@@ -90,8 +90,8 @@ came_amid o h s new event waits hears hears_by_run after = record {
         let before = open_progress (result_of (verdicts (oldest_number o h) h)) (verdicts (oldest_number o h) h)
         s.decided s.joiner (awaited_open o h sent facts (pending (Some (awaiting.Request sent)) is))
         after.stands.progress in
-        let heard : Hears (verdicts (oldest_number o h) h ++ verdict sent event ∷ []) s new = hears sent is
-        (verdicts (oldest_number o h) h) before.0 before.1 in
+        let heard : Hears (verdicts (oldest_number o h) h ++ verdict sent event ∷ []) s new =
+        hears sent is (verdicts (oldest_number o h) h) before.0 before.1 in
         rw heard.new_is
         (stands_came o h s sent event new.decided new.joiner after.legal.each (after.legal.settled, waits) facts is
         heard.progress after.stands)

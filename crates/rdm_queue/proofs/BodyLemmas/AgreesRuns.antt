@@ -27,11 +27,10 @@ use Rattle.rdm_log.proofs.LogLemmas.PushLemmas.{is_paused-push, is_closed-push, 
 use Rattle.rdm_log.proofs.LogLemmas.ExchangeLemmas.{IsUnanswered, verdicts_same, verdicts_sent, verdicts_came_other}
 use Rattle.rdm_log.proofs.LogLemmas.LegalFacts.{LogFacts}
 use Rattle.rdm_log.proofs.LogLemmas.AskFacts.{AskFacts}
-use Rattle.rdm_log.proofs.LogLemmas.ClientLemmas.{answers_same}
 use Rattle.rdm_log.proofs.LogLemmas.ClientFacts.{ClientFacts}
 use Rattle.rdm_log.proofs.LogLemmas.RunLemmas.{last_run_same, last_run_sent}
-use Rattle.rdm_log.proofs.PromiseLemmas.OutcomeLemmas.{outcomes_step, known_step}
-use Rattle.rdm_queue.proofs.BodyLemmas.AgreesSame.{devices_run_same}
+use Rattle.rdm_log.proofs.PromiseLemmas.OutcomeLemmas.{outcomes_step}
+use Rattle.rdm_queue.proofs.BodyLemmas.AgreesSame.{AgreesOnLine, traded}
 use Rattle.std.proofs.lemmas.List.Sums.{fold_push}
 use Rattle.rdm_wire.specs.Devices.{uids_of}
 use Rattle.rdm_wire.specs.declared.device.Device.{Device}
@@ -94,62 +93,8 @@ pub stands_run_send : (o : Opening) (h : List Entry) (s : QueueState) (r : RunSt
     → s.run ≡ Some r → next_op s.agent ≢ End → frame.items ≡ op_frame (next_op s.agent) s.source s.next_tn
     → asked_in frame.items ≡ asked_by (next_op s.agent) → Agrees o h s
     → Agrees o (h ++ Send (owners.Run r.number) frame ∷ []) (gives_run s)
-stands_run_send o h s r frame each may even is goes frame_is asks_is stands = record {
-  source_is = stands.source_is;
-  greatest_is = stands.greatest_is;
-  budget_is = stands.budget_is;
-  places_are = rw (joins_same h e refl) stands.places_are;
-  paused_is = stands.paused_is ∙ sym (is_paused-push o h e);
-  closed_is = stands.closed_is ∙ sym (is_closed-push o h e);
-  next_request_is = rw (accepts_same h e refl) stands.next_request_is;
-  next_tn_is =
-      rw (sends_more h e x refl, length-append (sends h) (x ∷ []))
-      (rw stands.next_tn_is (counted o.next_tn (length (sends h))));
-  waiting_are = stands.waiting_are ∙ sym (unfinished_same h k (accepts_same h e refl) (finishes_same h e refl));
-  awaited_is = record {
-    run = r;
-    run_is = is;
-    frame = frame;
-    last = record { waits = awaited-push h e; earlier = sends h; sends_are = sends_more h e x refl };
-    goes_on = goes;
-    asks = asks_is;
-    same = rw (← stands.source_is) frame_is;
-  };
-  under_way_is =
-      rw (sends_more h e x refl, finishes_same h e refl)
-      (stands.under_way_is ∙ sym (way_same (oldest_number o h) r.number (sends h) frame));
-  progress = rw (finishes_same h e refl, verdicts_sent h (owners.Run r.number) frame (oldest_number o h) even)
-      stands.progress;
-  next_ask_is = rw (asks_same h e refl) stands.next_ask_is;
-  next_run_is = rw (last_run_sent h (owners.Run r.number) frame) (stands.next_run_is ∙ rw before.last refl);
-  asked_are = rw (asks_same h e refl, answered_same h e refl) stands.asked_are;
-  run_is = subst (λ q. RunIs o k new q) (sym is) (record {
-    last = last_run_sent h (owners.Run r.number) frame;
-    aborted = false;
-    has_run = rw (
-      run_exchanges_sent h (owners.Run r.number) frame r.number even,
-      served_stays r.number h (e ∷ []) started,
-      entries_before_run_stays r.number h (e ∷ []) started,
-    )
-        (not_stopped _ _ _ before.aborted _ s.agent before.has_run goes);
-    stopped = λ no. absurd (false≢true no);
-    left = rw (last_run_sent h (owners.Run r.number) frame, answered_same h e refl)
-        (asked_stays h e (Some r.number) before.last ∙ (rw before.last at before.left));
-    some = before.some;
-    earlier = rw (entries_before_run_stays r.number h (e ∷ []) started, answered_same h e refl) before.earlier;
-    ended = rw (answered_same h e refl) before.ended;
-    alike = rw (answered_same h e refl) before.alike;
-    no_request = before.no_request;
-  });
-  devices_are = stands.devices_are ∙ sym (known_step o h e each may (answered_same h e refl));
-  devices_run_is = devices_run_same o h k s.devices_run (answered_same h e refl) stands.devices_run_is;
-  owed_for_each = rw (joins_same h e refl) stands.owed_for_each;
-  outcomes_are =
-      λ c. rw (answers_same o c h e refl refl, collectors_same h e refl)
-      (stands.outcomes_are c ∙ sym (outcomes_step o h e each may c));
-  all_outcomes = rw (collectors_same h e refl, finishes_same h e refl, answered_same h e refl) stands.all_outcomes;
-  first_run = stands.first_run;
-}
+stands_run_send o h s r frame each may even is goes frame_is asks_is stands =
+    traded o h e s new each may refl stands line
   where
     e : Entry
     e = Send (owners.Run r.number) frame
@@ -169,31 +114,14 @@ stands_run_send o h s r frame each may even is goes frame_is asks_is stands = re
     started : has_begun r.number h ≡ true
     started = last_begun r.number h before.last
 
--- a run begins with its first frame
-pub stands_begin : (o : Opening) (h : List Entry) (s : QueueState) (frame : ArrayVec ℕ) → EachAfter (MayFollow o) h
-    → MayFollow o h (Send (owners.Run s.next_run) frame) → RunFacts o h → AskFacts o h
-    → length (sends h) ≡ length (cames h) → s.run ≡ None → s.under_way ≡ false → 1 ≤ length s.asked → 1 ≤ s.next_run
-    → HasRunBy s.search (kind_of s.asked) (uids_of s.devices) s.budget false [] (begun s).agent
-    → next_op (begun s).agent ≢ End
-    → frame.items ≡ op_frame (next_op (begun s).agent) s.source s.next_tn
-    → asked_in frame.items ≡ asked_by (next_op (begun s).agent) → Agrees o h s
-    → Agrees o (h ++ Send (owners.Run s.next_run) frame ∷ []) (gives_run (begun s))
-stands_begin o h s frame each may run_facts ask_facts even none way some from starts goes frame_is asks_is stands =
-    record {
-      source_is = stands.source_is;
-      greatest_is = stands.greatest_is;
-      budget_is = stands.budget_is;
-      places_are = rw (joins_same h e refl) stands.places_are;
-      paused_is = stands.paused_is ∙ sym (is_paused-push o h e);
-      closed_is = stands.closed_is ∙ sym (is_closed-push o h e);
-      next_request_is = rw (accepts_same h e refl) stands.next_request_is;
+    line : AgreesOnLine o k new
+    line = record {
       next_tn_is =
           rw (sends_more h e x refl, length-append (sends h) (x ∷ []))
           (rw stands.next_tn_is (counted o.next_tn (length (sends h))));
-      waiting_are = stands.waiting_are ∙ sym (unfinished_same h k (accepts_same h e refl) (finishes_same h e refl));
       awaited_is = record {
         run = r;
-        run_is = refl;
+        run_is = is;
         frame = frame;
         last = record { waits = awaited-push h e; earlier = sends h; sends_are = sends_more h e x refl };
         goes_on = goes;
@@ -205,47 +133,38 @@ stands_begin o h s frame each may run_facts ask_facts even none way some from st
           (stands.under_way_is ∙ sym (way_same (oldest_number o h) r.number (sends h) frame));
       progress = rw (finishes_same h e refl, verdicts_sent h (owners.Run r.number) frame (oldest_number o h) even)
           stands.progress;
-      next_ask_is = rw (asks_same h e refl) stands.next_ask_is;
-      next_run_is = rw (last_run_sent h (owners.Run s.next_run) frame) refl;
-      asked_are = rw (asks_same h e refl, answered_same h e refl) stands.asked_are;
-      run_is = record {
-        last = last_run_sent h (owners.Run s.next_run) frame;
+      next_run_is = rw (last_run_sent h (owners.Run r.number) frame) (stands.next_run_is ∙ rw before.last refl);
+      run_is = subst (λ q. RunIs o k new q) (sym is) (record {
+        last = last_run_sent h (owners.Run r.number) frame;
         aborted = false;
         has_run = rw (
-          run_exchanges_sent h (owners.Run s.next_run) frame s.next_run even,
-          no_exchanges s.next_run h unbegun,
-          begins_now s.next_run h frame unbegun,
-          before_begun s.next_run h frame unbegun,
-          all_unserved h before.none_left,
-          ← stands.asked_are,
-          ← stands.devices_are,
-          ← stands.budget_is,
-        ) starts;
-        stopped = λ no. absurd (false≢true no);
-        left = rw (
-          last_run_sent h (owners.Run s.next_run) frame,
-          before_begun s.next_run h frame unbegun,
-          answered_same h e refl,
-          stands.asked_are,
+          run_exchanges_sent h (owners.Run r.number) frame r.number even,
+          served_stays r.number h (e ∷ []) started,
+          entries_before_run_stays r.number h (e ∷ []) started,
         )
-            (let long = length-drop (length (answers h)) (asks h) in let within = ask_facts.answered_within in
-            omega arith);
-        some = some;
-        earlier = rw (before_begun s.next_run h frame unbegun, answered_same h e refl) before.none_left;
-        ended = λ named. absurd (false≢true (sym unnamed ∙ rw (answered_same h e refl) at named));
-        alike = λ i b at own. absurd (false≢true
-            (sym unnamed ∙ some_at s.next_run (answers h) i b (rw (answered_same h e refl) at at) own));
-        no_request = way;
-      };
-      devices_are = stands.devices_are ∙ sym (known_step o h e each may (answered_same h e refl));
-      devices_run_is = devices_run_same o h k s.devices_run (answered_same h e refl) stands.devices_run_is;
-      owed_for_each = rw (joins_same h e refl) stands.owed_for_each;
-      outcomes_are =
-          λ c. rw (answers_same o c h e refl refl, collectors_same h e refl)
-          (stands.outcomes_are c ∙ sym (outcomes_step o h e each may c));
-      all_outcomes = rw (collectors_same h e refl, finishes_same h e refl, answered_same h e refl) stands.all_outcomes;
-      first_run = stands.first_run;
+            (not_stopped _ _ _ before.aborted _ s.agent before.has_run goes);
+        stopped = λ no. absurd (false≢true no);
+        left = rw (last_run_sent h (owners.Run r.number) frame, answered_same h e refl)
+            (asked_stays h e (Some r.number) before.last ∙ (rw before.last at before.left));
+        some = before.some;
+        earlier = rw (entries_before_run_stays r.number h (e ∷ []) started, answered_same h e refl) before.earlier;
+        ended = rw (answered_same h e refl) before.ended;
+        alike = rw (answered_same h e refl) before.alike;
+        no_request = before.no_request;
+      });
     }
+
+-- a run begins with its first frame
+pub stands_begin : (o : Opening) (h : List Entry) (s : QueueState) (frame : ArrayVec ℕ) → EachAfter (MayFollow o) h
+    → MayFollow o h (Send (owners.Run s.next_run) frame) → RunFacts o h → AskFacts o h
+    → length (sends h) ≡ length (cames h) → s.run ≡ None → s.under_way ≡ false → 1 ≤ length s.asked → 1 ≤ s.next_run
+    → HasRunBy s.search (kind_of s.asked) (uids_of s.devices) s.budget false [] (begun s).agent
+    → next_op (begun s).agent ≢ End
+    → frame.items ≡ op_frame (next_op (begun s).agent) s.source s.next_tn
+    → asked_in frame.items ≡ asked_by (next_op (begun s).agent) → Agrees o h s
+    → Agrees o (h ++ Send (owners.Run s.next_run) frame ∷ []) (gives_run (begun s))
+stands_begin o h s frame each may run_facts ask_facts even none way some from starts goes frame_is asks_is stands =
+    traded o h e s new each may refl stands line
   where
     e : Entry
     e = Send (owners.Run s.next_run) frame
@@ -278,56 +197,63 @@ stands_begin o h s frame each may run_facts ask_facts even none way some from st
     unnamed : is_answered s.next_run h ≡ false
     unnamed = never_named o h s.next_run run_facts from (let same = stands.next_run_is in omega arith)
 
+    line : AgreesOnLine o k new
+    line = record {
+      next_tn_is =
+          rw (sends_more h e x refl, length-append (sends h) (x ∷ []))
+          (rw stands.next_tn_is (counted o.next_tn (length (sends h))));
+      awaited_is = record {
+        run = r;
+        run_is = refl;
+        frame = frame;
+        last = record { waits = awaited-push h e; earlier = sends h; sends_are = sends_more h e x refl };
+        goes_on = goes;
+        asks = asks_is;
+        same = rw (← stands.source_is) frame_is;
+      };
+      under_way_is =
+          rw (sends_more h e x refl, finishes_same h e refl)
+          (stands.under_way_is ∙ sym (way_same (oldest_number o h) r.number (sends h) frame));
+      progress = rw (finishes_same h e refl, verdicts_sent h (owners.Run r.number) frame (oldest_number o h) even)
+          stands.progress;
+      next_run_is = rw (last_run_sent h (owners.Run s.next_run) frame) refl;
+      run_is = record {
+        last = last_run_sent h (owners.Run s.next_run) frame;
+        aborted = false;
+        has_run = rw (
+          run_exchanges_sent h (owners.Run s.next_run) frame s.next_run even,
+          no_exchanges s.next_run h unbegun,
+          begins_now s.next_run h frame unbegun,
+          before_begun s.next_run h frame unbegun,
+          all_unserved h before.none_left,
+          ← stands.asked_are,
+          ← stands.devices_are,
+          ← stands.budget_is,
+        ) starts;
+        stopped = λ no. absurd (false≢true no);
+        left = rw (
+          last_run_sent h (owners.Run s.next_run) frame,
+          before_begun s.next_run h frame unbegun,
+          answered_same h e refl,
+          stands.asked_are,
+        )
+            (let long = length-drop (length (answers h)) (asks h) in let within = ask_facts.answered_within in
+            omega arith);
+        some = some;
+        earlier = rw (before_begun s.next_run h frame unbegun, answered_same h e refl) before.none_left;
+        ended = λ named. absurd (false≢true (sym unnamed ∙ rw (answered_same h e refl) at named));
+        alike = λ i b at own. absurd (false≢true
+            (sym unnamed ∙ some_at s.next_run (answers h) i b (rw (answered_same h e refl) at at) own));
+        no_request = way;
+      };
+    }
+
 -- the reply to a run's frame is heard
 pub stands_run_came : (o : Opening) (h : List Entry) (s : QueueState) (tn : ℕ) (event : LineEvent)
     → EachAfter (MayFollow o) h → MayFollow o h (Came event) → LogFacts o h → s.awaited ≡ Some (awaiting.Run tn)
     → Agrees o h s → Agrees o (h ++ Came event ∷ []) (hears_run tn event s)
-stands_run_came o h s tn event each may facts was stands = record {
-  source_is = stands.source_is;
-  greatest_is = stands.greatest_is;
-  budget_is = stands.budget_is;
-  places_are = rw (joins_same h e refl) stands.places_are;
-  paused_is = stands.paused_is ∙ sym (is_paused-push o h e);
-  closed_is = stands.closed_is ∙ sym (is_closed-push o h e);
-  next_request_is = rw (accepts_same h e refl) stands.next_request_is;
-  next_tn_is = rw (sends_same h e refl) stands.next_tn_is;
-  waiting_are = stands.waiting_are ∙ sym (unfinished_same h k (accepts_same h e refl) (finishes_same h e refl));
-  awaited_is = awaited-push h e;
-  under_way_is = rw (sends_same h e refl, finishes_same h e refl) stands.under_way_is;
-  progress = rw (finishes_same h e refl, verdicts_came_other h _ event (oldest_number o h) x refl) stands.progress;
-  next_ask_is = rw (asks_same h e refl) stands.next_ask_is;
-  next_run_is = rw (last_run_same h k (sends_same h e refl)) stands.next_run_is;
-  asked_are = rw (asks_same h e refl, answered_same h e refl) stands.asked_are;
-  run_is = subst (λ q. RunIs o k new q) (sym w.run_is) (record {
-    last = last_run_same h k (sends_same h e refl) ∙ before.last;
-    aborted = false;
-    has_run = rw (
-      run_exchanges_came_own h _ event w.run.number x (eq-eqb w.run.number w.run.number refl),
-      served_stays w.run.number h (e ∷ []) started,
-      entries_before_run_stays w.run.number h (e ∷ []) started,
-    )
-        (subst (λ n. HasRunBy s.search (run_kind w.run.number h) (known_at_run o w.run.number h) o.budget false
-        (run_exchanges w.run.number h ++ seen ∷ [])
-        (fed s.agent (heard_in (op_frame (next_op s.agent) n tn) (bytes_heard event)))) (sym stands.source_is) heard);
-    stopped = λ no. absurd (false≢true no);
-    left = rw (last_run_same h k (sends_same h e refl), answered_same h e refl)
-        (asked_stays h e (last_run h) refl ∙ before.left);
-    some = before.some;
-    earlier = rw (entries_before_run_stays w.run.number h (e ∷ []) started, answered_same h e refl) before.earlier;
-    ended = λ named. absurd (w.goes_on (before.ended (rw (answered_same h e refl) at named)));
-    alike = λ i b at own. absurd (w.goes_on
-        (before.ended (some_at w.run.number (answers h) i b (rw (answered_same h e refl) at at) own)));
-    no_request = before.no_request;
-  });
-  devices_are = stands.devices_are ∙ sym (known_step o h e each may (answered_same h e refl));
-  devices_run_is = devices_run_same o h k s.devices_run (answered_same h e refl) stands.devices_run_is;
-  owed_for_each = rw (joins_same h e refl) stands.owed_for_each;
-  outcomes_are =
-      λ c. rw (answers_same o c h e refl refl, collectors_same h e refl)
-      (stands.outcomes_are c ∙ sym (outcomes_step o h e each may c));
-  all_outcomes = rw (collectors_same h e refl, finishes_same h e refl, answered_same h e refl) stands.all_outcomes;
-  first_run = stands.first_run;
-}
+stands_run_came o h s tn event each may facts was stands =
+    traded o h e s new each may refl stands line
   where
     e : Entry
     e = Came event
@@ -358,6 +284,37 @@ stands_run_came o h s tn event each may facts was stands = record {
         (fed s.agent (heard_in (op_frame (next_op s.agent) o.source tn) (bytes_heard event)))
     heard = hears-has_run s.agent _ seen (next_asked s.agent w.goes_on ∙ ap Some (sym w.asks))
         (ap (λ b. fed s.agent (heard_in b (bytes_heard event))) (sym w.same)) _ _ _ before.aborted _ before.has_run
+
+    line : AgreesOnLine o k new
+    line = record {
+      next_tn_is = rw (sends_same h e refl) stands.next_tn_is;
+      awaited_is = awaited-push h e;
+      under_way_is = rw (sends_same h e refl, finishes_same h e refl) stands.under_way_is;
+      progress = rw (finishes_same h e refl, verdicts_came_other h _ event (oldest_number o h) x refl) stands.progress;
+      next_run_is = rw (last_run_same h k (sends_same h e refl)) stands.next_run_is;
+      run_is = subst (λ q. RunIs o k new q) (sym w.run_is) (record {
+        last = last_run_same h k (sends_same h e refl) ∙ before.last;
+        aborted = false;
+        has_run = rw (
+          run_exchanges_came_own h _ event w.run.number x (eq-eqb w.run.number w.run.number refl),
+          served_stays w.run.number h (e ∷ []) started,
+          entries_before_run_stays w.run.number h (e ∷ []) started,
+        )
+            (subst (λ n. HasRunBy s.search (run_kind w.run.number h) (known_at_run o w.run.number h) o.budget false
+            (run_exchanges w.run.number h ++ seen ∷ [])
+            (fed s.agent (heard_in (op_frame (next_op s.agent) n tn) (bytes_heard event))))
+            (sym stands.source_is) heard);
+        stopped = λ no. absurd (false≢true no);
+        left = rw (last_run_same h k (sends_same h e refl), answered_same h e refl)
+            (asked_stays h e (last_run h) refl ∙ before.left);
+        some = before.some;
+        earlier = rw (entries_before_run_stays w.run.number h (e ∷ []) started, answered_same h e refl) before.earlier;
+        ended = λ named. absurd (w.goes_on (before.ended (rw (answered_same h e refl) at named)));
+        alike = λ i b at own. absurd (w.goes_on
+            (before.ended (some_at w.run.number (answers h) i b (rw (answered_same h e refl) at at) own)));
+        no_request = before.no_request;
+      });
+    }
 
 -- what an Answer leaves of a run's exchanges, and which devices are known after it
 pub exchanges_answered : (h : List Entry) (n q : ℕ) (f : Option AgentFault) (r : ℕ)
@@ -399,21 +356,23 @@ pub run_after : (o : Opening) (h : List Entry) (n q : ℕ) (f : Option AgentFaul
 run_after o h n q None = sym (rw (without_fault_after h n q None) refl)
 run_after o h n q (Some fault) = sym (rw (without_fault_after h n q (Some fault)) refl)
 
--- the oldest discovery is answered
+-- the oldest discovery is answered, with this run, agent and known devices afterwards
+abbrev pub answers_with : QueueState → AskedDiscovery → ℕ → Option AgentFault → List Device → Option RunState
+    → AgentState → List Device → ℕ → QueueState
+answers_with s a q f found run agent devices devices_from = record (answers_oldest s a q f found) {
+  run = run;
+  agent = agent;
+  devices = devices;
+  devices_run = devices_from;
+}
+
 pub stands_answer : (o : Opening) (h : List Entry) (s : QueueState) (a : AskedDiscovery) (q : ℕ) (f : Option AgentFault)
     (found : List Device) (run : Option RunState) (agent : AgentState) (devices : List Device) (devices_from : ℕ)
     → EachAfter (MayFollow o) h → MayFollow o h (answer_of a q f) → AskFacts o h → ClientFacts o h
     → slice_get (unanswered h) 0 ≡ Some a → found ≡ answer_devices q h → s.awaited ≡ None
     → devices ≡ known_devices o (h ++ answer_of a q f ∷ []) → devices_from ≡ devices_run o (h ++ answer_of a q f ∷ [])
-    → RunIs o (h ++ answer_of a q f ∷ [])
-    (record (answers_oldest s a q f found)
-    { run = run; agent = agent; devices = devices; devices_run = devices_from }) run → Agrees o h s
-    → Agrees o (h ++ answer_of a q f ∷ []) (record (answers_oldest s a q f found) {
-      run = run;
-      agent = agent;
-      devices = devices;
-      devices_run = devices_from;
-    })
+    → RunIs o (h ++ answer_of a q f ∷ []) (answers_with s a q f found run agent devices devices_from) run
+    → Agrees o h s → Agrees o (h ++ answer_of a q f ∷ []) (answers_with s a q f found run agent devices devices_from)
 stands_answer o h s a q f found run agent devices devices_from each may asked_facts clients oldest is idle known from
     runs stands = record {
       source_is = stands.source_is;
@@ -457,14 +416,6 @@ stands_answer o h s a q f found run agent devices devices_from each may asked_fa
 
     k : List Entry
     k = h ++ e ∷ []
-
-    new : QueueState
-    new = record (answers_oldest s a q f found) {
-      run = run;
-      agent = agent;
-      devices = devices;
-      devices_run = devices_from;
-    }
 
     within : a.client < length s.owed
     within = rw stands.owed_for_each (asked_facts.askers (length (answers h) + 0) a (unanswered_place h 0 a oldest))

@@ -1,22 +1,27 @@
--- A queue stands after a log with more entries, if they aren't about the work on requests or discoveries.
-use Rattle.std.proofs.Common.{◌≡◌, ℕ, ◌+◌, Bool, false, List, [], ◌∷◌, ◌++◌, length, Option, Some, None, refl, sym, ap}
-use Rattle.std.proofs.Common.{◌∙◌, inl}
+-- What an entry leaves of a queue's agreement with its log: all, what is about the line, or all else.
+use Rattle.std.proofs.Common.{◌≡◌, ℕ, ◌+◌, Bool, true, false, List, [], ◌∷◌, ◌++◌, length, Option, Some, None, refl}
+use Rattle.std.proofs.Common.{sym, ap, ◌∙◌, inl}
+use Rattle.std.proofs.lemmas.Bool.{false≢true}
 use Rattle.rdm_wire.specs.Lists.{EachAfter}
 use Rattle.rdm_log.specs.declared.entry.Opening.{Opening}
 use Rattle.rdm_log.specs.declared.entry.Entry.{Entry}
+use Rattle.rdm_log.specs.declared.entry.Entry.TheVariants.{Send, Came}
 use Rattle.rdm_queue.specs.declared.pending.Awaited.{Awaited}
 use Rattle.rdm_queue.specs.declared.pending.Awaited.TheVariants as awaiting
-use Rattle.rdm_log.specs.log.Entries.{Sending, asks, sends, finishes, answers, collectors, sending_of, came_of}
-use Rattle.rdm_log.specs.log.Entries.{collector_of}
-use Rattle.rdm_log.specs.log.History.{awaits_after, awaited, is_paused, is_closed, places}
+use Rattle.rdm_log.specs.log.Entries.{Sending, joins, accepts, asks, sends, cames, finishes, answers, collectors}
+use Rattle.rdm_log.specs.log.Entries.{join_of, sending_of, came_of, collector_of, verdicts}
+use Rattle.rdm_log.specs.log.History.{awaits_after, paused_after, closed_after, awaited, is_paused, is_closed, places}
+use Rattle.rdm_log.specs.log.History.{next_tn, was_sent}
 use Rattle.rdm_log.specs.log.Clients.{answers_to}
-use Rattle.rdm_log.specs.log.Runs.{devices_run}
+use Rattle.rdm_log.specs.log.Runs.{next_run, devices_run}
 use Rattle.rdm_log.specs.log.Legal.{MayFollow}
 use Rattle.rdm_log.specs.promises.Outcomes.{OutcomeValue}
-use Rattle.rdm_queue.specs.body.State.{QueueState, owed_to}
+use Rattle.rdm_queue.specs.body.State.{QueueState, owed_to, IsProgress}
 use Rattle.rdm_queue.specs.body.State.{uncollected as uncollected_by}
-use Rattle.rdm_queue.specs.body.Agrees.{IsLast, IsPending, oldest_number, Agrees}
-use Rattle.rdm_log.proofs.LogLemmas.PushLemmas.{SameRequests, same_after, collectors_same, asks_same}
+use Rattle.rdm_queue.specs.body.Agrees.{IsLast, IsPending, RunIs, oldest_number, Agrees}
+use Rattle.rdm_log.proofs.LogLemmas.PushLemmas.{SameRequests, same_after, joins_same, accepts_same, asks_same}
+use Rattle.rdm_log.proofs.LogLemmas.PushLemmas.{answered_same, sends_same, cames_same, finishes_same, collectors_same}
+use Rattle.rdm_log.proofs.LogLemmas.PushLemmas.{awaited-push, is_paused-push, is_closed-push, unfinished_same}
 use Rattle.rdm_log.proofs.LogLemmas.ExchangeLemmas.{verdicts_same}
 use Rattle.rdm_log.proofs.LogLemmas.ClientLemmas.{brings_work, ends_work, no_accept, no_ask, no_finish, no_reply}
 use Rattle.rdm_log.proofs.LogLemmas.ClientLemmas.{answers_same}
@@ -74,6 +79,149 @@ pub devices_run_same : (o : Opening) (h k : List Entry) (n : ℕ) → answers k 
     → n ≡ devices_run o k
 devices_run_same o h k n same is = rw same is
 
+-- A state with what another says of the line: what was sent and heard, and the run.
+abbrev pub with_line : QueueState → QueueState → QueueState
+with_line s line = record s {
+  search = line.search;
+  next_tn = line.next_tn;
+  awaited = line.awaited;
+  under_way = line.under_way;
+  joiner = line.joiner;
+  decided = line.decided;
+  next_run = line.next_run;
+  run = line.run;
+  agent = line.agent;
+}
+
+-- what a queue says of the line is what the log says
+pub record AgreesOnLine (o : Opening) (h : List Entry) (s : QueueState) : Type 0 where
+  pub next_tn_is : s.next_tn ≡ next_tn o h
+  pub awaited_is : IsPending o h s s.awaited
+  pub under_way_is : s.under_way ≡ was_sent (oldest_number o h) h
+  pub progress : IsProgress (verdicts (oldest_number o h) h) s.decided s.joiner
+  pub next_run_is : s.next_run ≡ next_run o h
+  pub run_is : RunIs o h s s.run
+
+-- no frame was sent, no reply heard, and nothing has ended
+pub record SameLine (o : Opening) (h k : List Entry) : Type 0 where
+  pub same_sends : sends k ≡ sends h
+  pub same_cames : cames k ≡ cames h
+  pub same_finishes : finishes k ≡ finishes h
+  pub same_awaited : awaited k ≡ awaited h
+  pub running : SameRunning o h k
+
+pub same_line : (o : Opening) (h : List Entry) (e : Entry) → sending_of e ≡ None → came_of e ≡ None
+    → ends_work e ≡ false → awaits_after (awaited h) e ≡ awaited h → SameLine o h (h ++ e ∷ [])
+same_line o h e send came ends waits = record {
+  same_sends = sends_same h e send;
+  same_cames = cames_same h e came;
+  same_finishes = finishes_same h e (no_finish e ends);
+  same_awaited = awaited-push h e ∙ waits;
+  running = same_running o h e send came (no_reply e ends);
+}
+
+pub line_same : (o : Opening) (h k : List Entry) (s new : QueueState) → SameLine o h k → Agrees o h s
+    → AgreesOnLine o k (with_line new s)
+line_same o h k s new same stands = record {
+  next_tn_is = rw same.same_sends stands.next_tn_is;
+  awaited_is =
+      pending_same o h k s (with_line new s) s.awaited same.same_sends same.same_awaited same.same_finishes refl refl
+      stands.awaited_is;
+  under_way_is = rw (same.same_sends, same.same_finishes) stands.under_way_is;
+  progress =
+      rw (same.same_finishes, verdicts_same h k (oldest_number o h) same.same_sends same.same_cames) stands.progress;
+  next_run_is = rw same.running.same_last stands.next_run_is;
+  run_is = run_same o h k s (with_line new s) s.run same.running refl refl (inl refl) stands.run_is;
+}
+
+-- A frame was sent, or a reply heard: all else is as before.
+abbrev pub is_traded : Entry → Bool
+is_traded (Send owner frame) = true
+is_traded (Came event) = true
+is_traded _ = false
+
+record AddsNothing (e : Entry) : Type 0 where
+  join : join_of e ≡ None
+  collect : collector_of e ≡ None
+  brings : brings_work e ≡ false
+  ends : ends_work e ≡ false
+  paused : (b : Bool) → paused_after b e ≡ b
+  closed : (b : Bool) → closed_after b e ≡ b
+
+adds_nothing : (e : Entry) → is_traded e ≡ true → AddsNothing e
+adds_nothing (Send owner frame) is = record {
+  join = refl;
+  collect = refl;
+  brings = refl;
+  ends = refl;
+  paused = λ b. refl;
+  closed = λ b. refl;
+}
+adds_nothing (Came event) is = record {
+  join = refl;
+  collect = refl;
+  brings = refl;
+  ends = refl;
+  paused = λ b. refl;
+  closed = λ b. refl;
+}
+adds_nothing _ is = absurd (false≢true is)
+
+pub traded : (o : Opening) (h : List Entry) (e : Entry) (s new : QueueState) → EachAfter (MayFollow o) h
+    → MayFollow o h e → is_traded e ≡ true → Agrees o h s → AgreesOnLine o (h ++ e ∷ []) (with_line s new)
+    → Agrees o (h ++ e ∷ []) (with_line s new)
+traded o h e s new each may is stands line = record {
+  source_is = stands.source_is;
+  greatest_is = stands.greatest_is;
+  budget_is = stands.budget_is;
+  places_are = rw joins_are stands.places_are;
+  paused_is = stands.paused_is ∙ sym (is_paused-push o h e ∙ none.paused (is_paused o h));
+  closed_is = stands.closed_is ∙ sym (is_closed-push o h e ∙ none.closed (is_closed o h));
+  next_request_is = rw accepts_are stands.next_request_is;
+  next_tn_is = line.next_tn_is;
+  waiting_are = stands.waiting_are ∙ sym (unfinished_same h k accepts_are finishes_are);
+  awaited_is = line.awaited_is;
+  under_way_is = line.under_way_is;
+  progress = line.progress;
+  next_ask_is = rw asks_are stands.next_ask_is;
+  next_run_is = line.next_run_is;
+  asked_are = rw (asks_are, answers_are) stands.asked_are;
+  run_is = line.run_is;
+  devices_are = stands.devices_are ∙ sym (known_step o h e each may answers_are);
+  devices_run_is = devices_run_same o h k s.devices_run answers_are stands.devices_run_is;
+  owed_for_each = rw joins_are stands.owed_for_each;
+  outcomes_are =
+      λ c. rw (answers_same o c h e none.brings none.ends, collectors_are)
+      (stands.outcomes_are c ∙ sym (outcomes_step o h e each may c));
+  all_outcomes = rw (collectors_are, finishes_are, answers_are) stands.all_outcomes;
+  first_run = stands.first_run;
+}
+  where
+    k : List Entry
+    k = h ++ e ∷ []
+
+    none : AddsNothing e
+    none = adds_nothing e is
+
+    joins_are : joins k ≡ joins h
+    joins_are = joins_same h e none.join
+
+    accepts_are : accepts k ≡ accepts h
+    accepts_are = accepts_same h e (no_accept e none.brings)
+
+    asks_are : asks k ≡ asks h
+    asks_are = asks_same h e (no_ask e none.brings)
+
+    finishes_are : finishes k ≡ finishes h
+    finishes_are = finishes_same h e (no_finish e none.ends)
+
+    answers_are : answers k ≡ answers h
+    answers_are = answered_same h e (no_reply e none.ends)
+
+    collectors_are : collectors k ≡ collectors h
+    collectors_are = collectors_same h e none.collect
+
+-- the entry is about neither the line nor the work
 pub stands_same : (o : Opening) (h : List Entry) (e : Entry) (s : QueueState) (ps : List ℕ) (paused closed : Bool)
     (owed : List (List OutcomeValue)) → EachAfter (MayFollow o) h → MayFollow o h e → SameWork o h (h ++ e ∷ [])
     → ps ≡ places o (h ++ e ∷ []) → paused ≡ is_paused o (h ++ e ∷ []) → closed ≡ is_closed o (h ++ e ∷ [])
@@ -94,21 +242,15 @@ stands_same o h e s ps paused closed owed each may work places_are paused_is clo
       paused_is = paused_is;
       closed_is = closed_is;
       next_request_is = rw work.requests.same_accepts stands.next_request_is;
-      next_tn_is = rw work.requests.same_sends stands.next_tn_is;
+      next_tn_is = line.next_tn_is;
       waiting_are = rw (work.requests.same_accepts, work.requests.same_finishes) stands.waiting_are;
-      awaited_is =
-          pending_same o h k s new s.awaited work.requests.same_sends work.requests.same_awaited
-          work.requests.same_finishes
-          refl refl stands.awaited_is;
-      under_way_is = rw (work.requests.same_sends, work.requests.same_finishes) stands.under_way_is;
-      progress = rw (
-        work.requests.same_finishes,
-        verdicts_same h k (oldest_number o h) work.requests.same_sends work.requests.same_cames,
-      ) stands.progress;
+      awaited_is = line.awaited_is;
+      under_way_is = line.under_way_is;
+      progress = line.progress;
       next_ask_is = rw work.same_asks stands.next_ask_is;
-      next_run_is = rw work.running.same_last stands.next_run_is;
+      next_run_is = line.next_run_is;
       asked_are = rw (work.same_asks, work.running.same_answers) stands.asked_are;
-      run_is = run_same o h k s new s.run work.running refl refl (inl refl) stands.run_is;
+      run_is = line.run_is;
       devices_are = stands.devices_are ∙ sym (known_step o h e each may work.running.same_answers);
       devices_run_is = devices_run_same o h k s.devices_run work.running.same_answers stands.devices_run_is;
       owed_for_each = long;
@@ -126,3 +268,13 @@ stands_same o h e s ps paused closed owed each may work places_are paused_is clo
 
     new : QueueState
     new = record s { places = ps; paused = paused; closed = closed; owed = owed }
+
+    line : AgreesOnLine o k new
+    line =
+        line_same o h k s new (record {
+          same_sends = work.requests.same_sends;
+          same_cames = work.requests.same_cames;
+          same_finishes = work.requests.same_finishes;
+          same_awaited = work.requests.same_awaited;
+          running = work.running;
+        }) stands

@@ -1,6 +1,6 @@
 -- A queue follows the log, entry by entry.
 use Rattle.std.proofs.Common.{◌≡◌, ℕ, ◌+◌, ◌≤◌, ◌<◌, ◌%◌, Bool, true, false, List, [], ◌∷◌, ◌++◌, length, drop, filter}
-use Rattle.std.proofs.Common.{map, sum, set, get_or, Option, Some, None, slice_get, refl, sym, ap, ◌∙◌, inl, inr, zero}
+use Rattle.std.proofs.Common.{get_or, Option, Some, None, slice_get, refl, sym, ap, ◌∙◌, inl, inr, zero}
 use Rattle.std.proofs.Common.{suc, length-append, append-nil, arith, filter_map, if◌then◌else◌}
 use Rattle.std.specs.Prelude.{◌⊎◌, ◌==◌, ◌||◌}
 use Rattle.std.specs.List.{list_any}
@@ -8,7 +8,6 @@ use Rattle.std.proofs.lemmas.Bool.{cases_Bool, cases_eq, cases_lt, ne_eqb, eq-eq
 use Rattle.std.proofs.lemmas.List.{same_from_push, length-set, length-drop, drop-drop, get_or-set_same}
 use Rattle.std.proofs.lemmas.List.{get_or-set_other, get_or_past}
 use Rattle.std.proofs.lemmas.List.Folds.{list_any-append}
-use Rattle.std.proofs.lemmas.List.Sums.{sum_by-cons}
 use Rattle.std.proofs.lemmas.List.Elements.{filter-append, filter_map-append}
 use Rattle.arrayvec.specs.ArrayVec.{ArrayVec}
 use Rattle.rdm_wire.specs.Lists.{EachAfter}
@@ -42,7 +41,7 @@ use Rattle.rdm_log.proofs.LogLemmas.PushLemmas.{finishes_more, collectors_same, 
 use Rattle.rdm_log.proofs.LogLemmas.PushLemmas.{is_paused-push, is_closed-push, unfinished_same, unfinished_accept}
 use Rattle.rdm_log.proofs.LogLemmas.PushLemmas.{unfinished_finish, unanswered_ask}
 use Rattle.rdm_log.proofs.LogLemmas.Places.{place_within}
-use Rattle.rdm_log.proofs.LogLemmas.ExchangeLemmas.{IsUnanswered, verdicts_same, verdicts_sent, verdicts_came_own}
+use Rattle.rdm_log.proofs.LogLemmas.ExchangeLemmas.{IsUnanswered, verdicts_sent, verdicts_came_own}
 use Rattle.rdm_log.proofs.LogLemmas.ExchangeLemmas.{verdicts_unsent, result_same}
 use Rattle.rdm_log.proofs.LogLemmas.LegalFacts.{LogFacts, unfinished_number, unfinished_place}
 use Rattle.rdm_log.proofs.LogLemmas.AskFacts.{AskFacts}
@@ -52,10 +51,11 @@ use Rattle.rdm_log.proofs.LogLemmas.ClientFacts.{ClientFacts}
 use Rattle.rdm_log.proofs.LogLemmas.RunLemmas.{last_run_same, last_run_sent, SameRuns, same_runs_sent}
 use Rattle.rdm_log.proofs.PromiseLemmas.OutcomeLemmas.{outcomes_step, known_step, uncollected_more, outcomes_rest}
 use Rattle.rdm_log.proofs.PromiseLemmas.OutcomeLemmas.{answers_passed}
+use Rattle.rdm_queue.proofs.BodyLemmas.OutstandingLemmas.{in_all, in_all-cons, taken_at, put_at}
 use Rattle.rdm_queue.proofs.BodyLemmas.OutstandingLemmas.{owes-own, owes-other}
 use Rattle.rdm_log.proofs.LogLemmas.RunningLemmas.{same_running, same_running_came, asked_stays}
 use Rattle.rdm_queue.proofs.BodyLemmas.RunningLemmas.{run_same}
-use Rattle.rdm_queue.proofs.BodyLemmas.AgreesSame.{pending_same, devices_run_same}
+use Rattle.rdm_queue.proofs.BodyLemmas.AgreesSame.{devices_run_same, AgreesOnLine, same_line, line_same, traded}
 
 -- a request is accepted
 pub stands_accept : (o : Opening) (h : List Entry) (s : QueueState) (c : ClientId) (n : ℕ) (request : Request)
@@ -70,22 +70,17 @@ stands_accept o h s c n request each may facts ask_facts number stands = record 
   closed_is = stands.closed_is ∙ sym (is_closed-push o h e);
   next_request_is =
       rw (accepts_more h e a refl, length-append (accepts h) (a ∷ [])) (omega (arith, stands.next_request_is));
-  next_tn_is = rw (sends_same h e refl) stands.next_tn_is;
+  next_tn_is = line.next_tn_is;
   waiting_are =
       rw (unfinished_accept h c n request facts.finished_within, number)
       (ap (λ l. l ++ record { client = c.0; number = s.next_request; request = request } ∷ []) stands.waiting_are);
-  awaited_is =
-      pending_same o h k s new s.awaited (sends_same h e refl) (awaited-push h e) (finishes_same h e refl) refl refl
-      stands.awaited_is;
-  under_way_is = rw (sends_same h e refl, finishes_same h e refl) stands.under_way_is;
-  progress = rw (
-    finishes_same h e refl,
-    verdicts_same h k (oldest_number o h) (sends_same h e refl) (cames_same h e refl),
-  ) stands.progress;
+  awaited_is = line.awaited_is;
+  under_way_is = line.under_way_is;
+  progress = line.progress;
   next_ask_is = rw (asks_same h e refl) stands.next_ask_is;
-  next_run_is = rw (last_run_same h k (sends_same h e refl)) stands.next_run_is;
+  next_run_is = line.next_run_is;
   asked_are = rw (asks_same h e refl, answered_same h e refl) stands.asked_are;
-  run_is = run_same o h k s new s.run (same_running o h e refl refl refl) refl refl (inl refl) stands.run_is;
+  run_is = line.run_is;
   devices_are = stands.devices_are ∙ sym (known_step o h e each may (answered_same h e refl));
   devices_run_is = devices_run_same o h k s.devices_run (answered_same h e refl) stands.devices_run_is;
   owed_for_each = rw (joins_same h e refl) stands.owed_for_each;
@@ -102,8 +97,8 @@ stands_accept o h s c n request each may facts ask_facts number stands = record 
     k : List Entry
     k = h ++ e ∷ []
 
-    new : QueueState
-    new = accepts_request s c.0 request
+    line : AgreesOnLine o k (accepts_request s c.0 request)
+    line = line_same o h k s (accepts_request s c.0 request) (same_line o h e refl refl refl refl) stands
 
     a : Accepted
     a = record { client = c.0; number = n; request = request }
@@ -120,21 +115,16 @@ stands_ask o h s c n kind each may facts ask_facts number stands = record {
   paused_is = stands.paused_is ∙ sym (is_paused-push o h e);
   closed_is = stands.closed_is ∙ sym (is_closed-push o h e);
   next_request_is = rw (accepts_same h e refl) stands.next_request_is;
-  next_tn_is = rw (sends_same h e refl) stands.next_tn_is;
+  next_tn_is = line.next_tn_is;
   waiting_are = stands.waiting_are ∙ sym (unfinished_same h k (accepts_same h e refl) (finishes_same h e refl));
-  awaited_is =
-      pending_same o h k s new s.awaited (sends_same h e refl) (awaited-push h e) (finishes_same h e refl) refl refl
-      stands.awaited_is;
-  under_way_is = rw (sends_same h e refl, finishes_same h e refl) stands.under_way_is;
-  progress = rw (
-    finishes_same h e refl,
-    verdicts_same h k (oldest_number o h) (sends_same h e refl) (cames_same h e refl),
-  ) stands.progress;
+  awaited_is = line.awaited_is;
+  under_way_is = line.under_way_is;
+  progress = line.progress;
   next_ask_is = rw (asks_more h e a refl, length-append (asks h) (a ∷ [])) (omega (arith, stands.next_ask_is));
-  next_run_is = rw (last_run_same h k (sends_same h e refl)) stands.next_run_is;
+  next_run_is = line.next_run_is;
   asked_are = rw (unanswered_ask h e a refl refl ask_facts.answered_within, number)
       (ap (λ l. l ++ record { client = c.0; number = s.next_ask; kind = kind } ∷ []) stands.asked_are);
-  run_is = run_same o h k s new s.run (same_running o h e refl refl refl) refl refl (inl refl) stands.run_is;
+  run_is = line.run_is;
   devices_are = stands.devices_are ∙ sym (known_step o h e each may (answered_same h e refl));
   devices_run_is = devices_run_same o h k s.devices_run (answered_same h e refl) stands.devices_run_is;
   owed_for_each = rw (joins_same h e refl) stands.owed_for_each;
@@ -151,8 +141,8 @@ stands_ask o h s c n kind each may facts ask_facts number stands = record {
     k : List Entry
     k = h ++ e ∷ []
 
-    new : QueueState
-    new = asks_discovery s c.0 kind
+    line : AgreesOnLine o k (asks_discovery s c.0 kind)
+    line = line_same o h k s (asks_discovery s c.0 kind) (same_line o h e refl refl refl refl) stands
 
     a : AskedDiscovery
     a = record { client = c.0; number = n; kind = kind }
@@ -173,51 +163,8 @@ pub stands_send : (o : Opening) (h : List Entry) (s : QueueState) (a : Accepted)
     → EachAfter (MayFollow o) h → MayFollow o h (Send (owners.Request a.number) frame)
     → length (sends h) ≡ length (cames h) → a.number ≡ oldest_number o h → sent_by frame.items ≡ sent_for s a
     → s.run ≡ None → Agrees o h s → Agrees o (h ++ Send (owners.Request a.number) frame ∷ []) (sends_request s a)
-stands_send o h s a frame each may even number sent none stands = record {
-  source_is = stands.source_is;
-  greatest_is = stands.greatest_is;
-  budget_is = stands.budget_is;
-  places_are = rw (joins_same h e refl) stands.places_are;
-  paused_is = stands.paused_is ∙ sym (is_paused-push o h e);
-  closed_is = stands.closed_is ∙ sym (is_closed-push o h e);
-  next_request_is = rw (accepts_same h e refl) stands.next_request_is;
-  next_tn_is =
-      rw (sends_more h e x refl, length-append (sends h) (x ∷ []))
-      (rw stands.next_tn_is (counted o.next_tn (length (sends h))));
-  waiting_are = stands.waiting_are ∙ sym (unfinished_same h k (accepts_same h e refl) (finishes_same h e refl));
-  awaited_is = record {
-    frame = frame;
-    last = record {
-      waits = awaited-push h e;
-      earlier = sends h;
-      sends_are = rw (finishes_same h e refl, ← number) (sends_more h e x refl);
-    };
-    same = sent;
-  };
-  under_way_is =
-      rw (sends_more h e x refl, finishes_same h e refl, ← number) (sym (was_sent_own a.number (sends h) frame));
-  progress = rw (finishes_same h e refl, verdicts_sent h (owners.Request a.number) frame (oldest_number o h) even)
-      stands.progress;
-  next_ask_is = rw (asks_same h e refl) stands.next_ask_is;
-  next_run_is = rw (last_run_sent h (owners.Request a.number) frame) stands.next_run_is;
-  asked_are = rw (asks_same h e refl, answered_same h e refl) stands.asked_are;
-  run_is = rw none (record {
-    none_open = runs.same_open ∙ before.none_open;
-    none_left = rw (
-      last_run_sent h (owners.Request a.number) frame,
-      asked_stays h e (last_run h) refl,
-      answered_same h e refl,
-    ) before.none_left;
-  });
-  devices_are = stands.devices_are ∙ sym (known_step o h e each may (answered_same h e refl));
-  devices_run_is = devices_run_same o h k s.devices_run (answered_same h e refl) stands.devices_run_is;
-  owed_for_each = rw (joins_same h e refl) stands.owed_for_each;
-  outcomes_are =
-      λ c. rw (answers_same o c h e refl refl, collectors_same h e refl)
-      (stands.outcomes_are c ∙ sym (outcomes_step o h e each may c));
-  all_outcomes = rw (collectors_same h e refl, finishes_same h e refl, answered_same h e refl) stands.all_outcomes;
-  first_run = stands.first_run;
-}
+stands_send o h s a frame each may even number sent none stands =
+    traded o h e s new each may refl stands line
   where
     e : Entry
     e = Send (owners.Request a.number) frame
@@ -239,6 +186,35 @@ stands_send o h s a frame each may even number sent none stands = record {
 
     counted : (n m : ℕ) → ((n + m) % 256 + 1) % 256 ≡ (n + (m + 1)) % 256
     counted n m = omega arith
+
+    line : AgreesOnLine o k new
+    line = record {
+      next_tn_is =
+          rw (sends_more h e x refl, length-append (sends h) (x ∷ []))
+          (rw stands.next_tn_is (counted o.next_tn (length (sends h))));
+      awaited_is = record {
+        frame = frame;
+        last = record {
+          waits = awaited-push h e;
+          earlier = sends h;
+          sends_are = rw (finishes_same h e refl, ← number) (sends_more h e x refl);
+        };
+        same = sent;
+      };
+      under_way_is =
+          rw (sends_more h e x refl, finishes_same h e refl, ← number) (sym (was_sent_own a.number (sends h) frame));
+      progress = rw (finishes_same h e refl, verdicts_sent h (owners.Request a.number) frame (oldest_number o h) even)
+          stands.progress;
+      next_run_is = rw (last_run_sent h (owners.Request a.number) frame) stands.next_run_is;
+      run_is = rw none (record {
+        none_open = runs.same_open ∙ before.none_open;
+        none_left = rw (
+          last_run_sent h (owners.Request a.number) frame,
+          asked_stays h e (last_run h) refl,
+          answered_same h e refl,
+        ) before.none_left;
+      });
+    }
 
 -- a request's reply is heard
 came_verdicts : (o : Opening) (h : List Entry) (sent : Sent) (event : LineEvent) → LogFacts o h
@@ -267,33 +243,8 @@ pub stands_came : (o : Opening) (h : List Entry) (s : QueueState) (sent : Sent) 
     → LogFacts o h → s.awaited ≡ Some (awaiting.Request sent)
     → IsProgress (verdicts (oldest_number o h) h ++ verdict sent event ∷ []) decided joiner → Agrees o h s
     → Agrees o (h ++ Came event ∷ []) (record s { awaited = None; joiner = joiner; decided = decided })
-stands_came o h s sent event decided joiner each may facts was progress stands = record {
-  source_is = stands.source_is;
-  greatest_is = stands.greatest_is;
-  budget_is = stands.budget_is;
-  places_are = rw (joins_same h e refl) stands.places_are;
-  paused_is = stands.paused_is ∙ sym (is_paused-push o h e);
-  closed_is = stands.closed_is ∙ sym (is_closed-push o h e);
-  next_request_is = rw (accepts_same h e refl) stands.next_request_is;
-  next_tn_is = rw (sends_same h e refl) stands.next_tn_is;
-  waiting_are = stands.waiting_are ∙ sym (unfinished_same h k (accepts_same h e refl) (finishes_same h e refl));
-  awaited_is = awaited-push h e;
-  under_way_is = rw (sends_same h e refl, finishes_same h e refl) stands.under_way_is;
-  progress = rw (finishes_same h e refl) (rw (came_verdicts o h sent event facts w x) progress);
-  next_ask_is = rw (asks_same h e refl) stands.next_ask_is;
-  next_run_is = rw (last_run_same h k (sends_same h e refl)) stands.next_run_is;
-  asked_are = rw (asks_same h e refl, answered_same h e refl) stands.asked_are;
-  run_is = run_same o h k s new s.run (same_running_came o h (oldest_number o h) w.frame event x) refl refl (inl refl)
-      stands.run_is;
-  devices_are = stands.devices_are ∙ sym (known_step o h e each may (answered_same h e refl));
-  devices_run_is = devices_run_same o h k s.devices_run (answered_same h e refl) stands.devices_run_is;
-  owed_for_each = rw (joins_same h e refl) stands.owed_for_each;
-  outcomes_are =
-      λ c. rw (answers_same o c h e refl refl, collectors_same h e refl)
-      (stands.outcomes_are c ∙ sym (outcomes_step o h e each may c));
-  all_outcomes = rw (collectors_same h e refl, finishes_same h e refl, answered_same h e refl) stands.all_outcomes;
-  first_run = stands.first_run;
-}
+stands_came o h s sent event decided joiner each may facts was progress stands =
+    traded o h e s new each may refl stands line
   where
     e : Entry
     e = Came event
@@ -310,41 +261,45 @@ stands_came o h s sent event decided joiner each may facts was progress stands =
     x : IsUnanswered h (record { owner = owners.Request (oldest_number o h); frame = w.frame })
     x = unanswered_of o h _ facts w.last
 
+    line : AgreesOnLine o k new
+    line = record {
+      next_tn_is = rw (sends_same h e refl) stands.next_tn_is;
+      awaited_is = awaited-push h e;
+      under_way_is = rw (sends_same h e refl, finishes_same h e refl) stands.under_way_is;
+      progress = rw (finishes_same h e refl) (rw (came_verdicts o h sent event facts w x) progress);
+      next_run_is = rw (last_run_same h k (sends_same h e refl)) stands.next_run_is;
+      run_is =
+          run_same o h k s new s.run (same_running_came o h (oldest_number o h) w.frame event x) refl refl (inl refl)
+          stands.run_is;
+    }
+
 -- an outcome is collected
 taken_rest : (lists : List (List OutcomeValue)) (c n : ℕ)
-    → get_or (set lists c (drop 1 (get_or lists c []))) n []
-    ≡ (if n == c then drop 1 (get_or lists n []) else get_or lists n [])
+    → get_or (taken_at lists c) n [] ≡ (if n == c then drop 1 (get_or lists n []) else get_or lists n [])
 taken_rest lists c n = by_client (cases_eq n c) (cases_lt c (length lists))
   where
     none : {ds es : List OutcomeValue} → ds ≡ [] → es ≡ [] → ds ≡ drop 1 es
     none p q = p ∙ ap (drop 1) (sym q)
 
     by_client : (n ≡ c) ⊎ (n ≡ c → ⊥) → (c < length lists) ⊎ (length lists ≤ c)
-        → get_or (set lists c (drop 1 (get_or lists c []))) n []
-        ≡ (if n == c then drop 1 (get_or lists n []) else get_or lists n [])
+        → get_or (taken_at lists c) n [] ≡ (if n == c then drop 1 (get_or lists n []) else get_or lists n [])
     by_client (inl same) (inl within) =
         rw (eq-eqb n c same, same) (get_or-set_same lists c (drop 1 (get_or lists c [])) [] within)
     by_client (inl same) (inr past) =
         rw (eq-eqb n c same, same)
-        (none (get_or_past (set lists c (drop 1 (get_or lists c []))) c []
+        (none (get_or_past (taken_at lists c) c []
         (let long = length-set lists c (drop 1 (get_or lists c [])) in omega arith)) (get_or_past lists c [] past))
     by_client (inr other) within =
         rw (ne_eqb n c other) (get_or-set_other lists c n (drop 1 (get_or lists c [])) [] other)
 
 count_less : (lists : List (List OutcomeValue)) (c : ℕ) (d : OutcomeValue) → slice_get (get_or lists c []) 0 ≡ Some d
-    → sum (map (λ (ds : List OutcomeValue). length ds) (set lists c (drop 1 (get_or lists c [])))) + 1
-    ≡ sum (map (λ (ds : List OutcomeValue). length ds) lists)
+    → in_all (taken_at lists c) + 1 ≡ in_all lists
 count_less [] c d at = cc
 count_less (ds ∷ lists) zero d at =
-    let rest = sum_by-cons (λ (n : ℕ). n) (length (drop 1 ds)) (map (λ (es : List OutcomeValue). length es) lists) in
-    let whole = sum_by-cons (λ (n : ℕ). n) (length ds) (map (λ (es : List OutcomeValue). length es) lists) in
-    let one = length-drop 1 ds in let some = place_within ds 0 d at in omega arith
+    let some = place_within ds 0 d at in
+    omega (arith, length-drop 1 ds, in_all-cons (drop 1 ds) lists, in_all-cons ds lists)
 count_less (ds ∷ lists) (suc c) d at =
-    let later = count_less lists c d at in
-    let rest = sum_by-cons (λ (n : ℕ). n) (length ds)
-    (map (λ (es : List OutcomeValue). length es) (set lists c (drop 1 (get_or lists c [])))) in
-    let whole = sum_by-cons (λ (n : ℕ). n) (length ds) (map (λ (es : List OutcomeValue). length es) lists) in
-    omega arith
+    omega (arith, count_less lists c d at, in_all-cons ds (taken_at lists c), in_all-cons ds lists)
 
 pub stands_collect : (o : Opening) (h : List Entry) (s : QueueState) (c : ClientId) (d : OutcomeValue)
     → EachAfter (MayFollow o) h → MayFollow o h (Collect c) → slice_get (owed_to c.0 s) 0 ≡ Some d → Agrees o h s
@@ -357,20 +312,15 @@ stands_collect o h s c d each may first stands = record {
   paused_is = stands.paused_is ∙ sym (is_paused-push o h e);
   closed_is = stands.closed_is ∙ sym (is_closed-push o h e);
   next_request_is = rw (accepts_same h e refl) stands.next_request_is;
-  next_tn_is = rw (sends_same h e refl) stands.next_tn_is;
+  next_tn_is = line.next_tn_is;
   waiting_are = stands.waiting_are ∙ sym (unfinished_same h k (accepts_same h e refl) (finishes_same h e refl));
-  awaited_is =
-      pending_same o h k s new s.awaited (sends_same h e refl) (awaited-push h e) (finishes_same h e refl) refl refl
-      stands.awaited_is;
-  under_way_is = rw (sends_same h e refl, finishes_same h e refl) stands.under_way_is;
-  progress = rw (
-    finishes_same h e refl,
-    verdicts_same h k (oldest_number o h) (sends_same h e refl) (cames_same h e refl),
-  ) stands.progress;
+  awaited_is = line.awaited_is;
+  under_way_is = line.under_way_is;
+  progress = line.progress;
   next_ask_is = rw (asks_same h e refl) stands.next_ask_is;
-  next_run_is = rw (last_run_same h k (sends_same h e refl)) stands.next_run_is;
+  next_run_is = line.next_run_is;
   asked_are = rw (asks_same h e refl, answered_same h e refl) stands.asked_are;
-  run_is = run_same o h k s new s.run (same_running o h e refl refl refl) refl refl (inl refl) stands.run_is;
+  run_is = line.run_is;
   devices_are = stands.devices_are ∙ sym (known_step o h e each may (answered_same h e refl));
   devices_run_is = devices_run_same o h k s.devices_run (answered_same h e refl) stands.devices_run_is;
   owed_for_each = length-set s.owed c.0 _ ∙ rw (joins_same h e refl) stands.owed_for_each;
@@ -392,8 +342,8 @@ stands_collect o h s c d each may first stands = record {
     k : List Entry
     k = h ++ e ∷ []
 
-    new : QueueState
-    new = collects_oldest s c.0
+    line : AgreesOnLine o k (collects_oldest s c.0)
+    line = line_same o h k s (collects_oldest s c.0) (same_line o h e refl refl refl refl) stands
 
     collects : (client : ℕ) → collects_by client k ≡ collects_by client h ++ filter (λ b. client == b) (c.0 ∷ [])
     collects client =
@@ -436,19 +386,13 @@ last_owner ss xs ys n r frame other is also =
 
 -- one more outcome
 pub count_more : (lists : List (List OutcomeValue)) (c : ℕ) (d : OutcomeValue) → c < length lists
-    → sum (map (λ (ds : List OutcomeValue). length ds) (set lists c (get_or lists c [] ++ d ∷ [])))
-    ≡ sum (map (λ (ds : List OutcomeValue). length ds) lists) + 1
+    → in_all (put_at lists c d) ≡ in_all lists + 1
 count_more [] c d within = absurd (omega arith)
 count_more (ds ∷ lists) zero d within =
-    let rest = sum_by-cons (λ (n : ℕ). n) (length (ds ++ d ∷ [])) (map (λ (es : List OutcomeValue). length es) lists) in
-    let whole = sum_by-cons (λ (n : ℕ). n) (length ds) (map (λ (es : List OutcomeValue). length es) lists) in
-    let one = length-append ds (d ∷ []) in omega arith
+    omega (arith, length-append ds (d ∷ []), in_all-cons (ds ++ d ∷ []) lists, in_all-cons ds lists)
 count_more (ds ∷ lists) (suc c) d within =
     let later = count_more lists c d (omega arith) in
-    let rest = sum_by-cons (λ (n : ℕ). n) (length ds)
-    (map (λ (es : List OutcomeValue). length es) (set lists c (get_or lists c [] ++ d ∷ []))) in
-    let whole = sum_by-cons (λ (n : ℕ). n) (length ds) (map (λ (es : List OutcomeValue). length es) lists) in
-    omega arith
+    omega (arith, in_all-cons ds (put_at lists c d), in_all-cons ds lists)
 
 pub owed_more : (o : Opening) (h k : List Entry) (e : Entry) (s : QueueState) (client : ℕ) (d : OutcomeValue)
     → client < length s.owed → ((c : ℕ) → (c == client) ≡ true → answers_to o c k ≡ answers_to o c h ++ e ∷ [])

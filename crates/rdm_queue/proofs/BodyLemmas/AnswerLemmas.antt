@@ -1,11 +1,11 @@
 -- The oldest discovery is answered: its client's ring has capacity, and what all clients' rings are then.
-use Rattle.std.proofs.Common.{◌≡◌, ℕ, ◌+◌, ◌<◌, ◌≤◌, ◌-◌, Bool, true, false, List, [], ◌∷◌, length, get_or, set, Option}
-use Rattle.std.proofs.Common.{Some, None, slice_get, refl, sym, ap, ◌∙◌, subst, map, arith}
+use Rattle.std.proofs.Common.{◌≡◌, ℕ, ◌+◌, ◌<◌, ◌≤◌, ◌-◌, Bool, true, false, List, [], ◌∷◌, length, drop, get_or, set}
+use Rattle.std.proofs.Common.{filter, map, Option, Some, None, slice_get, refl, sym, ap, ◌∙◌, subst, arith}
 use Rattle.std.specs.Prelude.{◌==◌, MatchOption, nat_lt, if◌then◌else◌}
 use Rattle.std.specs.VecDeque.{deque_len, deque_capacity}
 use Rattle.std.proofs.lemmas.Bool.{ltb-true, ltb-false, false≢true}
 use Rattle.std.proofs.lemmas.Option.{slice_get-get_or}
-use Rattle.std.proofs.lemmas.List.{length-map}
+use Rattle.std.proofs.lemmas.List.{length-map, drop-map}
 use Rattle.rdm_wire.specs.declared.device.Device.{Device}
 use Rattle.rdm_agent.specs.declared.fault.AgentFault.{AgentFault}
 use Rattle.rdm_queue.specs.declared.client.Client.{Client}
@@ -13,14 +13,16 @@ use Rattle.rdm_queue.specs.declared.pending.Asked.{Asked}
 use Rattle.rdm_queue.specs.declared.queue.Queue.TheInside.{Inside}
 use Rattle.rdm_log.specs.log.Entries.{AskedDiscovery}
 use Rattle.rdm_queue.specs.body.Rings.{HasSets, ClientAnswers}
-use Rattle.rdm_queue.specs.body.Fields.{asked_is, state_of, places_of, owed_rings}
+use Rattle.rdm_queue.specs.body.Fields.{asked_is, state_of}
 use Rattle.rdm_queue.specs.body.QueueInvariant.{QueueInvariant, served_by}
 use Rattle.rdm_queue.specs.body.State.{QueueState, RunState}
 use Rattle.rdm_queue.specs.body.Ending.{answer_value, answers_oldest, one_less}
 use Rattle.rdm_log.proofs.LogLemmas.Places.{all_at}
 use Rattle.rdm_queue.proofs.BodyLemmas.FieldLemmas.{read_at}
+use Rattle.rdm_queue.proofs.BodyLemmas.RingFields.{AreClientsOf, are_clients}
 use Rattle.rdm_queue.proofs.BodyLemmas.InvariantLemmas.{asked_joined, first_counts, held-answers}
-use Rattle.rdm_queue.proofs.BodyLemmas.RingSteps.{room_for_outcome, room_for_set, rings-answer}
+use Rattle.rdm_queue.proofs.BodyLemmas.RingLemmas.{places_stayed}
+use Rattle.rdm_queue.proofs.BodyLemmas.RingSteps.{room_for_outcome, room_for_set, rings-answer, owed-answer}
 
 pub nonempty : (xs : List Asked) → (length xs == 0) ≡ false → 0 < length xs
 nonempty [] is = absurd (false≢true (sym is))
@@ -36,47 +38,54 @@ front_asked c x some is =
     first_mapped [] at = cc
     first_mapped (y ∷ xs) at = let same : y ≡ x = cc in rw same refl
 
+-- a run serves it, if there is one
+pub front_served : (c : Inside) (x : Asked) (r : RunState) → QueueInvariant (state_of c) c.clients.items
+    → (state_of c).run ≡ Some r → x ≡ get_or c.asked.items 0 x → slice_get (state_of c).asked 0 ≡ Some (asked_is x)
+front_served c x r held runs is = front_asked c x some is
+  where
+    left : 1 ≤ r.left
+    left = rw runs at held.state.serves
+
+    within : r.left ≤ length (map asked_is c.asked.items)
+    within = rw runs at held.state.served
+
+    some : 0 < length c.asked.items
+    some = omega (arith, left, within, length-map c.asked.items asked_is)
+
+pub asked_rest : (xs ys : List Asked) → ys ≡ drop 1 xs → map asked_is ys ≡ drop 1 (map asked_is xs)
+asked_rest xs ys rest = ap (map asked_is) rest ∙ sym (drop-map asked_is 1 xs)
+
 -- its client, read at its place, and the capacity for its answer
 pub record CanAnswer (s : QueueState) (clients : List Client) (a : AskedDiscovery) (k : Client) : Type 0 where
+  pub oldest : slice_get s.asked 0 ≡ Some a
   pub at : slice_get clients a.client ≡ Some k
   pub sets : HasSets k
   pub room : deque_len k.outcomes < deque_capacity k.outcomes
   pub set_room : length k.sets.items < k.sets.room
 
-pub asked_within : (s : QueueState) (clients : List Client) (a : AskedDiscovery) → QueueInvariant s clients
-    → s.places ≡ places_of clients → slice_get s.asked 0 ≡ Some a → a.client < length clients
-asked_within s clients a held same oldest =
-    let joined = asked_joined s a held.state oldest in
-    let long = ap (λ ns. length ns) same ∙ length-map clients (λ k. k.places) in omega arith
+pub asked_within : (s : QueueState) (clients : List Client) (a : AskedDiscovery) → AreClientsOf s clients
+    → slice_get s.asked 0 ≡ Some a → a.client < length clients
+asked_within s clients a are oldest =
+    let joined = asked_joined s a are.kept.state oldest in
+    let long = ap (λ ns. length ns) (sym are.places) ∙ length-map clients (λ k. k.places) in omega arith
 
 pub can_answer : (s : QueueState) (clients ys : List Client) (a : AskedDiscovery) (i : ℕ) (d : Client)
-    → QueueInvariant s clients → s.places ≡ places_of clients → s.owed ≡ owed_rings clients
-    → slice_get s.asked 0 ≡ Some a → i ≡ a.client → ys ≡ clients → CanAnswer s clients a (get_or ys i d)
-can_answer s clients ys a i d held same owed oldest place read =
-    let one = first_counts (λ (b : AskedDiscovery). b.client) s.asked a oldest in
-    let at : slice_get clients a.client ≡ Some (get_or ys i d) = ap (λ n. slice_get clients n) (sym place)
-    ∙ read_at clients ys i d read
-    (subst (λ n. n < length clients) (sym place) (asked_within s clients a held same oldest)) in
-    record {
-      at = at;
-      sets = all_at HasSets clients held.rings.sets a.client (get_or ys i d) at;
-      room = room_for_outcome s clients a.client (get_or ys i d) held same owed at (omega arith);
-      set_room = room_for_set s clients a.client (get_or ys i d) held owed at one;
-    }
-
--- the queue afterwards
-pub kept-answer : (s : QueueState) (clients : List Client) (k l : Client) (a : AskedDiscovery) (r : ℕ)
-    (f : Option AgentFault) (found : List Device) (run : Option RunState) → QueueInvariant s clients
-    → CanAnswer s clients a k → ClientAnswers k a.number r f found l → slice_get s.asked 0 ≡ Some a
-    → MatchOption run (Unit {0}) (λ q. 1 ≤ q.left) → served_by s.run ≤ served_by run + 1
-    → served_by run ≤ served_by s.run → served_by run + 1 ≤ length s.asked
-    → QueueInvariant (record (answers_oldest s a r f found) { run = run }) (set clients a.client l)
-kept-answer s clients k l a r f found run held can answers oldest serves less most within = record {
-  state = held-answers s a (answer_value a r f found) run held.state oldest refl serves less most within
-      (record (answers_oldest s a r f found) { run = run }) refl;
-  rings = rings-answer s (record (answers_oldest s a r f found) { run = run }) clients a.client k l a.number r f found
-      refl held.rings can.at answers;
+    → AreClientsOf s clients → slice_get s.asked 0 ≡ Some a → i ≡ a.client → ys ≡ clients
+    → CanAnswer s clients a (get_or ys i d)
+can_answer s clients ys a i d are oldest place read = record {
+  oldest = oldest;
+  at = at;
+  sets = all_at HasSets clients are.kept.rings.sets a.client (get_or ys i d) at;
+  room = room_for_outcome s clients a.client (get_or ys i d) are.kept (sym are.places) (sym are.owed) at
+      (omega (arith, one));
+  set_room = room_for_set s clients a.client (get_or ys i d) are.kept (sym are.owed) at one;
 }
+  where
+    at : slice_get clients a.client ≡ Some (get_or ys i d)
+    at = read_at clients ys i a.client d place read (asked_within s clients a are oldest)
+
+    one : 1 ≤ length (filter (λ (b : AskedDiscovery). a.client == b.client) s.asked)
+    one = first_counts (λ (b : AskedDiscovery). b.client) s.asked a oldest
 
 -- a run that serves one fewer, and no run
 pub record ServesLess (s : QueueState) (run : Option RunState) : Type 0 where
@@ -122,3 +131,23 @@ serves_none s a none oldest = rw none (record {
     some : (xs : List AskedDiscovery) → slice_get xs 0 ≡ Some a → 1 ≤ length xs
     some [] at = cc
     some (x ∷ xs) at = omega arith
+
+-- the queue afterwards
+pub clients-answer : (s : QueueState) (clients : List Client) (i : ℕ) (k l : Client) (a : AskedDiscovery) (r : ℕ)
+    (f : Option AgentFault) (found : List Device) (run : Option RunState) → AreClientsOf s clients
+    → CanAnswer s clients a k → ServesLess s run → i ≡ a.client → ClientAnswers k a.number r f found l
+    → AreClientsOf (record (answers_oldest s a r f found) { run = run }) (set clients i l)
+clients-answer s clients i k l a r f found run are can less place answers =
+    subst (λ n. AreClientsOf new (set clients n l)) (sym place) (are_clients new (set clients a.client l) kept
+    (places_stayed clients a.client k l can.at answers.rings.places ∙ are.places)
+    (owed-answer s clients k l a r f found (sym are.owed) are.kept.rings can.at answers))
+  where
+    new : QueueState
+    new = record (answers_oldest s a r f found) { run = run }
+
+    kept : QueueInvariant new (set clients a.client l)
+    kept = record {
+      state = held-answers s a (answer_value a r f found) run are.kept.state can.oldest refl less.serves less.less
+          less.most less.within new refl;
+      rings = rings-answer s new clients a.client k l a.number r f found refl are.kept.rings can.at answers;
+    }

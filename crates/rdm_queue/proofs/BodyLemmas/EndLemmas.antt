@@ -29,7 +29,7 @@ use Rattle.rdm_log.specs.log.Due.{NothingDue, AllAnswered}
 use Rattle.rdm_log.specs.log.MayAnswer.{MayAnswer}
 use Rattle.rdm_log.specs.promises.InBound.{FaultNeedsClose}
 use Rattle.rdm_queue.specs.body.State.{QueueState, RunState, due, end_of_oldest, owed_next, owed_for, is_closing}
-use Rattle.rdm_queue.specs.body.Ending.{stopped_at, agent_at_end, answer_of, answers_oldest, AnswersUnserved}
+use Rattle.rdm_queue.specs.body.Ending.{stopped_at, agent_at_end, answer_of, AnswersUnserved}
 use Rattle.rdm_queue.specs.body.Ending.{NothingToEnd, HasNothingDue, IsEnded}
 use Rattle.rdm_queue.specs.body.Ending.IsEnded.{ByRun, ByResult, ByClose}
 use Rattle.rdm_queue.specs.body.Agrees.{IsRunning, IsNotRunning, RunIs, RunGoesOn, oldest_number, Agrees, StandsAfter}
@@ -46,7 +46,8 @@ use Rattle.rdm_log.proofs.LogLemmas.AgentLemmas.{agent_goes_on}
 use Rattle.rdm_queue.proofs.BodyLemmas.AfterLemmas.{pending_flag}
 use Rattle.rdm_log.proofs.PromiseLemmas.OutcomeLemmas.{some_at}
 use Rattle.rdm_log.proofs.LogLemmas.RunningLemmas.{asked_stays}
-use Rattle.rdm_queue.proofs.BodyLemmas.AgreesRuns.{not_stopped, stands_answer, known_kept, run_after}
+use Rattle.rdm_queue.proofs.BodyLemmas.AgreesRuns.{not_stopped, answers_with, stands_answer, known_kept}
+use Rattle.rdm_queue.proofs.BodyLemmas.AgreesRuns.{run_after}
 use Rattle.rdm_queue.proofs.BodyLemmas.TakeLemmas.{not_running, running, run_opened}
 use Rattle.rdm_queue.proofs.BodyLemmas.EndRequests.{undecided, finish_amid}
 use Rattle.rdm_queue.proofs.BodyLemmas.EndRuns.{at_end, ended_same, answer_amid, and_left, and_right}
@@ -142,16 +143,12 @@ unserved_amid o h s new entry none none_left answers_ amid = rw (answers_.entry_
             rw (answered_more h e _ refl, list_any-append (λ (b : Answered). b.run == r) (answers h) _, named) refl
         by_named (inr not) = absurd (none-some r (sym (rw not at is)))
 
-    left_over : RunIs o k (record (answers_oldest s a 0 (Some Aborted) []) {
-      run = s.run;
-      agent = s.agent;
-      devices = s.devices;
-      devices_run = s.devices_run;
-    }) s.run
-    left_over = subst
-        (λ q. RunIs o k
-        (record (answers_oldest s a 0 (Some Aborted) [])
-        { run = s.run; agent = s.agent; devices = s.devices; devices_run = s.devices_run }) q) (sym none) (record {
+    next : QueueState
+    next = answers_with s a 0 (Some Aborted) [] s.run s.agent s.devices s.devices_run
+
+    left_over : RunIs o k next s.run
+    left_over =
+        subst (λ q. RunIs o k next q) (sym none) (record {
           none_open = rw same_last (still_none (last_run h) before.none_open);
           none_left = rw (same_last, asked_stays h e (last_run h) refl)
               (let old = before.none_left in
@@ -171,7 +168,8 @@ ends_amid o h s new entry (ByClose e) amid = unserved_amid o h s new entry e.no_
 -- an Answer with a fault needs a close, on a calm line with a sufficient budget
 in_bound_at : (k : LogState) (n r : ℕ) (a : AgentState) (aborted : Bool)
     → HasRunBy k.search (run_kind r k.entries) (known_at_run k.opening r k.entries) k.opening.budget aborted
-    (run_exchanges r k.entries) a → (aborted ≡ true → is_closed k.opening k.entries ≡ true) → next_op a ≡ ops.End
+    (run_exchanges r k.entries) a
+    → (aborted ≡ true → is_closed k.opening k.entries ≡ true) → next_op a ≡ ops.End
     → (f : Option AgentFault) → fault_of a.phase ≡ f → FaultNeedsClose k (Answer n r f)
 in_bound_at k n r a aborted s closed end None is = tt
 in_bound_at k n r a true s closed end (Some fault) is = λ present calm. closed refl
@@ -296,9 +294,9 @@ settled_running o h s r is goes amid = record {
       rw (run_opened o h s r is now amid.stands)
       (agent_goes_on o h r.number s.agent (not_stopped _ _ _ run.aborted _ s.agent run.has_run now) now);
   all_closed =
-      λ closed idle. absurd (goes
-      (ended_at (rw (amid.stands.closed_is, closed, pending_flag o h s s.awaited amid.stands.awaited_is, idle)
-      refl)));
+      λ closed idle. absurd
+      (goes (ended_at
+      (rw (amid.stands.closed_is, closed, pending_flag o h s s.awaited amid.stands.awaited_is, idle) refl)));
 }
   where
     facts : LogFacts o h

@@ -23,7 +23,7 @@ use Rattle.rdm_log.specs.log.Runs.{has_begun, entries_before_run, last_run, is_a
 use Rattle.rdm_log.specs.log.Runs.{run_exchanges, run_devices, run_kind, known_at_run, answer_devices}
 use Rattle.rdm_log.specs.log.MayAnswer.{MayAnswer}
 use Rattle.rdm_queue.specs.body.State.{QueueState, RunState, is_closing}
-use Rattle.rdm_queue.specs.body.Ending.{stopped_at, agent_at_end, answer_of, answers_oldest, one_less, answers_by_run}
+use Rattle.rdm_queue.specs.body.Ending.{stopped_at, agent_at_end, answer_of, one_less, answers_by_run}
 use Rattle.rdm_queue.specs.body.Ending.{devices_after, devices_run_after}
 use Rattle.rdm_queue.specs.body.Agrees.{AwaitsRequest, AwaitsRun, IsPending, IsRunning, RunIs, oldest_number, Agrees}
 use Rattle.rdm_queue.specs.body.Agrees.{StandsAmid}
@@ -40,8 +40,8 @@ use Rattle.rdm_log.proofs.LogLemmas.AgentLemmas.{agent_shows, agent_found}
 use Rattle.rdm_queue.proofs.BodyLemmas.AfterLemmas.{pending_flag}
 use Rattle.rdm_log.proofs.PromiseLemmas.OutcomeLemmas.{some_at}
 use Rattle.rdm_queue.proofs.BodyLemmas.AgreesWork.{was_sent_own}
-use Rattle.rdm_queue.proofs.BodyLemmas.AgreesRuns.{not_stopped, stands_answer, known_after, run_after}
-use Rattle.rdm_queue.proofs.BodyLemmas.AgreesRuns.{exchanges_answered}
+use Rattle.rdm_queue.proofs.BodyLemmas.AgreesRuns.{not_stopped, answers_with, stands_answer, known_after}
+use Rattle.rdm_queue.proofs.BodyLemmas.AgreesRuns.{run_after, exchanges_answered}
 use Rattle.rdm_queue.proofs.BodyLemmas.TakeLemmas.{running}
 use Rattle.rdm_log.proofs.LogLemmas.RunningLemmas.{asked_stays}
 use Rattle.rdm_log.proofs.LogLemmas.BegunLemmas.{before_front}
@@ -68,7 +68,8 @@ at_end o h s r run stands = by_closing (is_closing s) refl
     Ends : AgentState → Type 0
     Ends a = (aborted : Bool)
         × HasRunBy s.search (run_kind r.number h) (known_at_run o r.number h) o.budget aborted
-        (run_exchanges r.number h) a × (aborted ≡ true → is_closed o h ≡ true)
+        (run_exchanges r.number h) a
+        × (aborted ≡ true → is_closed o h ≡ true)
 
     stays : Ends s.agent
     stays = (run.aborted, run.has_run, λ is. (run.stopped is).0)
@@ -104,8 +105,8 @@ at_end o h s r run stands = by_closing (is_closing s) refl
     shown : (a : AgentState) → agent_at_end s ≡ a → Ends a → AtEnd o h s r
     shown a is ends = record {
       aborted = ends.0;
-      has_run = subst
-          (λ b. HasRunBy s.search (run_kind r.number h) (known_at_run o r.number h) o.budget ends.0
+      has_run =
+          subst (λ b. HasRunBy s.search (run_kind r.number h) (known_at_run o r.number h) o.budget ends.0
           (run_exchanges r.number h) b) (sym is) ends.1;
       closed = ends.2;
     }
@@ -153,8 +154,8 @@ pub serves_oldest : (o : Opening) (h : List Entry) (s : QueueState) (r : RunStat
     → list_any (λ b. b.number == a.number) (served r.number h) ≡ true
 serves_oldest o h s r a run oldest =
     rw (last_begun r.number h run.last)
-    (any_passes_from_place (λ (b : AskedDiscovery). b.number == a.number) (unserved early) place
-    a at (eq-eqb a.number a.number refl))
+    (any_passes_from_place (λ (b : AskedDiscovery). b.number == a.number) (unserved early) place a at
+    (eq-eqb a.number a.number refl))
   where
     early : List Entry
     early = entries_before_run r.number h
@@ -289,12 +290,9 @@ answer_amid o h s r a is end first amid = record {
         or_true false = refl
 
     new : Option RunState → QueueState
-    new q = record (answers_oldest s a r.number f (agent_at_end s).found) {
-      run = q;
-      agent = agent_at_end s;
-      devices = devices_after f (agent_at_end s).found s.devices;
-      devices_run = devices_run_after f r.number s.devices_run;
-    }
+    new q =
+        answers_with s a r.number f (agent_at_end s).found q (agent_at_end s)
+        (devices_after f (agent_at_end s).found s.devices) (devices_run_after f r.number s.devices_run)
 
     alike : (i : ℕ) (b : Answered) → slice_get (answers k) i ≡ Some b → b.run ≡ r.number → b.fault ≡ f
     alike i b at own = by_place (slice_get-push (answers h) _ i b (rw (answered_more h e _ refl) at at))

@@ -1,5 +1,5 @@
 -- The clients' rings, as the lists of a queue's state.
-use Rattle.std.proofs.Common.{◌≡◌, ℕ, ◌+◌, ◌-◌, ◌<◌, map, sum, ◌≤◌, true, false, List, [], ◌∷◌, ◌++◌, length, take, set}
+use Rattle.std.proofs.Common.{◌≡◌, ℕ, ◌+◌, ◌-◌, ◌<◌, map, ◌≤◌, true, false, List, [], ◌∷◌, ◌++◌, length, take, set}
 use Rattle.std.proofs.Common.{get_or, Some, None, slice_get, refl, sym, ap, ◌∙◌, inl, inr, arith}
 use Rattle.std.specs.Prelude.{◌⊎◌, ◌==◌, ◌||◌, nat_le, if◌then◌else◌}
 use Rattle.std.specs.List.{refill, sum_by, list_any}
@@ -16,7 +16,6 @@ use Rattle.rdm_queue.specs.declared.pending.Asked.{Asked}
 use Rattle.rdm_log.specs.log.Entries.{AskedDiscovery}
 use Rattle.rdm_log.specs.log.Runs.{is_full_kind}
 use Rattle.rdm_log.specs.log.Config.{IsConfig}
-use Rattle.rdm_log.specs.promises.Outcomes.{OutcomeValue}
 use Rattle.rdm_queue.specs.body.Rings.{owed_values}
 use Rattle.rdm_queue.specs.body.Merged.{merged}
 use Rattle.rdm_queue.specs.body.Fields.{accepted_is, asked_is, waiting_ring, rings_from, waiting_rings, owed_rings}
@@ -26,7 +25,7 @@ use Rattle.rdm_queue.specs.body.State.{QueueState, first_state, first_submit_fau
 use Rattle.rdm_queue.specs.body.State.{uncollected}
 use Rattle.rdm_queue.proofs.BodyLemmas.InvariantLemmas.{waiting_rises, has_place}
 use Rattle.rdm_queue.proofs.BodyLemmas.MergedLemmas.{merged_shares, length-put_all}
-use Rattle.rdm_queue.proofs.BodyLemmas.OutstandingLemmas.{waiting-le, uncollected-le}
+use Rattle.rdm_queue.proofs.BodyLemmas.OutstandingLemmas.{waiting-le, in_all, in_all-cons, uncollected-le}
 use Rattle.rdm_queue.proofs.BodyLemmas.ValueLemmas.{length-values}
 use Rattle.rdm_log.proofs.LogLemmas.Places.{place_within}
 use Rattle.rdm_queue.proofs.BodyLemmas.RingSteps.{outstanding_count, sets_count, places_at}
@@ -69,15 +68,25 @@ written xs ys i x same =
     ∙ (take_all (length xs) (set ys i x) (omega arith) ∙ ap (λ l. set l i x) same))
 
 -- where an element was read
-pub read_at : {X : Type 0} (xs ys : List X) (i : ℕ) (d : X) → ys ≡ xs → i < length xs
-    → slice_get xs i ≡ Some (get_or ys i d)
-read_at xs ys i d same within = slice_get-get_or xs i d within ∙ ap (λ l. Some (get_or l i d)) (sym same)
+pub read_at : {X : Type 0} (xs ys : List X) (i c : ℕ) (d : X) → i ≡ c → ys ≡ xs → c < length xs
+    → slice_get xs c ≡ Some (get_or ys i d)
+read_at xs ys i c d place same within =
+    slice_get-get_or xs c d within ∙ ap (λ l. Some (get_or l c d)) (sym same)
+    ∙ ap (λ n. Some (get_or ys n d)) (sym place)
 
 -- where an element was found
 pub found_at : {X : Type 0} (xs ys : List X) (i : ℕ) (x : X) → ys ≡ xs → i < length ys → x ≡ get_or ys i x
     → slice_get xs i ≡ Some x
 found_at xs ys i x same within is =
     ap (λ l. slice_get l i) (sym same) ∙ (slice_get-get_or ys i x within ∙ ap (λ y. Some y) (sym is))
+
+-- a client that has joined is known
+known_at : (s : QueueState) (clients : List Client) (c : ℕ) (k : Client) → s.places ≡ places_of clients
+    → slice_get clients c ≡ Some k → nat_le (length s.places) c ≡ false
+known_at s clients c k same at =
+    let within = place_within clients c k at in
+    let long = ap (λ ns. length ns) same ∙ length-map clients (λ l. l.places) in
+    lt-leb (length s.places) c (omega arith)
 
 -- of a client that has joined, a submit's first fault but for a close
 pub fault_of : (s : QueueState) (clients : List Client) (c : ℕ) (k : Client) → QueueInvariant s clients
@@ -86,12 +95,13 @@ pub fault_of : (s : QueueState) (clients : List Client) (c : ℕ) (k : Client) �
     ≡ (if nat_le k.places (deque_len k.waiting + (deque_len k.outcomes - length k.sets.items))
     || nat_le 18446744073709551615 s.next_request then Some submit_faults.Full else None)
 fault_of s clients c k held same owed at open_ =
-    rw (open_, known, outstanding_count s clients c k owed held.rings at, ← places_at clients c k at, ← same) refl
-  where
-    known : nat_le (length s.places) c ≡ false
-    known = let within = place_within clients c k at in
-        let long = ap (λ ns. length ns) same ∙ length-map clients (λ l. l.places) in
-        lt-leb (length s.places) c (omega arith)
+    rw (
+      open_,
+      known_at s clients c k same at,
+      outstanding_count s clients c k owed held.rings at,
+      ← places_at clients c k at,
+      ← same,
+    ) refl
 
 -- how many are in all rings
 length-merged : {X : Type 0} (number : X → ℕ) (ring : ℕ → Client → List X) (count : Client → ℕ)
@@ -112,13 +122,13 @@ waiting_sum clients =
     (λ i k. length-map k.waiting.items (accepted_is i) ∙ sym k.waiting.ok.0) 0 clients
 
 pub outcomes_sum : (clients : List Client)
-    → sum_by (λ k. deque_len k.outcomes) clients ≡ sum (map (λ ds. length ds) (owed_rings clients))
+    → sum_by (λ k. deque_len k.outcomes) clients ≡ in_all (owed_rings clients)
 outcomes_sum [] = refl
 outcomes_sum (k ∷ clients) =
-    sum_by-cons (λ l. deque_len l.outcomes) k clients ∙ let rest = outcomes_sum clients in
+    sum_by-cons (λ l. deque_len l.outcomes) k clients
+    ∙ let rest = outcomes_sum clients in
     let here = k.outcomes.ok.0 ∙ sym (length-values k.outcomes.items k.sets.items) in
-    let whole = sum_by-cons (λ (m : ℕ). m) (length (owed_values k))
-    (map (λ (ds : List OutcomeValue). length ds) (owed_rings clients)) in omega arith
+    omega (arith, in_all-cons (owed_values k) (owed_rings clients))
 
 -- all of them are few
 pub waiting_fit : (s : QueueState) → StateInvariant s → length s.waiting < 18446744073709551616
@@ -163,9 +173,5 @@ pub ask_fault_of : (s : QueueState) (clients : List Client) (c : ℕ) (k : Clien
     → first_ask_fault s c
     ≡ (if nat_le 4 (length (asked_of c s) + length k.sets.items)
     || nat_le 18446744073709551614 s.next_ask then Some ask_faults.Full else None)
-ask_fault_of s clients c k held same owed at open_ = rw (open_, known, sets_count s clients c k owed held.rings at) refl
-  where
-    known : nat_le (length s.places) c ≡ false
-    known = let within = place_within clients c k at in
-        let long = ap (λ ns. length ns) same ∙ length-map clients (λ l. l.places) in
-        lt-leb (length s.places) c (omega arith)
+ask_fault_of s clients c k held same owed at open_ =
+    rw (open_, known_at s clients c k same at, sets_count s clients c k owed held.rings at) refl

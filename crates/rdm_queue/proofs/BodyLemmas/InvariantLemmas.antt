@@ -1,6 +1,6 @@
 -- A queue's calls keep its invariant.
 use Rattle.std.proofs.Common.{◌≡◌, ℕ, zero, suc, ◌+◌, ◌-◌, ◌≤◌, ◌<◌, Bool, true, false, cond, not, List, [], ◌∷◌, ◌++◌}
-use Rattle.std.proofs.Common.{length, drop, get_or, set, filter, map, sum, Option, Some, None, slice_get, refl, sym, ap}
+use Rattle.std.proofs.Common.{length, drop, get_or, filter, map, sum, Option, Some, None, slice_get, refl, sym, ap}
 use Rattle.std.proofs.Common.{◌∙◌, subst, inl, inr, length-append, arith}
 use Rattle.std.specs.List.{AllByRecursion}
 use Rattle.std.specs.Prelude.{◌⊎◌, ◌==◌, ◌||◌, nat_le, nat_lt, slice_index, if◌then◌else◌, MatchOption}
@@ -13,8 +13,11 @@ use Rattle.rdm_wire.specs.declared.request.Request.{Request}
 use Rattle.rdm_join.specs.Result.{Joined}
 use Rattle.rdm_agent.specs.declared.kind.Kind.{Kind}
 use Rattle.rdm_agent.specs.declared.kind.Kind.TheVariants.{Full}
+use Rattle.rdm_log.specs.declared.fault.JoinFault.{JoinFault}
 use Rattle.rdm_log.specs.declared.fault.JoinFault.TheVariants as join_faults
+use Rattle.rdm_log.specs.declared.fault.SubmitFault.{SubmitFault}
 use Rattle.rdm_log.specs.declared.fault.SubmitFault.TheVariants as submit_faults
+use Rattle.rdm_log.specs.declared.fault.AskFault.{AskFault}
 use Rattle.rdm_log.specs.declared.fault.AskFault.TheVariants as ask_faults
 use Rattle.rdm_log.specs.log.Entries.{Accepted, AskedDiscovery}
 use Rattle.rdm_log.specs.promises.Outcomes.{OutcomeValue}
@@ -26,7 +29,8 @@ use Rattle.rdm_queue.specs.body.State.{first_ask_fault}
 use Rattle.rdm_queue.specs.body.Sending.{begun}
 use Rattle.rdm_log.proofs.LogLemmas.RefusalLemmas.{none_stands}
 use Rattle.rdm_log.proofs.LogLemmas.Places.{slice_get_first}
-use Rattle.rdm_queue.proofs.BodyLemmas.OutstandingLemmas.{owes-count, without_first, one_more, four, asked-le}
+use Rattle.rdm_queue.proofs.BodyLemmas.OutstandingLemmas.{taken_at, owes-count, without_first, one_more, four}
+use Rattle.rdm_queue.proofs.BodyLemmas.OutstandingLemmas.{asked-le}
 
 pub waiting_rises : (s : QueueState) → StateInvariant s → IsAscending (map (λ (a : Accepted). a.number) s.waiting)
 waiting_rises s held = rising_left (map (λ (a : Accepted). a.number) s.waiting) (s.next_request ∷ []) held.rising
@@ -80,6 +84,15 @@ rest_rises : (a : Accepted) (rest : List Accepted) (n : ℕ)
     → IsAscending (map (λ (b : Accepted). b.number) rest ++ n ∷ [])
 rest_rises a rest n rising = rising.1
 
+-- of two counts with a sum of at most t, one moves from the second to the first, or none
+one_moves : (n m k l t : ℕ) (b : Bool) → n ≡ m + cond b 1 0 → k + cond b 1 0 ≡ l → l + m ≤ t → k + n ≤ t
+one_moves n m k l t true p q r = omega arith
+one_moves n m k l t false p q r = omega arith
+
+none_moves : (n m k t : ℕ) (b : Bool) → n ≡ m + cond b 0 0 → k + m ≤ t → k + n ≤ t
+none_moves n m k t true p q = omega arith
+none_moves n m k t false p q = omega arith
+
 pub held-finishes : (s : QueueState) (j : Joined) (a : Accepted) → StateInvariant s → slice_get s.waiting 0 ≡ Some a
     → StateInvariant (finishes_oldest s (owed_for j a))
 held-finishes s j a held at = record {
@@ -89,10 +102,9 @@ held-finishes s j a held at = record {
   few_places = held.few_places;
   few_clients = held.few_clients;
   owed_for_each = length-set s.owed a.client _ ∙ held.owed_for_each;
-  few = λ c. moves _ _ _ _ _ (c == a.client) (owes-count (λ d. not (is_discovery d)) s a.client c _ within)
+  few = λ c. one_moves _ _ _ _ _ (c == a.client) (owes-count (λ d. not (is_discovery d)) s a.client c _ within)
       (without_first (λ (b : Accepted). b.client) c s.waiting a at) (held.few c);
-  few_asks = λ c. let owed = owes-count is_discovery s a.client c _ within in let few = held.few_asks c in
-      fewer _ _ _ _ (c == a.client) owed few;
+  few_asks = λ c. none_moves _ _ _ _ (c == a.client) (owes-count is_discovery s a.client c _ within) (held.few_asks c);
   rising = rest_rises a (drop 1 s.waiting) s.next_request
       (subst (λ ws. IsAscending (map (λ (b : Accepted). b.number) ws ++ s.next_request ∷ []))
       (slice_get_first s.waiting a at) held.rising);
@@ -105,14 +117,6 @@ held-finishes s j a held at = record {
   where
     within : a.client < length s.owed
     within = let joined = waiting_joined s a held at in let same = held.owed_for_each in omega arith
-
-    moves : (n m k l t : ℕ) (b : Bool) → n ≡ m + cond b 1 0 → k + cond b 1 0 ≡ l → l + m ≤ t → k + n ≤ t
-    moves n m k l t true p q r = omega arith
-    moves n m k l t false p q r = omega arith
-
-    fewer : (n m k t : ℕ) (b : Bool) → n ≡ m + cond b 0 0 → k + m ≤ t → k + n ≤ t
-    fewer n m k t true p q = omega arith
-    fewer n m k t false p q = omega arith
 
 -- the oldest discovery may be answered
 pub held-answers : (s : QueueState) (a : AskedDiscovery) (d : OutcomeValue) (run : Option RunState) → StateInvariant s
@@ -134,11 +138,10 @@ held-answers s a d run held at discovery serves less most within new is = rw is 
   few_places = held.few_places;
   few_clients = held.few_clients;
   owed_for_each = length-set s.owed a.client _ ∙ held.owed_for_each;
-  few = λ c. let owed = owes-count (λ e. not (is_discovery e)) s a.client c d inside in let few = held.few c in
-      fewer _ _ _ _ (c == a.client) (rw discovery at owed) few;
-  few_asks = λ c. let moved = without_first (λ (b : AskedDiscovery). b.client) c s.asked a at in
-      let owed = owes-count is_discovery s a.client c d inside in let few = held.few_asks c in
-      same _ _ _ _ _ (c == a.client) (rw discovery at owed) moved few;
+  few = λ c. none_moves _ _ _ _ (c == a.client)
+      (rw discovery at (owes-count (λ e. not (is_discovery e)) s a.client c d inside)) (held.few c);
+  few_asks = λ c. one_moves _ _ _ _ _ (c == a.client) (rw discovery at (owes-count is_discovery s a.client c d inside))
+      (without_first (λ (b : AskedDiscovery). b.client) c s.asked a at) (held.few_asks c);
   rising = held.rising;
   open_ = held.open_;
   asks_numbered = held.asks_numbered;
@@ -151,14 +154,6 @@ held-answers s a d run held at discovery serves less most within new is = rw is 
     inside : a.client < length s.owed
     inside = let joined = asked_joined s a held at in let same = held.owed_for_each in omega arith
 
-    fewer : (n m k t : ℕ) (b : Bool) → n ≡ m + cond b 0 0 → k + m ≤ t → k + n ≤ t
-    fewer n m k t true p q = omega arith
-    fewer n m k t false p q = omega arith
-
-    same : (n m k l t : ℕ) (b : Bool) → n ≡ m + cond b 1 0 → k + cond b 1 0 ≡ l → l + m ≤ t → k + n ≤ t
-    same n m k l t true p q r = omega arith
-    same n m k l t false p q r = omega arith
-
 -- one more request, of a client that has joined and whose queue depth allows it
 pub record HasPlace (s : QueueState) (c : ℕ) : Type 0 where
   pub joined : c < length s.places
@@ -168,10 +163,8 @@ pub record HasPlace (s : QueueState) (c : ℕ) : Type 0 where
 pub has_place : (s : QueueState) (c : ℕ) → first_submit_fault s c ≡ None → HasPlace s c
 has_place s c passes =
     let closed = none_stands s.closed submit_faults.Closed
-    (if nat_le (length s.places) c then Some submit_faults.UnknownClient else
-    (if is_full then Some submit_faults.Full else None)) passes in
-    let unknown = none_stands (nat_le (length s.places) c) submit_faults.UnknownClient
-    (if is_full then Some submit_faults.Full else None) closed.1 in
+    (if nat_le (length s.places) c then Some submit_faults.UnknownClient else if_full) passes in
+    let unknown = none_stands (nat_le (length s.places) c) submit_faults.UnknownClient if_full closed.1 in
     let full = none_stands is_full submit_faults.Full None unknown.1 in
     let parts = or_parts (nat_le (slice_index s.places c) (outstanding c s))
     (nat_le 18446744073709551615 s.next_request) full.0 in
@@ -179,6 +172,9 @@ has_place s c passes =
   where
     is_full : Bool
     is_full = nat_le (slice_index s.places c) (outstanding c s) || nat_le 18446744073709551615 s.next_request
+
+    if_full : Option SubmitFault
+    if_full = if is_full then Some submit_faults.Full else None
 
 -- a higher number at the end
 rising_push : (ns : List ℕ) (n m : ℕ) → IsAscending (ns ++ n ∷ []) → n < m → IsAscending ((ns ++ n ∷ []) ++ m ∷ [])
@@ -233,16 +229,17 @@ pub record HasAsk (s : QueueState) (c : ℕ) : Type 0 where
 pub has_ask : (s : QueueState) (c : ℕ) → first_ask_fault s c ≡ None → HasAsk s c
 has_ask s c passes =
     let closed = none_stands s.closed ask_faults.Closed
-    (if nat_le (length s.places) c then Some ask_faults.UnknownClient else
-    (if is_full then Some ask_faults.Full else None)) passes in
-    let unknown = none_stands (nat_le (length s.places) c) ask_faults.UnknownClient
-    (if is_full then Some ask_faults.Full else None) closed.1 in
+    (if nat_le (length s.places) c then Some ask_faults.UnknownClient else if_full) passes in
+    let unknown = none_stands (nat_le (length s.places) c) ask_faults.UnknownClient if_full closed.1 in
     let full = none_stands is_full ask_faults.Full None unknown.1 in
     let parts = or_parts (nat_le 4 (outstanding_asks c s)) (nat_le 18446744073709551614 s.next_ask) full.0 in
     record { joined = leb-false _ _ unknown.0; free = leb-false _ _ parts.0; number = leb-false _ _ parts.1 }
   where
     is_full : Bool
     is_full = nat_le 4 (outstanding_asks c s) || nat_le 18446744073709551614 s.next_ask
+
+    if_full : Option AskFault
+    if_full = if is_full then Some ask_faults.Full else None
 
 pub held-asks : (s : QueueState) (c : ℕ) (kind : Kind) → StateInvariant s → first_ask_fault s c ≡ None
     → StateInvariant (asks_discovery s c kind)
@@ -278,6 +275,9 @@ room_to_ask s c held passes =
     omega arith
 
 -- a run begins for all discoveries that wait
+none_begun : (s : QueueState) → StateInvariant s → s.run ≡ None → s.next_run + (length s.asked - 0) ≤ s.next_ask + 1
+none_begun s held none = rw none at held.runs_numbered
+
 pub held-begun : (s : QueueState) → StateInvariant s → s.run ≡ None → 0 < length s.asked → StateInvariant (begun s)
 held-begun s held none some = record {
   source = held.source;
@@ -293,16 +293,14 @@ held-begun s held none some = record {
   asks_numbered = held.asks_numbered;
   served = omega arith;
   serves = some;
-  runs_numbered =
-      let numbered : s.next_run + (length s.asked - 0) ≤ s.next_ask + 1 = rw none at held.runs_numbered in omega arith;
+  runs_numbered = let numbered = none_begun s held none in omega arith;
 }
 
 -- and its number is below the greatest
 pub run_number : (s : QueueState) → StateInvariant s → s.run ≡ None → 0 < length s.asked
     → s.next_run + 1 < 18446744073709551616
 run_number s held none some =
-    let numbered : s.next_run + (length s.asked - 0) ≤ s.next_ask + 1 = rw none at held.runs_numbered in
-    let most = held.asks_numbered in omega arith
+    let numbered = none_begun s held none in let most = held.asks_numbered in omega arith
 
 -- one outcome fewer
 fewer_left : (p : OutcomeValue → Bool) (ds : List OutcomeValue) → length (filter p (drop 1 ds)) ≤ length (filter p ds)
@@ -314,19 +312,18 @@ fewer_left p (d ∷ ds) = by_test (p d)
     by_test false = omega arith
 
 set_fewer : (p : OutcomeValue → Bool) (lists : List (List OutcomeValue)) (c n : ℕ)
-    → length (filter p (get_or (set lists c (drop 1 (get_or lists c []))) n [])) ≤ length (filter p (get_or lists n []))
+    → length (filter p (get_or (taken_at lists c) n [])) ≤ length (filter p (get_or lists n []))
 set_fewer p lists c n = by_client (cases_eq n c) (cases_lt c (length lists))
   where
     none : {ds : List OutcomeValue} (m : ℕ) → ds ≡ [] → length (filter p ds) ≤ m
     none m is = rw is (omega arith)
 
     by_client : (n ≡ c) ⊎ (n ≡ c → ⊥) → (c < length lists) ⊎ (length lists ≤ c)
-        → length (filter p (get_or (set lists c (drop 1 (get_or lists c []))) n [])) ≤ length
-        (filter p (get_or lists n []))
+        → length (filter p (get_or (taken_at lists c) n [])) ≤ length (filter p (get_or lists n []))
     by_client (inl same) (inl within) =
         rw (same, get_or-set_same lists c (drop 1 (get_or lists c [])) [] within) (fewer_left p (get_or lists c []))
     by_client (inl same) (inr past) =
-        none _ (get_or_past (set lists c (drop 1 (get_or lists c []))) n []
+        none _ (get_or_past (taken_at lists c) n []
         (let long = length-set lists c (drop 1 (get_or lists c [])) in omega arith))
     by_client (inr other) within = rw (get_or-set_other lists c n (drop 1 (get_or lists c [])) [] other) (omega arith)
 
@@ -398,9 +395,10 @@ pub has_room : (s : QueueState) (n : ℕ) → first_join_fault s n ≡ None → 
     × (sum s.places + n ≤ s.greatest)
 has_room s n e =
     let closed = none_stands s.closed join_faults.Closed
-    (if nat_le 16 (length s.places) then Some join_faults.TooManyClients else
-    (if nat_lt s.greatest (sum s.places + n) then Some join_faults.NoPlaces else None)) e in
-    let many = none_stands (nat_le 16 (length s.places)) join_faults.TooManyClients
-    (if nat_lt s.greatest (sum s.places + n) then Some join_faults.NoPlaces else None) closed.1 in
+    (if nat_le 16 (length s.places) then Some join_faults.TooManyClients else if_no_places) e in
+    let many = none_stands (nat_le 16 (length s.places)) join_faults.TooManyClients if_no_places closed.1 in
     let places = none_stands (nat_lt s.greatest (sum s.places + n)) join_faults.NoPlaces None many.1 in
     (leb-false 16 (length s.places) many.0, ltb-false s.greatest (sum s.places + n) places.0)
+  where
+    if_no_places : Option JoinFault
+    if_no_places = if nat_lt s.greatest (sum s.places + n) then Some join_faults.NoPlaces else None

@@ -126,16 +126,32 @@ owed-le s c held =
     let few = held.few c in let asks = held.few_asks c in let most = fours s.places c in
     let both = both_kinds (owed_to c s) in omega arith
 
+-- how many outcomes are in all clients' lists
+abbrev pub in_all : List (List OutcomeValue) → ℕ
+in_all lists = sum (map (λ ds. length ds) lists)
+
+pub in_all-cons : (ds : List OutcomeValue) (lists : List (List OutcomeValue))
+    → in_all (ds ∷ lists) ≡ length ds + in_all lists
+in_all-cons ds lists = sum_by-cons (λ (n : ℕ). n) (length ds) (map (λ (es : List OutcomeValue). length es) lists)
+
+-- client c's list without its first outcome, and with one more
+abbrev pub taken_at : List (List OutcomeValue) → ℕ → List (List OutcomeValue)
+taken_at lists c = set lists c (drop 1 (get_or lists c []))
+
+abbrev pub put_at : List (List OutcomeValue) → ℕ → OutcomeValue → List (List OutcomeValue)
+put_at lists c d = set lists c (get_or lists c [] ++ d ∷ [])
+
 sum_lengths : (lists : List (List OutcomeValue)) (places : List ℕ) → length lists ≡ length places
     → ((c : ℕ) → length (get_or lists c []) ≤ get_or places c 0 + 4)
-    → sum (map (λ ds. length ds) lists) ≤ sum places + 4 * length places
+    → in_all lists ≤ sum places + 4 * length places
 sum_lengths [] [] same each = omega arith
 sum_lengths [] (n ∷ places) same each = absurd (omega arith)
 sum_lengths (ds ∷ lists) [] same each = absurd (omega arith)
 sum_lengths (ds ∷ lists) (n ∷ places) same each =
-    let rest = sum_lengths lists places (omega arith) (λ c. each (suc c)) in let first : length ds ≤ n + 4 = each 0 in
-    let lefts = sum_by-cons (λ (m : ℕ). m) (length ds) (map (λ (es : List OutcomeValue). length es) lists) in
-    let rights = sum_by-cons (λ (m : ℕ). m) n places in omega arith
+    let rest = sum_lengths lists places (omega arith) (λ c. each (suc c)) in
+    let first : length ds ≤ n + 4 = each 0 in
+    let rights = sum_by-cons (λ (m : ℕ). m) n places in
+    omega (arith, in_all-cons ds lists)
 
 pub uncollected-le : (s : QueueState) → StateInvariant s → uncollected s ≤ sum s.places + 4 * length s.places
 uncollected-le s held = sum_lengths s.owed s.places held.owed_for_each (λ c. owed-le s c held)

@@ -24,7 +24,7 @@ use Rattle.rdm_queue.specs.body.QueueInvariant.{RingsInvariant, QueueInvariant}
 use Rattle.rdm_queue.specs.body.State.{QueueState, outstanding, outstanding_asks, owed_for, owed_value, owes}
 use Rattle.rdm_queue.specs.body.State.{accepted_as, accepts_request, finishes_oldest, joins_client, collects_oldest}
 use Rattle.rdm_queue.specs.body.State.{first_join_fault, first_submit_fault, owed_to, is_discovery, first_kind}
-use Rattle.rdm_queue.specs.body.State.{kind_of_value, TakesOldest}
+use Rattle.rdm_queue.specs.body.State.{kind_of_value}
 use Rattle.rdm_queue.specs.body.Ending.{answer_value}
 use Rattle.rdm_log.proofs.LogLemmas.Places.{all_at, slice_get_first}
 use Rattle.rdm_queue.proofs.BodyLemmas.InvariantLemmas.{has_place, has_room, held-finishes, held-accepts, held-collects}
@@ -32,7 +32,7 @@ use Rattle.rdm_queue.proofs.BodyLemmas.InvariantLemmas.{held-joins}
 use Rattle.rdm_queue.proofs.BodyLemmas.OutstandingLemmas.{both_kinds, fours}
 use Rattle.rdm_queue.proofs.BodyLemmas.ValueLemmas.{length-values, discoveries-values, values-request, values-discovery}
 use Rattle.rdm_queue.proofs.BodyLemmas.ValueLemmas.{sets-finish, sets-answer, few_discoveries, kind_first}
-use Rattle.rdm_queue.proofs.BodyLemmas.RingLemmas.{ring_of, ring_within, ring_changed, ring_stayed, set_same}
+use Rattle.rdm_queue.proofs.BodyLemmas.RingLemmas.{ring_of, ring_within, ring_changed, ring_stayed}
 use Rattle.rdm_queue.proofs.BodyLemmas.RingLemmas.{shares_more, shares_push, shares_rest, same_sizes, all_set, all_push}
 
 -- a client joins
@@ -76,8 +76,7 @@ front_is : (s : QueueState) (clients : List Client) (k : Client) (a : Accepted) 
     → RingsInvariant s clients → slice_get clients a.client ≡ Some k → k.waiting.items ≡ w ∷ ws
     → slice_get s.waiting 0 ≡ Some a → a ≡ accepted_is a.client w
 front_is s clients k a w ws rings at items oldest =
-    let ring : get_or (waiting_rings clients) a.client []
-    ≡ accepted_is a.client w ∷ map (accepted_is a.client) ws =
+    let ring : get_or (waiting_rings clients) a.client [] ≡ accepted_is a.client w ∷ map (accepted_is a.client) ws =
     ring_of waiting_ring clients a.client k at ∙ ap (λ l. map (accepted_is a.client) l) items in
     let own : get_or (waiting_rings clients) a.client []
     ≡ a ∷ filter (λ (b : Accepted). a.client == b.client) (drop 1 s.waiting) =
@@ -109,8 +108,9 @@ rings-finish s clients k l done entry a rings at finishes oldest = record {
         (slice_get_first s.waiting a oldest) rings.waiting
 
     first : get_or (waiting_rings clients) a.client [] ≡ a ∷ waiting_ring a.client l
-    first = ring_of waiting_ring clients a.client
-        k at ∙ (ap (λ ws. map (accepted_is a.client) ws) finishes.waiting
+    first =
+        ring_of waiting_ring clients a.client k at
+        ∙ (ap (λ ws. map (accepted_is a.client) ws) finishes.waiting
         ∙ ap (λ b. b ∷ waiting_ring a.client l) (sym same))
 
 -- the entry of its end
@@ -230,8 +230,8 @@ pub sets_count : (s : QueueState) (clients : List Client) (c : ℕ) (k : Client)
     → RingsInvariant s clients → slice_get clients c ≡ Some k
     → length k.sets.items ≡ length (filter is_discovery (owed_to c s))
 sets_count s clients c k owed rings at =
-    all_at HasSets clients rings.sets c
-    k at ∙ (sym (discoveries-values k.outcomes.items k.sets.items)
+    all_at HasSets clients rings.sets c k at
+    ∙ (sym (discoveries-values k.outcomes.items k.sets.items)
     ∙ ap (λ l. length (filter is_discovery l))
     (sym (values_at clients c k at) ∙ ap (λ lists. get_or lists c []) (sym owed)))
 
@@ -270,8 +270,9 @@ room_for_request s clients c k held same owed passes at =
 -- each outcome fits, and so does the set of each discovery
 pub room_for_outcome : (s : QueueState) (clients : List Client) (c : ℕ) (k : Client) → QueueInvariant s clients
     → s.places ≡ places_of clients → s.owed ≡ owed_rings clients → slice_get clients c ≡ Some k
-    → 1 ≤ length (filter (λ (a : Accepted). c == a.client) s.waiting) + length
-    (filter (λ (a : AskedDiscovery). c == a.client) s.asked) → deque_len k.outcomes < deque_capacity k.outcomes
+    → 1 ≤ length (filter (λ (a : Accepted). c == a.client) s.waiting)
+    + length (filter (λ (a : AskedDiscovery). c == a.client) s.asked)
+    → deque_len k.outcomes < deque_capacity k.outcomes
 room_for_outcome s clients c k held same owed at some =
     let few : outstanding c s ≤ get_or s.places c 0 = held.state.few c in
     let few_asks : outstanding_asks c s ≤ get_or (map (λ (n : ℕ). 4) s.places) c 0 = held.state.few_asks c in
@@ -333,33 +334,6 @@ kind_is s clients c k owed at =
     ap (λ lists. option_map kind_of_value (slice_get (get_or lists c []) 0)) owed
     ∙ (ap (λ ds. option_map kind_of_value (slice_get ds 0)) (values_at clients c k at)
     ∙ kind_first k.outcomes.items k.sets.items)
-
--- what all clients' rings are after a call that has collected what it returns, if it returns anything
-pub record MayCollect {X : Type 0} (s : QueueState) (clients : List Client) (c : ℕ) (k l : Client) (r : Option X)
-    (value : X → OutcomeValue) : Type 0 where
-  pub kept : QueueInvariant (record s { owed = owed_rings (set clients c l) }) (set clients c l)
-  pub places : l.places ≡ k.places
-  pub taken : IfSome r (λ x. TakesOldest s c (value x) (record s { owed = owed_rings (set clients c l) }))
-
-pub may_collect : {X : Type 0} (s : QueueState) (clients : List Client) (c : ℕ) (k l : Client) (r : Option X)
-    (value : X → OutcomeValue) → QueueInvariant s clients → s.owed ≡ owed_rings clients → slice_get clients c ≡ Some k
-    → IfSome r (λ x. ClientCollects k (value x) l) → IfNone r (l ≡ k) → MayCollect s clients c k l r value
-may_collect s clients c k l (Some x) value held owed at collects same =
-    let is = owed-collect s clients c k l (value x) owed at collects in
-    record {
-      kept = rw is (kept-collect s clients c k l (value x) held at collects);
-      places = collects.rings.places;
-      taken = record {
-        oldest = ap (λ lists. slice_get (get_or lists c []) 0) owed
-            ∙ ap (λ ds. slice_get ds 0) (values_at clients c k at ∙ collects.outcomes);
-        new_is = ap (λ lists. record s { owed = lists }) is;
-      };
-    }
-may_collect s clients c k l None value held owed at collects same = record {
-  kept = rw (same, set_same clients c k at, ← owed) held;
-  places = ap (λ m. m.places) same;
-  taken = tt;
-}
 
 pub on_some : {X : Type 0} {P Q : Type 0} (r : Option X) → (P → Q) → OnSome r P → OnSome r Q
 on_some (Some x) so p = so p

@@ -1,13 +1,12 @@
 -- An idle queue stands after the opening that its log leaves, and no entries.
 use Rattle.rdm_log.proofs.PromiseLemmas.LogInBoundLemmas.{empty_in_bound}
-use Rattle.std.proofs.Common.{◌≡◌, ℕ, zero, suc, ◌≤◌, Bool, true, false, List, [], ◌∷◌, length, map, sum, get_or}
+use Rattle.std.proofs.Common.{◌≡◌, ℕ, zero, suc, ◌≤◌, Bool, true, false, List, [], ◌∷◌, length, get_or}
 use Rattle.std.proofs.Common.{Option, Some, None, slice_get, refl, sym, ap, ◌∙◌, append-nil, inl, inr, arith}
 use Rattle.std.proofs.Common.{if◌then◌else◌}
 use Rattle.std.specs.Prelude.{◌⊎◌, ◌&&◌, ◌==◌}
 use Rattle.std.proofs.lemmas.Bool.{cases_Bool, eq-eqb, eqb-true, false≢true}
 use Rattle.std.proofs.lemmas.Option.{none-some}
 use Rattle.std.proofs.lemmas.List.{length-drop}
-use Rattle.std.proofs.lemmas.List.Sums.{sum_by-cons}
 use Rattle.rdm_log.specs.declared.entry.Owner.TheVariants as owners
 use Rattle.rdm_log.specs.declared.entry.Opening.{Opening}
 use Rattle.rdm_log.specs.declared.entry.Entry.{Entry}
@@ -28,6 +27,7 @@ use Rattle.rdm_log.proofs.LogLemmas.LegalFacts.{LogFacts, legal_facts, IsAwaited
 use Rattle.rdm_log.proofs.LogLemmas.RunFacts.{run_facts}
 use Rattle.rdm_log.proofs.LogLemmas.ExchangeLemmas.{verdicts_unsent}
 use Rattle.rdm_log.proofs.LogLemmas.BegunLemmas.{asked_fewer}
+use Rattle.rdm_queue.proofs.BodyLemmas.OutstandingLemmas.{in_all, in_all-cons}
 use Rattle.rdm_queue.proofs.BodyLemmas.AgreesWork.{none_sent}
 
 -- nothing is left
@@ -102,16 +102,10 @@ unsent o h facts rest i x at = by_test (cases_Bool (is_request (oldest_number o 
         omega arith)
 
 -- no client is owed an outcome
-none_in : (lists : List (List OutcomeValue)) (c : ℕ) → sum (map (λ (ds : List OutcomeValue). length ds) lists) ≡ 0
-    → get_or lists c [] ≡ []
+none_in : (lists : List (List OutcomeValue)) (c : ℕ) → in_all lists ≡ 0 → get_or lists c [] ≡ []
 none_in [] c none = refl
-none_in (ds ∷ lists) zero none =
-    no_items ds (let whole = sum_by-cons (λ (n : ℕ). n) (length ds)
-    (map (λ (es : List OutcomeValue). length es) lists) in omega arith)
-none_in (ds ∷ lists) (suc c) none =
-    none_in lists c
-    (let whole = sum_by-cons (λ (n : ℕ). n) (length ds) (map (λ (es : List OutcomeValue). length es) lists) in
-    omega arith)
+none_in (ds ∷ lists) zero none = no_items ds (omega (arith, in_all-cons ds lists))
+none_in (ds ∷ lists) (suc c) none = none_in lists c (omega (arith, in_all-cons ds lists))
 
 none_owed : (o : Opening) (h : List Entry) (s : QueueState) → IsAtRest h → Agrees o h s → uncollected s ≡ 0
 none_owed o h s rest stands = let all = stands.all_outcomes in let none = rest.collected in omega arith

@@ -272,8 +272,8 @@ take_after o h s owner frame new given after = by_which given.which
     by_which : WhichGives s owner frame new → IsSent o h owner frame new
     by_which (Turned turn) =
         let may = may_turn o h s owner frame new given.free given.not_closed turn after in
-        let oldest : slice_get (unfinished h) 0
-        ≡ Some turn.gives.accepted = ap (λ l. slice_get l 0) (sym after.stands.waiting_are) ∙ turn.gives.oldest in
+        let oldest : slice_get (unfinished h) 0 ≡ Some turn.gives.accepted =
+        ap (λ l. slice_get l 0) (sym after.stands.waiting_are) ∙ turn.gives.oldest in
         rw (turn.gives.owner_is, turn.gives.new_is) (record {
           may = may;
           after = record {
@@ -298,8 +298,8 @@ take_after o h s owner frame new given after = by_which given.which
     by_which (Began first) =
         let may = may_first o h s owner frame new given.free given.not_closed first after in
         let begin = begins o h s owner frame new first after in
-        let number : first.gives.run.number
-        ≡ s.next_run = ap (λ (q : RunState). q.number) (sym (same_Some _ _ first.gives.run_is)) in
+        let number : first.gives.run.number ≡ s.next_run =
+        ap (λ (q : RunState). q.number) (sym (same_Some _ _ first.gives.run_is)) in
         rw (first.gives.owner_is, first.gives.new_is, number) (record {
           may = may;
           after = record {

@@ -4,26 +4,27 @@ use Rattle.rdm_queue.proofs.BodyLemmas.FrontLemmas.{none_more, first_stays, firs
 use Rattle.rdm_queue.proofs.queue.first_in_line.Goals.{in-Some-first, in_default-first}
 use Rattle.rdm_queue.proofs.queue.first_in_line.Goals.{in_default-first-via-in-Some-first+else-lowest-oldest}
 use Rattle.rdm_queue.proofs.queue.first_in_line.Goals.{in_default-first-via-in_default-first}
+use Rattle.rdm_queue.proofs.queue.first_in_line.Goals.{After-oldest}
 use Rattle.rdm_queue.proofs.queue.first_in_line.Goals as goal
+
+-- the client at the index
+client_at : (c : After-oldest) → slice_get c.args.clients.now c.loop-at.at ≡ Some c.index-clients-at.result
+client_at c =
+    slice_get-get_or c.args.clients.now c.loop-at.at c.index-clients-at.result c.loop-at-test.true
+    ∙ ap (λ k. Some k) (sym c.index-clients-at.is)
 
 pub loop-at-preserved-in_default : goal.loop-at-preserved-in_default
 loop-at-preserved-in_default c =
-    let at : slice_get c.args.clients.now c.loop-at.at
-    ≡ Some c.index-clients-at.result =
-    slice_get-get_or c.args.clients.now c.loop-at.at c.index-clients-at.result c.loop-at-test.true
-    ∙ ap (λ k. Some k) (sym c.index-clients-at.is) in
-    let none : slice_get c.index-clients-at.result.waiting.items 0
-    ≡ None = rw c.in_default.is at (sym c.oldest.ensures) in
+    let at = client_at (goal.at.loop-at-preserved-in_default c).After-oldest in
+    let none : slice_get c.index-clients-at.result.waiting.items 0 ≡ None =
+    rw c.in_default.is at (sym c.oldest.ensures) in
     none_more c.args.clients.now c.loop-at.at c.index-clients-at.result c.loop-at.first at none c.loop-at.invariant
 
 pub loop-at-preserved : goal.loop-at-preserved
 loop-at-preserved c =
-    let at : slice_get c.args.clients.now c.loop-at.at
-    ≡ Some c.index-clients-at.result =
-    slice_get-get_or c.args.clients.now c.loop-at.at c.index-clients-at.result c.loop-at-test.true
-    ∙ ap (λ k. Some k) (sym c.index-clients-at.is) in
-    let front : slice_get c.index-clients-at.result.waiting.items 0
-    ≡ Some c.in-Some.oldest.now = rw c.in-Some.is at (sym c.oldest.ensures) in
+    let at = client_at (goal.at.loop-at-preserved c).After-oldest in
+    let front : slice_get c.index-clients-at.result.waiting.items 0 ≡ Some c.in-Some.oldest.now =
+    rw c.in-Some.is at (sym c.oldest.ensures) in
     elim c.match-first.branch [
       | in-Some-first w ↦ rw (w.first-is, w.in-Some-first.is)
           (first_stays c.args.clients.now c.loop-at.at c.index-clients-at.result

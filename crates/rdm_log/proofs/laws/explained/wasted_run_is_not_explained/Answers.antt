@@ -59,8 +59,7 @@ unfolding is_closed
 returns c = record {
   calm = calm;
   fault = λ is.
-      let block_is : is.1.block
-      ≡ came_with [] ∷ Answer 0 1 (Some Exhausted) ∷ [] =
+      let block_is : is.1.block ≡ came_with [] ∷ Answer 0 1 (Some Exhausted) ∷ [] =
       append_cancel_left wasted_sent is.1.block (came_with [] ∷ Answer 0 1 (Some Exhausted) ∷ [])
       (sym (ap (λ (k : LogState). k.entries) (is.2 ∙ is.1.grows))) in
       let bound = rw block_is at is.1.adds.2 in

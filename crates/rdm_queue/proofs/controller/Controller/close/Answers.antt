@@ -10,7 +10,8 @@ pub returns-then-not-is_closed-clause-adds : goal.returns-then-not-is_closed-cla
 returns-then-not-is_closed-clause-adds c = record {
   search = c.finish_due.ensures.search ∙ c.shut.ensures.search;
   each = λ k same after.
-      let open_ : is_closed k.opening k.entries ≡ false = sym after.stands.closed_is
+      let open_ : is_closed k.opening k.entries ≡ false =
+      sym after.stands.closed_is
       ∙ ap (λ (s : QueueState). s.closed) (sym (c.deref.ensures ∙ c.self.view_is)) ∙ sym c.is_closed.ensures
       ∙ c.if-not-is_closed.true in
       close_adds k _ open_

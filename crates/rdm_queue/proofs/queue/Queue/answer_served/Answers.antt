@@ -1,200 +1,98 @@
-use Rattle.std.proofs.Common.{◌≡◌, ◌<◌, ◌≤◌, List, length, drop, get_or, set, map, Some, slice_get, refl, sym, ap, ◌∙◌}
-use Rattle.std.proofs.Common.{subst, arith}
-use Rattle.std.proofs.lemmas.List.{length-map, drop-map}
+use Rattle.std.proofs.Common.{◌≡◌, List, length, get_or, set, Some, slice_get, ap, refl, arith}
 use Rattle.rdm_queue.specs.declared.client.Client.{Client}
-use Rattle.rdm_queue.specs.declared.pending.Asked.{Asked}
 use Rattle.rdm_log.specs.log.Entries.{AskedDiscovery}
-use Rattle.rdm_queue.specs.body.Rings.{ClientAnswers}
-use Rattle.rdm_queue.specs.body.Fields.{state_of, places_of, asked_is, run_is, owed_rings}
-use Rattle.rdm_queue.specs.body.QueueInvariant.{QueueInvariant}
-use Rattle.rdm_queue.specs.body.State.{QueueState, owes}
-use Rattle.rdm_queue.specs.body.Ending.{one_less, answer_value, answers_oldest}
-use Rattle.rdm_queue.proofs.BodyLemmas.FieldLemmas.{waiting_are, written}
-use Rattle.rdm_queue.proofs.BodyLemmas.RingLemmas.{places_stayed}
-use Rattle.rdm_queue.proofs.BodyLemmas.RingSteps.{owed-answer}
-use Rattle.rdm_queue.proofs.BodyLemmas.AnswerLemmas.{front_asked, asked_within, CanAnswer, can_answer, kept-answer}
-use Rattle.rdm_queue.proofs.BodyLemmas.AnswerLemmas.{ServesLess, serves_less}
+use Rattle.rdm_queue.specs.body.Fields.{state_of, asked_is, run_is}
+use Rattle.rdm_queue.specs.body.State.{QueueState}
+use Rattle.rdm_queue.specs.body.Ending.{one_less, answers_oldest}
+use Rattle.rdm_queue.proofs.BodyLemmas.FieldLemmas.{written}
+use Rattle.rdm_queue.proofs.BodyLemmas.RingFields.{AreClientsOf, own_clients}
+use Rattle.rdm_queue.proofs.BodyLemmas.AnswerLemmas.{front_served, asked_rest, asked_within, CanAnswer, can_answer}
+use Rattle.rdm_queue.proofs.BodyLemmas.AnswerLemmas.{serves_less, clients-answer}
+use Rattle.rdm_queue.proofs.queue.Queue.answer_served.Goals.{After-remove-asked, After-found}
 use Rattle.rdm_queue.proofs.queue.Queue.answer_served.Goals as goal
+
+-- the oldest discovery
+oldest : (c : After-remove-asked)
+    → slice_get (state_of c.self.inside).asked 0 ≡ Some (asked_is c.remove-asked.result)
+oldest c =
+    front_served c.self.inside c.remove-asked.result (run_is c.args.run.now) c.self.invariant
+    (rw (← c.self.view_is) at c.requires) c.remove-asked.ensures.value
 
 pub bounds-deref_mut-from : goal.bounds-deref_mut-from
 bounds-deref_mut-from c =
-    let s : QueueState = state_of c.self.inside in
-    let clients : List Client = c.self.inside.clients.items in
-    let x : Asked = c.remove-asked.result in
-    let a : AskedDiscovery = asked_is x in
-    let some : 0 < length c.self.inside.asked.items = let none : s.run
-    ≡ Some (run_is c.args.run.now) =
-    rw (← c.self.view_is) at c.requires in
-    let left : 1 ≤ c.args.run.now.left = rw none at c.self.invariant.state.serves in
-    let within : c.args.run.now.left ≤ length s.asked = rw none at c.self.invariant.state.served in
-    let long = length-map c.self.inside.asked.items asked_is in omega arith in
-    let oldest : slice_get s.asked 0 ≡ Some a = front_asked c.self.inside x some c.remove-asked.ensures.value in
-    let within = asked_within s clients a c.self.invariant refl oldest in
+    let within = asked_within (state_of c.self.inside) c.self.inside.clients.items (asked_is c.remove-asked.result)
+    (own_clients c.self.inside c.self.invariant) (oldest (goal.at.bounds-deref_mut-from c).After-remove-asked) in
     let same = ap (λ l. length l) c.deref_mut.ensures.value in
     let place = c.from.ensures in
     omega arith
 
+-- its client, and the capacity for its answer
+abbrev asked : After-found → AskedDiscovery
+asked c = asked_is c.remove-asked.result
+
+abbrev client : After-found → Client
+client c = get_or c.deref_mut.result.now c.from.result c.index-deref_mut-from.result
+
+can : (c : After-found)
+    → CanAnswer (state_of c.self.inside) c.self.inside.clients.items (asked c) (client c)
+can c =
+    can_answer (state_of c.self.inside) c.self.inside.clients.items c.deref_mut.result.now (asked c) c.from.result
+    c.index-deref_mut-from.result (own_clients c.self.inside c.self.invariant)
+    (oldest (goal.at.answer-requires-clause-sets c).After-remove-asked) c.from.ensures c.deref_mut.ensures.value
+
 pub answer-requires-clause-sets : goal.answer-requires-clause-sets
-answer-requires-clause-sets c =
-    let s : QueueState = state_of c.self.inside in
-    let clients : List Client = c.self.inside.clients.items in
-    let x : Asked = c.remove-asked.result in
-    let a : AskedDiscovery = asked_is x in
-    let some : 0 < length c.self.inside.asked.items = let none : s.run
-    ≡ Some (run_is c.args.run.now) =
-    rw (← c.self.view_is) at c.requires in
-    let left : 1 ≤ c.args.run.now.left = rw none at c.self.invariant.state.serves in
-    let within : c.args.run.now.left ≤ length s.asked = rw none at c.self.invariant.state.served in
-    let long = length-map c.self.inside.asked.items asked_is in omega arith in
-    let oldest : slice_get s.asked 0 ≡ Some a = front_asked c.self.inside x some c.remove-asked.ensures.value in
-    let k : Client = get_or c.deref_mut.result.now c.from.result c.index-deref_mut-from.result in
-    let can : CanAnswer s clients a k = can_answer s clients c.deref_mut.result.now a c.from.result
-    c.index-deref_mut-from.result c.self.invariant refl refl oldest c.from.ensures c.deref_mut.ensures.value in
-    can.sets
+answer-requires-clause-sets c = (can c).sets
 
 pub answer-requires-clause-room : goal.answer-requires-clause-room
-answer-requires-clause-room c =
-    let s : QueueState = state_of c.self.inside in
-    let clients : List Client = c.self.inside.clients.items in
-    let x : Asked = c.remove-asked.result in
-    let a : AskedDiscovery = asked_is x in
-    let some : 0 < length c.self.inside.asked.items = let none : s.run
-    ≡ Some (run_is c.args.run.now) =
-    rw (← c.self.view_is) at c.requires in
-    let left : 1 ≤ c.args.run.now.left = rw none at c.self.invariant.state.serves in
-    let within : c.args.run.now.left ≤ length s.asked = rw none at c.self.invariant.state.served in
-    let long = length-map c.self.inside.asked.items asked_is in omega arith in
-    let oldest : slice_get s.asked 0 ≡ Some a = front_asked c.self.inside x some c.remove-asked.ensures.value in
-    let k : Client = get_or c.deref_mut.result.now c.from.result c.index-deref_mut-from.result in
-    let can : CanAnswer s clients a k = can_answer s clients c.deref_mut.result.now a c.from.result
-    c.index-deref_mut-from.result c.self.invariant refl refl oldest c.from.ensures c.deref_mut.ensures.value in
-    can.room
+answer-requires-clause-room c = (can c).room
 
 pub answer-requires-clause-set_room : goal.answer-requires-clause-set_room
-answer-requires-clause-set_room c =
-    let s : QueueState = state_of c.self.inside in
-    let clients : List Client = c.self.inside.clients.items in
-    let x : Asked = c.remove-asked.result in
-    let a : AskedDiscovery = asked_is x in
-    let some : 0 < length c.self.inside.asked.items = let none : s.run
-    ≡ Some (run_is c.args.run.now) =
-    rw (← c.self.view_is) at c.requires in
-    let left : 1 ≤ c.args.run.now.left = rw none at c.self.invariant.state.serves in
-    let within : c.args.run.now.left ≤ length s.asked = rw none at c.self.invariant.state.served in
-    let long = length-map c.self.inside.asked.items asked_is in omega arith in
-    let oldest : slice_get s.asked 0 ≡ Some a = front_asked c.self.inside x some c.remove-asked.ensures.value in
-    let k : Client = get_or c.deref_mut.result.now c.from.result c.index-deref_mut-from.result in
-    let can : CanAnswer s clients a k = can_answer s clients c.deref_mut.result.now a c.from.result
-    c.index-deref_mut-from.result c.self.invariant refl refl oldest c.from.ensures c.deref_mut.ensures.value in
-    can.set_room
+answer-requires-clause-set_room c = (can c).set_room
+
+-- the queue and its clients after the answer
+abbrev next : goal.After-self-2-1 → QueueState
+next c =
+    record (answers_oldest (state_of c.self.inside) (asked_is c.remove-asked.result) c.args.run.now.number
+    c.args.fault.now c.self.inside.agent.found) { run = one_less (run_is c.args.run.now) }
+
+answered : (c : goal.After-self-2-1)
+    → AreClientsOf (next c) (set c.self.inside.clients.items c.from.result c.answer.new.self)
+answered c =
+    clients-answer (state_of c.self.inside) c.self.inside.clients.items c.from.result _ c.answer.new.self
+    (asked_is c.remove-asked.result) c.args.run.now.number c.args.fault.now c.self.inside.agent.found
+    (one_less (run_is c.args.run.now)) (own_clients c.self.inside c.self.invariant)
+    (can (goal.at.returns c).After-found)
+    (serves_less (state_of c.self.inside) c.self.inside.clients.items (run_is c.args.run.now) c.self.invariant
+    (rw (← c.self.view_is) at c.requires))
+    c.from.ensures (rw c.found.ensures.value at c.answer.ensures)
 
 pub invariant_of-self : goal.invariant_of-self
 invariant_of-self c =
-    let s : QueueState = state_of c.self.inside in
     let clients : List Client = c.self.inside.clients.items in
-    let x : Asked = c.remove-asked.result in
-    let a : AskedDiscovery = asked_is x in
-    let some : 0 < length c.self.inside.asked.items = let none : s.run
-    ≡ Some (run_is c.args.run.now) =
-    rw (← c.self.view_is) at c.requires in
-    let left : 1 ≤ c.args.run.now.left = rw none at c.self.invariant.state.serves in
-    let within : c.args.run.now.left ≤ length s.asked = rw none at c.self.invariant.state.served in
-    let long = length-map c.self.inside.asked.items asked_is in omega arith in
-    let oldest : slice_get s.asked 0 ≡ Some a = front_asked c.self.inside x some c.remove-asked.ensures.value in
-    let k : Client = get_or c.deref_mut.result.now c.from.result c.index-deref_mut-from.result in
-    let can : CanAnswer s clients a k = can_answer s clients c.deref_mut.result.now a c.from.result
-    c.index-deref_mut-from.result c.self.invariant refl refl oldest c.from.ensures c.deref_mut.ensures.value in
-    let l : Client = c.answer.new.self in
-    let answers : ClientAnswers k a.number c.args.run.now.number c.args.fault.now s.agent.found
-    l = rw c.found.ensures.value at c.answer.ensures in
-    let less : ServesLess s (one_less (run_is c.args.run.now)) = serves_less s clients (run_is c.args.run.now)
-    c.self.invariant (rw (← c.self.view_is) at c.requires) in
-    let kept : QueueInvariant
-    (record (answers_oldest s a c.args.run.now.number c.args.fault.now s.agent.found)
-    { run = one_less (run_is c.args.run.now) }) (set clients c.from.result l) = subst
-    (λ n. QueueInvariant
-    (record (answers_oldest s a c.args.run.now.number c.args.fault.now s.agent.found)
-    { run = one_less (run_is c.args.run.now) }) (set clients n l)) (sym c.from.ensures)
-    (kept-answer s clients k l a c.args.run.now.number c.args.fault.now s.agent.found
-    (one_less (run_is c.args.run.now)) c.self.invariant can answers oldest less.serves less.less less.most
-    less.within) in
-    let places : places_of (set clients c.from.result l)
-    ≡ places_of clients =
-    places_stayed clients c.from.result k l (ap (λ n. slice_get clients n) c.from.ensures ∙ can.at)
-    answers.rings.places in
-    let owed : owed_rings (set clients c.from.result l)
-    ≡ owes a.client (answer_value a c.args.run.now.number c.args.fault.now s.agent.found) s =
-    subst (λ n. owed_rings (set clients n l)
-    ≡ owes a.client (answer_value a c.args.run.now.number c.args.fault.now s.agent.found) s)
-    (sym c.from.ensures)
-    (owed-answer s clients k l a c.args.run.now.number c.args.fault.now s.agent.found refl
-    c.self.invariant.rings can.at answers) in
-    let asked : map asked_is c.remove-asked.new.self.items
-    ≡ drop 1 s.asked =
-    ap (map asked_is) c.remove-asked.ensures.items ∙ sym (drop-map asked_is 1 c.self.inside.asked.items) in
+    let are = answered c in
     rw (
-      written clients c.deref_mut.result.now c.from.result l c.deref_mut.ensures.value,
-      places,
-      waiting_are _ (set clients c.from.result l) kept,
-      owed,
-      asked,
+      written clients c.deref_mut.result.now c.from.result c.answer.new.self c.deref_mut.ensures.value,
+      are.places,
+      are.waiting,
+      are.owed,
+      asked_rest c.self.inside.asked.items c.remove-asked.new.self.items c.remove-asked.ensures.items,
       c.one_less-self-inside.ensures,
-    ) kept
+    ) are.kept
 
 pub returns : goal.returns
 returns c =
-    let s : QueueState = state_of c.self.inside in
     let clients : List Client = c.self.inside.clients.items in
-    let x : Asked = c.remove-asked.result in
-    let a : AskedDiscovery = asked_is x in
-    let some : 0 < length c.self.inside.asked.items = let none : s.run
-    ≡ Some (run_is c.args.run.now) =
-    rw (← c.self.view_is) at c.requires in
-    let left : 1 ≤ c.args.run.now.left = rw none at c.self.invariant.state.serves in
-    let within : c.args.run.now.left ≤ length s.asked = rw none at c.self.invariant.state.served in
-    let long = length-map c.self.inside.asked.items asked_is in omega arith in
-    let oldest : slice_get s.asked 0 ≡ Some a = front_asked c.self.inside x some c.remove-asked.ensures.value in
-    let k : Client = get_or c.deref_mut.result.now c.from.result c.index-deref_mut-from.result in
-    let can : CanAnswer s clients a k = can_answer s clients c.deref_mut.result.now a c.from.result
-    c.index-deref_mut-from.result c.self.invariant refl refl oldest c.from.ensures c.deref_mut.ensures.value in
-    let l : Client = c.answer.new.self in
-    let answers : ClientAnswers k a.number c.args.run.now.number c.args.fault.now s.agent.found
-    l = rw c.found.ensures.value at c.answer.ensures in
-    let less : ServesLess s (one_less (run_is c.args.run.now)) = serves_less s clients (run_is c.args.run.now)
-    c.self.invariant (rw (← c.self.view_is) at c.requires) in
-    let kept : QueueInvariant
-    (record (answers_oldest s a c.args.run.now.number c.args.fault.now s.agent.found)
-    { run = one_less (run_is c.args.run.now) }) (set clients c.from.result l) = subst
-    (λ n. QueueInvariant
-    (record (answers_oldest s a c.args.run.now.number c.args.fault.now s.agent.found)
-    { run = one_less (run_is c.args.run.now) }) (set clients n l)) (sym c.from.ensures)
-    (kept-answer s clients k l a c.args.run.now.number c.args.fault.now s.agent.found
-    (one_less (run_is c.args.run.now)) c.self.invariant can answers oldest less.serves less.less less.most
-    less.within) in
-    let places : places_of (set clients c.from.result l)
-    ≡ places_of clients =
-    places_stayed clients c.from.result k l (ap (λ n. slice_get clients n) c.from.ensures ∙ can.at)
-    answers.rings.places in
-    let owed : owed_rings (set clients c.from.result l)
-    ≡ owes a.client (answer_value a c.args.run.now.number c.args.fault.now s.agent.found) s =
-    subst (λ n. owed_rings (set clients n l)
-    ≡ owes a.client (answer_value a c.args.run.now.number c.args.fault.now s.agent.found) s)
-    (sym c.from.ensures)
-    (owed-answer s clients k l a c.args.run.now.number c.args.fault.now s.agent.found refl
-    c.self.invariant.rings can.at answers) in
-    let asked : map asked_is c.remove-asked.new.self.items
-    ≡ drop 1 s.asked =
-    ap (map asked_is) c.remove-asked.ensures.items ∙ sym (drop-map asked_is 1 c.self.inside.asked.items) in
+    let are = answered c in
     rw (← c.self.view_is) (
-      a,
-      oldest,
+      asked_is c.remove-asked.result,
+      (can (goal.at.returns c).After-found).oldest,
       refl,
       rw (
-        written clients c.deref_mut.result.now c.from.result l c.deref_mut.ensures.value,
-        places,
-        waiting_are _ (set clients c.from.result l) kept,
-        owed,
-        asked,
+        written clients c.deref_mut.result.now c.from.result c.answer.new.self c.deref_mut.ensures.value,
+        are.places,
+        are.waiting,
+        are.owed,
+        asked_rest c.self.inside.asked.items c.remove-asked.new.self.items c.remove-asked.ensures.items,
         c.one_less-self-inside.ensures,
       ) refl,
     )

@@ -8,8 +8,8 @@ use Rattle.rdm_queue.proofs.queue.Queue.discover.Goals as goal
 pub push-requires : goal.push-requires
 push-requires c =
     let s : QueueState = state_of c.self.inside in
-    let passes : first_ask_fault s c.args.client.0
-    ≡ None = rw (← c.self.view_is) at (sym c.ask_fault.ensures ∙ c.in_default.is) in
+    let passes : first_ask_fault s c.args.client.0 ≡ None =
+    rw (← c.self.view_is) at (sym c.ask_fault.ensures ∙ c.in_default.is) in
     let room : length s.asked < 64 = room_to_ask s c.args.client.0 c.self.invariant.state passes in
     let same = length-map c.self.inside.asked.items asked_is in
     omega arith

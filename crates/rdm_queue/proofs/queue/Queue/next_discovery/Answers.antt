@@ -1,65 +1,47 @@
-use Rattle.std.proofs.Common.{◌≡◌, List, set, Some, slice_get, sym, ap, ◌∙◌, refl}
+use Rattle.std.proofs.Common.{◌≡◌, Some, slice_get, sym, ap, ◌∙◌, refl}
 use Rattle.std.specs.Prelude.{◌≢◌}
 use Rattle.std.proofs.lemmas.Option.{slice_get-get_or}
-use Rattle.rdm_queue.specs.declared.client.Client.{Client}
 use Rattle.rdm_log.specs.declared.outcome.OutcomeKind.TheVariants as kinds
 use Rattle.rdm_log.specs.promises.Outcomes.{outcome_value, discovery_outcome}
 use Rattle.rdm_queue.specs.body.Rings.{first_kind_owed}
-use Rattle.rdm_queue.specs.body.Fields.{state_of, places_of}
-use Rattle.rdm_queue.specs.body.State.{QueueState}
-use Rattle.rdm_queue.proofs.BodyLemmas.FieldLemmas.{waiting_are}
-use Rattle.rdm_queue.proofs.BodyLemmas.RingLemmas.{places_stayed}
-use Rattle.rdm_queue.proofs.BodyLemmas.RingSteps.{may_collect, kind_is, if_none}
+use Rattle.rdm_queue.specs.body.Fields.{state_of}
+use Rattle.rdm_queue.proofs.BodyLemmas.RingSteps.{kind_is, if_none}
+use Rattle.rdm_queue.proofs.BodyLemmas.RingFields.{own_clients, MayCollect, may_collect}
 use Rattle.rdm_queue.proofs.queue.Queue.next_discovery.Goals as goal
 
-pub invariant_of-self-2 : goal.invariant_of-self-2
-invariant_of-self-2 c =
-    let s : QueueState = state_of c.self.inside in
-    let clients : List Client = c.self.inside.clients.items in
-    let k : Client = c.in_ok-get_mut.field-0.now in
-    let l : Client = c.collect_discovery.new.self in
-    let at : slice_get clients c.from.result
-    ≡ Some k = slice_get-get_or clients c.from.result k (c.in_ok-get_mut.ensures.variant.0 refl)
-    ∙ ap (λ m. Some m) (sym c.in_ok-get_mut.ensures.value) in
-    let all = may_collect s clients c.from.result k l c.collect_discovery.result
-    (λ end. outcome_value (discovery_outcome end c.collect_discovery.new.set)) c.self.invariant
-    refl at c.collect_discovery.ensures.taken
+-- the client, and all clients after its oldest outcome was taken out, if that was a discovery's
+at : (c : goal.After-self-2-1)
+    → slice_get c.self.inside.clients.items c.from.result ≡ Some c.in_ok-get_mut.field-0.now
+at c =
+    slice_get-get_or c.self.inside.clients.items c.from.result c.in_ok-get_mut.field-0.now
+    (c.in_ok-get_mut.ensures.variant.0 refl)
+    ∙ ap (λ m. Some m) (sym c.in_ok-get_mut.ensures.value)
+
+collected : (c : goal.After-self-2-1)
+    → MayCollect (state_of c.self.inside) c.self.inside.clients.items c.from.result c.collect_discovery.new.self
+    c.collect_discovery.result (λ end. outcome_value (discovery_outcome end c.collect_discovery.new.set))
+collected c =
+    let k = c.in_ok-get_mut.field-0.now in
+    let l = c.collect_discovery.new.self in
+    may_collect (state_of c.self.inside) c.self.inside.clients.items c.from.result k l c.collect_discovery.result
+    (λ end. outcome_value (discovery_outcome end c.collect_discovery.new.set))
+    (own_clients c.self.inside c.self.invariant) (at c) c.collect_discovery.ensures.taken
     (if_none c.collect_discovery.result
     (λ (same : (l ≡ k) × (c.collect_discovery.new.set ≡ c.args.set.now)). same.0)
-    c.collect_discovery.ensures.unchanged) in
-    let places : places_of (set clients c.from.result l)
-    ≡ places_of clients = places_stayed clients c.from.result k l at all.places in
-    rw (places, waiting_are _ (set clients c.from.result l) all.kept) all.kept
+    c.collect_discovery.ensures.unchanged)
+
+pub invariant_of-self-2 : goal.invariant_of-self-2
+invariant_of-self-2 c = let are = (collected c).are in rw (are.places, are.waiting) are.kept
 
 pub returns-clause-taken : goal.returns-clause-taken
 returns-clause-taken c =
-    let s : QueueState = state_of c.self.inside in
-    let clients : List Client = c.self.inside.clients.items in
-    let k : Client = c.in_ok-get_mut.field-0.now in
-    let l : Client = c.collect_discovery.new.self in
-    let at : slice_get clients c.from.result
-    ≡ Some k = slice_get-get_or clients c.from.result k (c.in_ok-get_mut.ensures.variant.0 refl)
-    ∙ ap (λ m. Some m) (sym c.in_ok-get_mut.ensures.value) in
-    let all = may_collect s clients c.from.result k l c.collect_discovery.result
-    (λ end. outcome_value (discovery_outcome end c.collect_discovery.new.set)) c.self.invariant
-    refl at c.collect_discovery.ensures.taken
-    (if_none c.collect_discovery.result
-    (λ (same : (l ≡ k) × (c.collect_discovery.new.set ≡ c.args.set.now)). same.0)
-    c.collect_discovery.ensures.unchanged) in
-    let places : places_of (set clients c.from.result l)
-    ≡ places_of clients = places_stayed clients c.from.result k l at all.places in
-    rw (← c.self.view_is, places, waiting_are _ (set clients c.from.result l) all.kept, ← c.from.ensures) all.taken
+    let all = collected c in
+    rw (← c.self.view_is, all.are.places, all.are.waiting, ← c.from.ensures) all.taken
 
 pub returns-clause-none : goal.returns-clause-none
 returns-clause-none c =
-    let s : QueueState = state_of c.self.inside in
-    let clients : List Client = c.self.inside.clients.items in
-    let k : Client = c.in_ok-get_mut.field-0.now in
-    let l : Client = c.collect_discovery.new.self in
-    let at : slice_get clients c.from.result
-    ≡ Some k = slice_get-get_or clients c.from.result k (c.in_ok-get_mut.ensures.variant.0 refl)
-    ∙ ap (λ m. Some m) (sym c.in_ok-get_mut.ensures.value) in
+    let k = c.in_ok-get_mut.field-0.now in
     rw (← c.self.view_is, ← c.from.ensures)
-    (if_none c.collect_discovery.result
-    (λ (other : first_kind_owed k ≢ Some kinds.Discovery) is. other
-    (sym (kind_is s clients c.from.result k refl at) ∙ is)) c.collect_discovery.ensures.none)
+    (if_none c.collect_discovery.result (λ (other : first_kind_owed k ≢ Some kinds.Discovery) is.
+    other (sym (kind_is (state_of c.self.inside) c.self.inside.clients.items c.from.result k refl (at c)) ∙ is))
+    c.collect_discovery.ensures.none)

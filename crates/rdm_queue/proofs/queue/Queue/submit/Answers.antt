@@ -1,83 +1,57 @@
-use Rattle.std.proofs.Common.{◌≡◌, ◌<◌, List, length, get_or, set, Some, None, slice_get, sym, ap, ◌∙◌, subst, refl}
+use Rattle.std.proofs.Common.{List, get_or, set, sym, ◌∙◌, refl}
 use Rattle.rdm_queue.specs.declared.client.Client.{Client}
-use Rattle.rdm_queue.specs.body.Fields.{state_of, places_of}
-use Rattle.rdm_queue.specs.body.QueueInvariant.{QueueInvariant}
-use Rattle.rdm_queue.specs.body.State.{QueueState, first_submit_fault, accepts_request}
-use Rattle.rdm_queue.proofs.BodyLemmas.FieldLemmas.{waiting_are, written, read_at, known_client}
-use Rattle.rdm_queue.proofs.BodyLemmas.RingLemmas.{places_stayed}
-use Rattle.rdm_queue.proofs.BodyLemmas.RingSteps.{room_for_request, kept-accept, owed-accept}
+use Rattle.rdm_queue.specs.body.Fields.{state_of}
+use Rattle.rdm_queue.specs.body.State.{accepts_request}
+use Rattle.rdm_queue.proofs.BodyLemmas.FieldLemmas.{written}
+use Rattle.rdm_queue.proofs.BodyLemmas.RingFields.{AreClientsOf, own_clients, CanAccept, can_accept, clients-accept}
+use Rattle.rdm_queue.proofs.queue.Queue.submit.Goals.{After-index-deref_mut-from}
 use Rattle.rdm_queue.proofs.queue.Queue.submit.Goals as goal
 
+-- the client, which has capacity for the request
+abbrev client : After-index-deref_mut-from → Client
+client c = get_or c.deref_mut.result.now c.from.result c.index-deref_mut-from.result
+
+can : (c : After-index-deref_mut-from)
+    → CanAccept (state_of c.self.inside) c.self.inside.clients.items c.args.client.0 (client c)
+can c =
+    can_accept (state_of c.self.inside) c.self.inside.clients.items c.deref_mut.result.now c.args.client.0 c.from.result
+    c.index-deref_mut-from.result (own_clients c.self.inside c.self.invariant)
+    (rw (← c.self.view_is) at (sym c.submit_fault.ensures ∙ c.in_default.is)) c.from.ensures c.deref_mut.ensures.value
+
 pub accept-requires : goal.accept-requires
-accept-requires c =
-    let s : QueueState = state_of c.self.inside in
-    let clients : List Client = c.self.inside.clients.items in
-    let passes : first_submit_fault s c.args.client.0
-    ≡ None = rw (← c.self.view_is) at (sym c.submit_fault.ensures ∙ c.in_default.is) in
-    let within : c.from.result < length clients = rw c.from.ensures
-    (known_client s clients c.args.client.0 refl passes) in
-    let k : Client = get_or c.deref_mut.result.now c.from.result c.index-deref_mut-from.result in
-    let at : slice_get clients c.args.client.0 ≡ Some k = ap (λ n. slice_get clients n) (sym c.from.ensures)
-    ∙ read_at clients c.deref_mut.result.now c.from.result c.index-deref_mut-from.result c.deref_mut.ensures.value
-    within in
-    room_for_request s clients c.args.client.0 k c.self.invariant refl refl passes at
+accept-requires c = (can c).room
+
+-- the clients afterwards
+accepted : (c : goal.After-self-2-1)
+    → AreClientsOf (accepts_request (state_of c.self.inside) c.args.client.0 c.args.request)
+    (set c.self.inside.clients.items c.from.result c.accept.new.self)
+accepted c =
+    clients-accept (state_of c.self.inside) c.self.inside.clients.items c.args.client.0 c.from.result _
+    c.accept.new.self c.args.request (own_clients c.self.inside c.self.invariant)
+    (can (goal.at.invariant_of-self c).After-index-deref_mut-from) c.from.ensures c.accept.ensures
 
 pub invariant_of-self : goal.invariant_of-self
 invariant_of-self c =
-    let s : QueueState = state_of c.self.inside in
     let clients : List Client = c.self.inside.clients.items in
-    let passes : first_submit_fault s c.args.client.0
-    ≡ None = rw (← c.self.view_is) at (sym c.submit_fault.ensures ∙ c.in_default.is) in
-    let within : c.from.result < length clients = rw c.from.ensures
-    (known_client s clients c.args.client.0 refl passes) in
-    let k : Client = get_or c.deref_mut.result.now c.from.result c.index-deref_mut-from.result in
-    let at : slice_get clients c.args.client.0 ≡ Some k = ap (λ n. slice_get clients n) (sym c.from.ensures)
-    ∙ read_at clients c.deref_mut.result.now c.from.result c.index-deref_mut-from.result c.deref_mut.ensures.value
-    within in
-    let l : Client = c.accept.new.self in
-    let kept : QueueInvariant (accepts_request s c.args.client.0 c.args.request) (set clients c.from.result l) = subst
-    (λ n. QueueInvariant (accepts_request s c.args.client.0 c.args.request) (set clients n l)) (sym c.from.ensures)
-    (kept-accept s clients c.args.client.0 k l c.args.request c.self.invariant at c.accept.ensures passes) in
-    let places : places_of (set clients c.from.result l)
-    ≡ places_of clients =
-    places_stayed clients c.from.result k l (ap (λ n. slice_get clients n) c.from.ensures ∙ at)
-    c.accept.ensures.rings.places in
+    let are = accepted c in
     rw (
-      written clients c.deref_mut.result.now c.from.result l c.deref_mut.ensures.value,
-      places,
-      waiting_are _ (set clients c.from.result l) kept,
-      owed-accept clients c.from.result c.self.inside.next_request k l c.args.request
-          (ap (λ n. slice_get clients n) c.from.ensures ∙ at) c.accept.ensures,
-    ) kept
+      written clients c.deref_mut.result.now c.from.result c.accept.new.self c.deref_mut.ensures.value,
+      are.places,
+      are.waiting,
+      are.owed,
+    ) are.kept
 
 pub returns-clause-accepted : goal.returns-clause-accepted
 returns-clause-accepted c =
-    let s : QueueState = state_of c.self.inside in
     let clients : List Client = c.self.inside.clients.items in
-    let passes : first_submit_fault s c.args.client.0
-    ≡ None = rw (← c.self.view_is) at (sym c.submit_fault.ensures ∙ c.in_default.is) in
-    let within : c.from.result < length clients = rw c.from.ensures
-    (known_client s clients c.args.client.0 refl passes) in
-    let k : Client = get_or c.deref_mut.result.now c.from.result c.index-deref_mut-from.result in
-    let at : slice_get clients c.args.client.0 ≡ Some k = ap (λ n. slice_get clients n) (sym c.from.ensures)
-    ∙ read_at clients c.deref_mut.result.now c.from.result c.index-deref_mut-from.result c.deref_mut.ensures.value
-    within in
-    let l : Client = c.accept.new.self in
-    let kept : QueueInvariant (accepts_request s c.args.client.0 c.args.request) (set clients c.from.result l) = subst
-    (λ n. QueueInvariant (accepts_request s c.args.client.0 c.args.request) (set clients n l)) (sym c.from.ensures)
-    (kept-accept s clients c.args.client.0 k l c.args.request c.self.invariant at c.accept.ensures passes) in
-    let places : places_of (set clients c.from.result l)
-    ≡ places_of clients =
-    places_stayed clients c.from.result k l (ap (λ n. slice_get clients n) c.from.ensures ∙ at)
-    c.accept.ensures.rings.places in
+    let are = accepted c in
     rw (← c.self.view_is) (
-      passes,
+      (can (goal.at.returns-clause-accepted c).After-index-deref_mut-from).passes,
       refl,
       rw (
-        written clients c.deref_mut.result.now c.from.result l c.deref_mut.ensures.value,
-        places,
-        waiting_are _ (set clients c.from.result l) kept,
-        owed-accept clients c.from.result c.self.inside.next_request k l c.args.request
-            (ap (λ n. slice_get clients n) c.from.ensures ∙ at) c.accept.ensures,
+        written clients c.deref_mut.result.now c.from.result c.accept.new.self c.deref_mut.ensures.value,
+        are.places,
+        are.waiting,
+        are.owed,
       ) refl,
     )

@@ -16,8 +16,8 @@ finish_due-requires c =
 pub returns-clause-adds : goal.returns-clause-adds
 returns-clause-adds c =
     let k = c.self.inside.log in
-    let open_ : is_closed k.opening k.entries
-    ≡ false = sym (c.is_closed.ensures k.opening k.entries c.self.invariant.after) ∙ c.if-is_closed.false in
+    let open_ : is_closed k.opening k.entries ≡ false =
+    sym (c.is_closed.ensures k.opening k.entries c.self.invariant.after) ∙ c.if-is_closed.false in
     rw (← c.self.view_is)
     (close_adds k c.finish_due.new.log open_
     (then_due k c.append.new.self c.finish_due.new.log Close c.finish_due.new.controller tt c.append.ensures

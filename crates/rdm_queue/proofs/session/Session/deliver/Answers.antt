@@ -16,8 +16,8 @@ finish_due-requires c =
 pub returns-clause-adds : goal.returns-clause-adds
 returns-clause-adds c =
     let k = c.self.inside.log in
-    let waits : awaited k.entries ≡ true = sym (c.awaits.ensures k.opening k.entries c.self.invariant.after)
-    ∙ c.if-not-awaits.false in
+    let waits : awaited k.entries ≡ true =
+    sym (c.awaits.ensures k.opening k.entries c.self.invariant.after) ∙ c.if-not-awaits.false in
     rw (← c.self.view_is)
     (deliver_adds k c.finish_due.new.log c.args.event waits
     (then_due k c.append.new.self c.finish_due.new.log (Came c.args.event) c.finish_due.new.controller tt

@@ -1,20 +1,24 @@
 use Rattle.std.proofs.Common.{◌∷◌, [], arith}
 use Rattle.rdm_log.specs.declared.entry.Entry.TheVariants.{Collect}
+use Rattle.rdm_log.specs.log.LogState.{grown}
+use Rattle.rdm_queue.specs.body.SessionInvariant.{SessionInvariant}
 use Rattle.rdm_queue.proofs.BodyLemmas.SessionLemmas.{session_grown, room_for}
+use Rattle.rdm_queue.proofs.session.Session.next_discovery.Goals.{In_ok-end}
 use Rattle.rdm_queue.proofs.session.Session.next_discovery.Goals as goal
+
+-- the invariant holds with the Collect
+kept : (c : In_ok-end)
+    → SessionInvariant c.next_discovery.new.self (grown c.self.inside.log (Collect c.args.client ∷ []))
+kept c =
+    let k = c.self.inside.log in
+    let stands = c.in_ok-end.ensures.adds.each k c.self.invariant.search_is c.self.invariant.after in
+    session_grown c.self.inside.controller c.next_discovery.new.self k (Collect c.args.client ∷ []) c.self.invariant
+    (rw stands.adds.1 at stands.after) c.in_ok-end.ensures.adds.search (tt, tt) (omega arith)
 
 pub append-requires : goal.append-requires
 append-requires c =
-    let k = c.self.inside.log in
-    let stands = c.in_ok-end.ensures.adds.each k c.self.invariant.search_is c.self.invariant.after in
-    let kept = session_grown c.self.inside.controller c.next_discovery.new.self k (Collect c.args.client ∷ [])
-    c.self.invariant (rw stands.adds.1 at stands.after) c.in_ok-end.ensures.adds.search (tt, tt) (omega arith) in
-    omega (arith, room_for k (Collect c.args.client) kept.room)
+    let room = (kept (goal.at.append-requires c).In_ok-end).room in
+    omega (arith, room_for c.self.inside.log (Collect c.args.client) room)
 
 pub invariant_of-self-2 : goal.invariant_of-self-2
-invariant_of-self-2 c =
-    let k = c.self.inside.log in
-    let stands = c.in_ok-end.ensures.adds.each k c.self.invariant.search_is c.self.invariant.after in
-    rw c.append.ensures
-    (session_grown c.self.inside.controller c.next_discovery.new.self k (Collect c.args.client ∷ [])
-    c.self.invariant (rw stands.adds.1 at stands.after) c.in_ok-end.ensures.adds.search (tt, tt) (omega arith))
+invariant_of-self-2 c = rw c.append.ensures (kept (goal.at.invariant_of-self-2 c).In_ok-end)

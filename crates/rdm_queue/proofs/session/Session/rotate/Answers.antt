@@ -8,8 +8,8 @@ pub invariant_of-self : goal.invariant_of-self
 invariant_of-self c =
     let k = c.self.inside.log in
     let after = c.self.invariant.after in
-    let idle : is_idle k.entries ≡ true = ap (λ (l : LogState). is_idle l.entries) c.self.view_is
-    ∙ (sym c.is_idle.ensures ∙ c.if-not-is_idle.false) in
+    let idle : is_idle k.entries ≡ true =
+    ap (λ (l : LogState). is_idle l.entries) c.self.view_is ∙ (sym c.is_idle.ensures ∙ c.if-not-is_idle.false) in
     rw (
       c.replace-old_log.ensures.after,
       c.after-next_log.ensures.log,
