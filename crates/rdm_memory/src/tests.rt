@@ -1,4 +1,4 @@
-//! One allocation at most fails in a test, whichever it is.
+//! At most one allocation fails in a test, except in those whose names end with `twice`. It may be any one.
 mod careful;
 mod checks;
 mod controllers;
