@@ -1,4 +1,4 @@
-//! At most one allocation fails in a test, except in those whose names end with `twice`. It may be any one.
+//! In a test any one allocation may fail, and the next one too if the test's name ends with `twice`.
 mod careful;
 mod checks;
 mod controllers;
