@@ -1,4 +1,4 @@
-"""What a line is: whatever carries a controller's frames to devices, and brings back what they answer.
+"""What a line is: whatever carries a controller's frames to devices, and returns their replies.
 
 `wurstlinen` exports both names. This module needs no other, and no C library.
 """
