@@ -42,7 +42,7 @@ def received(data: bytes, status: int = 0) -> bytes:
 
 
 def is_exclusive(path: str) -> bool:
-    """Whether a terminal is reserved for one program. Root can still open it, and gets a message."""
+    """Whether a terminal is reserved for one program. Root can still open it, so the flag is read."""
     try:
         descriptor = os.open(path, os.O_RDWR | os.O_NOCTTY)
     except OSError as error:
