@@ -55,7 +55,7 @@ extern "C" {
 /* How a call ended. */
 enum wurst_status {
     WURST_DONE = 0,
-    WURST_NOTHING = 1,               /* there is nothing to give */
+    WURST_NOTHING = 1,               /* there is nothing to return */
     WURST_NOT_OPEN = 2,              /* the handle is closed */
     WURST_ALREADY_OPEN = 3,          /* the handle is open, but the call opens it */
     WURST_BAD_UID = 4,               /* a UID is 2^48 or more */
@@ -88,7 +88,7 @@ enum wurst_status {
     WURST_HAS_ENDED = 31,            /* the run has ended */
     WURST_UID_LENGTH = 32,           /* a UID's text doesn't have 13 bytes */
     WURST_UID_SEPARATOR = 33,        /* its fifth byte isn't a colon */
-    WURST_UID_DIGIT = 34,            /* one of its other bytes is no hexadecimal digit */
+    WURST_UID_DIGIT = 34,            /* one of its other bytes isn't a hexadecimal digit */
     WURST_TOO_SHORT = 35,            /* a packet has fewer than 26 bytes */
     WURST_WRONG_START = 36,          /* its first byte isn't the start code */
     WURST_WRONG_SUB_START = 37,      /* its second byte isn't the sub start code */
@@ -138,7 +138,7 @@ enum wurst_request_status {
 /* Why a discovery run ended early. */
 enum wurst_fault {
     WURST_NO_FAULT = 0,
-    WURST_CORRUPT = 1,       /* the branch of one UID alone was answered, but showed no new device */
+    WURST_CORRUPT = 1,       /* a branch of a single UID was answered, but showed no new device */
     WURST_TOO_MANY = 2,      /* more than 1,024 devices */
     WURST_EXHAUSTED = 3,     /* the budget is used up */
     WURST_LINE_FAILED = 4,   /* the line failed */
@@ -173,7 +173,7 @@ struct wurst_completion {
     uint32_t response_class; /* enum wurst_response_class */
     uint16_t sub_device;
     uint16_t pid;
-    bool has_head;           /* there is a last reply: with WURST_COMPLETED alone */
+    bool has_head;           /* there is a last reply: only with WURST_COMPLETED */
 };
 
 struct wurst_end {
@@ -441,9 +441,9 @@ uint32_t wurst_session_entry_count(struct wurst_session *handle, size_t *count);
 uint32_t wurst_session_entry(struct wurst_session *handle, size_t index, struct wurst_entry *entry, uint8_t *buffer,
                              size_t room);
 
-/* Continues with a fresh log with capacity for this many entries, and opens the closed handle `log`, which then holds
- * the old log until it is disposed of. Numbers, clients, devices and whether it is paused or closed are kept. Allocates
- * the fresh log's memory, and for a moment as much as a second session without entries has.
+/* Continues with a fresh log with capacity for this many entries. Opens the closed handle `log`, which then holds the
+ * old log until it is disposed of. Numbers, clients, devices and whether it is paused or closed are kept. Allocates the
+ * fresh log's memory, and for a moment as much as a second session without entries has.
  * WURST_ALREADY_OPEN (`log`); WURST_TOO_MANY_ENTRIES; WURST_LOG_FULL, for fewer than WURST_LEAST_FREE entries;
  * WURST_NOT_IDLE; WURST_OUT_OF_MEMORY. */
 uint32_t wurst_session_rotate(struct wurst_session *handle, size_t entries, struct wurst_log *log);
@@ -476,8 +476,8 @@ uint32_t wurst_branch_reply_read(const uint8_t *bytes, size_t len, uint32_t *kin
  * The first of WURST_BAD_UID, WURST_BAD_PREAMBLE, WURST_BUFFER_TOO_SMALL. */
 uint32_t wurst_branch_reply_write(uint64_t uid, uint8_t preamble, uint8_t *bytes, size_t room, size_t *len);
 
-/* Each of the following writes one packet from the controller `source` with the transaction number `tn`, port id 1 and
- * message count 0, into a buffer for WURST_MOST_FRAME_BYTES.
+/* Each of the following writes one packet into a buffer for WURST_MOST_FRAME_BYTES. The packet is from the controller
+ * `source`, with the transaction number `tn`, port id 1 and message count 0.
  * Of the request, the first of WURST_BAD_UID, WURST_BAD_CLASS, WURST_DATA_TOO_LONG; of the source, WURST_BAD_UID;
  * WURST_BUFFER_TOO_SMALL. */
 uint32_t wurst_request_write(const struct wurst_request *request, const uint8_t *param, size_t param_len,
@@ -524,7 +524,7 @@ uint32_t wurst_mute_ack_write(const struct wurst_device *device, uint64_t source
 uint32_t wurst_command_read(const uint8_t *bytes, size_t len, struct wurst_command *command, uint8_t *param,
                             size_t room);
 
-/* ---- Agents: a discovery run alone, on a line of the caller's own. A run takes 42 KB of memory.
+/* ---- Agents: single discovery runs, on a line of the caller's own. A run takes 42 KB of memory.
  *
  * Send what _next writes, and pass the line's reply to _hear, or call _fail if the line failed, until _next returns
  * WURST_NOTHING. On a closed handle each call except _start and _dispose returns WURST_NOT_OPEN. */

@@ -1,4 +1,4 @@
-"""A discovery run alone."""
+"""A single discovery run."""
 
 import ctypes
 from typing import Iterable, Optional, Tuple
@@ -13,7 +13,7 @@ from .line import Line, LineFailed
 
 
 class DiscoveryAgent(Held):
-    """A discovery run alone, on a line of the caller's own.
+    """A single discovery run, on a line of the caller's own.
 
     Calls may be made from any thread: each holds a lock of this object. It is a context manager, which disposes of it.
     """

@@ -1,7 +1,7 @@
 """The commands of `python3 -m wurstlinen`.
 
-A command ends with 0 if it was done, with 1 if the line, the device or the library failed, and with 2 if its arguments
-are wrong. Results go to standard output, in the formats of docs/FORMATS.md, and reasons to standard error.
+A command ends with status 0 if it was done, 1 if the line, the device or the library failed, and 2 if its arguments are
+wrong. Results go to standard output, in the formats of docs/FORMATS.md, and reasons to standard error.
 """
 from __future__ import annotations
 

@@ -44,8 +44,8 @@ pub enum Meeting {
     Phantom,
 }
 
-/// A scene in short. Each device has the parameter `0060`, in one part with the bytes 1 and 2, and the parameter
-/// `8001`, in three parts of 231 bytes.
+/// A scene in short. Each device has two parameters: `0060`, in one part with the bytes 1 and 2, and `8001`, in three
+/// parts of 231 bytes.
 #[derive(Clone, Copy, Debug)]
 pub struct LineOf<'a> {
     /// The devices.

@@ -109,7 +109,7 @@ impl<X: Drop> SessionStage<X> {
         outcome_told(&self.session.next_outcome(ClientId(client)))
     }
 
-    // Takes the next frame. If there is none, a frame whose reply is awaited stays in place.
+    // Takes the next frame. If there is none, a frame that was taken before is kept.
     fn take(&mut self) -> Heard {
         match self.session.take() {
             Ok(Some(frame)) => {

@@ -69,9 +69,9 @@ pub fn runs_are_honest()
         → IsCalm (uids_of_scene s.devices) (run_exchanges r k.entries) }
 {}
 
-/// Each discovery in such a log that is answered without fault is answered with exactly the line's devices, and these
-/// are the devices known afterwards. The premises: the line doesn't lose five exchanges with consecutive numbers, and
-/// its devices stay. Exchanges may fail.
+/// Each discovery in such a log that is answered without fault reports exactly the line's devices. These are the
+/// devices known afterwards. The premises: the line doesn't lose five exchanges with consecutive numbers, and its
+/// devices stay. Exchanges may fail.
 pub fn answers_are_the_devices()
     ensures { (s t : SimState) (k : LogState) → IsLogOver s t k → IsStayingScene s → AnswersAreTheDevices s k }
 {}

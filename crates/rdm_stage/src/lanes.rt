@@ -29,8 +29,8 @@ type Client<J> = RingClient<J, Note, AskNote>;
 
 type Ended<J> = ClientEnd<J, Note, AskNote>;
 
-/// What is left of a client: how many calls it sent, how many outcomes it collected, how many callbacks it held, and
-/// the run of the last published view that it read.
+/// What is left of a client: how many calls it sent, outcomes it collected and callbacks it held, and the run of the
+/// last published view that it read.
 #[derive(Clone, Copy, Debug, PartialEq, Eq)]
 pub struct Left {
     pub sent: u64,

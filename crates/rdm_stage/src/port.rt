@@ -311,7 +311,7 @@ fn plays<L: Ledger, X: Line + Drop, R: Wait>(
     over_of(alloc, port, gone)
 }
 
-/// The same with this driver in place of the moves.
+/// The same with this driver instead of moves.
 pub fn drive_port<X: Line + Drop, R: Wait, D: Driver>(
     rt: &R,
     alloc: Global,

@@ -16,7 +16,7 @@ class OpenLine(ABC):
 
     @abstractmethod
     def exchange(self, frame: bytes) -> bytes:
-        """Sends a frame, and returns the bytes that came back; `LineFailed` if the exchange failed."""
+        """Sends a frame, and returns the reply's bytes; `LineFailed` if the exchange failed."""
 
     def close(self) -> None:
         """Releases what the line holds. Another close does nothing."""

@@ -133,7 +133,7 @@ class Emulator:
         return self.widget.hangs_after is not None and self.messages >= self.widget.hangs_after
 
     def _exchange(self, message: Message) -> None:
-        """Sends the frame to the line, and what came back to the driver; nothing if the line failed."""
+        """Sends the frame to the line, and its reply to the driver; nothing if the line failed."""
         self.messages += 1
         try:
             reply = self.line.exchange(message.data)

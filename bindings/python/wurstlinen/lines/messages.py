@@ -44,7 +44,7 @@ class MessageReader:
     """Finds the messages in bytes that come in pieces of any size.
 
     What isn't in a message is dropped: bytes before 7e, a header that announces more than 600 bytes, and a message
-    without its e7, after which the next 7e is searched for.
+    without its e7. After that the next 7e is searched for.
     """
 
     def __init__(self) -> None:

@@ -45,7 +45,7 @@ class Rig(OpenLine):
         self._collisions = 0
 
     def exchange(self, frame: bytes) -> bytes:
-        """What comes back after a frame."""
+        """The reply to a frame."""
         number = self.exchanges
         self.exchanges += 1
         if number in self.scene.fails:

@@ -1,4 +1,4 @@
-"""A serial device that is opened for this process alone."""
+"""A serial device that is opened only for this process."""
 from __future__ import annotations
 
 import errno

@@ -13,9 +13,9 @@ use std::test::Fail;
 // A full run finds `1234:00000001` and `5678:00000009`: three unmutes, a branch reply and an acknowledgement from each
 // device, and five silences.
 //
-// Then the second one has gone, and `9abc:00000002` has come. An incremental run makes three unmutes, two mutes of the
-// first device, since the reply to the first mute is lost, five mutes of the second, a branch and a mute of the new
-// one, and five branches.
+// Then the second one has gone, and `9abc:00000002` has come. An incremental run makes three unmutes, and two mutes of
+// the first device, since the reply to the first mute is lost. It makes five mutes of the second device, a branch and a
+// mute of the new one, and five branches.
 static BOTH_RUNS: [Came; 29] = [
     Came::Nothing,
     Came::Nothing,

@@ -64,7 +64,7 @@ pub fn check(rt: &impl Abort, fact: bool)
     assert!(rt; fact);
 }
 
-/// The same, and prints this place.
+/// The same. If the fact doesn't hold, it prints `place`.
 pub fn check_at(rt: &impl Abort, place: usize, fact: bool) {
     assert!(rt; fact, "{place}");
 }

@@ -28,7 +28,7 @@ fn unmuted_once(rt: &impl Abort, budget: u64) -> Agent {
     agent.feed(OpReply::Done)
 }
 
-// The agent has ended with this fault, and found nobody.
+// The agent has ended with this fault, and found no devices.
 fn ends_by(rt: &impl Abort, agent: Agent, fault: AgentFault) {
     check(rt, ended(rt, agent) == Err((fault, DeviceSet::new())));
 }

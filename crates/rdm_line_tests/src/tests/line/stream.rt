@@ -83,7 +83,7 @@ fn a_line_has_a_reply_of_257_bytes_at_most(rt: HostRuntime) {
     meets_each(&rt, alloc, &text, &wanted, 3);
 }
 
-// Gives a byte at each read; `!` stands for an error and `?` for an interrupted call.
+// Returns a byte at each read; `!` means an error, and `?` an interrupted call.
 #[derive(Drop)]
 struct Faulty<'a> {
     text: &'a [u8],
