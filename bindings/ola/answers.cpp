@@ -71,7 +71,7 @@ static Bytes readdressed(const Bytes &bytes, const wurst_command &sent) {
     return written(response, data);
 }
 
-// A response with a single fault, in the field that the core checks last. It ends a request as InvalidResponse.
+// A response with a single fault, for which the core checks last. It ends a request as InvalidResponse.
 static wurst_response wrong_response(const wurst_command &sent) {
     if (sent.command_class == WURST_GET && sent.pid != PID_QUEUED_MESSAGE) {
         const auto other_pid = static_cast<std::uint16_t>(sent.pid ^ 1);

@@ -171,8 +171,7 @@ class Client:
         return OutcomeKind(kind.value) if given(status) else None
 
     def next_completion(self) -> Optional[Completion]:
-        """Collects its oldest outcome, which is a request's; None if it has none. Raises OtherOutcome for a
-        discovery's."""
+        """Collects its oldest outcome, if a request's; None if it has none. Raises OtherOutcome for a discovery's."""
         form, room = CompletionForm(), MOST_PARAMETER_BYTES
         buffer = room_for(room)
         with self.queue._lock:
@@ -190,8 +189,7 @@ class Client:
         return Completion(form.number, Status(form.status), head, bytes(buffer[:form.len]))
 
     def next_discovery(self) -> Optional[Discovery]:
-        """Collects its oldest outcome, which is a discovery's; None if it has none. Raises OtherOutcome for a
-        request's."""
+        """Collects its oldest outcome, if a discovery's; None if it has none. Raises OtherOutcome for a request's."""
         form, forms = EndForm(), (DeviceForm * MOST_DEVICES)()
         with self.queue._lock:
             status = self.queue._calls.next_discovery(
@@ -201,8 +199,7 @@ class Client:
         return Discovery(form.number, form.run, run_fault(form.fault, form.corrupt), devices_of(forms, form.count))
 
     def next_outcome(self) -> Union[Completion, Discovery, None]:
-        """Collects its oldest outcome; None if it has none. Only one thread at a time may collect a client's
-        outcomes."""
+        """Collects its oldest outcome; None if it has none. Only one thread at a time may collect for a client."""
         kind = self.oldest()
         if kind is None:
             return None
