@@ -1,12 +1,12 @@
-// Watches a part of a program: from one reading of the clock to the next. COPY_WATCH has the number of the first one,
-// counted from 1.
+// Watches a part of a program, from one reading of the clock to the next. COPY_WATCH is the number of the first
+// reading, counted from 1.
 //
-// It stands before the C library's memcpy, memmove and memset, and counts the calls for 2,048 bytes or more. If there
-// is a variable COPY_STEPS, it also steps through the program's instructions, and counts them. When the program ends,
-// it writes four numbers to the file descriptor in COPY_REPORT: the copies, how many of them have 32,768 bytes or more,
-// the fills, and the instructions.
+// It replaces the C library's memcpy, memmove and memset, and counts the calls for 2,048 bytes or more. If COPY_STEPS
+// is set, it also steps through the program's instructions, and counts them. When the program ends, it writes four
+// numbers to the file descriptor in COPY_REPORT: the copies, how many of them have 32,768 bytes or more, the fills, and
+// the instructions.
 //
-// What the C library does by itself isn't seen, such as the copy of a block that realloc moves.
+// Copies inside the C library aren't seen, such as that of a block that realloc moves.
 #define _GNU_SOURCE
 #include <signal.h>
 #include <stdbool.h>
@@ -18,7 +18,7 @@
 #include <ucontext.h>
 #include <unistd.h>
 
-// The least number of bytes that is counted, and that of a set of 1,024 devices.
+// The least number of bytes that is counted, and the size of a set of 1,024 devices.
 enum { LARGE = 2048, SET = 32768 };
 // The flag of the processor that makes it stop after each instruction.
 enum { TRAP_FLAG = 0x100 };
@@ -43,7 +43,7 @@ static void step(int number, siginfo_t *info, void *context) {
     *flags = steps ? *flags | TRAP_FLAG : *flags & ~TRAP_FLAG;
 }
 
-// Goes on without steps, and with them again.
+// Turns stepping off, and on again.
 static void enter(void) {
     is_inside = true;
 }
@@ -88,7 +88,7 @@ static void count_copy(size_t size) {
     }
 }
 
-// The bytes are volatile, since a compiler would make calls of these very functions out of the loops.
+// The bytes are volatile, since a compiler would turn the loops into calls of these same functions.
 static void copy_up(volatile unsigned char *to, const volatile unsigned char *from, size_t size) {
     for (size_t at = 0; at < size; at++) {
         to[at] = from[at];

@@ -1,6 +1,6 @@
 // Replaces the C library's allocator, and lets an allocation of the program fail: the one whose number is in the
 // environment variable FAILING_ALLOCATION, counted from 1. If FAILURES is set, that many allocations fail, from that
-// one on. It reports that it came to that allocation on the file descriptor in FAILURE_REPORT.
+// one on. When it reaches that allocation, it reports so on the file descriptor in FAILURE_REPORT.
 //
 // Only calls that the program's own code makes are counted. Those of the C library itself, for a thread's stack or for
 // standard output, aren't.
@@ -26,7 +26,7 @@ static unsigned long failures = 1;
 static int report = -1;
 static atomic_ulong allocations;
 
-// The program is the first of the objects that are listed.
+// The program is the first object in the list.
 static int find_program(struct dl_phdr_info *info, size_t size, void *data) {
     (void)size;
     (void)data;

@@ -2,7 +2,7 @@
 # scripts in the folder above.
 # shellcheck shell=bash
 
-# The shared object's version of the interface. It changes if programs have to be compiled again.
+# The shared object's version of the interface. It changes if programs have to be recompiled.
 soname=libwurstlinen.so.0
 
 # Proves and builds the archive, unless it is up to date. rt prints what it does.
@@ -43,7 +43,7 @@ Cflags: -I\${includedir}
 END
 }
 
-# What stands in for OLA's controllers, and the flags that it is compiled with.
+# The library that replaces OLA's controllers, and the flags that it is compiled with.
 ola_library=libwurstlinen-ola.so
 ola_flags=(-std=c++17 -Wall -Wextra -Werror -pedantic)
 
@@ -51,7 +51,7 @@ has_ola_headers() {
     echo '#include <ola/rdm/QueueingRDMController.h>' | c++ "${ola_flags[@]}" -x c++ -fsyntax-only - 2> /dev/null
 }
 
-# Makes it in a folder that has libwurstlinen.a. It exports the members of OLA's two classes alone.
+# Makes that library in a folder that has libwurstlinen.a. It exports only the members of OLA's two classes.
 make_ola_library() {
     local root="$1" folder="$2"
     cat > "$folder/exports" << 'END'

@@ -1,7 +1,7 @@
-# How many processors and how much memory there are to use, for the scripts in the folder above.
+# How many processors and how much memory may be used, for the scripts in the folder above.
 # shellcheck shell=bash
 
-# How many processors there are, or fewer by the quota of the control group.
+# How many processors there are, or fewer if the control group has a lower quota.
 processors() {
     local found quota period
     found="$(nproc)"
@@ -12,7 +12,7 @@ processors() {
     echo "$found"
 }
 
-# How much memory is free in kB, under the limit of the control group too.
+# How much memory is free, in kB; also within the limit of the control group.
 free_memory_kb() {
     local free limit held
     free="$(awk '$1 == "MemAvailable:" { print $2 }' /proc/meminfo)"

@@ -20,7 +20,7 @@ USE = re.compile(r"\buse ([\w.]*\w)(?:\.\{([^}]*)\}| as (\w+))?")
 DEFINITION = re.compile(
     r"((?:^ *--.*\n)*)^( *)((?:(?:pub|unfoldable) )*(?:abbrev|record|data|unfoldable) (?:pub )?(\w+).*\n"
     r"(?:\2 .*\n|\s*\n(?=\2 )|\2(?:\4\b|[})\]]).*\n)*)", re.M)
-# What cites nothing: comments, the labels of a record's value, and the names of a record's fields.
+# Text that doesn't cite anything: comments, labels in values of records, and names of a record's fields.
 LABEL = re.compile(r"--.*|(?<=[{;])\s*\w+ =(?=\s)|^ *pub \w+ :(?=\s)", re.M)
 BINDER = re.compile(r"[({]([\w ]+) :|λ ([\w ]+)\.|\blet (\w+)|^\w+( .*?)? =(?=\s)", re.M)
 HIDDEN = re.compile(r"//[^\n]*|\"(?:\\.|[^\"\\])*\"|'(?:\\.|[^\\'\n])'", re.S)
@@ -40,7 +40,7 @@ class Definition:
     comment: list[str]
     text: list[str]
     scope: Scope
-    # Records that it cites and of which one field alone is read, by their paths.
+    # Records that it cites and of which it reads only one field, by their paths.
     narrowed: dict[str, Definition] = field(default_factory=dict)
 
     def is_body(self) -> bool:
@@ -92,7 +92,7 @@ class Sources:
     def __init__(self) -> None:
         self.definitions: dict[str, Definition] = {}
         self.functions: dict[str, list[Function]] = defaultdict(list)
-        # What a type's values are seen as, and the ghost members of traits with their places.
+        # The models of types, and the ghost members of traits with their places.
         self.values: dict[str, list[Definition]] = defaultdict(list)
         self.members: dict[str, str] = {}
         for file in sorted(ROOT.glob("crates/*/specs/**/*.antt")):
@@ -142,13 +142,14 @@ class Sources:
             yield match[2] if match[1] == "ensures" else "requires", clause, place(file, text, match.start(1))
 
     def find(self, path: str) -> Definition | None:
-        """The definition with this path, or with the longest beginning of it."""
+        """The definition with this path, or with its longest prefix."""
         while path and path not in self.definitions:
             path = path.rpartition(".")[0]
         return self.definitions.get(path)
 
     def cited(self, text: str, scope: Scope) -> list[Definition]:
-        """The definitions that a text cites. A name that it binds cites none, unless it is a case of a type."""
+        """The definitions that a text cites. A name that the text binds doesn't cite any, unless it is a case of a
+        type."""
         text = LABEL.sub("", text)
         local = {name for groups in BINDER.findall(text) for group in groups for name in NAME.findall(group)}
         found: dict[str, Definition] = {}
@@ -165,7 +166,7 @@ class Sources:
         return [definition.narrowed.get(other.path, other) for other in found if other.place != definition.place]
 
     def stated(self, function: Function) -> Function:
-        """The function whose contract it has: its own, or else the trait's."""
+        """The function with its contract: itself, or else the trait's."""
         inherited = self.functions.get(f"{function.trait}::{function.name.rpartition('::')[2]}", [])
         return inherited[0] if inherited and not function.clauses else function
 

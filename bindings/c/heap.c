@@ -1,6 +1,6 @@
-/* The heap of libwurstlinen: what its archive asks of the program that it is linked into, over malloc, realloc and
- * free. A program that defines these three functions itself chooses its own heap. Blocks are aligned to 16 bytes, or to
- * each power of two that divides their size. */
+/* The heap of libwurstlinen: the functions that its archive needs from the program that it is linked into, over malloc,
+ * realloc and free. A program that defines these three functions itself chooses its own heap. Blocks are aligned to 16
+ * bytes, or to each power of two that divides their size. */
 #include <stdbool.h>
 #include <stddef.h>
 #include <stdlib.h>

@@ -1,16 +1,15 @@
 /* Wurstlinen: a controller for RDM (ANSI E1.20) with proved queue, discovery, readers and writers. C11 and C++.
  *
- * Every call tests its arguments and answers a status. A status other than WURST_DONE leaves the handle as it was, and
- * what a call would write is written only with WURST_DONE, unless a call says otherwise. A session's log also keeps
- * some of the calls that were refused.
+ * Every call checks its arguments and returns a status. With a status other than WURST_DONE the handle is unchanged and
+ * nothing is written, unless a call says otherwise. A session's log also keeps some of the calls that were refused.
  *
- * What a C program owes, since nothing checks it:
+ * What a C program has to ensure, since nothing checks it:
  * - A handle is all 0 (closed) or as the last call left it. It is never copied and never written by the program, and
  *   doesn't leave scope while it is open: what it holds would never be freed.
- * - Pointers aren't null, and point to as much memory as the call says, also for a length of 0. What one call writes
- *   doesn't overlap anything else that it is given.
+ * - Pointers aren't null, even for a length of 0, and point to as much memory as the call says. What a call writes
+ *   doesn't overlap any other argument.
  * - A bool is 0 or 1.
- * - malloc, realloc and free are of one allocator, and align blocks to 16 bytes (or define the three functions of
+ * - malloc, realloc and free belong to one allocator, and align blocks to 16 bytes (or define the three functions of
  *   heap.c otherwise).
  * - No call is made from a signal handler, or in the forked child of a process with threads.
  *
@@ -18,8 +17,8 @@
  * Calls on different handles may run at the same time, and so may calls without a handle. _rotate is a call on both
  * of its handles. No call blocks, starts a thread, does input or output, or reads a clock.
  *
- * UIDs are numbers below 2^48: manufacturer * 2^32 + device. Buffers come as a pointer and a length; `room` is how much
- * there is room for. Strings aren't ended by 0.
+ * UIDs are numbers below 2^48: manufacturer * 2^32 + device. Buffers are passed as a pointer and a length; `room` is
+ * the capacity of a buffer. Strings have no 0 at the end.
  *
  * Memory is allocated by _open, _join, _start and _rotate, and by _deliver for a request's data. The other calls
  * allocate nothing. */
@@ -38,7 +37,7 @@ extern "C" {
 #define WURST_VERSION 1000
 #define WURST_VERSION_TEXT "0.1.0"
 
-/* Greatest sizes. */
+/* Limits. */
 #define WURST_MOST_FRAME_BYTES 257       /* of a frame, and of a reply */
 #define WURST_MOST_PARAMETER_BYTES 231   /* of a packet's parameter data */
 #define WURST_MOST_JOINED_BYTES 65535    /* of a request's data, all parts together */
@@ -48,7 +47,7 @@ extern "C" {
 #define WURST_MOST_DISCOVERIES 4         /* that a client has outstanding */
 #define WURST_BRANCH_REPLY_BYTES 24      /* of a device's reply to a branch, at most */
 #define WURST_UID_TEXT_BYTES 13          /* of a UID's text, as 7a70:00000001 */
-#define WURST_DEFAULT_BUDGET 384008      /* frames that suffice for 1,024 devices, and as many known ones */
+#define WURST_DEFAULT_BUDGET 384008      /* enough frames for 1,024 devices, and as many known ones */
 #define WURST_MOST_ENTRIES 1000000       /* free entries of a new log; each takes 296 bytes */
 #define WURST_LEAST_FREE 3               /* entries that have to be free for a call that a full log refuses */
 #define WURST_BROADCAST UINT64_C(0xffffffffffff) /* addresses all devices */
@@ -56,11 +55,11 @@ extern "C" {
 /* How a call ended. */
 enum wurst_status {
     WURST_DONE = 0,
-    WURST_NOTHING = 1,               /* there is nothing to give */
+    WURST_NOTHING = 1,               /* there is nothing to return */
     WURST_NOT_OPEN = 2,              /* the handle is closed */
-    WURST_ALREADY_OPEN = 3,          /* the handle is open, where the call opens it */
+    WURST_ALREADY_OPEN = 3,          /* the handle is open, but the call opens it */
     WURST_BAD_UID = 4,               /* a UID is 2^48 or more */
-    WURST_BROADCAST_UID = 5,         /* a UID is broadcast, where a device's or controller's own is asked for */
+    WURST_BROADCAST_UID = 5,         /* a UID is broadcast, but has to be a device's or a controller's */
     WURST_TOO_MANY_PLACES = 6,       /* more than 4,080 places */
     WURST_NO_BUDGET = 7,             /* the budget is 0 */
     WURST_BAD_SEARCH = 8,            /* no such search */
@@ -69,12 +68,12 @@ enum wurst_status {
     WURST_DATA_TOO_LONG = 11,        /* more than 231 bytes of parameter data */
     WURST_REPLY_TOO_LONG = 12,       /* more than 257 bytes of a reply */
     WURST_TOO_MANY_ENTRIES = 13,     /* more than 1,000,000 entries of a log */
-    WURST_BUFFER_TOO_SMALL = 14,     /* a buffer has no room for what is to be written */
+    WURST_BUFFER_TOO_SMALL = 14,     /* a buffer is too small for what is to be written */
     WURST_OUT_OF_MEMORY = 15,        /* an allocation failed */
     WURST_CLOSED = 16,               /* the queue is closed */
     WURST_UNKNOWN_CLIENT = 17,       /* no such client has joined */
     WURST_TOO_MANY_CLIENTS = 18,     /* sixteen clients have joined */
-    WURST_NO_PLACES = 19,            /* fewer places are left than the client asks for */
+    WURST_NO_PLACES = 19,            /* less capacity is left than the client asks for */
     WURST_FULL = 20,                 /* the client's places or four discoveries are taken, or no number is left */
     WURST_LOG_FULL = 21,             /* fewer than three entries of the log are free */
     WURST_NOT_ASKED = 22,            /* no reply is awaited */
@@ -89,7 +88,7 @@ enum wurst_status {
     WURST_HAS_ENDED = 31,            /* the run has ended */
     WURST_UID_LENGTH = 32,           /* a UID's text doesn't have 13 bytes */
     WURST_UID_SEPARATOR = 33,        /* its fifth byte isn't a colon */
-    WURST_UID_DIGIT = 34,            /* one of its other bytes is no hexadecimal digit */
+    WURST_UID_DIGIT = 34,            /* one of its other bytes isn't a hexadecimal digit */
     WURST_TOO_SHORT = 35,            /* a packet has fewer than 26 bytes */
     WURST_WRONG_START = 36,          /* its first byte isn't the start code */
     WURST_WRONG_SUB_START = 37,      /* its second byte isn't the sub start code */
@@ -97,7 +96,7 @@ enum wurst_status {
     WURST_PARAM_LENGTH_MISMATCH = 39, /* its parameter data length doesn't fit its message length */
     WURST_WRONG_CHECKSUM = 40,       /* its checksum isn't the sum of its bytes */
     WURST_INVALID_CLASS = 41,        /* its command class isn't a response's */
-    WURST_INVALID_RESPONSE_TYPE = 42, /* its response type is none that there is */
+    WURST_INVALID_RESPONSE_TYPE = 42, /* its response type doesn't exist */
     WURST_NOT_TEXT = 43              /* the bytes aren't UTF-8 */
 };
 
@@ -110,7 +109,7 @@ enum wurst_command_class { WURST_GET = 0, WURST_SET = 1 };
 enum wurst_response_class { WURST_DISCOVERY_RESPONSE = 0, WURST_GET_RESPONSE = 1, WURST_SET_RESPONSE = 2 };
 enum wurst_ack { WURST_ACK = 0, WURST_ACK_TIMER = 1, WURST_NACK = 2, WURST_ACK_OVERFLOW = 3 };
 
-/* Of which kind an outcome is. */
+/* The kind of an outcome. */
 enum wurst_outcome { WURST_REQUEST_OUTCOME = 0, WURST_DISCOVERY_OUTCOME = 1 };
 
 /* How a request ended. */
@@ -139,8 +138,8 @@ enum wurst_request_status {
 /* Why a discovery run ended early. */
 enum wurst_fault {
     WURST_NO_FAULT = 0,
-    WURST_CORRUPT = 1,       /* the branch of one UID alone was answered, but showed no new device */
-    WURST_TOO_MANY = 2,      /* more devices than there is room for */
+    WURST_CORRUPT = 1,       /* a branch of a single UID was answered, but showed no new device */
+    WURST_TOO_MANY = 2,      /* more than 1,024 devices */
     WURST_EXHAUSTED = 3,     /* the budget is used up */
     WURST_LINE_FAILED = 4,   /* the line failed */
     WURST_ABORTED = 5        /* closed or stopped */
@@ -174,12 +173,12 @@ struct wurst_completion {
     uint32_t response_class; /* enum wurst_response_class */
     uint16_t sub_device;
     uint16_t pid;
-    bool has_head;           /* there is a last reply: with WURST_COMPLETED alone */
+    bool has_head;           /* there is a last reply: only with WURST_COMPLETED */
 };
 
 struct wurst_end {
     uint64_t number;
-    uint64_t run;      /* the run that served the discovery, from 1; 0 where none was begun for it */
+    uint64_t run;      /* the run that served the discovery, from 1; 0 if none was begun for it */
     uint64_t corrupt;  /* the UID of WURST_CORRUPT, else 0 */
     size_t count;      /* devices; also after a fault, those found until then */
     uint32_t fault;    /* enum wurst_fault */
@@ -187,7 +186,7 @@ struct wurst_end {
 
 struct wurst_device {
     uint64_t uid;
-    uint64_t binding;  /* 0 where it gave none */
+    uint64_t binding;  /* 0 if it gave none */
     uint16_t control;  /* bits: 1 managed proxy, 2 sub-device, 4 boot-loader, 8 proxied device */
     bool has_binding;
 };
@@ -211,7 +210,7 @@ enum wurst_entry_kind {
 enum wurst_call { WURST_CALL_JOIN = 0, WURST_CALL_SUBMIT = 1, WURST_CALL_DISCOVER = 2 };
 enum wurst_owner { WURST_OF_REQUEST = 0, WURST_OF_RUN = 1 };
 
-struct wurst_entry {         /* what its kind doesn't have is 0 */
+struct wurst_entry {         /* fields that its kind doesn't have are 0 */
     uint64_t number;         /* of the request, or of the discovery */
     uint64_t run;            /* of a frame, the run that sent it; of an answer, the run that served it, 0 for none */
     uint64_t corrupt;        /* the UID of WURST_CORRUPT */
@@ -249,7 +248,7 @@ struct wurst_response {
 
 enum wurst_command_kind { WURST_UNMUTE = 0, WURST_BRANCH = 1, WURST_MUTE = 2, WURST_REQUEST = 3 };
 
-struct wurst_command {       /* what its kind doesn't have is 0 */
+struct wurst_command {       /* fields that its kind doesn't have are 0 */
     uint64_t source;         /* the controller */
     uint64_t target;         /* of a mute or a request */
     uint64_t lo;             /* of a branch */
@@ -263,7 +262,7 @@ struct wurst_command {       /* what its kind doesn't have is 0 */
 };
 
 struct wurst_mute_ack {
-    uint64_t binding;  /* 0 where the device gave none */
+    uint64_t binding;  /* 0 if the device gave none */
     uint16_t control;
     bool has_binding;
 };
@@ -282,12 +281,12 @@ enum wurst_branch_reply { WURST_SILENT = 0, WURST_ONE = 1, WURST_COLLISION = 2 }
 /* The library's version, as WURST_VERSION. */
 uint32_t wurst_version(void);
 
-/* ---- Controllers: the queue of requests and discoveries on one line. A controller keeps no log, and runs for years.
+/* ---- Controllers: the queue of requests and discoveries on one line. A controller has no log, and can run for years.
  *
- * One frame is outstanding at a time. Send what _take writes, and hand what the line answered to _deliver (no bytes are
- * silence), or call _fail where the line failed. Then take the next frame.
+ * One frame is outstanding at a time. Send what _take writes, and pass the line's reply to _deliver (no bytes are
+ * silence), or call _fail if the line failed. Then take the next frame.
  *
- * On a closed handle each call but _open and _dispose answers WURST_NOT_OPEN. */
+ * On a closed handle each call except _open and _dispose returns WURST_NOT_OPEN. */
 
 /* Opens a closed handle: a controller without clients. Allocates.
  * WURST_ALREADY_OPEN; then of the setup, the first of WURST_BAD_UID, WURST_BROADCAST_UID (source),
@@ -320,7 +319,7 @@ uint32_t wurst_controller_pause(struct wurst_controller *handle);
 uint32_t wurst_controller_resume(struct wurst_controller *handle);
 
 /* Refuses all later joins, submits and discovers, and sends nothing more. What waits is ended: at once, or by the next
- * _deliver or _fail where a reply is awaited. Outcomes can still be collected. */
+ * _deliver or _fail if a reply is awaited. Outcomes can still be collected. */
 uint32_t wurst_controller_close(struct wurst_controller *handle);
 
 /* Writes the next frame for the line, start code and checksum included, and how many bytes it has. `room` is at least
@@ -328,27 +327,28 @@ uint32_t wurst_controller_close(struct wurst_controller *handle);
  * WURST_NOTHING: a reply is awaited, or nothing is to be sent. */
 uint32_t wurst_controller_take(struct wurst_controller *handle, uint8_t *frame, size_t room, size_t *len);
 
-/* Takes the bytes that the line answered to the last frame; len 0 is silence. May allocate; if that fails, the request
- * ends with WURST_NO_MEMORY.
+/* Takes the line's reply to the last frame; len 0 is silence. May allocate; if that fails, the request ends with
+ * WURST_NO_MEMORY.
  * WURST_REPLY_TOO_LONG (the reply is still awaited), WURST_NOT_ASKED. */
 uint32_t wurst_controller_deliver(struct wurst_controller *handle, const uint8_t *reply, size_t len);
 
-/* Takes it that the line failed at the last frame: what the devices saw isn't known. WURST_NOT_ASKED. */
+/* Reports that the line failed at the last frame: what the devices received isn't known. WURST_NOT_ASKED. */
 uint32_t wurst_controller_fail(struct wurst_controller *handle);
 
-/* Writes of which kind a client's oldest outcome is that it hasn't collected (enum wurst_outcome).
+/* Writes the kind of the client's oldest outcome that it hasn't collected (enum wurst_outcome).
  * WURST_UNKNOWN_CLIENT, WURST_NOTHING. */
 uint32_t wurst_controller_oldest(struct wurst_controller *handle, uint8_t client, uint32_t *kind);
 
-/* Collects a client's oldest outcome if it is a request's, with its data. Its place is free again.
+/* Collects a client's oldest outcome if it is a request's, with its data. The client may then have one more request
+ * outstanding.
  * WURST_UNKNOWN_CLIENT, WURST_NOTHING, WURST_OTHER_OUTCOME; WURST_BUFFER_TOO_SMALL: only completion->len is written,
- * how many bytes are needed, and the outcome stays. */
+ * the number of bytes needed, and the outcome stays. */
 uint32_t wurst_controller_next_completion(struct wurst_controller *handle, uint8_t client,
                                           struct wurst_completion *completion, uint8_t *buffer, size_t room);
 
 /* Collects a client's oldest outcome if it is a discovery's, with its devices, ascending by UID.
- * WURST_UNKNOWN_CLIENT, WURST_NOTHING, WURST_OTHER_OUTCOME; WURST_BUFFER_TOO_SMALL: only end->count is written, how
- * many devices there are, and the outcome stays. */
+ * WURST_UNKNOWN_CLIENT, WURST_NOTHING, WURST_OTHER_OUTCOME; WURST_BUFFER_TOO_SMALL: only end->count is written, the
+ * number of devices, and the outcome stays. */
 uint32_t wurst_controller_next_discovery(struct wurst_controller *handle, uint8_t client, struct wurst_end *end,
                                          struct wurst_device *devices, size_t room);
 
@@ -360,7 +360,7 @@ uint32_t wurst_controller_devices(struct wurst_controller *handle, struct wurst_
 /* Writes the number of the run that found them; 0 before the first. */
 uint32_t wurst_controller_devices_run(struct wurst_controller *handle, uint64_t *run);
 
-/* Writes whether nothing waits, is under way, is asked or is uncollected. */
+/* Writes whether the queue is idle: nothing waits, is under way or is uncollected. */
 uint32_t wurst_controller_is_idle(struct wurst_controller *handle, bool *answer);
 
 /* Writes whether sending is paused. */
@@ -374,15 +374,15 @@ uint32_t wurst_controller_awaits(struct wurst_controller *handle, bool *answer);
 
 /* ---- Sessions: a controller with a log of all that it does.
  *
- * The log has room for a fixed number of entries. A request takes 5, and 2 for each further frame. A discovery takes 3,
- * and its run 2 for each frame. _rotate goes on with a fresh log. Some entries are reserved: 1 for a close, 1 for a
- * reply that is awaited, 2 for each request and discovery that hasn't ended, 1 for each outcome that isn't collected.
- * A log with fewer than WURST_LEAST_FREE free entries refuses some calls; replies, closes and collects always fit.
+ * The log has a fixed capacity of entries. A request takes 5, and 2 for each further frame. A discovery takes 3, and
+ * its run 2 for each frame. _rotate continues with a fresh log. Some entries are reserved: 1 for a close, 1 for a reply
+ * that is awaited, 2 for each request and discovery that hasn't ended, 1 for each outcome that isn't collected. A log
+ * with fewer than WURST_LEAST_FREE free entries refuses some calls; replies, closes and collects always fit.
  *
- * The calls that a controller also has do what the controller's do. What is said here comes in addition. On a closed
- * handle each call but _open and _dispose answers WURST_NOT_OPEN. */
+ * Calls that a controller also has do the same as the controller's. What is said here is in addition. On a closed
+ * handle each call except _open and _dispose returns WURST_NOT_OPEN. */
 
-/* Opens a closed handle: a session without clients, whose log has room for this many entries, 0 to
+/* Opens a closed handle: a session without clients, whose log has capacity for this many entries, 0 to
  * WURST_MOST_ENTRIES, and one more for a close. Allocates the log's memory, 296 bytes for each entry.
  * WURST_ALREADY_OPEN; the faults of the setup; WURST_TOO_MANY_ENTRIES; WURST_OUT_OF_MEMORY. */
 uint32_t wurst_session_open(struct wurst_session *handle, const struct wurst_setup *setup, size_t entries);
@@ -436,13 +436,13 @@ uint32_t wurst_session_free_entries(struct wurst_session *handle, size_t *count)
 uint32_t wurst_session_entry_count(struct wurst_session *handle, size_t *count);
 
 /* Writes the entry of this index, counted from 0, oldest first, and its bytes into the buffer.
- * WURST_NO_ENTRY; WURST_BUFFER_TOO_SMALL: only entry->len is written, how many bytes are needed.
+ * WURST_NO_ENTRY; WURST_BUFFER_TOO_SMALL: only entry->len is written, the number of bytes needed.
  * WURST_MOST_FRAME_BYTES are enough for each entry. */
 uint32_t wurst_session_entry(struct wurst_session *handle, size_t index, struct wurst_entry *entry, uint8_t *buffer,
                              size_t room);
 
-/* Goes on with a fresh log with room for this many entries, and opens the closed handle `log`, which then holds the
- * old log until it is disposed of. Numbers, clients, devices and whether it is paused or closed go on. Allocates the
+/* Continues with a fresh log with capacity for this many entries. Opens the closed handle `log`, which then holds the
+ * old log until it is disposed of. Numbers, clients, devices and whether it is paused or closed are kept. Allocates the
  * fresh log's memory, and for a moment as much as a second session without entries has.
  * WURST_ALREADY_OPEN (`log`); WURST_TOO_MANY_ENTRIES; WURST_LOG_FULL, for fewer than WURST_LEAST_FREE entries;
  * WURST_NOT_IDLE; WURST_OUT_OF_MEMORY. */
@@ -476,21 +476,21 @@ uint32_t wurst_branch_reply_read(const uint8_t *bytes, size_t len, uint32_t *kin
  * The first of WURST_BAD_UID, WURST_BAD_PREAMBLE, WURST_BUFFER_TOO_SMALL. */
 uint32_t wurst_branch_reply_write(uint64_t uid, uint8_t preamble, uint8_t *bytes, size_t room, size_t *len);
 
-/* Each of the following writes one packet from the controller `source` with the transaction number `tn`, port id 1 and
- * message count 0, into a buffer with room for WURST_MOST_FRAME_BYTES.
+/* Each of the following writes one packet into a buffer for WURST_MOST_FRAME_BYTES. The packet is from the controller
+ * `source`, with the transaction number `tn`, port id 1 and message count 0.
  * Of the request, the first of WURST_BAD_UID, WURST_BAD_CLASS, WURST_DATA_TOO_LONG; of the source, WURST_BAD_UID;
  * WURST_BUFFER_TOO_SMALL. */
 uint32_t wurst_request_write(const struct wurst_request *request, const uint8_t *param, size_t param_len,
                              uint64_t source, uint8_t tn, uint8_t *frame, size_t room, size_t *len);
 
-/* All devices are to be unmuted. WURST_BAD_UID, WURST_BUFFER_TOO_SMALL. */
+/* Asks all devices to unmute. WURST_BAD_UID, WURST_BUFFER_TOO_SMALL. */
 uint32_t wurst_unmute_write(uint64_t source, uint8_t tn, uint8_t *frame, size_t room, size_t *len);
 
-/* This device is to be muted. Of `uid`, WURST_BAD_UID or WURST_BROADCAST_UID; of `source`, WURST_BAD_UID;
+/* Asks this device to mute. Of `uid`, WURST_BAD_UID or WURST_BROADCAST_UID; of `source`, WURST_BAD_UID;
  * WURST_BUFFER_TOO_SMALL. */
 uint32_t wurst_mute_write(uint64_t uid, uint64_t source, uint8_t tn, uint8_t *frame, size_t room, size_t *len);
 
-/* Each unmuted device from `lo` to `hi` is to reply. The first of: for `lo` and `hi`, WURST_BAD_UID; WURST_BAD_RANGE;
+/* Asks each unmuted device from `lo` to `hi` to reply. The first of: for `lo` and `hi`, WURST_BAD_UID; WURST_BAD_RANGE;
  * for `source`, WURST_BAD_UID; WURST_BUFFER_TOO_SMALL. */
 uint32_t wurst_branch_write(uint64_t lo, uint64_t hi, uint64_t source, uint8_t tn, uint8_t *frame, size_t room,
                             size_t *len);
@@ -524,10 +524,10 @@ uint32_t wurst_mute_ack_write(const struct wurst_device *device, uint64_t source
 uint32_t wurst_command_read(const uint8_t *bytes, size_t len, struct wurst_command *command, uint8_t *param,
                             size_t room);
 
-/* ---- Agents: a discovery run alone, on a line of the caller's own. A run takes 42 KB.
+/* ---- Agents: single discovery runs, on a line of the caller's own. A run takes 42 KB of memory.
  *
- * Send what _next writes, and hand what the line answered to _hear or _fail, until _next answers WURST_NOTHING. On a
- * closed handle each call but _start and _dispose answers WURST_NOT_OPEN. */
+ * Send what _next writes, and pass the line's reply to _hear, or call _fail if the line failed, until _next returns
+ * WURST_NOTHING. On a closed handle each call except _start and _dispose returns WURST_NOT_OPEN. */
 
 /* Begins a run on a closed handle. An incremental run mutes the known devices first. Allocates.
  * WURST_ALREADY_OPEN; then the first of WURST_BAD_UID, WURST_BROADCAST_UID (source), WURST_BAD_KIND, WURST_BAD_SEARCH;
@@ -543,11 +543,10 @@ void wurst_agent_dispose(struct wurst_agent *handle);
  * WURST_MOST_FRAME_BYTES. */
 uint32_t wurst_agent_next(struct wurst_agent *handle, uint32_t *operation, uint8_t *frame, size_t room, size_t *len);
 
-/* Takes the bytes that the line answered; len 0 is silence. The next frame has the next transaction number.
- * WURST_HAS_ENDED. */
+/* Takes the line's reply; len 0 is silence. The next frame has the next transaction number. WURST_HAS_ENDED. */
 uint32_t wurst_agent_hear(struct wurst_agent *handle, const uint8_t *reply, size_t len);
 
-/* Takes it that the line failed, which ends the run. WURST_HAS_ENDED. */
+/* Reports that the line failed, which ends the run. WURST_HAS_ENDED. */
 uint32_t wurst_agent_fail(struct wurst_agent *handle);
 
 /* Ends the run with WURST_ABORTED. Without effect if it has ended. */

@@ -1,7 +1,7 @@
 // Wurstlinen for C++17: header only, over wurstlinen.h. Controllers, sessions, logs and agents are move-only, and free
-// what they hold. Calls that can be refused throw wurst::Fault, but those whose refusal is a plain answer give a
-// std::optional. Calls that are given memory of the caller's answer with a view of it: they copy and allocate nothing.
-// As in C, calls on one object are made one at a time.
+// what they hold. Calls that can be refused throw wurst::Fault, but if the refusal is a normal result they return a
+// std::optional. Calls that get memory from the caller return a view of it: they copy and allocate nothing. As in C,
+// calls on one object are made one at a time.
 #ifndef WURSTLINEN_HPP
 #define WURSTLINEN_HPP
 
@@ -20,7 +20,7 @@
 
 namespace wurst {
 
-// Bytes of the caller's, which outlive the call.
+// The caller's bytes, which have to outlive the call.
 struct Bytes {
     const std::uint8_t *data;
     std::size_t size;
@@ -113,7 +113,7 @@ struct Device {
     }
 };
 
-// One frame, in memory of its own.
+// One frame, in its own memory.
 class Frame {
 public:
     std::uint8_t *data() { return bytes_.data(); }
@@ -147,7 +147,7 @@ struct Discovery {
     wurst_fault fault() const { return static_cast<wurst_fault>(end.fault); }
 };
 
-// Devices that a call wrote into memory of the caller's: a view of them, which makes a Device where one is looked at.
+// A view of devices that a call wrote into the caller's memory. It makes a Device for each access.
 class Devices {
 public:
     class iterator {
@@ -184,7 +184,7 @@ private:
     std::size_t size_;
 };
 
-// The same as Completion and Discovery, in memory of the caller's.
+// The same as Completion and Discovery, in the caller's memory.
 struct CompletionView {
     wurst_completion head;
     Bytes data;
@@ -199,7 +199,7 @@ struct DiscoveryView {
     wurst_fault fault() const { return static_cast<wurst_fault>(end.fault); }
 };
 
-// An entry of a log, with its bytes in memory of the caller's.
+// An entry of a log, with its bytes in the caller's memory.
 struct EntryView {
     wurst_entry entry;
     Bytes bytes;
@@ -209,7 +209,7 @@ struct EntryView {
 
 namespace detail {
 
-// Whether there was something to give.
+// Whether there was something to return. Throws on any other refusal.
 inline bool given(std::uint32_t status) {
     if (status == WURST_NOTHING) {
         return false;
@@ -218,7 +218,7 @@ inline bool given(std::uint32_t status) {
     return true;
 }
 
-// A handle, which is moved alone, and disposed of at its end.
+// A handle, which can only be moved, and is disposed of by the destructor.
 template <typename Form, void (*dispose)(Form *)> class Handle {
 public:
     Handle() = default;
@@ -363,7 +363,7 @@ public:
         return done;
     }
 
-    // The same, with the data in a buffer of the caller's. Throws WURST_BUFFER_TOO_SMALL, and the outcome stays.
+    // The same, with the data in the caller's buffer. Throws WURST_BUFFER_TOO_SMALL, and the outcome stays.
     std::optional<CompletionView> next_completion(Client client, std::uint8_t *buffer, std::size_t room) {
         wurst_completion head{};
         if (!given(Calls::next_completion(handle_.get(), client, &head, buffer, room))) {
@@ -382,7 +382,7 @@ public:
         return Discovery{found->end, copied(found->devices)};
     }
 
-    // The same, with the devices in an array of the caller's. Throws WURST_BUFFER_TOO_SMALL, and the outcome stays.
+    // The same, with the devices in the caller's array. Throws WURST_BUFFER_TOO_SMALL, and the outcome stays.
     std::optional<DiscoveryView> next_discovery(Client client, wurst_device *forms, std::size_t room) {
         wurst_end end{};
         if (!given(Calls::next_discovery(handle_.get(), client, &end, forms, room))) {
@@ -391,13 +391,13 @@ public:
         return DiscoveryView{end, Devices(forms, end.count)};
     }
 
-    // Those that the last run without fault found.
+    // The devices that the last run without fault found.
     std::vector<Device> devices() {
         std::vector<wurst_device> forms(WURST_MOST_DEVICES);
         return copied(devices(forms.data(), forms.size()));
     }
 
-    // The same, in an array of the caller's. Throws WURST_BUFFER_TOO_SMALL.
+    // The same, in the caller's array. Throws WURST_BUFFER_TOO_SMALL.
     Devices devices(wurst_device *forms, std::size_t room) {
         std::size_t count = 0;
         check(Calls::devices(handle_.get(), forms, room, &count));
@@ -415,8 +415,8 @@ public:
     bool is_closed() { return asked(Calls::is_closed); }
     bool awaits() { return asked(Calls::awaits); }
 
-    // Sends frames until there is none. `exchange` is given a Frame and answers a std::optional of the bytes that came
-    // (nullopt: the line failed). The exchanges made.
+    // Sends frames until there is none. `exchange` gets a Frame and returns a std::optional of the bytes that came
+    // (nullopt: the line failed). Returns how many exchanges were made.
     template <typename Exchange> std::uint64_t run(Exchange exchange) {
         std::uint64_t exchanges = 0;
         while (auto frame = take()) {
@@ -464,7 +464,7 @@ template <typename Form> struct Entries {
 
 } // namespace detail
 
-// A queue without a log, which runs for years.
+// A queue without a log, which can run for years.
 class Controller : public detail::Queue<detail::ControllerCalls> {
 public:
     explicit Controller(Uid source, std::uint16_t places = WURST_MOST_PLACES,
@@ -474,12 +474,12 @@ public:
     }
 };
 
-// The log of a session that went on with a fresh one.
+// The log of a session that continued with a fresh one.
 class Log {
 public:
     std::size_t entry_count() { return entries.count(handle_.get()); }
 
-    // The entry of this index, with its bytes in a buffer of the caller's; WURST_MOST_FRAME_BYTES are enough. Throws
+    // The entry of this index, with its bytes in the caller's buffer; WURST_MOST_FRAME_BYTES are enough. Throws
     // WURST_NO_ENTRY or WURST_BUFFER_TOO_SMALL.
     EntryView entry(std::size_t index, std::uint8_t *buffer, std::size_t room) {
         return entries.entry(handle_.get(), index, buffer, room);
@@ -496,7 +496,7 @@ private:
 // A queue with a log of all that it does.
 class Session : public detail::Queue<detail::SessionCalls> {
 public:
-    // `entries`: how many entries the log has room for.
+    // `entries`: the log's capacity.
     Session(Uid source, std::size_t entries, std::uint16_t places = WURST_MOST_PLACES,
             std::uint64_t budget = WURST_DEFAULT_BUDGET, wurst_search search = WURST_STEADY) {
         const wurst_setup setup{source.number(), budget, static_cast<std::uint32_t>(search), places};
@@ -516,7 +516,7 @@ public:
         return log_entries.entry(handle_.get(), index, buffer, room);
     }
 
-    // Goes on with a fresh log with room for this many entries, and gives the old one. Throws WURST_NOT_IDLE,
+    // Continues with a fresh log with capacity for this many entries, and returns the old one. Throws WURST_NOT_IDLE,
     // WURST_LOG_FULL, WURST_TOO_MANY_ENTRIES or WURST_OUT_OF_MEMORY.
     Log rotate(std::size_t entries) {
         Log log;
@@ -528,7 +528,7 @@ private:
     static constexpr detail::Entries<wurst_session> log_entries{wurst_session_entry_count, wurst_session_entry};
 };
 
-// A discovery run alone, on a line of the caller's own.
+// A single discovery run, on a line of the caller's own.
 class Agent {
 public:
     explicit Agent(Uid source, wurst_kind kind = WURST_FULL_DISCOVERY, const std::vector<Uid> &known = {},
@@ -560,13 +560,13 @@ public:
     void fail() { check(wurst_agent_fail(handle_.get())); }
     void stop() { check(wurst_agent_stop(handle_.get())); }
 
-    // Those found so far.
+    // The devices found so far.
     std::vector<Device> devices() {
         std::vector<wurst_device> forms(WURST_MOST_DEVICES);
         return detail::copied(devices(forms.data(), forms.size()));
     }
 
-    // The same, in an array of the caller's. Throws WURST_BUFFER_TOO_SMALL.
+    // The same, in the caller's array. Throws WURST_BUFFER_TOO_SMALL.
     Devices devices(wurst_device *forms, std::size_t room) {
         std::size_t count = 0;
         check(wurst_agent_devices(handle_.get(), forms, room, &count));

@@ -14,7 +14,7 @@ class Fixture:
 
 
 class SimulatedLine:
-    """A line in memory: `exchange` gives what its fixtures answer."""
+    """A line in memory: `exchange` returns its fixtures' replies."""
 
     def __init__(self, *fixtures: Fixture) -> None:
         self.fixtures = fixtures

@@ -1,4 +1,4 @@
-// Discovers the fixtures of a line that is simulated here, twice: by a controller, and by an agent alone.
+// Discovers the fixtures of a line that is simulated here, twice: by a controller, and by an agent.
 #include <cstdio>
 #include <map>
 #include <optional>
@@ -19,7 +19,7 @@ public:
         }
     }
 
-    // What comes back to a frame; no bytes are silence.
+    // The reply to a frame; no bytes are silence.
     std::optional<std::vector<std::uint8_t>> exchange(Bytes frame) {
         wurst_command asked{};
         std::uint8_t param[WURST_MOST_PARAMETER_BYTES];

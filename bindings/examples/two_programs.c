@@ -22,7 +22,7 @@ static bool is_addressed(const struct fixture *fixture, uint64_t target) {
     return target == fixture->uid || target == WURST_BROADCAST;
 }
 
-/* What the fixtures reply to a branch; where several do, their bytes overlap. */
+/* The fixtures' reply to a branch. If several reply, their bytes overlap. */
 static size_t reply_to_branch(const struct wurst_command *asked, uint8_t *reply) {
     uint8_t one[WURST_BRANCH_REPLY_BYTES];
     size_t len = 0;
@@ -49,7 +49,7 @@ static size_t reply_to_request(const struct fixture *fixture, const struct wurst
     return len;
 }
 
-/* What comes back to a frame. No bytes are silence. */
+/* The reply to a frame. No bytes are silence. */
 static size_t exchange(const uint8_t *frame, size_t frame_len, uint8_t *reply) {
     struct wurst_command asked;
     uint8_t param[WURST_MOST_PARAMETER_BYTES];

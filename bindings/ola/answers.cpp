@@ -9,7 +9,7 @@ using namespace ola::rdm;
 
 using Bytes = std::vector<std::uint8_t>;
 
-// Bits to change in a byte of a packet without data, and its checksum with them, so that the core judges it like this
+// Bits to change in a byte of a packet without data, so that the core judges it like this. The checksum is adjusted
 // (E1.20, packet format).
 struct Change {
     RDMStatusCode status;
@@ -23,8 +23,9 @@ constexpr Change CHANGES[] = {
     {RDM_SUB_DEVICE_MISMATCH, 19, 1}, {RDM_INVALID_COMMAND_CLASS, 20, 1}, {RDM_PARAM_LENGTH_MISMATCH, 23, 1},
     {RDM_CHECKSUM_INCORRECT, 25, 1}};
 
-// By the number of the core's status. OLA has no code for a wrong start code (6). Without memory for its data (18) a
-// request was carried out all the same, so it isn't "failed to send", after which a client may send it again.
+// By the number of the core's status. OLA has no code for a wrong start code (6). If there was no memory for the data
+// (18), the device still carried out the request. So that isn't "failed to send", after which a client may send it
+// again.
 constexpr std::array<RDMStatusCode, 19> STATUSES{
     RDM_COMPLETED_OK, RDM_WAS_BROADCAST, RDM_FAILED_TO_SEND, RDM_TIMEOUT, RDM_INVALID_RESPONSE, RDM_PACKET_TOO_SHORT,
     RDM_INVALID_RESPONSE, RDM_WRONG_SUB_START_CODE, RDM_PACKET_LENGTH_MISMATCH, RDM_PARAM_LENGTH_MISMATCH,
@@ -33,10 +34,10 @@ constexpr std::array<RDMStatusCode, 19> STATUSES{
     RDM_INVALID_RESPONSE};
 
 constexpr std::size_t LEAST_RESPONSE_BYTES = 26;
-// More than one device replied to a branch, or one that nobody understands.
+// More than one device replied to a branch, or the reply can't be read.
 const Bytes COLLISION{0};
 
-// The raw bytes of the last reply. If a good reply has none, or too few for a response, they are its response's.
+// The raw bytes of the last reply. If a good reply has none, or too few for a response, the response is serialized.
 static Bytes bytes_of(const RDMReply &reply) {
     auto raw = reply.Frames().empty() ? ola::io::ByteString() : reply.Frames().back().data;
     if (reply.StatusCode() == RDM_COMPLETED_OK && raw.size() < LEAST_RESPONSE_BYTES) {
@@ -57,7 +58,7 @@ static Bytes written(const wurst_response &response, const wurst::Bytes &data) {
     return frame;
 }
 
-// The same reply as if the core's own frame had been sent. Bytes that aren't a response stay as they are.
+// The reply as if the core's own frame had been sent. Bytes that aren't a response are unchanged.
 static Bytes readdressed(const Bytes &bytes, const wurst_command &sent) {
     const wurst::Bytes raw(bytes);
     wurst_response response{};
@@ -70,7 +71,7 @@ static Bytes readdressed(const Bytes &bytes, const wurst_command &sent) {
     return written(response, data);
 }
 
-// A response that is right in all but one thing, which the core looks at last: it ends a request as InvalidResponse.
+// A response with a single fault, for which the core checks last. It ends a request as InvalidResponse.
 static wurst_response wrong_response(const wurst_command &sent) {
     if (sent.command_class == WURST_GET && sent.pid != PID_QUEUED_MESSAGE) {
         const auto other_pid = static_cast<std::uint16_t>(sent.pid ^ 1);
@@ -79,7 +80,7 @@ static wurst_response wrong_response(const wurst_command &sent) {
     return {sent.target, sent.source, 0, WURST_ACK_OVERFLOW, WURST_SET_RESPONSE, sent.sub_device, sent.pid, sent.tn, 0};
 }
 
-// Bytes that the core judges as the layer below has judged those that it kept for itself.
+// The layer below has judged bytes without passing them on. These are bytes that the core judges in the same way.
 static Bytes judged_as(RDMStatusCode status, const wurst_command &sent) {
     wurst_response response = wrong_response(sent);
     if (status == RDM_COMMAND_CLASS_MISMATCH) {
@@ -100,7 +101,7 @@ static Bytes judged_as(RDMStatusCode status, const wurst_command &sent) {
     return frame;
 }
 
-// What the core is told if a reply has no bytes.
+// What the core gets if a reply has no bytes.
 static Bytes bytes_for(RDMStatusCode status, const wurst_command &sent) {
     const bool is_silence = status == RDM_TIMEOUT || status == RDM_WAS_BROADCAST || status == RDM_UNKNOWN_UID;
     if (sent.kind == WURST_BRANCH) {

@@ -7,18 +7,18 @@
 
 namespace stand_in {
 
-// What the core is told after a frame: the bytes that came (none are silence), or that the line failed.
+// What the core gets after a frame: the bytes that came (none are silence), or that the line failed.
 struct Heard {
     bool is_failed = false;
     std::vector<std::uint8_t> bytes;
     ola::rdm::RDMStatusCode status = ola::rdm::RDM_COMPLETED_OK; // of the layer below
 };
 
-// What a reply says of the frame that was sent. `sent` is the frame as the core wrote it; the layer below has sent its
-// own source UID and transaction number instead, and has compared them only if its status is RDM_COMPLETED_OK.
+// What a reply means for the frame that was sent. `sent` is the frame as the core wrote it. The layer below has sent
+// its own source UID and transaction number instead, and has compared them only if its status is RDM_COMPLETED_OK.
 Heard hear(const ola::rdm::RDMReply &reply, const wurst_command &sent);
 
-// The status that a client gets for the core's.
+// The status that a client gets for the core's status.
 ola::rdm::RDMStatusCode status_of(std::uint32_t status);
 
 // The response to a client's request, with the joined data; null unless the device answered. `message_count` is that of

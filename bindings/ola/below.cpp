@@ -7,11 +7,11 @@
 namespace stand_in {
 using namespace ola::rdm;
 
-// It sends discovery's frames as requests, which no interface of OLA says.
+// This class sends a discovery's frames as requests, which none of OLA's interfaces shows.
 constexpr const char *SENDS_DISCOVERY = "DmxterWidgetImpl";
 
 
-// The core's own frame, read.
+// The command in the core's own frame.
 static wurst_command read(const wurst::Frame &frame) {
     wurst_command command{};
     std::array<std::uint8_t, WURST_MOST_PARAMETER_BYTES> data{};
@@ -51,7 +51,7 @@ Below::Callbacks &Below::begin(Awaited awaited) {
     return callbacks_[turn_];
 }
 
-// Whether an answer is the one that is awaited, which then is awaited no longer.
+// Whether an answer is the awaited one. If so, it is no longer awaited.
 bool Below::ends(Awaited awaited, unsigned int turn) {
     if (awaited_ != awaited || turn_ != turn) {
         return false;

@@ -8,11 +8,12 @@
 
 namespace stand_in {
 
-// How the frames of a discovery go down: branches and unmutes by discovery calls and mutes as requests; all as
-// requests; or not at all, since discovery is the adapter's own, or there is none.
+// How a discovery's frames are sent: branches and unmutes as discovery calls, and mutes as requests; all as requests;
+// or not at all, since the adapter makes its own discovery, or none.
 enum class Bridge { Target, Requests, Own, None };
 
-// One exchange at a time. Its answer may come within the call that begins it, later, or never; all others are dropped.
+// One exchange at a time. Its answer may come within the call that begins it, later, or never. Any other answer is
+// dropped.
 class Below {
 protected:
     // `lower` isn't owned, and may be gone before this object is.
@@ -22,16 +23,16 @@ protected:
     Bridge bridge() const { return bridge_; }
     bool is_busy() const { return awaited_ != Awaited::Nothing; }
 
-    // Sends the core's frame. If that is a request's, `request` is the client's, of which a copy goes down.
+    // Sends the core's frame. If the frame is a request's, `request` is the client's request, of which a copy is sent.
     void send_down(const wurst::Frame &frame, const ola::rdm::RDMRequest *request);
     // Sends a request that the core can't send.
     void hand_down(std::unique_ptr<ola::rdm::RDMRequest> request);
     // Begins the adapter's own discovery.
     void discover_below(bool is_full);
-    // Drops what is awaited.
+    // Stops waiting: a later answer is dropped.
     void forget() { awaited_ = Awaited::Nothing; }
 
-    // What comes back after each of the three, within the call of the layer below. `reply` is null unless a client's
+    // The answers to the three calls above, within the call of the layer below. `reply` is null unless a client's
     // request was sent.
     virtual void heard(const Heard &heard, const ola::rdm::RDMReply *reply) = 0;
     virtual void handed_back(ola::rdm::RDMReply *reply) = 0;
@@ -41,8 +42,8 @@ private:
     enum class Awaited { Nothing, Reply, HandedBack, Branch, UnMute, Devices };
     using Target = ola::rdm::DiscoveryTargetInterface;
 
-    // Callbacks that the layer below may keep. Two sets are used by turns, since a second answer to an exchange may
-    // come when the next one is under way already.
+    // Callbacks that the layer below may keep. Two sets are used in turn, since a second answer to an exchange may come
+    // while the next one is already under way.
     struct Callbacks {
         std::unique_ptr<ola::rdm::RDMCallback> replied;
         std::unique_ptr<Target::BranchCallback> branched;

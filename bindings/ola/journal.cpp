@@ -6,7 +6,7 @@
 
 namespace stand_in {
 
-// What a variable says; nothing if it is empty.
+// A variable's value; nothing if it is empty.
 static std::string setting(const char *name) {
     const char *text = std::getenv(name);
     return text != nullptr ? text : "";

@@ -9,7 +9,7 @@
 
 namespace stand_in {
 
-// From the environment, read once. What can't be used is told, and the default is used.
+// From the environment, read once. A value that can't be used is reported, and the default is used.
 struct Settings {
     bool is_proved_discovery = true;             // WURSTLINEN_DISCOVERY: proved, or adapter for the adapters' own
     wurst_search search = WURST_QUICK;           // WURSTLINEN_SEARCH: quick or steady
@@ -19,7 +19,7 @@ struct Settings {
 
 const Settings &settings();
 
-// Tells people something of a controller, on standard error.
+// Prints a message about a controller on standard error.
 void tell(unsigned int controller, const std::string &text);
 
 // The log's keys and values. No text has a character that JSON escapes.

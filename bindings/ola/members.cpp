@@ -1,4 +1,4 @@
-// The members of OLA's two queueing classes, defined anew. The dynamic linker takes them in place of those in OLA's
+// New definitions of the members of OLA's two queueing classes. The dynamic linker prefers them to those in OLA's
 // library, which is built from the same header.
 #include "stand_in.hpp"
 #include <ola/rdm/QueueingRDMController.h>
@@ -7,7 +7,8 @@
 
 using stand_in::StandIn;
 
-// By the address of OLA's object, whose layout can't be changed. It is never destroyed, since OLA's may be later.
+// By the address of OLA's object, whose layout can't be changed. The map is never destroyed, since OLA's objects may
+// live longer.
 static std::map<const void *, std::shared_ptr<StandIn>> &stand_ins() {
     static auto &all = *new std::map<const void *, std::shared_ptr<StandIn>>;
     return all;

@@ -5,8 +5,8 @@
 namespace stand_in {
 using namespace ola::rdm;
 
-// The controller's UID in the core's frames. Its manufacturer is left to prototypes by E1.20, so that no reply to
-// the adapter's or a client's own UID looks like a reply to a frame of the core.
+// The controller's UID in the core's frames. E1.20 leaves its manufacturer to prototypes. So no reply to the adapter's
+// or a client's own UID looks like a reply to a frame of the core.
 constexpr wurst::Uid SOURCE{0x7ff0, 0x00000001};
 constexpr unsigned int HEADER_BYTES = 24;
 constexpr const char *DISCOVERY_BY_BRIDGE[] = {
@@ -14,7 +14,8 @@ constexpr const char *DISCOVERY_BY_BRIDGE[] = {
     "the proved discovery, by the adapter's requests", "the adapter's own discovery, which isn't proved",
     "no discovery"};
 
-// Whether the core can send a request: it has no discovery requests of clients, and sets all of these fields itself.
+// Whether the core can send a request: it doesn't take DISCOVERY requests from clients, and sets all these fields
+// itself.
 static bool is_for_core(const RDMRequest &request) {
     const auto length = static_cast<std::uint8_t>(HEADER_BYTES + request.ParamDataSize());
     return (request.CommandClass() == RDMCommand::GET_COMMAND || request.CommandClass() == RDMCommand::SET_COMMAND)
@@ -103,7 +104,8 @@ void StandIn::discover(wurst_kind kind, RDMDiscoveryCallback *callback) {
     pump();
 }
 
-// Asks the core for a discovery. False: as many are outstanding as the core lets a client have, or it is closed.
+// Asks the core for a discovery. False: the client has reached the core's limit of outstanding discoveries, or the core
+// is closed.
 bool StandIn::ask(const Discoveries &discoveries) {
     try {
         core_.discover(client_, discoveries.kind);
@@ -114,7 +116,7 @@ bool StandIn::ask(const Discoveries &discoveries) {
     return true;
 }
 
-// Does what may run callbacks, and then sends what is to be sent. A callback that calls here again doesn't send.
+// Does work that may run callbacks, and then sends what there is to send. Nested calls, from callbacks, don't send.
 template <typename Work> void StandIn::within(Work work) {
     const auto self = shared_from_this();
     const bool was_within = std::exchange(is_within_, true);
@@ -170,7 +172,7 @@ void StandIn::heard(const Heard &heard, const RDMReply *reply) {
     });
 }
 
-// Runs the callbacks of all that has ended.
+// Runs the callbacks of all requests and discoveries that have ended.
 void StandIn::collect() {
     while (const auto kind = core_.oldest(client_)) {
         is_under_way_ = false;
@@ -186,7 +188,7 @@ void StandIn::finish(const wurst::Completion &done) {
     const Request request = std::move(requests_.front());
     requests_.pop_front();
     RDMStatusCode status = status_of(done.head.status);
-    // These three the core can't know.
+    // The core can't know these three statuses.
     if (done.status() == WURST_TIMEOUT && request.status == RDM_UNKNOWN_UID) {
         status = RDM_UNKNOWN_UID;
     } else if (done.status() == WURST_TIMEOUT && request.status == RDM_COMPLETED_OK && request.replies == 1) {
@@ -202,8 +204,8 @@ void StandIn::finish(const wurst::Completion &done) {
     }
 }
 
-// OLA's callback has no fault. So after one, OLA is given what the last run without fault found, or if there was none,
-// what this one has found.
+// OLA's callback has no argument for a fault. So after a fault, OLA gets what the last run without fault found. If
+// there was none, it gets what this run has found.
 void StandIn::answer(const wurst::Discovery &done) {
     const bool is_good = done.fault() == WURST_NO_FAULT || core_.devices_run() == 0;
     const UIDSet devices = set_of(is_good ? done.devices : core_.devices());
@@ -257,7 +259,7 @@ void StandIn::end() {
             core_.fail();
         }
         collect();
-        // The rest isn't the core's. Callbacks may add to it.
+        // The core doesn't know of the rest. Callbacks may add to it.
         while (!handed_.empty()) {
             auto *const callback = handed_.front().callback;
             handed_.pop_front();

@@ -1,12 +1,12 @@
-// What stands in for one queueing controller of OLA: a proved controller, with OLA's callbacks and the layer below.
+// The replacement for one queueing controller of OLA: a proved controller, with OLA's callbacks and the layer below.
 #pragma once
 #include "below.hpp"
 #include <deque>
 
 namespace stand_in {
 
-// All on one thread. Callbacks run within the call of the layer below that answers, each exactly once. They may call
-// here again, and may end this object.
+// All calls are on one thread. Each callback runs exactly once, within the layer's call that brings the answer.
+// Callbacks may call this object, and may end it.
 class StandIn : public std::enable_shared_from_this<StandIn>, private Below {
 public:
     StandIn(ola::rdm::RDMControllerInterface *lower, unsigned int places);
@@ -14,10 +14,10 @@ public:
     // Nothing is sent until `resume`, not even the next frame of a discovery that has begun.
     void pause();
     void resume();
-    // Takes the request over. The callbacks of both may be null.
+    // Takes ownership of the request. The callback may be null here and in `discover`.
     void send(ola::rdm::RDMRequest *taken, ola::rdm::RDMCallback *callback);
     void discover(wurst_kind kind, ola::rdm::RDMDiscoveryCallback *callback);
-    // Answers all that is outstanding, without a call of the layer below.
+    // Runs the callbacks of everything outstanding, without a call of the layer below.
     void end();
 
 private:
@@ -26,7 +26,8 @@ private:
         std::uint64_t order;
         std::unique_ptr<ola::rdm::RDMRequest> request;
         ola::rdm::RDMCallback *callback;
-        // Of the replies until now: raw frames, how many, and the last one's messages that wait and status below.
+        // Of the replies so far: raw frames and how many; of the last one: the message count, and the status of the
+        // layer below.
         ola::rdm::RDMFrames frames;
         unsigned int replies = 0;
         std::uint8_t message_count = 0;
@@ -59,11 +60,11 @@ private:
     const std::uint8_t places_;
     wurst::Controller core_;
     const wurst::Controller::Client client_;
-    // Requests of the core, and those that are handed down, each in their order.
+    // The core's requests, and those that are handed down, each in order.
     std::deque<Request> requests_;
     std::deque<Request> handed_;
     std::uint64_t requests_made_ = 0;
-    // Discoveries that the core or the adapter was asked for, and those that wait until it can be asked.
+    // Discoveries that the core or the adapter has begun or queued, and those that wait until they can be passed on.
     std::deque<Discoveries> discoveries_;
     Discoveries waiting_;
     ola::rdm::UIDSet last_given_;

@@ -1,7 +1,7 @@
-/* Each call of the C library: worked examples, and what it refuses. */
+/* Each call of the C library: worked examples, and refusals. */
 #include "tests.h"
 
-/* The sizes that the library has; its own proof says the same of them. */
+/* The sizes of the structs in the library, whose proof checks the same numbers. */
 _Static_assert(sizeof(struct wurst_controller) == 16, "handles have 16 bytes");
 _Static_assert(sizeof(struct wurst_session) == 16, "handles have 16 bytes");
 _Static_assert(sizeof(struct wurst_log) == 16, "handles have 16 bytes");

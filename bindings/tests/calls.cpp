@@ -30,7 +30,7 @@ static std::optional<std::vector<std::uint8_t>> acknowledged(wurst::Bytes frame)
     return reply;
 }
 
-// What calls write into memory of the caller's.
+// What calls write into the caller's memory.
 static void views() {
     wurst::Agent agent(source, WURST_INCREMENTAL, {device}, 1000);
     while (const auto asked = agent.next()) {

@@ -1,5 +1,5 @@
-/* The heap: each allocation refused in turn, and 1,000,000 requests with memory as at the start. This program has a
- * heap of its own in place of heap.c. */
+/* The heap: each allocation fails in turn, and after 1,000,000 requests as much memory is allocated as at the start.
+ * This program has a heap of its own in place of heap.c. */
 #include "tests.h"
 #include <stdlib.h>
 
@@ -50,7 +50,8 @@ void rattle_dealloc(unsigned char *at) {
 static uint8_t frame[257], reply[258], data[64];
 static size_t len;
 
-/* One request from open to dispose. The first status that isn't DONE, or that of the request if it isn't COMPLETED. */
+/* One request from open to dispose. Returns DONE, or the first other status of a call. Also writes whether an
+ * allocation failed. */
 static uint32_t one_request(bool *lacked_memory) {
     struct wurst_controller queue = {0};
     struct wurst_completion done = {0};
@@ -69,7 +70,7 @@ static uint32_t one_request(bool *lacked_memory) {
     return status;
 }
 
-/* The same with a session, which goes on with a fresh log at the end. */
+/* The same with a session, which continues with a fresh log at the end. */
 static uint32_t one_rotation(bool *lacked_memory) {
     struct wurst_session queue = {0};
     struct wurst_log log = {0};
@@ -98,7 +99,7 @@ static uint32_t one_rotation(bool *lacked_memory) {
     return status;
 }
 
-/* Refuses each allocation in turn, until there is none to refuse. */
+/* Lets each allocation fail in turn, until none is left to fail. */
 static void refuses_each(uint32_t (*scene)(bool *), const char *name) {
     size_t allocations = 0;
     bool lacked_memory = true;

@@ -1,5 +1,5 @@
-/* Tests of the calls that controllers and sessions have in common: worked examples, and what they refuse. calls.c
- * includes this file once for each, with QUEUE, HANDLE and OPEN for it. */
+/* Tests of the calls that controllers and sessions have in common: worked examples, and refusals. calls.c includes this
+ * file once for each, with QUEUE, HANDLE and OPEN for it. */
 #define PASTED(first, second, third) first##second##_##third
 #define PASTE(first, second, third) PASTED(first, second, third)
 #define CALL(name) PASTE(wurst_, QUEUE, name)

@@ -50,7 +50,7 @@ static void logs_a_request(void) {
     struct wurst_request lamp = label;
     lamp.target = UINT64_C(0x567800000009);
     CHECK(wurst_session_open(&session, &setup, 100) == WURST_DONE);
-    /* There is room for 101, and one is reserved for the close. */
+    /* The capacity is 101, and one is reserved for the close. */
     CHECK(free_entries(&session) == 100 && entries(&session) == 0);
     CHECK(wurst_session_join(&session, 2, &client) == WURST_DONE && client == 0);
     CHECK(wurst_session_join(&session, 3, &client) == WURST_DONE && client == 1);
@@ -125,7 +125,7 @@ static void logs_discoveries(void) {
     wurst_session_dispose(&session);
 }
 
-/* A device that answers the branches of its UID by bytes that no device sends. */
+/* A device that answers branches that include its UID with bytes that no device sends. */
 static size_t noise(void) {
     uint64_t lo = 0, hi = 0;
     if (frame[21] != 0 || frame[22] != 1) {
@@ -203,7 +203,7 @@ static void fills_its_log(void) {
     wurst_session_dispose(&session);
 }
 
-/* What a rotation keeps, and the old log beside the fresh one. */
+/* What a rotation preserves, and the old log beside the fresh one. */
 static void rotates(void) {
     struct wurst_session session = {0};
     struct wurst_log log = {0}, second = {0};
@@ -224,7 +224,7 @@ static void rotates(void) {
     CHECK(free_entries(&session) == 50 && entries(&session) == 0);
     CHECK(wurst_session_is_paused(&session, &is_paused) == WURST_DONE && is_paused);
     CHECK(wurst_session_resume(&session) == WURST_DONE);
-    /* Numbers, clients and transaction numbers go on. */
+    /* Numbers, clients and transaction numbers continue. */
     CHECK(wurst_session_submit(&session, 0, &label, no_bytes, 0, &number) == WURST_DONE && number == 1);
     CHECK(wurst_session_take(&session, frame, sizeof frame, &len) == WURST_DONE && frame[15] == 1);
     CHECK(wurst_session_deliver(&session, reply, 0) == WURST_DONE);

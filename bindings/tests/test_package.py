@@ -1,4 +1,4 @@
-"""Tests of the Python package, with packets that are made here by the rules of E1.20."""
+"""Tests of the Python package, with packets that are made here according to E1.20."""
 
 import gc
 import os
@@ -434,7 +434,7 @@ class Loading(unittest.TestCase):
 
 
 def ctypes_library() -> str:
-    """Some library that isn't this one."""
+    """A library that isn't ours."""
     with open("/proc/self/maps", encoding="ascii") as file:
         return next(line.split()[-1] for line in file if "/libc" in line or "/libm" in line)
 

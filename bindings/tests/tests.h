@@ -1,4 +1,4 @@
-/* What the tests in C share: checks that are counted, and a device that answers by bytes of the test's own. */
+/* What the tests in C share: checks that are counted, and a device that answers with bytes made by the test. */
 #ifndef WURSTLINEN_TESTS_H
 #define WURSTLINEN_TESTS_H
 

@@ -1,4 +1,4 @@
-/* Two threads share a controller by a lock of their own, as a third one serves its line. */
+/* Two threads share a controller with a mutex of their own, while a third one serves its line. */
 #include "tests.h"
 #include <pthread.h>
 

@@ -1,7 +1,7 @@
 /* Measures what a request costs in C, as crates/rdm_bench does in Rattle for `queue 16`: sixteen requests wait, from as
  * many clients; one is taken, answered by two bytes and collected, and another submitted. Each line has the processor
- * time of that in picoseconds: the sample in the middle of 21, and the fastest one. Like rdm_bench, it writes the
- * log's memory before, so none is taken from the system meanwhile: its heap writes each large block. */
+ * time of that in picoseconds: the sample in the middle of 21, and the fastest one. Like rdm_bench, it writes to the
+ * log's memory before, so none is taken from the system during a sample: its heap writes to each large block. */
 #define _POSIX_C_SOURCE 199309L
 #include "tests.h"
 #include <stdlib.h>

@@ -1,4 +1,4 @@
-"""Measures what a request costs in C and in Python, beside the same in Rattle: `python3 times.py ARCHIVE BENCH`.
+"""Measures the cost of a request in C and in Python, compared with Rattle: `python3 times.py ARCHIVE BENCH`.
 
 ARCHIVE is libwurstlinen.a, and BENCH the built program crates/rdm_bench/out/rdm_bench. The programs run in turn. Each
 figure is the least of their medians, in nanoseconds of processor time. WURSTLINEN_LIBRARY names the shared library.
@@ -30,14 +30,14 @@ def medians(command: list) -> dict:
 
 
 def answer(frame: bytes) -> bytes:
-    """E1.20: an ACK with two bytes of data from the device that a command goes to."""
+    """E1.20: an ACK with two bytes of data from the target of a command."""
     head = bytes([0xCC, 1, 26]) + frame[9:15] + frame[3:9] + frame[15:16] + b"\0\0" + frame[18:20]
     head += bytes([frame[20] + 1]) + frame[21:23] + b"\2\0\1"
     return head + sum(head).to_bytes(2, "big")
 
 
 def in_python(queue) -> float:
-    """Nanoseconds of a request's four calls: the line's own work isn't counted."""
+    """Nanoseconds for a request's four calls. The line's own work isn't counted."""
     client = queue.join(16)
     used = 0
     for _ in range(REQUESTS):

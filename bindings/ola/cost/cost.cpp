@@ -1,5 +1,5 @@
-// What a request costs in OLA's controller, or under LD_PRELOAD in the stand-in: nanoseconds of processor time, with a
-// layer below that answers at once.
+// The cost of a request in OLA's controller, or in ours under LD_PRELOAD: nanoseconds of processor time, with a layer
+// below that answers at once.
 //   c++ -std=c++17 -O2 bindings/ola/cost/cost.cpp -o cost -lola -lolacommon
 #include <ola/Callback.h>
 #include <ola/rdm/QueueingRDMController.h>

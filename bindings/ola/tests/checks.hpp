@@ -1,4 +1,4 @@
-// What the unit tests share: counted checks, and clients that keep what their callbacks were given.
+// What the unit tests share: counted checks, and clients that keep what their callbacks got.
 #ifndef WURSTLINEN_OLA_TESTS_CHECKS_HPP
 #define WURSTLINEN_OLA_TESTS_CHECKS_HPP
 
@@ -35,7 +35,7 @@ inline const UID DEVICE(0x1234, 0x00000007);
 inline const UID OTHER(0x1234, 0x00000008);
 constexpr std::uint8_t CLIENTS_NUMBER = 201;
 
-// What a callback was given.
+// What a callback got.
 struct Got {
     RDMStatusCode status;
     std::unique_ptr<RDMResponse> response;
@@ -115,7 +115,7 @@ void test_discoveries();
 void test_ends();
 void test_length(unsigned long requests);
 
-// Blocks of the C library's heap that are allocated, and whether it has no memory left.
+// How many blocks of the C library's heap are allocated, and whether allocations fail.
 extern std::size_t blocks;
 extern bool is_heap_full;
 

@@ -1,4 +1,4 @@
-// Discoveries by each bridge, beside requests, many at once, and with faults.
+// Discoveries over each bridge, beside requests, many at once, and with faults.
 #include "checks.hpp"
 
 namespace tests {
@@ -36,7 +36,7 @@ template <typename L> void test_losses() {
     CHECK(client.sets.size() == 1 && client.sets[0] == uids_of(lower.wire));
 }
 
-// Mutes go down as requests, and branches too if there is no call for them.
+// Mutes are sent as requests, and so are branches if there is no call for them.
 void test_bridges() {
     TargetLower target;
     DmxterWidgetImpl requests;
@@ -122,7 +122,7 @@ void test_fifty(unsigned int of_which_full) {
     CHECK(!lower.awaits());
 }
 
-// Callbacks that ask again.
+// Callbacks that ask for another discovery.
 void test_asking_again() {
     TargetLower lower;
     lower.wire.fixtures = fixtures(2);
@@ -138,7 +138,7 @@ void test_asking_again() {
     CHECK(client.sets.size() == 40 && lower.wire.unmutes == 120);
 }
 
-// After a fault OLA is given what the last good run found, and before the first one what this run has found.
+// After a fault, OLA gets what the last good run found. Before the first good run, it gets what this run has found.
 void test_faults() {
     TargetLower lower;
     lower.wire.fixtures = fixtures(3);
@@ -159,7 +159,7 @@ void test_faults() {
     CHECK(client.sets.size() == 4 && client.sets[3] == good);
 }
 
-// A status without bytes isn't silence, and one that can't be ends the run.
+// A status without bytes isn't silence, and a status that can't occur ends the run.
 void test_branches_without_bytes() {
     DmxterWidgetImpl lower;
     lower.wire.fixtures = fixtures(1);
@@ -178,7 +178,7 @@ void test_branches_without_bytes() {
     CHECK(client.sets.size() == 2 && client.sets[1] == client.sets[0]);
 }
 
-// A run that has begun stands still while the queue is paused.
+// A run that has begun waits while the queue is paused.
 void test_pause() {
     TargetLower lower;
     lower.when = When::Later;

@@ -1,10 +1,10 @@
-// Destruction at each place: all callbacks run once, and the layer below isn't touched.
+// Destruction at each point: all callbacks run once, and the layer below isn't called.
 #include "checks.hpp"
 
 namespace tests {
 namespace {
 
-// What a client may have outstanding at once, over a layer below of this kind.
+// Everything that a client may have outstanding at once, over a layer below of this kind.
 template <typename L> struct Scene {
     L lower;
     std::unique_ptr<Queue> queue;
@@ -56,7 +56,7 @@ template <typename L> struct Scene {
     }
 };
 
-// After each number of answers; with the layer below there, and gone before.
+// Destruction after each number of answers, with the layer below alive or already gone.
 template <typename L> void test_after_answers(bool is_lower_gone) {
     bool is_at_end = false;
     unsigned int places = 0;
@@ -83,7 +83,7 @@ template <typename L> void test_after_answers(bool is_lower_gone) {
     CHECK(places > 5);
 }
 
-// Within each callback.
+// Destruction within each callback.
 template <typename L> void test_in_callbacks() {
     for (std::size_t which = 1; which <= 15; which++) {
         Scene<L> scene;
@@ -101,7 +101,7 @@ template <typename L> void test_in_callbacks() {
     }
 }
 
-// Callbacks that call the queue while it is destroyed are answered too.
+// Calls that callbacks make while the queue is destroyed are answered too.
 void test_calls_at_the_end() {
     Client late;
     Scene<TargetLower> scene;
@@ -118,7 +118,7 @@ void test_calls_at_the_end() {
     CHECK(scene.is_each_called_once() && scene.lower.sent.size() == sent);
 }
 
-// What discoveries get: the last set that OLA was given.
+// Discoveries get the last set that OLA got.
 void test_sets() {
     TargetLower lower;
     lower.wire.fixtures = fixtures(3);

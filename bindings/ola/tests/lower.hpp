@@ -1,4 +1,5 @@
-// Layers below for the unit tests: adapters' classes whose answers and times the tests choose, with simulated fixtures.
+// Layers below for the unit tests: adapters' classes with simulated fixtures. The tests choose their answers and when
+// these come.
 #ifndef WURSTLINEN_OLA_TESTS_LOWER_HPP
 #define WURSTLINEN_OLA_TESTS_LOWER_HPP
 
@@ -81,18 +82,18 @@ public:
     }
 };
 
-// It sends requests alone.
+// A layer that only sends requests.
 class Lower : public DiscoverableRDMControllerInterface {
 public:
     using Reply = std::unique_ptr<RDMReply>;
 
     Wire wire;
     When when = When::Inside;
-    // As most adapters' classes do, it puts in a source UID and a transaction number of its own.
+    // As in most adapters' classes, it replaces the source UID and the transaction number by its own.
     bool rewrites = true;
-    // What it answers in place of the wire's reply, if it gives one.
+    // Replies that replace the wire's, if this returns one.
     std::function<Reply(const RDMRequest &)> answers;
-    // What was sent, as it came down. Long tests don't keep it.
+    // The requests as they were sent. Long tests don't keep them.
     std::vector<std::unique_ptr<RDMRequest>> sent;
     bool keeps = true;
     unsigned int own_full = 0;
@@ -100,13 +101,13 @@ public:
 
     bool awaits() const { return static_cast<bool>(pending_); }
 
-    // Answers what is awaited.
+    // Gives the answer that is awaited.
     void answer() {
         const auto pending = std::exchange(pending_, nullptr);
         last_ = pending;
         pending();
     }
-    // Answers once more what was answered last.
+    // Gives the last answer once more.
     void answer_again() { last_(); }
     void answer_all() {
         while (awaits()) {
@@ -203,10 +204,10 @@ private:
     std::function<void()> last_;
 };
 
-// Its name says that it sends discovery's frames as requests.
+// By its name, it sends a discovery's frames as requests.
 class DmxterWidgetImpl : public Lower {};
 
-// It also has discovery calls.
+// A layer that also has discovery calls.
 class TargetLower : public Lower, public DiscoveryTargetInterface {
 public:
     void MuteDevice(const UID &, MuteDeviceCallback *callback) override { callback->Run(false); }

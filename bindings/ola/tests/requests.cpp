@@ -1,4 +1,4 @@
-// Requests: their answers at each time, parts, pauses, the queue's limit, what is handed down.
+// Requests: answers at different times, parts, pauses, the queue's limit, and what is handed down.
 #include "checks.hpp"
 
 namespace tests {
@@ -27,7 +27,7 @@ void test_answer(When when) {
     CHECK(data_of(second) == Data({1, 2}));
 }
 
-// The second answer to an exchange comes when the next one is under way: it isn't that one's.
+// The second answer to an exchange comes while the next one is under way, and isn't taken for that one's.
 void test_second_answer() {
     Lower lower;
     lower.when = When::Later;
@@ -45,7 +45,7 @@ void test_second_answer() {
     CHECK(client.got.size() == 2);
 }
 
-// One part of an answer to each request, and the last one ends it.
+// One part of an answer to a request, which may be the last one.
 Lower::Reply part(const RDMRequest &request, const Data &data, bool is_last, const UID &source = DEVICE) {
     const RDMGetResponse response(source, request.SourceUID(), request.TransactionNumber(),
                                   is_last ? std::uint8_t{RDM_ACK} : ACK_OVERFLOW, is_last ? 6 : 0, request.SubDevice(),
@@ -83,7 +83,7 @@ void test_parts() {
     CHECK(client.sets.size() == 1 && lower.sent.size() == 4);
 }
 
-// The status of a request whose first part comes, and then this.
+// The status of a request whose first part is followed by this reply.
 RDMStatusCode status_after_part(Lower::Reply (*second)(const RDMRequest &), std::size_t frames) {
     Lower lower;
     bool is_first = true;
@@ -97,7 +97,7 @@ RDMStatusCode status_after_part(Lower::Reply (*second)(const RDMRequest &), std:
     return client.last();
 }
 
-// Of a layer below that doesn't compare replies with requests.
+// A reply from a layer below that doesn't compare replies with requests.
 template <typename Response> Lower::Reply uncompared(const RDMRequest &request, const UID &source) {
     auto *const response = new Response(source, request.SourceUID(), request.TransactionNumber(), RDM_ACK, 0,
                                         request.SubDevice(), request.ParamId(), nullptr, 0);
@@ -111,7 +111,7 @@ void test_parts_that_fail() {
           == RDM_TIMEOUT);
     CHECK(status_after_part([](const RDMRequest &request) { return part(request, {2}, true, OTHER); }, 2)
           == RDM_TRANSACTION_MISMATCH);
-    // As OLA's own class says.
+    // The same as OLA's own class reports.
     CHECK(status_after_part([](const RDMRequest &request) { return uncompared<RDMGetResponse>(request, OTHER); }, 1)
           == RDM_INVALID_RESPONSE);
     CHECK(status_after_part([](const RDMRequest &request) { return uncompared<RDMSetResponse>(request, DEVICE); }, 1)
@@ -151,7 +151,7 @@ void test_limits() {
     }
     CHECK(client.got.size() == 2 && client.got[0].status == RDM_FAILED_TO_SEND && lower.sent.size() == 1);
     queue.SendRDMRequest(get(), nullptr);
-    // A place is free when its request's callback runs.
+    // The queue has a free slot again when the request's callback runs.
     client.then = [&, is_first = true]() mutable {
         if (std::exchange(is_first, false)) {
             queue.SendRDMRequest(get(), client.callback());
@@ -202,7 +202,7 @@ RDMRequest *with_overrides(int which) {
     return new RDMGetRequest(CLIENT, DEVICE, CLIENTS_NUMBER, 1, 3, PID_DEVICE_LABEL, nullptr, 0, options);
 }
 
-// What the core can't send goes down as it is, and its reply comes back as it is, in the order of all requests.
+// What the core can't send is handed down unchanged, and its reply is returned unchanged, in the order of all requests.
 void test_handed_down() {
     Lower lower;
     lower.when = When::Later;
@@ -251,7 +251,7 @@ void test_requests() {
     test_handed_down();
 }
 
-// So many requests, each sent by the callback of the one before: neither the stack nor the heap grows.
+// This many requests, each sent by the callback of the previous one. Neither the stack nor the heap may grow.
 void test_length(unsigned long requests) {
     Lower lower;
     lower.keeps = false;

@@ -1,10 +1,10 @@
-// Each row of the table of statuses, by bytes and by the layer below's status alone.
+// Each row of the table of statuses, with bytes, and with only the status of the layer below.
 #include "checks.hpp"
 
 namespace tests {
 namespace {
 
-// A reply of the layer below whose status it has given without a comparison: with the response's bytes changed.
+// A change of the response's bytes, in a reply that the layer below hasn't compared with the request.
 using Change = std::function<void(Data &)>;
 
 void sum_again(Data &frame) {
@@ -16,7 +16,7 @@ void sum_again(Data &frame) {
     frame[frame.size() - 1] = static_cast<std::uint8_t>(sum);
 }
 
-// The status that a client gets if the layer below says `status` of the right reply with this change.
+// The status that a client gets if the layer below reports `status` for the right reply with this change.
 RDMStatusCode status_of(RDMStatusCode status, const Change &change, std::uint16_t pid = PID_DEVICE_LABEL) {
     Lower lower;
     lower.answers = [&](const RDMRequest &request) {
@@ -72,7 +72,7 @@ void test_bytes() {
     CHECK(status_of(ok, [](Data &frame) { frame.resize(300); }) == RDM_COMPLETED_OK);
 }
 
-// The status that a client gets if the layer below keeps the bytes for itself.
+// The status that a client gets if the layer below doesn't pass on the bytes.
 RDMStatusCode status_without_bytes(RDMStatusCode status, RDMRequest *request) {
     Lower lower;
     lower.answers = [&](const RDMRequest &) { return std::make_unique<RDMReply>(status); };
@@ -99,13 +99,13 @@ void test_statuses_alone() {
     CHECK(status_without_bytes(RDM_WAS_BROADCAST, get()) == RDM_TIMEOUT);
     CHECK(status_without_bytes(RDM_PLUGIN_DISCOVERY_NOT_SUPPORTED, get()) == RDM_INVALID_RESPONSE);
     CHECK(status_without_bytes(RDM_DUB_RESPONSE, get()) == RDM_INVALID_RESPONSE);
-    // A queued message may come from any sub-device, so the core can't find this one wrong; it still isn't accepted.
+    // A queued message may come from any sub-device, so the core can't detect this fault. It still isn't accepted.
     CHECK(status_without_bytes(RDM_SUB_DEVICE_MISMATCH, get(PID_QUEUED_MESSAGE)) == RDM_INVALID_RESPONSE);
     CHECK(status_without_bytes(RDM_SUB_DEVICE_MISMATCH, set(PID_DEVICE_LABEL, DEVICE, ALL_RDM_SUBDEVICES))
           == RDM_INVALID_RESPONSE);
 }
 
-// A layer below that has a response, but no raw bytes or no whole ones.
+// A layer below that has a response, but no raw bytes, or incomplete ones.
 void test_response_alone(const RDMFrames &frames) {
     Lower lower;
     lower.answers = [&](const RDMRequest &request) {

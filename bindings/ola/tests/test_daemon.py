@@ -19,7 +19,7 @@ from typing import Any, Dict, List, NoReturn, Sequence, Tuple
 from daemon import Daemon
 from wurstlinen.lines.scene import Scene, parse_scene
 
-# The two that OLA tells apart: below 4.15, label 12 follows the replies to branches.
+# The two kinds that OLA distinguishes: below 4.15, label 12 follows the replies to branches.
 FIRMWARES = ((2, 4), (4, 15))
 COUNTS = (3, 5, 40)
 LOSSES = (0.0, 0.2)
@@ -47,7 +47,7 @@ class Checks:
 
 
 def random_scene(count: int, seed: int, loss: float = 0.0, **rig: Any) -> Scene:
-    """So many fixtures with UIDs by chance, half of them close neighbours, each with a label and an address."""
+    """This many fixtures with random UIDs, half of them close neighbours, each with a label and an address."""
     chance = random.Random(seed)
     uids: List[int] = []
     while len(uids) < count:
@@ -95,7 +95,7 @@ def check_line(checks: Checks, files: Tuple[Path, Path], count: int, firmware: T
 
 
 def check_value(checks: Checks, loss: float, name: str, wanted: str, daemon: Daemon, uid: str, pid: str) -> None:
-    """A GET is right; or it has no reply, if replies are lost, and then one of several is right."""
+    """A GET is right. If replies are lost, it may have none, and then one of several tries is right."""
     got: List[str] = []
     while len(got) < (TRIES if loss else 1) and (not got or got[-1] != wanted):
         got.append(daemon.get(uid, pid))
@@ -116,7 +116,7 @@ def check_parts(checks: Checks, files: Tuple[Path, Path]) -> None:
 
 
 def check_settings(checks: Checks, files: Tuple[Path, Path]) -> None:
-    """The log, and settings that are none."""
+    """The log, and invalid settings."""
     scene = random_scene(3, seed=9)
     uid = uids_of(scene)[1]
     settings = {"WURSTLINEN_LOG": "FOLDER/log", "WURSTLINEN_SEARCH": "fast", "WURSTLINEN_BUDGET": "0"}
@@ -150,7 +150,7 @@ def check_search(checks: Checks, files: Tuple[Path, Path]) -> None:
 
 
 def check_fault(checks: Checks, files: Tuple[Path, Path]) -> None:
-    """A discovery that fails: the others are still there, and the fault is told."""
+    """A discovery that fails: the other fixtures are still found, and the fault is reported."""
     scene = parse_scene({"source": "7ff0:00000001", "devices": [
         {"uid": "1234:00000007"}, {"uid": "ffff:00000001", "rig": {"lies": ["stays unmuted"]}}]})
     with Daemon(scene, files[1], files[0], settings={"WURSTLINEN_SEARCH": "steady"}) as daemon:
@@ -163,7 +163,7 @@ def check_fault(checks: Checks, files: Tuple[Path, Path]) -> None:
 def check_own_discovery(checks: Checks, files: Tuple[Path, Path]) -> None:
     """The adapter's own discovery, behind the queue.
 
-    OLA's finds nobody if a busy machine answers late, so it may try again.
+    OLA's discovery finds nothing if a busy machine answers late, so it may try again.
     """
     scene = random_scene(5, seed=11)
     with Daemon(scene, files[1], files[0], settings={"WURSTLINEN_DISCOVERY": "adapter"}) as daemon:
@@ -188,7 +188,7 @@ def main(arguments: Sequence[str]) -> int:
 
 
 def ended(number: int, frame: object) -> NoReturn:
-    """Ends the daemon by the end of its `with`."""
+    """Raises an exception, so that the `with` ends the daemon."""
     sys.exit(TERMINATED)
 
 

@@ -12,7 +12,7 @@ bool is_heap_full = false;
 
 namespace {
 
-// Bytes that the process has on its heap.
+// How many bytes of heap the process uses.
 std::size_t heap_bytes() {
     return mallinfo2().uordblks;
 }

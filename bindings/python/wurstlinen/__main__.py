@@ -10,12 +10,12 @@ from .commands import main
 
 
 def interrupt(number: int, frame: Optional[FrameType]) -> None:
-    """Ends as an interrupt from the keyboard does, so that lines are closed."""
+    """Ends in the same way as an interrupt from the keyboard, so that lines are closed."""
     raise KeyboardInterrupt
 
 
 if __name__ == "__main__":
-    # A shell lets what it starts in the background ignore SIGINT.
+    # A shell makes background jobs ignore SIGINT.
     for ending in (signal.SIGINT, signal.SIGTERM):
         signal.signal(ending, interrupt)
     sys.exit(main())

@@ -1,4 +1,4 @@
-"""A discovery run alone."""
+"""A single discovery run."""
 
 import ctypes
 from typing import Iterable, Optional, Tuple
@@ -13,7 +13,7 @@ from .line import Line, LineFailed
 
 
 class DiscoveryAgent(Held):
-    """A discovery run alone, on a line of the caller's own.
+    """A single discovery run, on a line of the caller's own.
 
     Calls may be made from any thread: each holds a lock of this object. It is a context manager, which disposes of it.
     """
@@ -30,20 +30,20 @@ class DiscoveryAgent(Held):
         check(self._calls.start(self._handle, start, array, len(numbers)))
 
     def next(self) -> Optional[Tuple[Operation, bytes]]:
-        """What the run asks next, and its frame; None: it has ended. Asking again gives the same."""
+        """The run's next operation, and its frame; None: the run has ended. Another call returns the same."""
         operation, frame, length = ctypes.c_uint32(), room_for(MOST_FRAME_BYTES), ctypes.c_size_t()
         with self._lock:
             status = self._calls.next(self._handle, operation, frame, MOST_FRAME_BYTES, length)
         return (Operation(operation.value), bytes(frame[:length.value])) if given(status) else None
 
     def hear(self, reply: bytes) -> None:
-        """Takes the bytes that the line answered; none are silence."""
+        """Takes the line's reply; no bytes are silence."""
         buffer, length = buffer_of(reply)
         with self._lock:
             check(self._calls.hear(self._handle, buffer, length))
 
     def fail(self) -> None:
-        """Takes it that the line failed, which ends the run."""
+        """Reports that the line failed, which ends the run."""
         with self._lock:
             check(self._calls.fail(self._handle))
 
@@ -74,7 +74,7 @@ class DiscoveryAgent(Held):
         return frames.value
 
     def run(self, line: Line) -> Tuple[Device, ...]:
-        """Makes the whole run on the line, and gives the devices found. `fault` says whether it ended early."""
+        """Makes the whole run on the line, and returns the devices found. `fault` says whether it ended early."""
         while True:
             asked = self.next()
             if asked is None:

@@ -14,11 +14,11 @@ class Fault(Exception):
 
 
 class UidFault(Fault, ValueError):
-    """A text is no UID."""
+    """A text isn't a UID."""
 
 
 class PacketFault(Fault, ValueError):
-    """Bytes are no response."""
+    """Bytes aren't a response."""
 
 
 _FAULTS: Dict[int, Type[Fault]] = {}
@@ -86,6 +86,6 @@ def check(status: int) -> None:
 
 
 def given(status: int) -> bool:
-    """Whether there is something to give; raises any other fault."""
+    """Whether there is something to return; raises any other fault."""
     check(status)
     return status == DONE

@@ -9,7 +9,7 @@ NAME = "libwurstlinen.so.0"
 
 
 class LibraryNotFound(ImportError):
-    """The shared library isn't where it is looked for."""
+    """The shared library wasn't found."""
 
 
 class VersionDiffers(ImportError):
@@ -98,7 +98,7 @@ _QUEUE = {
     "awaits": [_HANDLE, POINTER(c_bool)],
 }
 
-# Each call, with the types of its arguments. All answer a status but _dispose.
+# Each call, with the types of its arguments. All except _dispose return a status.
 CALLS = {
     "wurst_version": [],
     "wurst_controller_open": [_HANDLE, POINTER(Setup)],
@@ -138,7 +138,7 @@ CALLS = {
 
 
 def _places():
-    """Where the library may be: as the environment says, or else beside the package or in PREFIX/lib."""
+    """Where the library may be: where the environment says, or else beside the package or in PREFIX/lib."""
     named = os.environ.get("WURSTLINEN_LIBRARY")
     if named:
         return [named]
@@ -174,7 +174,7 @@ def _declared(library):
 
 
 class _Library:
-    """The library, which is loaded when its first call is looked up: lines of their own need none."""
+    """The library, which is loaded when its first call is looked up, since lines don't need it."""
 
     def __getattr__(self, name):
         if name not in CALLS:

@@ -45,25 +45,25 @@ class Queue(Held):
             check(self._calls.close(self._handle))
 
     def take(self) -> Optional[bytes]:
-        """The next frame for the line; None while a reply is awaited, or if nothing is to be sent."""
+        """The next frame for the line; None while a reply is awaited, or if there is nothing to send."""
         frame, length = room_for(MOST_FRAME_BYTES), ctypes.c_size_t()
         with self._lock:
             status = self._calls.take(self._handle, frame, MOST_FRAME_BYTES, length)
         return bytes(frame[:length.value]) if given(status) else None
 
     def deliver(self, reply: bytes) -> None:
-        """Takes the bytes that the line answered to the last frame; none are silence."""
+        """Takes the line's reply to the last frame; no bytes are silence."""
         buffer, length = buffer_of(reply)
         with self._lock:
             check(self._calls.deliver(self._handle, buffer, length))
 
     def fail(self) -> None:
-        """Takes it that the line failed at the last frame."""
+        """Reports that the line failed at the last frame."""
         with self._lock:
             check(self._calls.fail(self._handle))
 
     def run(self, line: Line) -> int:
-        """Sends frames on the line until there is none, and tells how many.
+        """Sends frames on the line until there is none, and returns how many.
 
         An exception of the line other than LineFailed passes through; its reply is then still awaited.
         """
@@ -101,7 +101,7 @@ class Queue(Held):
         return answer.value
 
     def is_idle(self) -> bool:
-        """Whether nothing waits, is under way, is asked or is uncollected."""
+        """Whether nothing waits, is under way or is uncollected."""
         return self._asks(self._calls.is_idle)
 
     def is_paused(self) -> bool:
@@ -118,7 +118,7 @@ class Queue(Held):
 
 
 class Controller(Queue):
-    """A queue without a log, which may run for years."""
+    """A queue without a log, which can run for years."""
 
     _calls = Calls("wurst_controller_")
 
@@ -140,7 +140,7 @@ class Client:
         self.number = number
 
     def submit(self, request: Request) -> int:
-        """Accepts a request, and gives its number."""
+        """Accepts a request, and returns its number."""
         form = form_of_request(request)
         data, length = buffer_of(request.data)
         number = ctypes.c_uint64()
@@ -157,21 +157,21 @@ class Client:
         return self.submit(Request(target, pid, data, sub_device, RequestClass.SET))
 
     def discover(self, kind: Kind = Kind.FULL) -> int:
-        """Asks for a discovery, and gives its number."""
+        """Asks for a discovery, and returns its number."""
         number = ctypes.c_uint64()
         with self.queue._lock:
             check(self.queue._calls.discover(self.queue._handle, self.number, int(kind), number))
         return number.value
 
     def oldest(self) -> Optional[OutcomeKind]:
-        """Of which kind its oldest outcome is; None if it has none."""
+        """The kind of its oldest outcome; None if it has none."""
         kind = ctypes.c_uint32()
         with self.queue._lock:
             status = self.queue._calls.oldest(self.queue._handle, self.number, kind)
         return OutcomeKind(kind.value) if given(status) else None
 
     def next_completion(self) -> Optional[Completion]:
-        """Collects its oldest outcome, a request's; None if it has none. Raises OtherOutcome for a discovery's."""
+        """Collects its oldest outcome, if a request's; None if it has none. Raises OtherOutcome for a discovery's."""
         form, room = CompletionForm(), MOST_PARAMETER_BYTES
         buffer = room_for(room)
         with self.queue._lock:
@@ -189,7 +189,7 @@ class Client:
         return Completion(form.number, Status(form.status), head, bytes(buffer[:form.len]))
 
     def next_discovery(self) -> Optional[Discovery]:
-        """Collects its oldest outcome, a discovery's; None if it has none. Raises OtherOutcome for a request's."""
+        """Collects its oldest outcome, if a discovery's; None if it has none. Raises OtherOutcome for a request's."""
         form, forms = EndForm(), (DeviceForm * MOST_DEVICES)()
         with self.queue._lock:
             status = self.queue._calls.next_discovery(
@@ -199,7 +199,7 @@ class Client:
         return Discovery(form.number, form.run, run_fault(form.fault, form.corrupt), devices_of(forms, form.count))
 
     def next_outcome(self) -> Union[Completion, Discovery, None]:
-        """Collects its oldest outcome; None if it has none. One thread at a time collects a client's outcomes."""
+        """Collects its oldest outcome; None if it has none. Only one thread at a time may collect for a client."""
         kind = self.oldest()
         if kind is None:
             return None

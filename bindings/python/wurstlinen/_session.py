@@ -43,7 +43,7 @@ class _Entries(Held):
 
 
 class Log(_Entries):
-    """The log of a session that went on with a fresh one. It is made by `Session.rotate`.
+    """The log of a session that continued with a fresh one. It is made by `Session.rotate`.
 
     Calls may be made from any thread: each holds a lock of this object. It is a context manager, which disposes of it.
     """
@@ -52,7 +52,7 @@ class Log(_Entries):
 
 
 class Session(Queue, _Entries):
-    """A queue with a log, which has room for a fixed number of entries.
+    """A queue with a log, which has a fixed capacity of entries.
 
     A request takes 5 entries, and 2 for each further frame. A discovery takes 3, and its run 2 for each frame. With
     fewer than three free entries, calls raise LogFull; replies, closes and collects always fit.
@@ -74,7 +74,7 @@ class Session(Queue, _Entries):
         return count.value
 
     def rotate(self, entries: int = 10_000) -> Log:
-        """Goes on with a fresh log with room for this many entries, and gives the old one.
+        """Continues with a fresh log with capacity for this many entries, and returns the old one.
 
         Raises NotIdle, LogFull for fewer than three entries, TooManyEntries or OutOfMemory.
         """

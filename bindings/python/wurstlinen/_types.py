@@ -70,7 +70,7 @@ class Uid:
 
     @property
     def is_broadcast(self) -> bool:
-        """Whether it addresses many devices."""
+        """Whether it is a broadcast UID, which addresses many devices."""
         return self.device == 0xFFFFFFFF
 
     def __str__(self) -> str:
@@ -170,7 +170,7 @@ class RunFaultKind(enum.IntEnum):
 
 
 class Operation(enum.IntEnum):
-    """What a run asks."""
+    """The operations of a run."""
 
     UNMUTE = 0
     MUTE = 1
@@ -203,7 +203,7 @@ class Request:
 
 @dataclass(frozen=True)
 class ReplyHead:
-    """What the last reply of a completed request says beside its data."""
+    """What the last reply of a completed request says besides its data."""
 
     ack: AckType
     response_class: ResponseClass
@@ -213,7 +213,7 @@ class ReplyHead:
 
 @dataclass(frozen=True)
 class Completion:
-    """How a request ended. `head` is there with COMPLETED alone."""
+    """How a request ended. Only COMPLETED has a `head`."""
 
     number: int
     status: Status
@@ -232,7 +232,7 @@ class Device:
 
 @dataclass(frozen=True)
 class RunFault:
-    """Why a run ended early. `uid` is there with CORRUPT alone."""
+    """Why a run ended early. Only CORRUPT has a `uid`."""
 
     kind: RunFaultKind
     uid: Optional[Uid] = None
@@ -273,7 +273,7 @@ class MuteAck:
 
 @dataclass(frozen=True)
 class BranchReply:
-    """What came after a branch. `uid` is there with ONE alone."""
+    """What came after a branch. Only ONE has a `uid`."""
 
     kind: BranchReplyKind
     uid: Optional[Uid] = None

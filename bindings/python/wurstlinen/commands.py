@@ -1,7 +1,7 @@
 """The commands of `python3 -m wurstlinen`.
 
-A command ends with 0 if it was done, with 1 if the line, the device or the library failed, and with 2 if its arguments
-are wrong. Results go to standard output, in the words of docs/FORMATS.md, and reasons to standard error.
+A command ends with status 0 if it was done, 1 if the line, the device or the library failed, and 2 if its arguments are
+wrong. Results go to standard output, in the formats of docs/FORMATS.md, and reasons to standard error.
 """
 from __future__ import annotations
 
@@ -22,7 +22,7 @@ if TYPE_CHECKING:
 
 DONE = 0
 FAILED = 1
-# A manufacturer that E1.20 leaves to experiments, for lines that have no UID of their own.
+# A manufacturer that E1.20 reserves for experiments, for lines that have no UID of their own.
 SOURCE = 0x7FF000000001
 DEFAULT_BUDGET = 384_008
 MOST_BUDGET = 1_000_000_000
@@ -55,7 +55,7 @@ class WatchedLine:
 
 
 def main(arguments: Optional[Sequence[str]] = None) -> int:
-    """Runs a command, and gives its status."""
+    """Runs a command, and returns its status."""
     chosen = parser().parse_args(arguments)
     try:
         return chosen.run(chosen)
@@ -74,7 +74,7 @@ def fail(reason: str) -> int:
 
 
 def parser() -> argparse.ArgumentParser:
-    """What the arguments may be."""
+    """The parser of the arguments."""
     whole = argparse.ArgumentParser(prog="python3 -m wurstlinen", description="Works on a line of RDM devices.")
     commands = whole.add_subparsers(dest="command", required=True, metavar="COMMAND")
     discover_command = command(commands, "discover", run_discover, "find the devices on a line")
@@ -140,12 +140,12 @@ def run_get(chosen: argparse.Namespace) -> int:
 
 
 def run_set(chosen: argparse.Namespace) -> int:
-    """The same of a SET."""
+    """The same for a SET."""
     return run_request(chosen, is_set=True)
 
 
 def run_request(chosen: argparse.Namespace, is_set: bool) -> int:
-    """Sends one request by a queue of its own."""
+    """Sends one request with a queue of its own."""
     from . import Controller, Status, Uid
     with open_line(chosen.line) as line:
         watched = WatchedLine(line)
@@ -169,7 +169,7 @@ def run_bridge(chosen: argparse.Namespace) -> int:
             serve_text(line)
         except KeyboardInterrupt:
             pass
-    # Whoever read the replies may be gone.
+    # The reader of the replies may be gone.
     sys.stdout = open(os.devnull, "w", encoding="utf-8")
     return DONE
 
@@ -189,7 +189,7 @@ def run_rig(chosen: argparse.Namespace) -> int:
 
 
 def source_of(chosen: argparse.Namespace, line: OpenLine) -> int:
-    """The controller's UID: the one that was asked for, or else the line's."""
+    """The controller's UID: the one given as an argument, or else the line's."""
     if chosen.source is not None:
         return int(chosen.source)
     return SOURCE if line.source is None else line.source

@@ -69,14 +69,14 @@ class Send:
 
 @dataclass(frozen=True)
 class Came:
-    """What the line answered to the last frame; b"" is silence, and None says that the line failed."""
+    """The line's reply to the last frame; b"" is silence, and None says that the line failed."""
 
     reply: Optional[bytes]
 
 
 @dataclass(frozen=True)
 class Finish:
-    """A request ended. `length` is how many bytes its data have."""
+    """A request ended. `length` is the number of bytes of its data."""
 
     number: int
     status: Status
@@ -85,7 +85,7 @@ class Finish:
 
 @dataclass(frozen=True)
 class Answer:
-    """A discovery was answered by a run; 0 if none was begun for it."""
+    """A discovery was answered by a run; the run is 0 if none was begun for it."""
 
     number: int
     run: int

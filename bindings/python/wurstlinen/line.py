@@ -1,4 +1,4 @@
-"""What a line is: whatever carries a controller's frames to devices, and brings back what they answer.
+"""What a line is: whatever carries a controller's frames to devices, and returns their replies.
 
 `wurstlinen` exports both names. This module needs no other, and no C library.
 """
@@ -6,19 +6,19 @@ from __future__ import annotations
 
 from typing import Protocol
 
-# A reply has at most so many bytes.
+# The most bytes of a reply.
 MOST_REPLY_BYTES = 257
 
 
 class LineFailed(Exception):
-    """The line failed: nobody knows whether the frame went out, or what came back."""
+    """The line failed: it isn't known whether the frame was sent, or what the reply was."""
 
 
 class Line(Protocol):
     """One method, which makes one exchange."""
 
     def exchange(self, frame: bytes) -> bytes:
-        """Sends a frame, and returns the bytes that came back, at most 257; none at all are silence.
+        """Sends a frame, and returns the reply, at most 257 bytes; no bytes are silence.
 
         The line decides how long it waits. It raises `LineFailed` if the exchange failed.
         """

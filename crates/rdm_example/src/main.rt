@@ -1,6 +1,6 @@
 //! Embeds the queue in a program: two clients share a simulated line. One asks a fixture for its label, and the other
-//! discovers the fixtures. A discovery that has a fault is reported. It ends the program with status 1, and so does a
-//! call that fails.
+//! discovers the fixtures. A discovery with a fault is reported. It ends the program with status 1, and so does a call
+//! that fails.
 #![tactic(auto)]
 
 mod rig;
@@ -48,7 +48,7 @@ fn label_of(target: Uid) -> Request {
     }
 }
 
-// Gives each frame to the line, and what came to the session, until nothing is left to send.
+// Passes each frame to the line, and its reply to the session, until nothing is left to send.
 fn serve(alloc: Global, session: &mut Session, line: &mut SimLine) -> Option<()> {
     for _ in 0..1_000 {
         let Some(frame) = session.take().ok()? else {

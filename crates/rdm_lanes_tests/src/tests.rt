@@ -1,4 +1,4 @@
-//! What no clause says: that the calls succeed, the rows by hand, and sessions in threads.
+//! What no clause says: that calls succeed, results that were worked out by hand, and sessions in threads.
 mod by_hand;
 mod faults;
 mod in_threads;

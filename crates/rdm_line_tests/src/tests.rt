@@ -1,4 +1,4 @@
-//! What lies outside the proofs: values from outside, and that calls succeed.
+//! What the proofs don't cover: values from outside, and that calls succeed.
 
 mod agent;
 mod checks;

@@ -1,4 +1,4 @@
-//! What lies outside the proofs: that calls succeed, which calls are made, and what happens in threads.
+//! What the proofs don't cover: that calls succeed, which calls are made, and what happens in threads.
 
 mod client;
 mod locked;

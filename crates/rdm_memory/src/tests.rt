@@ -1,4 +1,4 @@
-//! One allocation at most fails in a test, whichever it is.
+//! In a test any one allocation may fail, and the next one too if the test's name ends with `twice`.
 mod careful;
 mod checks;
 mod controllers;

@@ -1,5 +1,5 @@
-//! What lies outside the proofs: readers, writers and logs that fail, runs on a tape, and values that nothing else
-//! shows.
+//! What the proofs don't cover: readers, writers and logs that fail, runs on stored replies, and values that nothing
+//! else shows.
 mod arguments;
 mod logged;
 mod logs;

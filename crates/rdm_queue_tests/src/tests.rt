@@ -1,4 +1,4 @@
-//! What lies outside the proofs: whole exchanges with bytes and statuses from outside, and that calls succeed.
+//! What the proofs don't cover: whole exchanges with bytes and statuses from outside, and that calls succeed.
 
 mod checks;
 mod closed_runs;

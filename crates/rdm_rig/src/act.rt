@@ -24,7 +24,7 @@ pub enum Step {
 /// What somebody does. Clients have numbers from 0.
 #[derive(Clone, Copy, Debug, PartialEq, Eq)]
 pub enum Act {
-    /// A client joins with this many places.
+    /// A client joins with this queue depth.
     Join(u8),
     /// What this client does.
     Client(u8, Step),
@@ -44,12 +44,12 @@ pub enum Act {
     Deliver,
 }
 
-/// An act, and what it has to come to.
+/// An act and its expected result.
 pub type Move = (Act, Heard);
 
-/// Where acts are done. An act that a stage doesn't have comes to nothing.
+/// Where acts are done. For an act that a stage doesn't support, the result is [`Heard::Nothing`].
 pub trait Stage {
-    /// Does this, and says what it came to.
+    /// Does this, and returns its result.
     fn act(&mut self, alloc: Global, act: Act) -> Heard;
 }
 
@@ -63,7 +63,7 @@ pub trait Driver {
 #[derive(Drop)]
 pub struct Mover<'a> {
     moves: &'a [Move],
-    /// What came of them. Err: the first one that came to something else.
+    /// Err: the first one with another result than expected.
     pub made: Result<(), Wrong>,
 }
 
@@ -83,7 +83,7 @@ impl Driver for Mover<'_> {
     }
 }
 
-/// Makes these moves. Err: the first one that came to something else.
+/// Makes these moves. Err: the first one with another result than expected.
 pub fn moved<S: Stage>(alloc: Global, stage: &mut S, moves: &[Move]) -> Result<(), Wrong> {
     for (number, (act, wanted)) in moves.iter().enumerate() {
         let came = stage.act(alloc, *act);

@@ -1,8 +1,7 @@
 //! The devices of scenes.
 use rdm_wire::{Device, Uid};
 
-/// A device of a scene. Each has another control field and another binding UID, so that a test notices one that is
-/// lost.
+/// A device of a scene. Their control fields and binding UIDs differ, so a test notices if one is lost.
 #[derive(Clone, Copy, Debug, PartialEq, Eq)]
 pub enum Who {
     /// `1234:00000001`, with control field 2, bound to `1234:00000005`.

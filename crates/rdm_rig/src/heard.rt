@@ -1,7 +1,7 @@
-//! What acts come to, in short.
+//! Results of acts, in short.
 //!
 //! An outcome may hold a device set, which is large. It is taken and compared in one function, which isn't inlined, and
-//! tests have what it came to.
+//! tests only get the result.
 use crate::found::{Ending, Found, ending_by, found_in};
 use crate::refusal::Refusal;
 use crate::setup::{pid_of, sub_device_of};
@@ -15,17 +15,17 @@ use rdm_wire::{AckType, RespClass};
 pub enum Stop {
     /// It made all its turns.
     Turns,
-    /// All have left, and there is no frame to send. A session in one thread has no clients that leave: there it says
-    /// that no frame was left to send.
+    /// All clients have left, and there is no frame to send. In a session in one thread clients don't leave: there it
+    /// means that no frame is left to send.
     AllLeft,
     /// The log is full.
     LogFull,
 }
 
-/// What an act came to.
+/// The result of an act.
 #[derive(Clone, Copy, Debug, PartialEq, Eq)]
 pub enum Heard {
-    /// There was nothing to collect, to take or to deliver, or nobody to do it.
+    /// There was nothing to collect, take or deliver, there is no such client, or the stage doesn't support the act.
     Nothing,
     /// It was done, or sent.
     Done,
@@ -47,7 +47,7 @@ pub enum Heard {
     Discovery(u64, u64, Ending, Found),
     /// The devices that are known are those of this run.
     Sees(u64, Found),
-    /// What came back isn't what was handed in, or belongs to another request.
+    /// What was returned isn't what was passed in, or belongs to another request.
     Mixed,
 }
 
@@ -61,7 +61,7 @@ pub fn told(collected: &Option<Collected>) -> Heard {
     }
 }
 
-/// What a session's outcome says. One without a number has the number that is never given.
+/// What a session's outcome says. If it has no number, the number is one that is never given.
 #[inline(never)]
 pub fn outcome_told(outcome: &Option<Outcome>) -> Heard {
     match outcome {
@@ -79,7 +79,7 @@ pub fn completion_told(completion: &Option<(u64, Completion)>) -> Heard {
     }
 }
 
-// How the request with this tag ended. A reply is there for status Completed alone, and is the device's to that
+// How the request with this tag ended. There is a reply only for status Completed, and it is the device's reply to that
 // request.
 fn of_request(tag: u64, done: &Completion) -> Heard {
     match &done.reply {

@@ -1,9 +1,10 @@
-//! Rigs for tests: callbacks that tell what they were called with, lines of simulated devices and of stored replies,
-//! and a list of acts that drives the clients of a queue. Here the queue is a session in one thread; `rdm_stage` has a
-//! session with a mutex, and clients with ring buffers. Nothing but tests and measurements depends on these crates.
+//! Rigs for tests: callbacks that return what they were called with, lines of simulated devices or stored replies, and
+//! lists of acts that drive a queue's clients. Here the queue is a session in one thread; `rdm_stage` has a session
+//! with a mutex, and clients with ring buffers. Nothing but tests and measurements depends on these crates.
 //!
-//! What a test compares is plain data: [`Heard`] for what an act came to, [`Said`] for an entry of a log, and [`State`]
-//! for how a session stands. The functions have hardly any clauses, so a test that calls them is proved quickly.
+//! What a test compares is plain data: [`Heard`] for the result of an act, [`Said`] for an entry of a log, and
+//! [`State`] for the state of a session. The functions have hardly any clauses, so a test that calls them is proved
+//! quickly.
 #![tactic(auto)]
 
 mod act;

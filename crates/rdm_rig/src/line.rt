@@ -33,24 +33,24 @@ impl Placed {
     }
 }
 
-/// What comes of replies to a branch that collide.
+/// What the line carries if replies to a branch collide.
 #[derive(Clone, Copy, Debug)]
 pub enum Meeting {
-    /// Their bits, laid over one another.
+    /// The bitwise OR of the replies.
     Or,
-    /// A byte that spells nobody.
+    /// A byte that spells no UID.
     Noise,
     /// The text of `5555:00000003`, a device that isn't there.
     Phantom,
 }
 
-/// A scene in short. Each device has the parameter `0060`, in one part of two bytes, 1 and 2, and the parameter `8001`,
-/// in three parts of 231 bytes.
+/// A scene in short. Each device has two parameters: `0060`, in one part with the bytes 1 and 2, and `8001`, in three
+/// parts of 231 bytes.
 #[derive(Clone, Copy, Debug)]
 pub struct LineOf<'a> {
     /// The devices.
     pub devices: &'a [Placed],
-    /// What comes of replies that collide.
+    /// What the line carries if replies collide.
     pub meeting: Meeting,
     /// The exchanges whose reply is lost.
     pub losses: &'a [u64],
@@ -58,7 +58,7 @@ pub struct LineOf<'a> {
     pub fails: &'a [u64],
 }
 
-/// A line of this scene. If there is no memory for it, it is made with the scene that came back.
+/// A line of this scene. If an allocation fails, the line is made with the scene that was returned.
 pub fn line_of(alloc: Global, of: LineOf) -> Result<SimLine, Wrong> {
     match SimLine::new(alloc, scene_of(alloc, of)?) {
         Ok(line) => Ok(line),
@@ -70,14 +70,14 @@ pub fn line_of(alloc: Global, of: LineOf) -> Result<SimLine, Wrong> {
     }
 }
 
-// Whether the scene that came back has these losses and failures.
+// Whether the scene that was returned has these losses and failures.
 fn is_of(scene: &Scene, of: LineOf) -> bool {
     scene.source == controller()
         && scene.losses.as_slice() == of.losses
         && scene.fails.as_slice() == of.fails
 }
 
-/// A line with [`Who::First`] alone, which fails at these exchanges.
+/// A line with only [`Who::First`], which fails at these exchanges.
 pub fn one_device(alloc: Global, fails: &[u64]) -> Result<SimLine, Wrong> {
     let devices = [Placed::stays(Who::First)];
     line_of(
@@ -91,7 +91,7 @@ pub fn one_device(alloc: Global, fails: &[u64]) -> Result<SimLine, Wrong> {
     )
 }
 
-/// A line with these two devices, whose colliding replies spell nobody.
+/// A line with these two devices, whose colliding replies spell no UID.
 pub fn two_devices(alloc: Global, devices: [Who; 2]) -> Result<SimLine, Wrong> {
     let [one, other] = devices;
     let devices = [Placed::stays(one), Placed::stays(other)];
@@ -177,7 +177,7 @@ fn params_of(alloc: Global) -> Result<Parameters, Wrong> {
     Ok(Parameters::new(params))
 }
 
-// Adds a parameter in these parts, of which there is one at least.
+// Adds a parameter in these parts, of which there is at least one.
 fn add_param(
     alloc: Global,
     params: &mut Vec<Parameter>,

@@ -9,7 +9,7 @@ use rdm_queue::{AskCompletion, Completion};
 use rdm_wire::DeviceSet;
 use std::alloc::Global;
 
-/// A request's callback that tells and does nothing else.
+/// A request's callback that returns what it was called with, and does nothing else.
 #[derive(Debug, PartialEq, Eq, Drop)]
 pub struct Note(pub u64);
 
@@ -31,7 +31,7 @@ impl Tells for Note {
     }
 }
 
-/// A discovery's callback that tells and does nothing else.
+/// A discovery's callback that returns what it was called with, and does nothing else.
 #[derive(Debug, PartialEq, Eq, Drop)]
 pub struct AskNote(pub u64);
 

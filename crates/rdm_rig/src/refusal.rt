@@ -1,16 +1,16 @@
 //! Why calls are refused.
 use rdm_queue::{AskFault, JoinFault, SubmitFault};
 
-/// Why a call was refused. A submit and a discovery have the tag of the callback that came back.
+/// Why a call was refused. A submit and a discovery have the tag of the callback that was returned.
 #[derive(Clone, Copy, Debug, PartialEq, Eq)]
 pub enum Refusal {
     /// A join.
     Join(JoinFault),
-    /// A submit to a session, also with a mutex.
+    /// A submit to a session, with or without a mutex.
     Submit(SubmitFault, u64),
-    /// A discovery asked of a session, also with a mutex.
+    /// A discovery requested from a session, with or without a mutex.
     Ask(AskFault, u64),
-    /// A submit or a discovery with ring buffers: the client has as many calls outstanding as it may have.
+    /// A submit or a discovery with ring buffers: the client already has as many calls outstanding as its limit.
     Full(u64),
     /// The same: the ring of calls has no free slot.
     RingFull(u64),

@@ -6,20 +6,20 @@ use rdm_join::{LineEvent, Status};
 use rdm_queue::{Entry, Owner, Session};
 use std::alloc::Global;
 
-/// What an entry says, in short. A frame is told by its transaction number.
+/// What an entry says, in short. A frame is identified by its transaction number.
 #[derive(Clone, Copy, Debug, PartialEq, Eq)]
 pub enum Said {
-    /// Client, places.
+    /// Client, queue depth.
     Join(u8, u8),
-    /// Client, if it wasn't a join; cause.
+    /// Client unless it was a join; cause.
     Refuse(Option<u8>, u8),
     /// Client, number.
     Accept(u8, u64),
     /// Client, number, kind.
     Ask(u8, u64, Kind),
-    /// Whose the frame is, its transaction number.
+    /// The frame's owner, its transaction number.
     Send(Owner, Option<u8>),
-    /// Whether a reply came, which may be silence; else the line failed.
+    /// Whether a reply came, which may be silence. If not, the line failed.
     Came(bool),
     /// Number, status, how many bytes.
     Finish(u64, Status, usize),

@@ -24,8 +24,8 @@ pub struct SessionStage<X: Drop> {
     awaited: Option<Frame>,
 }
 
-/// A session with this many places and this budget, or 1, over a log with this many free entries. If there is no memory
-/// for it, it is made with the log that came back.
+/// A session with this capacity and this budget, but at least 1, over a log with this many free entries. If an
+/// allocation fails, the session is made with the log that was returned.
 pub fn session_of(alloc: Global, places: u8, budget: u64, free: usize) -> Result<Session, Wrong> {
     let config = config_with(places, budget);
     match Session::new(alloc, config, log(alloc, free)?) {
@@ -50,7 +50,7 @@ pub fn open_session<X: Drop>(
     })
 }
 
-// A session with the log that came back.
+// A session with the log that was returned.
 fn session_again(alloc: Global, config: Config, log: Log) -> Result<Session, Wrong>
     requires config { IsConfig config }
     requires empty { log.entries ≡ [] }
@@ -65,7 +65,7 @@ fn session_again(alloc: Global, config: Config, log: Log) -> Result<Session, Wro
 }
 
 impl<X: Drop> SessionStage<X> {
-    /// How the session stands.
+    /// The session's state.
     pub fn state(&self) -> State {
         state_of(&self.session)
     }
@@ -109,7 +109,7 @@ impl<X: Drop> SessionStage<X> {
         outcome_told(&self.session.next_outcome(ClientId(client)))
     }
 
-    // Takes the next frame. One that is awaited stays so where there is none.
+    // Takes the next frame. If there is none, a frame that was taken before is kept.
     fn take(&mut self) -> Heard {
         match self.session.take() {
             Ok(Some(frame)) => {
@@ -124,7 +124,8 @@ impl<X: Drop> SessionStage<X> {
 }
 
 impl<X: Line + Drop> SessionStage<X> {
-    // Makes the exchange of the frame that is awaited, and delivers what came. Where none is, nothing may be delivered.
+    // Makes the exchange of the frame that was taken last, and delivers what came. If there is no such frame, the
+    // session has to refuse the delivery.
     fn deliver(&mut self, alloc: Global) -> Heard {
         let Some(frame) = self.awaited.take() else {
             return self.delivers_nothing(alloc);
@@ -184,7 +185,7 @@ fn sees(session: &Session) -> Heard {
     Heard::Sees(session.devices_run(), found_in(session.devices()))
 }
 
-/// What a pause or a resume came to.
+/// The result of a pause or a resume.
 pub fn switched(made: Result<(), LogFull>) -> Heard {
     match made {
         Ok(()) => Heard::Done,

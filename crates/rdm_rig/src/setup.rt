@@ -1,4 +1,4 @@
-//! How sessions are set up, and what their clients ask.
+//! The setup of sessions, and what their clients ask.
 ghost use Rattle.std.specs.Prelude.{◌≡◌, [], IfOk};
 ghost use Rattle.rdm_log.specs.log.Config.{IsConfig};
 
@@ -14,14 +14,14 @@ pub fn controller() -> Uid {
     Uid::new(0x7a70, 0x100)
 }
 
-/// A controller `7a70:00000100` with this many places, and the budget by default.
+/// A controller `7a70:00000100` with this capacity and the default budget.
 pub fn config(places: u8) -> Config
     ensures { IsConfig result }
 {
     config_with(places, DEFAULT_BUDGET)
 }
 
-/// The same with this budget, or 1.
+/// The same with this budget, but at least 1.
 pub fn config_with(places: u8, budget: u64) -> Config
     ensures { IsConfig result }
 {
@@ -32,7 +32,7 @@ pub fn config_with(places: u8, budget: u64) -> Config
     }
 }
 
-/// A log with this many free entries. If there is no memory for it, it is tried once more.
+/// A log with this many free entries. If the allocation fails, it is tried once more.
 pub fn log(alloc: Global, free: usize) -> Result<Log, Wrong>
     ensures { IfOk result (λ log. log.entries ≡ []) }
 {
@@ -46,7 +46,7 @@ pub fn log(alloc: Global, free: usize) -> Result<Log, Wrong>
     }
 }
 
-/// Whether the log is as a new one.
+/// Whether the log is like a new one.
 pub fn is_blank(log: &Log) -> bool {
     let opening = log.opening();
     log.entries().is_empty()
@@ -60,11 +60,11 @@ pub fn get() -> Request {
     request(0)
 }
 
-/// The tags from this one on are of requests for the parameter `8001`.
+/// Tags from this one on belong to requests for the parameter `8001`.
 pub const LONG: u64 = 1 << 32;
 
-/// The request with this tag: a GET of the parameter `0060`, or `8001`, from `1234:00000001`. The tag 0 has no
-/// sub-device and no data. Each other one names another sub-device, up to 511, and has its last byte as data.
+/// The request with this tag: a GET of the parameter `0060`, or `8001`, from `1234:00000001`. The sub-device is the tag
+/// modulo 512. The tag 0 has no data; the data of any other tag is its lowest byte.
 pub fn request(tag: u64) -> Request {
     let mut param = ArrayVec::new();
     if tag != 0 {
@@ -84,7 +84,7 @@ pub(crate) fn pid_of(tag: u64) -> u16 {
     if tag < LONG { 0x0060 } else { 0x8001 }
 }
 
-/// The sub-device that the request with this tag names.
+/// The sub-device of the request with this tag.
 pub(crate) fn sub_device_of(tag: u64) -> u16 {
     (tag % 512) as u16
 }

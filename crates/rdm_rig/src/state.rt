@@ -1,16 +1,16 @@
-//! How a session stands.
+//! The state of a session.
 use crate::found::{Found, found_in};
 use rdm_queue::{Entry, Session};
 use rdm_wire::Frame;
 
-/// How a session stands, and what its log counts.
+/// The state of a session, and the counts of its log.
 #[derive(Clone, Copy, Debug, PartialEq, Eq)]
 pub struct State {
     /// Whether it is paused.
     pub is_paused: bool,
     /// Whether it is closed.
     pub is_closed: bool,
-    /// Whether nothing is outstanding.
+    /// Whether nothing is outstanding or uncollected.
     pub is_idle: bool,
     /// Whether a reply is awaited.
     pub awaits: bool,
@@ -18,16 +18,16 @@ pub struct State {
     pub free: usize,
     /// The run that found the devices, and which they are.
     pub devices: (u64, Found),
-    /// What its log counts.
+    /// The counts of its log.
     pub counts: Counts,
 }
 
-/// What a log counts.
+/// The counts of a log.
 #[derive(Clone, Copy, Debug, PartialEq, Eq)]
 pub struct Counts {
     /// All entries.
     pub entries: usize,
-    /// Submits and discovers, accepted or refused. Joins that were refused count too.
+    /// Submits and discovers, accepted or refused, and refused joins.
     pub calls: usize,
     /// Those that were accepted.
     pub accepted: usize,
@@ -52,7 +52,7 @@ pub struct LastFrame {
     pub checksum: [u8; 2],
 }
 
-/// How the session stands.
+/// The session's state.
 #[inline(never)]
 pub fn state_of(session: &Session) -> State {
     State {
@@ -86,7 +86,7 @@ fn counted(session: &Session) -> Counts {
 }
 
 impl Counts {
-    // Counts an entry, which stands after the close or before it.
+    // Counts an entry, which comes after the close or before it.
     fn add(&mut self, entry: &Entry, is_closed: bool) {
         self.entries = self.entries.saturating_add(1);
         match entry {
@@ -116,7 +116,7 @@ impl Counts {
     }
 }
 
-// What these bytes say; zeros where they are no frame.
+// What these bytes say; zeros if they aren't a frame.
 fn last_frame(bytes: &[u8]) -> LastFrame {
     LastFrame {
         length: bytes.len(),

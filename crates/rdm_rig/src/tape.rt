@@ -23,7 +23,7 @@ pub enum Came {
     Empty(AckType),
 }
 
-/// A line that answers this, to frames with transaction numbers from 0. After that it fails.
+/// A line that gives these answers to frames with transaction numbers from 0, and then fails.
 #[inline(never)]
 pub fn tape_of(alloc: Global, came: &[Came]) -> Result<TapeLine, Wrong> {
     let mut events = Vec::new(alloc);
@@ -37,7 +37,7 @@ pub fn tape_of(alloc: Global, came: &[Came]) -> Result<TapeLine, Wrong> {
     Ok(TapeLine::new(events))
 }
 
-/// A line that keeps silent this often, and fails after that.
+/// A line that is silent this many times, and then fails.
 pub fn silent(alloc: Global, count: usize) -> Result<TapeLine, Wrong> {
     let mut events = Vec::new(alloc);
     for _ in 0..count {
@@ -86,7 +86,7 @@ fn empty(ack: AckType, tn: u8) -> LineEvent {
     }))
 }
 
-// These bytes as what came.
+// These bytes as a line's event.
 fn reply(frame: &Frame) -> LineEvent {
     let mut bytes: LineReply = ArrayVec::new();
     let _ = bytes.try_extend_from_slice(frame);

@@ -1,19 +1,19 @@
-//! Why a rig couldn't do what it was to do.
+//! Errors of rigs.
 use crate::act::Act;
 use crate::heard::Heard;
 use crate::said::Said;
 
-/// Why a rig couldn't do what it was to do, or what differs from what was wanted.
+/// Why a rig couldn't do its work, or what differs from what was expected.
 #[derive(Clone, Copy, Debug, PartialEq, Eq)]
 pub enum Wrong {
     /// Out of memory.
     NoMemory,
-    /// A call that was made again with what came back found no memory either, or what came back had changed.
+    /// What a failed call returned wasn't what was passed in, or the same call failed again.
     NotAgain,
     /// The scene has a device that a line can't have.
     Device,
-    /// The move with this number came to this.
+    /// The move with this number had this result.
     Move(usize, Act, Heard),
-    /// The log has this entry with this number; None is past its end.
+    /// The log has this entry with this number; None: it ends before.
     Entry(usize, Option<Said>),
 }

@@ -32,9 +32,9 @@ ghost use Rattle.rdm_scenes.specs.Reports.{IsEnough, IsByDefault, FaultsFollowAC
 
 use rdm_line::Line;
 
-/// A line that [`SimLine::new`](rdm_line::SimLine::new) makes is one that the laws below ask for, if its scene is. Its
-/// scene has to name no five consecutive numbers of exchanges that are lost. If all of its devices stay, so do the
-/// line's. If it names no exchange that fails, none of the line's does.
+/// A line that [`SimLine::new`](rdm_line::SimLine::new) makes meets the premises of the laws below, if its scene does.
+/// The scene mustn't list five consecutive numbers of exchanges as lost. If all of its devices stay, so do the line's.
+/// If the scene lists no failing exchange, none of the line's exchanges fails.
 pub fn new_lines_are_scenes()
     ensures lossy { (scene : Scene) (s : SimState) → IsNewLine scene s → NoFiveSuccessive scene.losses.items
         → IsLossyScene s }
@@ -44,22 +44,22 @@ pub fn new_lines_are_scenes()
         → AllByRecursion Stays scene.devices → scene.fails.items ≡ [] → IsCalmScene s }
 {}
 
-/// In a legal log the exchanges of a discovery run follow one another, without any other exchange between them. So what
-/// is true of every part of a line's exchanges is true of each run. This holds on any line.
+/// In a legal log the exchanges of a discovery run are consecutive, without any other exchange between them. So what
+/// holds for every contiguous part of a line's exchanges holds for each run. This holds on any line.
 pub fn runs_are_parts()
     ensures { (o : Opening) (h : List Entry) (r : ℕ) → Legal o h → RunPart r h }
 {}
 
-/// If a line makes some exchanges, and then some more, it makes all of them one after another. This holds on any line.
+/// If a line makes some exchanges and then some more, it makes all of them in sequence. This holds on any line.
 pub fn steps_follow_on<X: Line>()
     ensures { (a b c : X) (xs ys : List Exchange) → Makes X X.step a xs b → Makes X X.step b ys c
         → Makes X X.step a (xs ++ ys) c }
 {}
 
-/// The exchanges of each run in such a log are those of an honest line. The premise is that the line loses no five
+/// The exchanges of each run in such a log are those of an honest line. The premise is that the line doesn't lose five
 /// exchanges with consecutive numbers. If devices come and leave, the line is honest towards those that are present at
-/// each exchange. If they stay, it is honest towards all of them. If no exchange is to fail, none of the run's
-/// does.
+/// each exchange. If they stay, it is honest towards all of them. If the scene lists no failing exchange, none of the
+/// run's exchanges fails.
 pub fn runs_are_honest()
     ensures changing { (s t : SimState) (k : LogState) (r : ℕ) → IsLogOver s t k → IsLossyScene s
         → IsHonestRun s (run_exchanges r k.entries) }
@@ -69,23 +69,23 @@ pub fn runs_are_honest()
         → IsCalm (uids_of_scene s.devices) (run_exchanges r k.entries) }
 {}
 
-/// Each discovery in such a log that is answered without fault is answered with exactly the line's devices, and these
-/// are the devices known afterwards. The premises: the line loses no five exchanges with consecutive numbers, and its
+/// Each discovery in such a log that is answered without fault reports exactly the line's devices. These are the
+/// devices known afterwards. The premises: the line doesn't lose five exchanges with consecutive numbers, and its
 /// devices stay. Exchanges may fail.
 pub fn answers_are_the_devices()
     ensures { (s t : SimState) (k : LogState) → IsLogOver s t k → IsStayingScene s → AnswersAreTheDevices s k }
 {}
 
-/// If devices come and leave, each discovery that is answered without fault is answered with each device that is
-/// always there. No discovery is answered with a device that never is, even with a fault.
+/// If devices come and leave, each discovery that is answered without fault reports each device that is always there.
+/// No discovery reports a device that is never there, even with a fault.
 pub fn answers_follow_the_devices()
     ensures { (s t : SimState) (k : LogState) → IsLogOver s t k → IsLossyScene s → AnswersFollowTheDevices s k }
 {}
 
-/// If no exchange is to fail, either, a discovery is answered with a fault only after the queue was closed. At the
-/// log's opening no more devices may be known than the scene has: a session begins with none, and a rotated one with
-/// those of its last run. The budget has to be at least the search's bound on frames. The default budget is, for a
-/// steady search. `Session::log` promises `InBound`, within `Promised`.
+/// If the scene also lists no failing exchange, a discovery is answered with a fault only after the queue was closed.
+/// When the log was opened, no more devices may be known than the scene has. A session begins with none, and a rotated
+/// one with those of its last run. The budget has to be at least the search's bound on frames. For a steady search, the
+/// default budget is. `Session::log` promises `InBound`, within `Promised`.
 pub fn answers_have_no_fault()
     ensures enough { (s t : SimState) (k : LogState) → IsLogOver s t k → IsCalmScene s → InBound k → IsEnough s k
         → FaultsFollowAClose k }

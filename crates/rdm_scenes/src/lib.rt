@@ -1,5 +1,5 @@
-//! What discoveries in a queue's log report, if a simulated line made the log's exchanges. There are definitions and
-//! laws alone: they hold however the calls were made, in one thread, with a mutex or with ring buffers.
+//! What discoveries in a queue's log report, if a simulated line made the log's exchanges. The crate has only
+//! definitions and laws. They hold however the calls were made: in one thread, with a mutex or with ring buffers.
 #![tactic(auto)]
 
 pub mod laws;

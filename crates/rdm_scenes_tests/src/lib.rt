@@ -1,4 +1,4 @@
-//! The laws of `rdm_scenes`, applied to real sessions. Nothing stands on this crate; it has tests alone.
+//! The laws of `rdm_scenes`, applied to real sessions. Nothing depends on this crate; it has only tests.
 #![tactic(auto)]
 
 #[cfg(test)]

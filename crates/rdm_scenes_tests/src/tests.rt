@@ -1,6 +1,6 @@
 //! The laws of `rdm_scenes` on sessions with a mutex and with ring buffers. What the laws conclude is the contract of
 //! [`stays`] and [`changes`], whose line comes from `SimLine::new`. The tests meet the premises on real scenes, and
-//! compare each value that the client is told.
+//! compare each value that the client gets.
 ghost use Rattle.std.specs.Prelude.{◌≡◌, ℕ, true, List, [], ◌∷◌, ◌++◌, Option, None, IfSome};
 ghost use Rattle.std.specs.List.{AllByRecursion};
 ghost use Rattle.rdm_wire.specs.Uid.{has};
@@ -42,7 +42,7 @@ enum With {
     Rings,
 }
 
-// Runs a session over this line: what its client was told, and its end. None: out of memory.
+// Runs a session over this line. Returns the client's report, and the session after its end. None: out of memory.
 fn runs<R: Threads + Wait + Sync>(
     rt: &R,
     alloc: Global,
@@ -113,12 +113,12 @@ fn changes<R: Threads + Wait + Sync>(
     scene: Scene,
 ) -> Option<(Report, Session)>
     requires few_losses { NoFiveSuccessive scene.losses.items }
-    // A discovery that is answered without fault has each device that is always there.
+    // Each discovery that is answered without fault has each device that is always there.
     ensures staying { IfSome result (λ ran. (front back : List Entry) (n r u : ℕ)
         → ran.1.entries ≡ front ++ Answer n r None ∷ back
         → ((i : ℕ) → has (present_at scene.devices i) u ≡ true)
         → has (uids_of (answer_devices r ran.1.entries)) u ≡ true) }
-    // None has a device that is never there.
+    // No discovery has a device that is never there.
     ensures no_stranger { IfSome result (λ ran. (front back : List Entry) (n r : ℕ) (fault : Option AgentFault) (u : ℕ)
         → ran.1.entries ≡ front ++ Answer n r fault ∷ back
         → has (uids_of (answer_devices r ran.1.entries)) u ≡ true

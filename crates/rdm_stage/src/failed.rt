@@ -1,9 +1,9 @@
-//! Why a play didn't come to what was wanted.
+//! Why a play failed, or what differed from what was expected.
 use rdm_lanes::OpenFault;
 use rdm_locked::FinishFault;
 use rdm_rig::{Heard, Stop, Wrong};
 
-/// Why a play didn't come to what was wanted.
+/// Why a play failed, or what differed from what was expected.
 #[derive(Clone, Copy, Debug, PartialEq, Eq)]
 pub enum Failed {
     /// Something was wrong with the rig, or with a move.
@@ -16,11 +16,11 @@ pub enum Failed {
     Finished,
     /// What was left of a session couldn't be compared.
     Unmatched,
-    /// The client with this number counts like this; None is past the last one.
+    /// The client with this number has these counts; None: there is no such client.
     Counts(usize, Option<(u64, u64, u64)>),
-    /// The worker stopped like this.
+    /// The worker stopped for this reason.
     Stop(Stop),
-    /// The player with this number heard this in the line with this number.
+    /// The player with this number got this result for the script's line with this number.
     Heard(usize, usize, Heard),
     /// There aren't as many players as clients, or one hasn't run once.
     Players,

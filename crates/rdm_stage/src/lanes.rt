@@ -1,4 +1,4 @@
-//! Clients over rings, their operator and their worker in one thread.
+//! Clients with ring buffers, their operator and their worker in one thread.
 ghost use Rattle.std.specs.Prelude.{◌≡◌, ◌≤◌, [], length, map, vec_capacity, IfErr};
 ghost use Rattle.rdm_lanes.specs.Clients.{SameClient};
 ghost use Rattle.rdm_lanes.specs.Ends.{end_rings};
@@ -29,8 +29,8 @@ type Client<J> = RingClient<J, Note, AskNote>;
 
 type Ended<J> = ClientEnd<J, Note, AskNote>;
 
-/// What is left of a client: how many calls it sent, how many outcomes it collected, how many callbacks it held, and
-/// the run of the last published view that it read.
+/// What is left of a client: how many calls it sent, outcomes it collected and callbacks it held, and the run of the
+/// last published view that it read.
 #[derive(Clone, Copy, Debug, PartialEq, Eq)]
 pub struct Left {
     pub sent: u64,
@@ -46,20 +46,21 @@ impl Left {
     }
 }
 
-/// What is left of clients over rings and their worker once they were ended.
+/// What is left of clients with ring buffers and of their worker after their end.
 #[derive(Drop)]
 pub struct LanesOver {
     /// What is left of each client, in order.
     pub left: Vec<Left>,
     /// How many views were published.
     pub published: u64,
-    /// How the session stands.
+    /// The session's state.
     pub state: State,
     /// What its log says.
     pub log: Vec<Said>,
 }
 
-/// Clients over rings, their operator, their worker and its line. The clients' rings stay those of the worker.
+/// Clients with ring buffers, their operator, their worker and its line. The clients' rings are always those of the
+/// worker.
 pub struct LanesStage<
     J: ViewHistory,
     T: Absorb<Shown<J>, State = [DeviceView; 0]> + Drop,
@@ -73,13 +74,13 @@ pub struct LanesStage<
     ghost paired: { ClientsPair (lanes_of worker) clients.items },
 }
 
-// What opening lanes answers.
+// What opening lanes returns.
 type Opened<J, R> = Result<Lanes<J, Shown<J>, R, Note, AskNote>, (OpenFault, Log, BlankHistory)>;
 
-// Why lanes weren't opened, and what came back.
+// Why lanes weren't opened, and what was returned.
 pub(crate) type NotOpened<X> = (OpenFault, Log, X);
 
-/// Opens lanes that are set up like this, with this log and over this line.
+/// Opens lanes with this setup, this log and this line.
 #[inline(never)]
 pub(crate) fn opened<'a, J: ViewHistory, R: Wait, X: Drop>(
     rt: &'a R,
@@ -184,7 +185,7 @@ fn knows<J: ViewHistory>(client: &Client<J>) -> Heard {
     Heard::Sees(view.run, found_in(&view.set))
 }
 
-// What a call came to that only a ring without a slot refuses.
+// The result of a call that is refused only if the ring has no free slot.
 fn sent(made: Result<(), RingFull>) -> Heard {
     match made {
         Ok(()) => Heard::Done,
@@ -264,7 +265,7 @@ impl<J: ViewHistory, R: Wait + Drop, X: Drop> LanesStage<J, Shown<J>, R, X> {
         Ok(worker.end(ended_in(clients, room)))
     }
 
-    // The clients. All else goes.
+    // The clients. Everything else is dropped.
     #[inline(never)]
     fn clients_alone(self) -> Vec<Client<J>> {
         let LanesStage {
@@ -277,7 +278,7 @@ impl<J: ViewHistory, R: Wait + Drop, X: Drop> LanesStage<J, Shown<J>, R, X> {
     }
 }
 
-// Ends the clients, in the room that is given.
+// Ends the clients. Their ends are put into the vector `room`, which has the capacity.
 fn ended_in<J: ViewHistory>(clients: Vec<Client<J>>, room: Vec<Ended<J>>) -> Vec<Ended<J>>
     requires empty { room.items ≡ [] }
     requires fits { length clients.items ≤ vec_capacity room }
@@ -320,7 +321,7 @@ pub(crate) fn all_left<J: ViewHistory>(
     }
 }
 
-/// Opens lanes that are set up like this over this line, and makes these moves. Then all is ended.
+/// Opens lanes with this setup over this line, makes these moves, and ends everything.
 #[inline(never)]
 pub fn play_lanes<X: Line + Drop, R: Wait>(
     rt: &R,
@@ -335,7 +336,7 @@ pub fn play_lanes<X: Line + Drop, R: Wait>(
     Ok(over)
 }
 
-/// The same with this driver. If there is no memory for the lanes, they are opened with the log that came back.
+/// The same with this driver. If an allocation fails, the lanes are opened with the log that was returned.
 #[inline(never)]
 pub fn drive_lanes<X: Line + Drop, R: Wait, D: Driver>(
     rt: &R,
@@ -359,7 +360,7 @@ pub fn drive_lanes<X: Line + Drop, R: Wait, D: Driver>(
     }
 }
 
-/// Why lanes couldn't be opened, if the log came back as a new one.
+/// Why lanes couldn't be opened, if the log was returned like a new one.
 pub(crate) fn not_opened(fault: OpenFault, log: &Log) -> Failed {
     if is_blank(log) {
         Failed::Open(fault)
@@ -386,7 +387,7 @@ fn driven<J: ViewHistory, X: Line + Drop, R: Wait, D: Driver>(
     Ok(stage.end(alloc))
 }
 
-/// The same over a line that answers this, and fails after that. What is left of the clients has to count like this.
+/// The same over a line that gives these answers and then fails. The clients have to end with these counts.
 #[inline(never)]
 pub fn play_taped<R: Wait>(
     rt: &R,
@@ -401,7 +402,7 @@ pub fn play_taped<R: Wait>(
     Ok(over)
 }
 
-/// What is left of the clients counts like this: how many calls each sent, how many outcomes it collected, and how many
+/// The clients ended with these counts: how many calls each sent, how many outcomes it collected, and how many
 /// callbacks it held. Err: the first one that differs.
 pub fn counts_are(left: &[Left], wanted: &[(u64, u64, u64)]) -> Result<(), Failed> {
     for number in 0..left.len().max(wanted.len()) {
@@ -413,8 +414,8 @@ pub fn counts_are(left: &[Left], wanted: &[(u64, u64, u64)]) -> Result<(), Faile
     Ok(())
 }
 
-/// As [`play_lanes`], but the worker goes after the moves, and each client reads once more. What the first one sees
-/// then.
+/// As [`play_lanes`], but after the moves the worker is dropped, and each client reads once more. Returns what the
+/// first one sees then.
 #[inline(never)]
 pub fn read_alone<X: Line + Drop, R: Wait>(
     rt: &R,
@@ -447,7 +448,7 @@ fn reads_alone<J: ViewHistory, X: Line + Drop, R: Wait>(
     Ok(seen)
 }
 
-// Lets the clients read, the first one last, and ends them. What that one sees.
+// Lets the clients read, the first one last, and ends them. Returns what the first one sees.
 fn seen_last<J: ViewHistory>(alloc: Global, clients: Vec<Client<J>>) -> Heard {
     let mut clients = clients;
     let mut seen = Heard::Nothing;
@@ -459,7 +460,7 @@ fn seen_last<J: ViewHistory>(alloc: Global, clients: Vec<Client<J>>) -> Heard {
     seen
 }
 
-/// Why lanes that are set up like this can't be opened. None: they can.
+/// Why lanes with this setup can't be opened. None: they can.
 #[inline(never)]
 pub fn open_fault<R: Wait>(
     rt: &R,

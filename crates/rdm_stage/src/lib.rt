@@ -1,6 +1,6 @@
-//! Stages for tests, on which the acts of `rdm_rig` are done: a session with a mutex, and clients with ring buffers.
-//! Each is driven in one thread by a list of moves, or has clients in threads of their own. Nothing but tests depends
-//! on this crate.
+//! Stages for tests, which do the acts of `rdm_rig`: a session with a mutex, and clients with ring buffers. Each is
+//! driven in one thread by a list of moves, or has clients in threads of their own. Nothing but tests depends on this
+//! crate.
 #![tactic(auto)]
 
 mod failed;

@@ -1,4 +1,4 @@
-//! Clients over rings that run in threads of their own by a script, and where they meet.
+//! Clients with ring buffers that run a script in threads of their own, and the points at which they meet.
 ghost use Rattle.rdm_lanes.specs.Clients.{SameClient};
 
 use crate::lanes::makes;
@@ -56,7 +56,7 @@ impl Gate for Points {
     }
 }
 
-/// Waits for this point. Whether it was reached within the tries.
+/// Waits for this point. Returns whether it was reached within the tries.
 pub fn waits<G: Gate>(gate: &G, point: u8, tries: u64) -> bool {
     for _try in 0..tries {
         if gate.passed(point) {
@@ -72,24 +72,24 @@ pub fn waits<G: Gate>(gate: &G, point: u8, tries: u64) -> bool {
 pub enum Play {
     /// It notes that this point is reached.
     Arrive(u8),
-    /// It waits for this point: Done, or Nothing where it gave up.
+    /// It waits for this point: Done, or Nothing if it gave up.
     Wait(u8),
-    /// It makes this step, again while the ring has no slot.
+    /// It makes this step, and retries while the ring has no slot.
     Do(Step),
-    /// It collects, again while nothing has come.
+    /// It collects, and retries while nothing has come.
     Hear,
 }
 
-/// A client that does what its script says.
+/// A client that follows its script.
 #[derive(Clone, Copy, Debug)]
 pub struct Player {
-    /// What it does.
+    /// Its script.
     pub script: &'static [Play],
     /// How often it tries before it gives up.
     pub tries: u64,
     /// How often it ran.
     pub runs: u64,
-    /// What came of each line but of an arrival, in order; of the first ones where there are more than has room.
+    /// The results of the script's lines except arrivals, in order; only the first ones if there are more than fit.
     pub heard: [Heard; MOST_NOTED],
 }
 
@@ -116,7 +116,7 @@ impl Body<Note, AskNote> for Player {
     }
 }
 
-// Does what the script says.
+// Runs the script.
 fn plays<J: ViewHistory, G: Gate>(
     client: &mut RingClient<J, Note, AskNote>,
     gate: &G,
@@ -138,7 +138,7 @@ fn plays<J: ViewHistory, G: Gate>(
     }
 }
 
-// Does what this line says. None: there is nothing to note.
+// Runs this line. None: there is nothing to note.
 fn does<J: ViewHistory, G: Gate>(
     client: &mut RingClient<J, Note, AskNote>,
     gate: &G,

@@ -1,4 +1,4 @@
-//! A session behind a lock, with its clients and its worker in one thread.
+//! A session with a mutex, with its clients and its worker in one thread.
 ghost use Rattle.std.specs.Prelude.{◌≡◌, [], IfErr};
 
 use crate::failed::Failed;
@@ -18,14 +18,14 @@ use std::marker::Brand;
 use std::sync::Wait;
 use std::sync::ledger::{Blank, Ledger};
 
-/// How a port is set up.
+/// The setup of a port.
 #[derive(Clone, Copy)]
 pub struct PortSetup {
-    /// How many places all clients may have together.
+    /// The capacity for all clients together.
     pub places: u8,
     /// How many free entries the log has.
     pub free: usize,
-    /// How discovery runs search; None: as they do where nobody says.
+    /// How discovery runs search; None: the default.
     pub search: Option<Search>,
     /// Whether each callback pauses the port.
     pub pauses: bool,
@@ -34,7 +34,7 @@ pub struct PortSetup {
 }
 
 impl PortSetup {
-    /// A port with this many places and this many free entries, whose callbacks and exchanges don't call it.
+    /// A port with this capacity and this many free entries, whose callbacks and exchanges don't call it.
     pub fn new(places: u8, free: usize) -> PortSetup {
         PortSetup {
             places,
@@ -46,16 +46,16 @@ impl PortSetup {
     }
 }
 
-/// What is left of a port once its clients have left and it was ended.
+/// What is left of a port after its clients have left and it was ended.
 #[derive(Drop)]
 pub struct PortOver {
-    /// How many calls of clients the session's end counts.
+    /// How many calls of clients were counted.
     pub calls: u64,
     /// How many callbacks the clients still had.
     pub held: u64,
     /// How many exchanges the worker recorded.
     pub recorded: usize,
-    /// How the session stands.
+    /// The session's state.
     pub state: State,
     /// What its log says.
     pub log: Vec<Said>,
@@ -171,7 +171,7 @@ impl<'a, L: Ledger, R: Wait, X: Line + Drop> PortStage<'a, L, R, X> {
         }
     }
 
-    // This client leaves. Each later one has a number less from then on.
+    // This client leaves. The numbers of later clients decrease by one.
     fn leave(&mut self, alloc: Global, at: u8) -> Heard {
         if usize::from(at) >= self.clients.len() || self.shares.reserve(1).is_err() {
             return Heard::Nothing;
@@ -282,8 +282,9 @@ fn discovers<'a, L: Ledger, R: Wait>(
     }
 }
 
-/// Opens a port that is set up like this over this line, and makes these moves on it. Then all clients leave, and the
-/// port is ended. It isn't ended without a client's share, nor with an empty record where exchanges were made.
+/// Opens a port with this setup over this line, and makes these moves on it. Then all clients leave, and the port is
+/// ended. First it has to refuse an end without the clients' shares, and an end with an empty record if exchanges were
+/// made.
 pub fn play_port<X: Line + Drop, R: Wait>(
     rt: &R,
     alloc: Global,
@@ -310,8 +311,7 @@ fn plays<L: Ledger, X: Line + Drop, R: Wait>(
     over_of(alloc, port, gone)
 }
 
-/// The same with this driver in place of the moves. If there is no memory for the port, it is opened with what came
-/// back.
+/// The same with this driver instead of moves.
 pub fn drive_port<X: Line + Drop, R: Wait, D: Driver>(
     rt: &R,
     alloc: Global,
@@ -338,7 +338,7 @@ fn driven<L: Ledger, X: Line + Drop, R: Wait, D: Driver>(
     over_of(alloc, port, gone)
 }
 
-// Lets the driver drive the port, and all clients leave.
+// Lets the driver drive the port, and then lets all clients leave.
 fn driven_on<L: Ledger, X: Line + Drop, R: Wait, D: Driver>(
     rt: &R,
     alloc: Global,
@@ -372,7 +372,7 @@ pub(crate) fn over_of<L: Ledger>(
     })
 }
 
-/// A port that is set up like this. If there is no memory for it, it is made with what came back.
+/// A port with this setup. If an allocation fails, the port is made with what was returned.
 #[inline(never)]
 pub(crate) fn port_of<L: Ledger>(
     alloc: Global,
@@ -393,7 +393,7 @@ pub(crate) fn port_of<L: Ledger>(
     }
 }
 
-// A port that is set up like this. Err: out of memory, and what came back.
+// A port with this setup. Err: out of memory, and what was returned.
 fn new_port<L: Ledger>(
     alloc: Global,
     blank: Blank,
@@ -417,7 +417,7 @@ fn new_port<L: Ledger>(
     }
 }
 
-/// Makes the moves, and lets all clients leave.
+/// Makes the moves, and then lets all clients leave.
 pub(crate) fn plays_on<L: Ledger, X: Line + Drop, R: Wait>(
     rt: &R,
     alloc: Global,
@@ -432,7 +432,7 @@ pub(crate) fn plays_on<L: Ledger, X: Line + Drop, R: Wait>(
     Ok(gone)
 }
 
-// Ends the port, once it was refused without shares and with an empty record.
+// Ends the port, after it refused to end without shares and with an empty record.
 #[inline(never)]
 fn ended<L: Ledger>(alloc: Global, port: Port<L>, gone: Gone<L>) -> Result<SessionEnd, Failed>
     requires { L.parts ≡ 17 }
@@ -454,7 +454,7 @@ fn ended<L: Ledger>(alloc: Global, port: Port<L>, gone: Gone<L>) -> Result<Sessi
     }
 }
 
-/// The port isn't ended, for this fault, and comes back with the shares.
+/// The port refuses to end with this fault, and is returned with the shares.
 #[inline(never)]
 pub(crate) fn refused<L: Ledger>(
     port: Port<L>,

@@ -1,4 +1,4 @@
-//! A port on which a test makes its calls by itself, and one whose end was refused.
+//! A port on which a test makes its own calls, and one whose end was refused.
 ghost use Rattle.std.specs.Prelude.{◌≡◌};
 
 use crate::failed::Failed;
@@ -11,12 +11,12 @@ use std::marker::Brand;
 use std::sync::Wait;
 use std::sync::ledger::{Blank, Ledger};
 
-/// A client of a port, whose callbacks have no box.
+/// A client of a port, whose callbacks aren't boxed.
 pub type PortClient<'a, L> = LockedClient<'a, L, Note, AskNote>;
 
 /// What a test does with a port that has one client.
 pub trait PortJob {
-    /// Does it, and lets a worker write this record.
+    /// Does the job, and lets a worker write this record.
     fn run<L: Ledger, R: Wait>(
         &mut self,
         rt: &R,
@@ -27,8 +27,8 @@ pub trait PortJob {
     );
 }
 
-/// Opens a port that is set up like this, with one client that has all the places. Does this job on it, lets the
-/// client leave, and ends the port.
+/// Opens a port with this setup, with one client that has the whole capacity. Does this job on it, lets the client
+/// leave, and ends the port.
 pub fn on_port<J: PortJob, R: Wait>(
     rt: &R,
     alloc: Global,
@@ -53,7 +53,7 @@ fn does<L: Ledger, J: PortJob, R: Wait>(
     over_of(alloc, port, gone)
 }
 
-// Does the job with a client that has this many places.
+// Does the job with a client that has this queue depth.
 fn does_on<L: Ledger, J: PortJob, R: Wait>(
     rt: &R,
     alloc: Global,
@@ -79,9 +79,9 @@ fn does_on<L: Ledger, J: PortJob, R: Wait>(
     })
 }
 
-/// Opens a port that is set up like this, and makes the first moves on it over the first line. All clients leave, and
-/// the port isn't ended: first without their shares, then with an empty record. The later moves are made over the
-/// later line on the port that came back. Then it is ended.
+/// Opens a port with this setup, and makes the first moves on it over the first line. All clients leave. The port has
+/// to refuse an end without their shares, and then one with an empty record. The later moves are made over the later
+/// line on the port that was returned. Then it is ended.
 pub fn play_port_again<X: Line + Drop, R: Wait>(
     rt: &R,
     alloc: Global,
@@ -110,7 +110,7 @@ fn plays_again<L: Ledger, X: Line + Drop, R: Wait>(
     over_of(alloc, port, both(gone, more))
 }
 
-// The port that isn't ended, with all that was left.
+// The port whose end was refused twice, with all that was left.
 fn refused_twice<L: Ledger>(
     alloc: Global,
     port: Port<L>,
@@ -133,7 +133,7 @@ fn refused_twice<L: Ledger>(
     Ok((port, gone))
 }
 
-// What was left at first, and then more.
+// What was left the first and the second time together.
 fn both<L: Ledger>(first: Gone<L>, more: Gone<L>) -> Gone<L> {
     let Gone {
         mut record,

@@ -1,4 +1,5 @@
-//! Callbacks and lines that call the port that they belong to. A body that kept the lock meanwhile would wait for ever.
+//! Callbacks and lines that call the port that they belong to. If a method kept the mutex meanwhile, they would
+//! deadlock.
 ghost use Rattle.std.specs.Prelude.{◌≡◌};
 ghost use Rattle.rdm_client.specs.Callbacks.{told, ask_told};
 
@@ -13,7 +14,7 @@ use std::alloc::Global;
 use std::sync::Wait;
 use std::sync::ledger::Ledger;
 
-/// A callback that tells. If it is to, it pauses the port first.
+/// A callback that returns what it was called with. If `pauses` is set, it pauses the port first.
 #[derive(Drop)]
 pub struct PortNote<'a, L: Ledger, R> {
     /// The runtime.
@@ -22,12 +23,12 @@ pub struct PortNote<'a, L: Ledger, R> {
     pub port: &'a Port<L>,
     /// Whether it pauses the port.
     pub pauses: bool,
-    /// What it tells.
+    /// The tag that it returns.
     pub tag: u64,
 }
 
 impl<L: Ledger, R: Wait> PortNote<'_, L, R> {
-    // Pauses the port, if it is to.
+    // Pauses the port if `pauses` is set.
     fn run(&self) {
         if self.pauses {
             let _ = self.port.pause(self.rt);

@@ -16,7 +16,7 @@ use std::{mem, thread};
 
 type Client<'a, L> = LockedClient<'a, L, Note, AskNote>;
 
-// A client until it has left, then its share; and how many of its results were right.
+// A client until it has left, then its share; how many callbacks it held, and how many of its results were right.
 struct Seat<'a, L: Ledger> {
     client: Option<Client<'a, L>>,
     calls: Option<CallShare<L>>,
@@ -24,9 +24,9 @@ struct Seat<'a, L: Ledger> {
     right: u64,
 }
 
-/// Opens a port that is set up like this over this line, with a client for each of these places in a thread of its own,
-/// beside the worker. Each client submits this many requests, with tags from 0 on, and collects their outcomes. Why the
-/// worker stopped, how many outcomes came in order with the data 1 and 2, and what is left.
+/// Opens a port with this setup over this line. For each of these queue depths, a client runs in a thread of its own,
+/// beside the worker. Each client submits this many requests, with tags from 0 on, and collects their outcomes. Returns
+/// why the worker stopped, how many outcomes came in order with the data 1 and 2, and what is left.
 #[inline(never)]
 pub fn run_port<X: Line + Send + Drop, R: Threads + Wait + Sync>(
     rt: &R,
@@ -113,7 +113,7 @@ fn all_sit<L: Ledger + Send + Sync, R: Threads + Wait + Sync>(
     thread::for_each_mut(rt, seats, 2, &|_, seat| sits(rt, alloc, requests, seat));
 }
 
-// Takes the client out of the seat, lets it ask, and leaves.
+// Takes the client out of the seat, and lets it ask and leave.
 fn sits<L: Ledger + Send + Sync, R: Wait>(
     rt: &R,
     alloc: Global,
@@ -129,7 +129,7 @@ fn sits<L: Ledger + Send + Sync, R: Wait>(
     seat.calls = Some(calls);
 }
 
-// Submits requests and collects their outcomes, each with its own callback in order. How many were right.
+// Submits requests and collects their outcomes, each with its own callback in order. Returns how many were right.
 fn asks<L: Ledger, R: Wait>(rt: &R, client: &mut Client<'_, L>, requests: u64) -> u64 {
     let mut submitted = 0u64;
     let mut right = 0u64;
@@ -152,7 +152,7 @@ fn asks<L: Ledger, R: Wait>(rt: &R, client: &mut Client<'_, L>, requests: u64) -
     right
 }
 
-// Submits the request with this tag. Whether it was accepted.
+// Submits the request with this tag. Returns whether it was accepted.
 fn submits<L: Ledger, R: Wait>(rt: &R, client: &mut Client<'_, L>, tag: u64) -> bool {
     client.submit(rt, request(tag), Note(tag)).is_ok()
 }
@@ -177,7 +177,7 @@ fn stood_up<L: Ledger, R: Wait>(
     (right, shares, held)
 }
 
-// The share of the seat's client. One that never sat leaves now, and its share is lost.
+// The share of the seat's client. A client whose thread never ran leaves now, and its share is lost.
 fn left<L: Ledger, R: Wait>(rt: &R, alloc: Global, seat: Seat<'_, L>) -> Option<CallShare<L>> {
     let Seat {
         client,

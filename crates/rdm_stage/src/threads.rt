@@ -1,4 +1,4 @@
-//! Sessions over rings in threads.
+//! Sessions with ring buffers in threads.
 ghost use Rattle.std.specs.Prelude.{◌≡◌, [], length, IfErr};
 ghost use Rattle.rdm_lanes.specs.Clients.{SameClient};
 ghost use Rattle.rdm_lanes.specs.Lanes.{SameLanes};
@@ -31,7 +31,7 @@ const CLOSE: u8 = 0;
 // At this one the close is sent.
 const CLOSED: u8 = 1;
 
-// At this one the worker may begin, where it waits for that.
+// At this one the worker may begin, if it waits at all.
 const BEGIN: u8 = 2;
 
 /// How a session of players ended.
@@ -45,7 +45,7 @@ pub struct PlayersOver {
     pub left: Vec<Left>,
     /// How many views were published.
     pub published: u64,
-    /// How the session stands.
+    /// The session's state.
     pub state: State,
     /// What its log says.
     pub log: Vec<Said>,
@@ -54,20 +54,20 @@ pub struct PlayersOver {
 /// Why a session of players wasn't run.
 #[derive(Debug, Drop)]
 pub enum NotRun {
-    /// It was refused: the fault, and the players that came back. The log came back without entries.
+    /// It was refused: the fault, and the players that were returned. The log was returned like a new one.
     Refused(OpenFault, Vec<Player>),
     /// Something else failed.
     Failed(Failed),
 }
 
-// Why a session wasn't run, and what came back.
+// Why a session wasn't run, and what was returned.
 type Back<X> = (OpenFault, Log, Vec<Player>, X, BlankHistory);
 
 // How a session ends, or why it wasn't run.
 type Ended<J, X> = Result<LanesEnd<J, Player, X, Note, AskNote>, Back<X>>;
 
-/// Runs a session that is set up like this over this line, with a player for each script: each in a thread of its own,
-/// beside the worker.
+/// Runs a session with this setup over this line. For each script, a player runs in a thread of its own, beside the
+/// worker.
 #[inline(never)]
 pub fn run_players<X: Line + Send + Drop, R: Threads + Wait + Sync>(
     rt: &R,
@@ -82,8 +82,8 @@ pub fn run_players<X: Line + Send + Drop, R: Threads + Wait + Sync>(
     }
 }
 
-/// The same with these players, and this many turns of the worker. If there is no memory for the session, it is run
-/// with what came back.
+/// The same with these players, and this many turns of the worker. If an allocation fails, the session is run with what
+/// was returned.
 pub fn run_bodies<X: Line + Send + Drop, R: Threads + Wait + Sync>(
     rt: &R,
     alloc: Global,
@@ -118,7 +118,7 @@ pub fn run_bodies<X: Line + Send + Drop, R: Threads + Wait + Sync>(
     }
 }
 
-/// The same, where all leave, and each player hears this. Err: what differs.
+/// The same, and checks that all clients left and each player got these results. Err: what differs.
 pub fn play_threads<X: Line + Send + Drop, R: Threads + Wait + Sync>(
     rt: &R,
     alloc: Global,
@@ -139,7 +139,7 @@ pub fn play_threads<X: Line + Send + Drop, R: Threads + Wait + Sync>(
     Ok(over)
 }
 
-// Each player ran once, and heard this.
+// Each player ran once, and got these results.
 fn players_heard(players: &[Player], heard: &[&[Heard]]) -> Result<(), Failed> {
     if players.len() != heard.len() {
         return Err(Failed::Players);
@@ -150,7 +150,7 @@ fn players_heard(players: &[Player], heard: &[&[Heard]]) -> Result<(), Failed> {
     Ok(())
 }
 
-/// The player ran once, and heard this. Err: what differs, with the player's number.
+/// The player ran once, and got these results. Err: what differs, with the player's number.
 pub fn player_heard(player: &Player, number: usize, heard: &[Heard]) -> Result<(), Failed> {
     if player.runs != 1 {
         return Err(Failed::Players);
@@ -264,9 +264,9 @@ fn over_of<J: ViewHistory, X: Drop>(
     })
 }
 
-/// Opens lanes that are set up like this over this line. The first client's player runs beside the worker and the
-/// operator, each in a thread of its own. The worker waits for point 2. The operator waits for point 0, closes and
-/// leaves, and then arrives at point 1. Why the worker stopped, and what is left.
+/// Opens lanes with this setup over this line. The first client's player runs beside the worker and the operator, each
+/// in a thread of its own. The worker waits for point 2. The operator waits for point 0, closes and leaves, and then
+/// arrives at point 1. Returns why the worker stopped, and what is left.
 #[inline(never)]
 pub fn run_beside<X: Line + Send + Drop, R: Threads + Wait + Sync>(
     rt: &R,
@@ -307,7 +307,7 @@ impl<J: ViewHistory + Send + Sync, W: Wait + Drop + Send, X: Line + Send> LanesS
     W,
     X,
 > {
-    // Lets this client's player run beside the worker and the operator. Why the worker stopped.
+    // Lets this client's player run beside the worker and the operator. Returns why the worker stopped.
     #[inline(never)]
     fn beside<R: Threads + Sync>(
         &mut self,
@@ -334,7 +334,7 @@ impl<J: ViewHistory + Send + Sync, W: Wait + Drop + Send, X: Line + Send> LanesS
     }
 }
 
-// Lets the player run beside the worker and the operator. Why the worker stopped.
+// Lets the player run beside the worker and the operator. Returns why the worker stopped.
 fn beside<J: ViewHistory + Send + Sync, W: Wait + Drop + Send, X: Line + Send, R: Threads + Sync>(
     rt: &R,
     alloc: Global,

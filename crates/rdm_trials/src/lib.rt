@@ -1,6 +1,6 @@
-//! Trials of the whole: a close at each place, over a session, a port and rings; logs of each size; and clients over
-//! rings in threads. Nothing stands on this crate; it has tests alone, so that the crates below needn't be proved again
-//! with them.
+//! Trials of whole sessions: a close at each position, in one thread, with a mutex and with ring buffers; logs of each
+//! size; and clients with ring buffers in threads. Nothing depends on this crate. It has only tests, so the crates
+//! below needn't be proved again with them.
 #![tactic(auto)]
 
 #[cfg(test)]

@@ -1,4 +1,4 @@
-//! What no clause says: what comes of whole sessions.
+//! What no clause says: the results of whole sessions.
 mod closes_port;
 mod closes_rings;
 mod closes_session;

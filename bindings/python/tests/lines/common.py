@@ -74,7 +74,7 @@ def one(**rig: Any) -> Scene:
 
 def random_scene(count: int, seed: int, loss: float, collide: Collide = Collide.OR,
                  fixture: FixtureKeys = FixtureKeys()) -> Scene:
-    """So many fixtures with UIDs by chance, about half of which are close neighbours."""
+    """This many fixtures with random UIDs, about half of which are close neighbours."""
     chance = random.Random(seed)
     uids: Set[int] = set()
     while len(uids) < count:
@@ -91,7 +91,7 @@ def uids_of(made: Scene) -> Set[int]:
 
 @contextlib.contextmanager
 def folder() -> Iterator[Path]:
-    """An empty folder, until the end of a `with`."""
+    """An empty folder, for the duration of a `with`."""
     with tempfile.TemporaryDirectory(prefix="lines.") as name:
         yield Path(name)
 
@@ -100,8 +100,8 @@ def folder() -> Iterator[Path]:
 def adapter(line: Line, widget: Widget = Widget()) -> Iterator[Tuple[EnttecPro, Emulator]]:
     """A driver on an emulated adapter with this line behind it.
 
-    The adapter says who made it, which a USB Pro doesn't, so that the driver needn't wait for it. That, and the time
-    that it has for its answers, are for busy machines.
+    The adapter reports its manufacturer, which a USB Pro doesn't, so the driver needn't wait for that. This, and the
+    longer time for its answers, is for busy machines.
     """
     if widget.manufacturer is None:
         widget = replace(widget, manufacturer=ENTTEC)
@@ -111,7 +111,7 @@ def adapter(line: Line, widget: Widget = Widget()) -> Iterator[Tuple[EnttecPro, 
 
 
 class ListLine:
-    """A line that gives these replies one after another, and keeps the frames."""
+    """A line that returns these replies one after another, and keeps the frames."""
 
     def __init__(self, *replies: bytes) -> None:
         self.replies = list(replies)

@@ -1,4 +1,4 @@
-"""A small controller for these tests alone: a binary search over branches, and GETs.
+"""A small controller for these tests only: a binary search over branches, and GETs.
 
 It follows the same rules as the proved one, but shares no code with it: five tries for each branch and each mute, and
 the lower half of a range first.

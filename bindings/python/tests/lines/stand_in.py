@@ -1,4 +1,4 @@
-"""A stand-in for the proved program, of which it has `discover --line FRAMES --replies REPLIES` alone."""
+"""A stand-in for the proved program, which only has `discover --line FRAMES --replies REPLIES`."""
 from __future__ import annotations
 
 import sys

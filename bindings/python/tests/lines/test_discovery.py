@@ -14,7 +14,7 @@ from wurstlinen.lines.numbers import NackReason, ResponseType
 from wurstlinen.lines.scene import FixtureKeys, Personality, Scene, Sensor
 
 LARGE = 40
-# Each firmware with the ends that OLA expects of it, and with the others.
+# Each firmware with the ends that OLA expects from it, and with the others.
 WIDGETS = (*(Widget(firmware) for firmware in FIRMWARES), Widget((4, 15), ends_branches=True),
            Widget((2, 4), end_delay=0.0005))
 WASH = FixtureKeys(

@@ -42,7 +42,7 @@ def received(data: bytes, status: int = 0) -> bytes:
 
 
 def is_exclusive(path: str) -> bool:
-    """Whether a terminal is kept for one program. Root may open it all the same, and is told."""
+    """Whether a terminal is reserved for one program. Root can still open it, so the flag is read."""
     try:
         descriptor = os.open(path, os.O_RDWR | os.O_NOCTTY)
     except OSError as error:
@@ -67,7 +67,7 @@ def hostile(chance: random.Random) -> bytes:
 
 
 class Script(threading.Thread):
-    """An adapter that answers each RDM message with the next of these bytes, and keeps what it was sent."""
+    """An adapter that answers each RDM message with the next of these bytes, and keeps the messages."""
 
     def __init__(self, *answers: bytes, serial: bytes = b"\x04\x03\x02\x01",
                  firmware: bytes = b"\x04\x02\x09\x01\x28", maker: bytes = b"\x4e\x45") -> None:
@@ -314,7 +314,7 @@ class Exchanges(TestCase):
 
 class BranchEnds(TestCase):
     def learned(self, widget: Widget, branches: int = 4) -> Tuple[BranchEnd, float]:
-        """What is known after some answered branches, and the seconds that the shortest one took."""
+        """What the driver knows after some answered branches, and the seconds that the shortest one took."""
         with adapter(Rig(one()), widget) as (driver, _):
             seconds = []
             for _ in range(branches):

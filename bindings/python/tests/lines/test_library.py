@@ -60,7 +60,7 @@ class Examples(TestCase):
         self.assertGreater(ran, 8)
 
     def options(self, file: Path, is_incremental: bool) -> List[str]:
-        """What the program reads from the file, and this command from its arguments."""
+        """The settings that the program reads from the file, and this command from its arguments."""
         keys = json.loads(file.read_text())
         known = keys.get("known", []) if is_incremental else []
         options = [word for uid in known for word in ("--known", uid)]

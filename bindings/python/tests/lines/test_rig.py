@@ -41,7 +41,7 @@ class Clock:
 
 
 def any_command(chance: random.Random) -> Packet:
-    """A good packet, with contents by chance."""
+    """A good packet with random contents."""
     target = chance.choice((LAMP, LAMP + 1, ALL_DEVICES, 0x1234FFFFFFFF))
     sub_device = chance.choice((0, 0, 0, 1, 0xFFFF))
     command_class = chance.choice((0x10, 0x20, 0x20, 0x30, 0x21))
@@ -408,7 +408,7 @@ class Files(TestCase):
         self.assertGreater(read, 7)
 
     def printed(self, controller: Controller) -> str:
-        """What the program prints of a discovery."""
+        """What the program prints for a discovery."""
         try:
             controller.discover()
             lines = [" ".join(self.words(uid, data)) for uid, data in sorted(controller.found.items())]
@@ -419,7 +419,7 @@ class Files(TestCase):
         return "\n".join([*lines, f"frames {controller.frames}"]) + "\n"
 
     def words(self, uid: int, data: bytes) -> List[str]:
-        """A device's UID, its control field and its binding UID; the last two only if they say something."""
+        """A device's UID, its control field and its binding UID; the last two only if they aren't empty."""
         binding = [uid_text(int.from_bytes(data[2:], "big"))] if data[2:] else []
         return [uid_text(uid), *([data[:2].hex()] if any(data) else []), *binding]
 

@@ -29,7 +29,7 @@ FAILURES = (
 
 
 class FullStream(io.RawIOBase):
-    """A stream that takes nothing."""
+    """A stream that accepts no bytes."""
 
     def writable(self) -> bool:
         return True

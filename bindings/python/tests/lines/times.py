@@ -1,8 +1,8 @@
 """Measures what an exchange costs: `python3 times.py [PROGRAM]`.
 
-Each figure is the median of nine runs of 500 GETs of a label: processor time of this process, and time that passed.
-The far end runs in a process of its own, so its work isn't in the first figure. Of PROGRAM it is the same for each
-exchange of a discovery, whose far end is here and gives recorded replies.
+Each figure is the median of nine runs of 500 GETs of a label: processor time of this process, and time that passed. The
+far end runs in a process of its own, so its work isn't in the first figure. For PROGRAM, the same is measured for each
+exchange of a discovery, whose far end is here and returns recorded replies.
 """
 from __future__ import annotations
 
@@ -51,7 +51,7 @@ class Recorder:
 
 
 class Tape:
-    """A line that gives recorded replies in turn."""
+    """A line that returns recorded replies in turn."""
 
     def __init__(self, replies: List[bytes]) -> None:
         self._replies = iter(replies)
@@ -62,7 +62,7 @@ class Tape:
 
 
 def measured(work: Callable[[], None]) -> Tuple[float, float]:
-    """Microseconds an exchange: of this process, and that passed."""
+    """Microseconds for an exchange: this process's processor time, and the time that passed."""
     used: List[float] = []
     passed: List[float] = []
     for _ in range(RUNS):
@@ -80,7 +80,7 @@ def show(name: str, work: Callable[[], None]) -> None:
 
 
 def gets(line: Line) -> Callable[[], None]:
-    """So many GETs on a line."""
+    """This many GETs on a line."""
     def work() -> None:
         for _ in range(EXCHANGES):
             line.exchange(GET)
@@ -88,7 +88,7 @@ def gets(line: Line) -> Callable[[], None]:
 
 
 def run_controller(line: Line) -> None:
-    """So many GETs of a controller."""
+    """This many GETs of a controller."""
     with Controller(Uid.from_number(1)) as controller:
         client = controller.join(EXCHANGES // 2)
         for _ in range(2):

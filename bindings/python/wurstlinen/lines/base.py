@@ -1,4 +1,4 @@
-"""What all lines of this package have beside `exchange`."""
+"""What all lines of this package have besides `exchange`."""
 from __future__ import annotations
 
 from abc import ABC, abstractmethod
@@ -11,15 +11,15 @@ Self = TypeVar("Self", bound="OpenLine")
 class OpenLine(ABC):
     """A line that is open, and is closed at the end of a `with`."""
 
-    # The UID that a controller on this line should have as its own, as a number; None if the line has no say.
+    # The UID that a controller on this line should have as its own, as a number; None if the line doesn't care.
     source: Optional[int] = None
 
     @abstractmethod
     def exchange(self, frame: bytes) -> bytes:
-        """Sends a frame, and returns the bytes that came back; `LineFailed` if the exchange failed."""
+        """Sends a frame, and returns the reply's bytes; `LineFailed` if the exchange failed."""
 
     def close(self) -> None:
-        """Gives back what the line holds. Closing twice does nothing."""
+        """Releases what the line holds. Another close does nothing."""
 
     def __enter__(self: Self) -> Self:
         return self

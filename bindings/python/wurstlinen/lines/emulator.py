@@ -33,7 +33,7 @@ class Widget:
 
     firmware: Tuple[int, int] = (2, 4)
     serial: int = 0x01020304
-    # Whether label 12 follows the reply to a branch; None: as OLA expects it of this firmware.
+    # Whether label 12 follows the reply to a branch; None: as OLA expects for this firmware.
     ends_branches: Optional[bool] = None
     # How many seconds later that label comes.
     end_delay: float = 0.0
@@ -43,10 +43,10 @@ class Widget:
     noise: bytes = b""
     # The status byte of what it received.
     status: int = GOOD_STATUS
-    # After so many RDM messages it says nothing more, or goes away in the middle of its answer.
+    # After this many RDM messages it is silent, or disappears in the middle of its answer.
     hangs_after: Optional[int] = None
     leaves_after: Optional[int] = None
-    # What it answers to labels 77 and 78, if it does.
+    # Its answers to labels 77 and 78, if it gives any.
     manufacturer: Optional[int] = None
     device: Optional[int] = None
 
@@ -59,7 +59,7 @@ class Widget:
 
 
 class Emulator:
-    """An adapter on a pseudo terminal, from its beginning to the end of a `with`.
+    """An adapter on a pseudo terminal, for the duration of a `with`.
 
     `line` and `widget` may be replaced while no exchange is made.
     """
@@ -71,7 +71,7 @@ class Emulator:
         self.messages = 0
         self._reader = MessageReader()
         self._own, self._other = os.openpty()
-        # Until a driver has set the terminal up, it mustn't send back what is written to it.
+        # Until a driver has configured the terminal, it mustn't echo what is written to it.
         tty.setraw(self._other)
         self.path = os.ttyname(self._other)
         self._wake, self._waker = os.pipe()
@@ -85,15 +85,15 @@ class Emulator:
     def __exit__(self, kind: Optional[Type[BaseException]], error: Optional[BaseException],
                  trace: Optional[TracebackType]) -> None:
         os.close(self._waker)
-        # A line that hangs, or a driver that doesn't read, mustn't hold up the end.
+        # A line that hangs, or a driver that doesn't read, mustn't delay the end.
         self._thread.join(SECONDS_TO_END)
 
     def wait(self) -> None:
-        """Waits until the adapter has gone."""
+        """Waits until the adapter has disappeared."""
         self._thread.join()
 
     def _serve(self) -> None:
-        """Answers messages until the `with` ends, or the adapter goes away."""
+        """Answers messages until the `with` ends, or the adapter disappears."""
         try:
             while not self._is_gone:
                 ready, _, _ = select.select([self._own, self._wake], [], [])
@@ -117,7 +117,7 @@ class Emulator:
             self._write([Message(message.label, answer) for answer in self._facts(message.label)])
 
     def _facts(self, label: int) -> List[bytes]:
-        """What it says of itself, if anything; a plain USB Pro leaves labels 77 and 78 unanswered."""
+        """What it reports about itself, if anything; a plain USB Pro leaves labels 77 and 78 unanswered."""
         widget = self.widget
         if label == Label.SERIAL_NUMBER:
             return [widget.serial.to_bytes(4, "little")]
@@ -133,7 +133,7 @@ class Emulator:
         return self.widget.hangs_after is not None and self.messages >= self.widget.hangs_after
 
     def _exchange(self, message: Message) -> None:
-        """Sends the frame to the line, and what came back to the driver; nothing if the line failed."""
+        """Sends the frame to the line, and its reply to the driver; nothing if the line failed."""
         self.messages += 1
         try:
             reply = self.line.exchange(message.data)
@@ -167,7 +167,7 @@ class Emulator:
                 time.sleep(PIECE_SECONDS)
 
     def _leave(self, answers: List[Message]) -> None:
-        """Goes away in the middle of its answer."""
+        """Disappears in the middle of its answer."""
         data = b"".join(message.encode() for message in answers) or Message(Label.RDM_END).encode()
         os.write(self._own, data[:len(data) // 2])
         self._is_gone = True

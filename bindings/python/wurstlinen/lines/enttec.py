@@ -20,10 +20,10 @@ from .terminal import LOCK_FOLDER, Terminal
 # How long an exchange may take, and the answer to a question about the adapter itself.
 EXCHANGE_SECONDS = 2.0
 ANSWER_SECONDS = 0.2
-# How long the end of an answered branch is awaited until it is known whether the adapter sends one.
+# How long the driver waits for the end of an answered branch until it knows whether the adapter sends one.
 SHORT_SECONDS = 0.1
 BRANCHES_TO_LEARN = 3
-# What is dropped before an exchange takes at most so many reads, should the adapter never pause.
+# The most reads for dropping old data before an exchange, in case the adapter never pauses.
 MOST_READS = 64
 
 FIRST_FIRMWARE_WITH_RDM = (2, 4)
@@ -50,8 +50,8 @@ class BranchEnd(Enum):
 class EnttecPro(OpenLine):
     """The adapter on this serial device, port 1.
 
-    An exchange opens the device again if it was closed, or if it was unplugged. Questions about the adapter itself are
-    given `answer_seconds` for their answer.
+    An exchange opens the device again if it was closed, or if it was unplugged. Questions about the adapter itself have
+    `answer_seconds` for their answer.
     """
 
     def __init__(self, path: str, lock_folder: Path = LOCK_FOLDER, answer_seconds: float = ANSWER_SECONDS) -> None:
@@ -65,9 +65,9 @@ class EnttecPro(OpenLine):
         self._terminal: Optional[Terminal] = None
         self._reader = MessageReader()
         self._messages: Deque[Message] = deque()
-        # The last exchange has had no end yet: what comes next may still belong to it.
+        # The last exchange has had no end so far: what comes next may still belong to it.
         self._is_in_doubt = False
-        # The last exchange was a branch that was answered, and had no end until now.
+        # The last exchange was a branch that was answered, and has had no end so far.
         self._may_end_late = False
         self._branches_without_end = 0
         self.open()
@@ -91,8 +91,8 @@ class EnttecPro(OpenLine):
     def exchange(self, frame: bytes) -> bytes:
         """Sends a frame, and waits at most two seconds for the end of its exchange.
 
-        The bytes are handed on whatever the adapter says of them: whoever reads them checks their sum, and a collision
-        mustn't look like silence.
+        The bytes are passed on whatever the adapter's status is: the reader checks their sum, and a collision mustn't
+        look like silence.
         """
         if self._terminal is None or not self._terminal.is_open:
             self.open()
@@ -107,7 +107,7 @@ class EnttecPro(OpenLine):
         return self._reply()
 
     def _forget(self) -> None:
-        """Begins anew, since another adapter may be there."""
+        """Starts from scratch, since another adapter may be there."""
         self.branch_end = BranchEnd.UNKNOWN
         self._branches_without_end = 0
         self._is_in_doubt = False
@@ -140,7 +140,7 @@ class EnttecPro(OpenLine):
         return int.from_bytes(answer[:ID_BYTES], "little") if answer else None
 
     def _ask(self, label: Label, data: bytes, least: int, seconds: float) -> Optional[bytes]:
-        """The adapter's answer to a question, with at least so many bytes; None if none comes in time."""
+        """The adapter's answer to a question, with at least this many bytes; None if none comes in time."""
         self._send(label, data)
         end = time.monotonic() + seconds
         while True:
@@ -188,7 +188,7 @@ class EnttecPro(OpenLine):
                 return self._ended(reply) if self._has_branch_end(end) else reply
 
     def _has_branch_end(self, end: float) -> bool:
-        """Waits for the end of an answered branch, as far as it is known to come or may come.
+        """Waits for the end of an answered branch, unless it is known that none comes.
 
         It is False if the end may still come.
         """
@@ -206,7 +206,7 @@ class EnttecPro(OpenLine):
         return True
 
     def _seconds_to_learn(self) -> float:
-        """Firmware that OLA takes to send no end is awaited shortly; any other as long as an exchange may take."""
+        """A short time for firmware that sends no end according to OLA, else the longest time of an exchange."""
         is_late = self.firmware is not None and self.firmware >= FIRST_FIRMWARE_WITHOUT_BRANCH_ENDS
         return SHORT_SECONDS if is_late else EXCHANGE_SECONDS
 
@@ -217,13 +217,13 @@ class EnttecPro(OpenLine):
             self.branch_end = BranchEnd.NOT_SENT
 
     def _note_late_end(self, message: Message) -> None:
-        """The end of an answered branch, at whatever time, says that the adapter sends them."""
+        """The end of an answered branch, whenever it comes, shows that the adapter sends ends."""
         if message.label == Label.RDM_END and self._may_end_late:
             self.branch_end = BranchEnd.SENT
             self._may_end_late = False
 
     def _ended(self, reply: bytes) -> bytes:
-        """An exchange has ended, so all that comes later belongs to another one."""
+        """An exchange has ended, so anything that comes later belongs to another one."""
         self._is_in_doubt = False
         return reply
 
@@ -264,6 +264,6 @@ class EnttecPro(OpenLine):
 
 
 def _branch_bytes(data: bytes) -> bytes:
-    """The bytes behind the status byte. A fault without bytes isn't silence, so its status stands for them."""
+    """The bytes after the status byte. A fault without bytes isn't silence, so the status byte is returned instead."""
     reply = data[1:MOST_REPLY_BYTES + 1]
     return reply if reply or data[0] == GOOD else data[:1]

@@ -13,7 +13,7 @@ from .parameters import Parameters, Refused
 from .scene import DeviceKeys, Lie
 
 UNMUTES_TO_OBEY = 3
-# No exchange is the next after this one.
+# No exchange follows this one.
 NEVER = -2
 EXTRA_BYTES = b"\x55\xaa\x00\xff"
 SHORT_BYTES = 12
@@ -38,10 +38,10 @@ class Fixture:
         self._lies = keys.fixture.lies
         self._reply = self._own_branch_reply()
         self._branches = 0
-        # How many unmutes came in a row, and the exchange of the last one.
+        # How many consecutive unmutes came, and the exchange of the last one.
         self._unmutes = 0
         self._unmuted_at = NEVER
-        # Of two parameters with the same PID the first answers.
+        # If two parameters have the same PID, the first one answers.
         self._listed = {pid: parts for pid, parts in reversed(keys.params)}
         self._positions: Dict[int, int] = {}
         queue_pids = () if keys.fixture.timer is None else (Pid.QUEUED_MESSAGE, Pid.STATUS_MESSAGES)
@@ -91,7 +91,7 @@ class Fixture:
         spelled = self._keys.fixture.spells
         reply = encode_branch_reply(self.uid if spelled is None else spelled, self._keys.preamble)
         if Lie.WRONG_SUM in self._lies:
-            # Bits that the last byte of the sum has from this byte.
+            # Bits of the sum that are encoded in this byte.
             reply = reply[:-1] + bytes([reply[-1] ^ 0x2A])
         if Lie.CUTS_SHORT in self._lies:
             reply = reply[:SHORT_BYTES]
@@ -144,7 +144,7 @@ class Fixture:
         return command.answer(self.uid, ResponseType.NACK_REASON, reason.to_bytes(2, "big"))
 
     def _listed_part(self, command: Packet, parts: Tuple[bytes, ...]) -> Packet:
-        """A parameter of the file answers as docs/FORMATS.md says: part after part, whatever comes between."""
+        """A parameter of the file answers as docs/FORMATS.md says: part after part, whatever comes in between."""
         if command.command_class == CommandClass.SET:
             return command.answer(self.uid, ResponseType.ACK, b"")
         position = self._positions.get(command.pid, 0)
@@ -154,7 +154,7 @@ class Fixture:
         return command.answer(self.uid, kind, parts[position])
 
     def _part(self, command: Packet, exchange: int) -> Packet:
-        """The next part of an answer. Any exchange between two GETs makes the answer begin anew."""
+        """The next part of an answer. After any exchange between two GETs, the answer starts again."""
         size = self._keys.fixture.part
         part, self._rest = self._rest[:size], self._rest[size:]
         self._parted = _identity(command) if self._rest else None

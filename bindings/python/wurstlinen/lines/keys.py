@@ -7,7 +7,7 @@ from .packets import is_broadcast, parse_uid
 
 Value = TypeVar("Value")
 Other = TypeVar("Other")
-# It gives what a JSON value means, or raises a `SceneFault`.
+# It returns what a JSON value means, or raises a `SceneFault`.
 Reader = Callable[[Any], Value]
 
 HEX_DIGITS = frozenset("0123456789abcdefABCDEF")
@@ -31,13 +31,13 @@ class Keys:
         self._values: Dict[str, Any] = dict(value)
 
     def required(self, name: str, read: Reader[Value]) -> Value:
-        """The value of a key that has to be there."""
+        """The value of a required key."""
         if name not in self._values:
             raise SceneFault("the key is missing", name)
         return _at(name, read, self._values.pop(name))
 
     def optional(self, name: str, read: Reader[Value], default: Other) -> Union[Value, Other]:
-        """The value of a key, or what stands for it if the key is absent."""
+        """The value of a key, or the default if the key is absent."""
         return self.required(name, read) if name in self._values else default
 
     def end(self) -> None:
@@ -56,7 +56,7 @@ def whole(least: int, most: int) -> Reader[int]:
 
 
 def text(most: int) -> Reader[str]:
-    """Reads a text of at most so many bytes, all of them ASCII."""
+    """Reads a text of at most this many bytes, all of them ASCII."""
     def read(value: Any) -> str:
         if not isinstance(value, str) or len(value) > most or not value.isascii():
             raise SceneFault(f"a text of at most {most} ASCII characters is expected")
@@ -65,7 +65,7 @@ def text(most: int) -> Reader[str]:
 
 
 def digits(count: int) -> Reader[int]:
-    """Reads a number of so many hexadecimal digits."""
+    """Reads a number of this many hexadecimal digits."""
     def read(value: Any) -> int:
         if not isinstance(value, str) or len(value) != count or not HEX_DIGITS.issuperset(value):
             raise SceneFault(f"a text of {count} hexadecimal digits is expected")
@@ -84,7 +84,7 @@ def byte_text(least: int, most: int) -> Reader[bytes]:
 
 
 def list_of(read_one: Reader[Value], least: int, most: Optional[int]) -> Reader[Tuple[Value, ...]]:
-    """Reads a list with at least and at most so many elements."""
+    """Reads a list whose number of elements is in this range."""
     def read(value: Any) -> Tuple[Value, ...]:
         if not isinstance(value, list) or len(value) < least or (most is not None and len(value) > most):
             limits = f"at least {least}" if most is None else f"{least} to {most}"
@@ -126,7 +126,7 @@ def share(value: Any) -> float:
 
 
 def _at(name: str, read: Reader[Value], value: Any) -> Value:
-    """Reads a value; its faults have the name in front of their path."""
+    """Reads a value; its faults get the name as a prefix of their path."""
     try:
         return read(value)
     except SceneFault as fault:

@@ -1,4 +1,4 @@
-"""The messages of Enttec's USB Pro and its kin, for the driver and the emulator.
+"""The messages of Enttec's USB Pro and similar adapters, for the driver and the emulator.
 
 A message is 7e, a label, the length of its data (low byte first), the data and e7. Nothing is escaped.
 """
@@ -11,7 +11,7 @@ from typing import List, Optional
 START = 0x7E
 END = 0xE7
 HEADER_BYTES = 4
-# A header that announces more is no header.
+# A header that announces more isn't taken for a header.
 MOST_DATA_BYTES = 600
 
 
@@ -44,18 +44,18 @@ class MessageReader:
     """Finds the messages in bytes that come in pieces of any size.
 
     What isn't in a message is dropped: bytes before 7e, a header that announces more than 600 bytes, and a message
-    without its e7, behind which the next 7e is looked for.
+    without its e7. After that the next 7e is searched for.
     """
 
     def __init__(self) -> None:
         self._left = bytearray()
 
     def clear(self) -> None:
-        """Drops what has come of a message that isn't complete."""
+        """Drops the bytes of an incomplete message."""
         self._left.clear()
 
     def feed(self, data: bytes) -> List[Message]:
-        """The messages that are complete with these bytes."""
+        """The messages that these bytes complete."""
         self._left += data
         messages = []
         while self._has_message():

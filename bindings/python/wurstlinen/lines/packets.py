@@ -1,4 +1,4 @@
-"""E1.20's packets and branch replies as bytes, written for rigs and lines alone: no proved code is used."""
+"""E1.20's packets and branch replies as bytes, written only for rigs and lines, without any proved code."""
 from __future__ import annotations
 
 import re
@@ -49,7 +49,7 @@ class Packet:
         return packet + checksum(packet)
 
     def answer(self, uid: int, kind: ResponseType, data: bytes) -> Packet:
-        """What the device `uid` answers to this command, without queued messages."""
+        """The answer of the device `uid` to this command, without queued messages."""
         return Packet(self.source, uid, self.transaction, kind, 0, self.sub_device, self.command_class + 1, self.pid,
                       data)
 
@@ -79,7 +79,7 @@ def decode_packet(data: bytes) -> Optional[Packet]:
 
 
 def is_whole_packet(data: bytes) -> bool:
-    """Whether there are as many bytes as the packet's own length says. The checksum isn't looked at."""
+    """Whether there are as many bytes as the packet's own length says. The checksum isn't checked."""
     return len(data) >= LEAST_PACKET_BYTES and data[0] == START_CODE and len(data) == data[2] + CHECKSUM_BYTES
 
 

@@ -8,7 +8,7 @@ from .numbers import (
 )
 from .scene import FixtureKeys, Sensor
 
-# It gives the data of an answer, or raises `Refused`.
+# It returns the data of an answer, or raises `Refused`.
 Handler = Callable[[bytes], bytes]
 
 ALL_SENSORS = 0xFF
@@ -62,7 +62,7 @@ class Parameters:
         return self._handler(self._getters, self._setters, pid)(data)
 
     def set(self, pid: int, data: bytes) -> bytes:
-        """Changes a value, and gives the data of the answer."""
+        """Changes a value, and returns the data of the answer."""
         return self._handler(self._setters, self._getters, pid)(data)
 
     @staticmethod

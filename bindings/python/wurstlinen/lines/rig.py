@@ -36,7 +36,7 @@ class Rig(OpenLine):
         self.fixtures = [Fixture(keys) for keys in self.scene.devices]
         self._by_uid = {fixture.uid: fixture for fixture in self.fixtures}
         self._all_stay = all(fixture.is_present(0) and fixture.stays for fixture in self.fixtures)
-        # How many exchanges were made, and how many replies were lost.
+        # The numbers of exchanges made and of replies lost.
         self.exchanges = 0
         self.lost = 0
         self._clock = clock
@@ -45,7 +45,7 @@ class Rig(OpenLine):
         self._collisions = 0
 
     def exchange(self, frame: bytes) -> bytes:
-        """What comes back after a frame."""
+        """The reply to a frame."""
         number = self.exchanges
         self.exchanges += 1
         if number in self.scene.fails:
@@ -76,7 +76,7 @@ class Rig(OpenLine):
         return self.fixtures if self._all_stay else [each for each in self.fixtures if each.is_present(number)]
 
     def _branched(self, command: Packet, number: int) -> bytes:
-        """E1.20, discovery unique branch: all answer at once, and the wire carries what comes of it."""
+        """E1.20, discovery unique branch: all fixtures answer at once, and the wire carries the result."""
         if command.destination != ALL_DEVICES or len(command.data) != BRANCH_DATA_BYTES:
             return b""
         low = int.from_bytes(command.data[:UID_BYTES], "big")
@@ -88,7 +88,7 @@ class Rig(OpenLine):
         return replies[0] if replies else b""
 
     def _collided(self, replies: List[bytes]) -> bytes:
-        """The next of the file's collisions, of which the last stays in force; or else what the rig's key says."""
+        """The next of the file's collisions, of which the last is repeated; or else what the rig's key says."""
         collisions = self.scene.collisions
         if not collisions:
             both = _ored(replies)
@@ -100,7 +100,7 @@ class Rig(OpenLine):
         return encode_branch_reply(collision, MOST_PREAMBLE_BYTES) if isinstance(collision, int) else collision
 
     def _garbled(self, data: bytes) -> bytes:
-        """The bytes with a quarter of their bits changed by chance, and more or fewer of them."""
+        """The bytes with a quarter of their bits changed at random, and with a random length."""
         length = self._chance.randint(1, MOST_GARBLED_BYTES)
         noise = self._chance.randbytes(length)
         mask = self._chance.randbytes(length)
@@ -108,7 +108,7 @@ class Rig(OpenLine):
         return bytes(byte ^ (wrong & some) for byte, wrong, some in zip(padded, noise, mask))
 
     def _loses(self, number: int) -> bool:
-        """Whether the reply of an exchange is lost: by the file's list, or by chance and not too often in a row."""
+        """Whether the reply of an exchange is lost: by the file's list, or at random, but not too often in a row."""
         rig = self.scene.rig
         is_lost = number in self.scene.losses
         if not is_lost and rig.loss and self._losses_in_a_row < rig.most_losses:
@@ -118,7 +118,7 @@ class Rig(OpenLine):
 
 
 def _ored(replies: Sequence[bytes]) -> bytes:
-    """The bitwise OR from the front; shorter replies count as if they ended in 00."""
+    """The bitwise OR from the front; shorter replies are padded with 00."""
     length = max(map(len, replies))
     number = 0
     for reply in replies:

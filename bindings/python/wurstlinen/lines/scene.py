@@ -35,7 +35,7 @@ class Collide(Enum):
 class Lie(Enum):
     """How a fixture breaks the rules of discovery."""
 
-    # It acknowledges a mute, and answers branches all the same.
+    # It acknowledges a mute, but still answers branches.
     STAYS_UNMUTED = "stays unmuted"
     # It neither acknowledges a mute nor obeys it.
     IGNORES_MUTES = "ignores mutes"
@@ -43,9 +43,9 @@ class Lie(Enum):
     HIDES = "hides"
     # It answers each branch while it is unmuted, whatever the range.
     ANSWERS_ALL = "answers all"
-    # It answers only every other branch in whose range it lies.
+    # It answers only every second branch whose range has its UID.
     EVERY_OTHER = "every other"
-    # Its reply to a branch goes on behind its end, or stops before it, or has a wrong checksum.
+    # Its reply to a branch has extra bytes at the end, or is cut off, or has a wrong checksum.
     ADDS_BYTES = "adds bytes"
     CUTS_SHORT = "cuts short"
     WRONG_SUM = "wrong sum"
@@ -91,7 +91,7 @@ class FixtureKeys:
     sensors: Tuple[Sensor, ...] = ()
     # The most bytes of data in one response; longer answers come in parts.
     part: int = MOST_DATA_BYTES
-    # If it isn't None: requests are answered by ACK_TIMER with so many tenths of a second.
+    # If it isn't None: requests are answered by ACK_TIMER with this many tenths of a second.
     timer: Optional[int] = None
     # If it isn't None: requests are refused for this reason.
     nack: Optional[int] = None
@@ -119,7 +119,7 @@ class RigKeys:
     """The object `rig` of a scene."""
 
     seed: int = 0
-    # The share of replies that is lost, and how many in a row at most.
+    # The share of replies that is lost, and the most consecutive ones.
     loss: float = 0.0
     most_losses: int = 4
     collide: Collide = Collide.OR

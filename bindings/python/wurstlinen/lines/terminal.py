@@ -1,4 +1,4 @@
-"""A serial device that is opened for this process alone."""
+"""A serial device that is opened only for this process."""
 from __future__ import annotations
 
 import errno
@@ -38,7 +38,7 @@ class Terminal:
 
     @property
     def is_open(self) -> bool:
-        """Whether the device is still there, as far as reads and writes have shown."""
+        """Whether the device is still there, according to past reads and writes."""
         return self._descriptor >= 0
 
     def close(self) -> None:
@@ -52,7 +52,7 @@ class Terminal:
             lock.unlink(missing_ok=True)
 
     def write(self, data: bytes) -> None:
-        """Writes all of it at once, since half a message would take the framing from the other side."""
+        """Writes all of it or fails, since half a message would make the other side lose its framing."""
         try:
             written = os.write(self._descriptor, data)
         except OSError as error:
@@ -81,15 +81,15 @@ class Terminal:
         return data
 
     def _closed(self, why: str) -> LineFailed:
-        """Closes the device, and gives what to raise."""
+        """Closes the device, and returns the exception to raise."""
         self.close()
         return LineFailed(why)
 
 
 def _make_raw(descriptor: int) -> None:
-    """Switches all flags off but the receiver and 8 data bits."""
+    """Turns off all flags except the receiver and 8 data bits."""
     control = termios.tcgetattr(descriptor)[6]
-    # A read that waits would wait for one byte; so no bytes at all mean that the device is gone.
+    # A blocking read waits for at least one byte, so no bytes mean that the device is gone.
     control[termios.VMIN] = 1
     control[termios.VTIME] = 0
     flags = [0, 0, termios.CREAD | termios.CS8, 0, termios.B115200, termios.B115200, control]
@@ -97,7 +97,7 @@ def _make_raw(descriptor: int) -> None:
 
 
 def _unlock_terminal(descriptor: int) -> None:
-    """Lets others open the device again, which the kernel forgets only at the last close."""
+    """Lets others open the device again: the kernel resets this only at the last close."""
     try:
         fcntl.ioctl(descriptor, termios.TIOCNXCL)
     except OSError:
@@ -146,5 +146,5 @@ def _is_alive(process: int) -> bool:
 
 
 def _reason(error: Exception) -> str:
-    """What the system says of an error, without its number."""
+    """The system's text for an error, without its number."""
     return getattr(error, "strerror", None) or str(error.args[-1] if error.args else error)

@@ -25,7 +25,7 @@ SECONDS_TO_END = 2.0
 
 
 class TextLine(OpenLine):
-    """A line whose far end is another program, which is reached by text.
+    """A line whose far end is another program, connected by text.
 
     Frames are written to one stream, and replies are read from the other; both are binary.
     """
@@ -53,7 +53,7 @@ class TextLine(OpenLine):
 
     @classmethod
     def run(cls, command: Sequence[str]) -> TextLine:
-        """A line over the standard streams of a command, which is started and is ended by `close`."""
+        """A line over the standard streams of a command, which is started here and ended by `close`."""
         try:
             program = subprocess.Popen(command, stdin=subprocess.PIPE, stdout=subprocess.PIPE)
         except OSError as error:
@@ -88,10 +88,10 @@ class TextLine(OpenLine):
 
 
 def serve_text(line: Line, frames: Optional[BinaryIO] = None, replies: Optional[BinaryIO] = None) -> int:
-    """Is the far end of a line as text, on the standard streams unless others are given, until frames end.
+    """Serves the far end of a line as text until frames end, on the standard streams unless others are given.
 
-    Each line of text gets one line: the reply, or `failed` if the exchange failed or the text is no frame. It returns
-    how many frames it served. What the line raises beside `LineFailed` passes through.
+    Each line of text gets one line: the reply, or `failed` if the exchange failed or the text isn't a frame. Returns
+    how many frames it served. Exceptions of the line other than `LineFailed` pass through.
     """
     frames = frames or sys.stdin.buffer
     replies = replies or sys.stdout.buffer
@@ -106,7 +106,7 @@ def serve_text(line: Line, frames: Optional[BinaryIO] = None, replies: Optional[
 def read_line(stream: BinaryIO) -> Optional[bytes]:
     """The next line without its end, cut off if it is longer than any reply; None at the end of the stream.
 
-    A last line without a newline may have been cut off, so it is no line.
+    A last line without a newline may have been cut off, so it isn't returned.
     """
     text = stream.readline(MOST_LINE_BYTES)
     rest = text
@@ -127,7 +127,7 @@ def parse_hex(text: bytes) -> Optional[bytes]:
 
 
 def _opened(path: str, flags: int) -> int:
-    """Opens a file; a terminal device becomes raw, so that it doesn't send back what is written to it."""
+    """Opens a file; a terminal device becomes raw, so that it doesn't echo what is written to it."""
     if flags & os.O_RDWR and stat.S_ISFIFO(os.stat(path).st_mode):
         raise OSError(errno.EINVAL, "a FIFO goes one way, so the replies need another", path)
     file = os.open(path, flags | os.O_NOCTTY | os.O_CLOEXEC)
@@ -138,7 +138,7 @@ def _opened(path: str, flags: int) -> int:
 
 def _opened_at_once(frames: str, replies: str) -> Tuple[int, int]:
     """Opens both files, each of which may be a FIFO that waits for the far end to open it."""
-    # What isn't there is found before anything waits.
+    # A file that doesn't exist is reported before anything waits.
     os.stat(frames)
     os.stat(replies)
     opened: "queue.SimpleQueue[Union[int, OSError]]" = queue.SimpleQueue()
@@ -149,7 +149,7 @@ def _opened_at_once(frames: str, replies: str) -> Tuple[int, int]:
         except OSError as error:
             opened.put(error)
 
-    # An interrupt mustn't wait for this thread.
+    # An interrupt mustn't have to wait for this thread.
     threading.Thread(target=open_frames, daemon=True).start()
     reader = _opened(replies, os.O_RDONLY)
     writer = opened.get()

@@ -1,4 +1,4 @@
-//! What the faults say.
+//! The texts of the faults.
 use rdm_lanes::{OpenFault, RingFault, RingFull};
 use std::alloc::Global;
 use std::fmt::Display;

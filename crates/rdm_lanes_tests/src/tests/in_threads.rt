@@ -49,7 +49,7 @@ static HEARD: [&[Heard]; 2] = [
     ],
 ];
 
-// Two clients over rings of one slot, in a log with this many free entries.
+// Two clients with rings of one slot, and a log with this many free entries.
 fn two(free: usize) -> Setup<'static> {
     Setup {
         free,
@@ -81,7 +81,7 @@ fn a_session_without_clients_ends_at_once(rt: HostRuntime) -> Result<(), Fail> {
     Ok(())
 }
 
-// Why the session of clients that wait first isn't run. None has run.
+// Why a session with this setup isn't run. All its clients wait first, and none may have run.
 fn refused<R: Threads + Wait + Sync>(
     rt: &R,
     alloc: Global,

@@ -3,7 +3,7 @@ use rdm_lanes::OpenFault;
 use rdm_stage::{Setup, open_fault};
 use std::test::Fail;
 
-// Free entries, places for all clients, the places of each, and why such lanes can't be opened.
+// Free entries, the capacity for all clients, the queue depth of each, and why such lanes can't be opened.
 type Row = (usize, u8, &'static [u8], Option<OpenFault>);
 
 static ROWS: [Row; 7] = [

@@ -1,4 +1,4 @@
-//! Whose body and whose callbacks a session hands back at which place.
+//! The order in which a session returns its clients' bodies and callbacks.
 ghost use Rattle.std.specs.Prelude.{◌≡◌};
 ghost use Rattle.rdm_lanes.specs.Workers.{book_of};
 
@@ -14,16 +14,16 @@ use std::sync::Wait;
 use std::test::Fail;
 use std::thread::Threads;
 
-// The first client may have two requests outstanding, and the second one.
+// The clients' queue depths.
 static PLACES: [u8; 2] = [2, 1];
 
-// The tags of what each client's body submits twice, and asks for.
+// The tags of each client's calls: two submits and a discover.
 static TAGS: [[u64; 3]; 2] = [[10, 11, 12], [20, 21, 22]];
 
 // The tags of the callbacks that each client has left.
 static LEFT: [&[u64]; 2] = [&[10, 11, 12], &[20, 22]];
 
-// A gate at which nobody meets.
+// A gate at which no client waits.
 #[derive(Drop)]
 struct Open;
 
@@ -65,7 +65,7 @@ impl Body<Note, AskNote> for Asker {
     }
 }
 
-// Whether the callbacks that are left have these tags, in order.
+// Whether the remaining callbacks have these tags, in order.
 fn have_tags(unspent: Unspent<Note, AskNote>, tags: &[u64]) -> bool {
     let mut unspent = unspent;
     let mut same = true;
@@ -95,7 +95,7 @@ fn have_left<J: ViewHistory>(ends: Vec<ClientEnd<J, Note, AskNote>>) -> bool {
     same
 }
 
-// The bodies, and whether each client's callbacks are left at its place.
+// The bodies, and whether each client's end has its own remaining callbacks.
 fn handed_back<J: ViewHistory, X: Drop>(
     end: LanesEnd<J, Asker, X, Note, AskNote>,
 ) -> (Vec<Asker>, bool) {
@@ -112,7 +112,7 @@ fn handed_back<J: ViewHistory, X: Drop>(
     (bodies, have_left(ends))
 }
 
-// A session of two bodies whose worker makes no turn: what it hands back.
+// What a session with two bodies returns if its worker makes no turn.
 fn unserved<J: ViewHistory + Send + Sync, R: Threads + Wait + Sync>(
     rt: &R,
     alloc: Global,

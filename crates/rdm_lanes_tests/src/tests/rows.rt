@@ -5,7 +5,7 @@ use std::alloc::Global;
 use std::process::Abort;
 use std::sync::Wait;
 
-/// Lanes, what is done there, and what comes of it.
+/// Lanes, moves on them, and the result.
 pub struct Row {
     /// What the row shows.
     pub shows: &'static str,
@@ -13,9 +13,9 @@ pub struct Row {
     pub free: usize,
     /// How many slots each ring has.
     pub ring: u8,
-    /// How many places each client has.
+    /// The queue depth of each client.
     pub places: &'static [u8],
-    /// What is done, and what each act has to come to.
+    /// The acts, each with its expected result.
     pub moves: &'static [Move],
     /// For each client, how many calls it sent, how many outcomes it collected, and how many callbacks it held.
     pub counts: &'static [(u64, u64, u64)],
@@ -23,7 +23,7 @@ pub struct Row {
     pub is_paused: bool,
     /// Whether it is closed at the end.
     pub is_closed: bool,
-    /// What its log says, if that is compared.
+    /// The expected log, if it is compared.
     pub log: Option<&'static [Said]>,
 }
 

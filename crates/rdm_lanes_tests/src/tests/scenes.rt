@@ -18,7 +18,7 @@ static SEEKER: [Play; 3] = [
     Play::Do(Step::Leave),
 ];
 
-// Lets one client ask for a discovery over the line, where runs search like this: how many frames the session took.
+// Lets one client ask for a discovery over the line, with this search. Returns how many frames the session took.
 fn seeks<R: Threads + Wait + Sync>(
     rt: &R,
     alloc: Global,
@@ -56,7 +56,7 @@ fn lying_line(alloc: Global) -> Result<SimLine, Wrong> {
 }
 
 // A steady run makes three unmutes, a branch with a collision, and in each half a branch, a mute and five silences. A
-// quick one hears no half silent: it makes five branches of the whole range at its end.
+// quick run doesn't wait for silence in each half: at its end it makes five branches of the whole range.
 #[test]
 fn a_quick_session_makes_fewer_frames(rt: HostRuntime) -> Result<(), Fail> {
     for (search, wanted) in [(Search::Steady, 18), (Search::Quick, 13)] {
@@ -79,7 +79,7 @@ static FINDER: [Play; 5] = [
     Play::Do(Step::Leave),
 ];
 
-// One that collects nothing: it looks before the other one has collected, and after that.
+// A client that collects nothing: it looks once at any time, and once after the other one has collected.
 static VIEWER: [Play; 4] = [
     Play::Do(Step::Look),
     Play::Wait(0),
@@ -96,7 +96,8 @@ static FINDER_HEARD: [Heard; 4] = [
     Heard::Done,
 ];
 
-// One client discovers, and the other one looks at what it found: what that saw before. Each has read the last view.
+// One client discovers, and the other one looks at what it found. Returns what the other one saw at first. Each has
+// read the last view.
 fn views<R: Threads + Wait + Sync>(rt: &R, alloc: Global, line: SimLine) -> Result<Heard, Fail> {
     let setup = Setup::new(1000, 4, &[1, 1]);
     let over = run_players(rt, alloc, setup, &[&FINDER, &VIEWER], line)?;

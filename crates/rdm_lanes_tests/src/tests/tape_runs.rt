@@ -1,4 +1,4 @@
-//! Discoveries over rings and a tape.
+//! Discoveries with ring buffers over a line with stored replies.
 use rdm_agent::Kind;
 use rdm_join::LineReply;
 use rdm_line::{Line, LineFault};
@@ -10,12 +10,12 @@ use rdm_wire::Frame;
 use std::sync::atomic::{AtomicUsize, Ordering};
 use std::test::Fail;
 
-// A full run finds `1234:00000001` and `5678:00000009`: three unmutes, a reply and an acknowledgement of each, and five
-// silences.
+// A full run finds `1234:00000001` and `5678:00000009`: three unmutes, a branch reply and an acknowledgement from each
+// device, and five silences.
 //
-// Then the second one has gone, and `9abc:00000002` has come. An incremental run makes three unmutes; two mutes of the
-// first device, the reply to the first of them being lost; five mutes of the second; a branch and a mute of the new
-// one; and five branches.
+// Then the second one has gone, and `9abc:00000002` has come. An incremental run makes three unmutes, and two mutes of
+// the first device, since the reply to the first mute is lost. It makes five mutes of the second device, a branch and a
+// mute of the new one, and five branches.
 static BOTH_RUNS: [Came; 29] = [
     Came::Nothing,
     Came::Nothing,
@@ -49,7 +49,7 @@ static BOTH_RUNS: [Came; 29] = [
     Came::Nothing,
 ];
 
-// What a frame asks: the last byte of its PID, and that of the UID that it is sent to (E1.20, discovery).
+// What a frame asks: the last bytes of its PID and of its destination UID (E1.20, discovery).
 type Asked = (u8, u8);
 
 const BRANCH: Asked = (1, 0xff);
@@ -96,7 +96,7 @@ static WANTED: [Asked; 29] = [
     BRANCH,
 ];
 
-// A line, and how many of its frames asked what they were to ask.
+// A line, and how many of its frames asked what was expected.
 #[derive(Drop)]
 struct Watched<'a, X: Drop> {
     line: X,
@@ -139,8 +139,8 @@ const FULL: Heard = Heard::Discovery(5, 1, Ending::Faultless, Found::FirstAndGon
 
 const INCREMENTAL: Heard = Heard::Discovery(6, 2, Ending::Faultless, Found::FirstAndSecond);
 
-// Makes both runs, each with its last frame in the last turn. A view is read before the answer is collected; what the
-// client collects it knows of without reading.
+// Makes both runs, each with its last frame in the last turn. After the first run, the view is read before the answer
+// is collected. After the second run, the client knows what it collected without reading.
 static MOVES: [Move; 13] = [
     (Act::Client(0, Step::Discover(Kind::Full, 5)), Heard::Done),
     (Act::Work(11), Heard::Worked(Stop::Turns)),
@@ -187,7 +187,8 @@ fn an_incremental_run_over_rings_has_the_frames_12_to_28(rt: HostRuntime) -> Res
     Ok(())
 }
 
-// The client has read before the worker goes, before the first run's last frame and after it.
+// The client reads once more after the worker is gone. It sees what the first run found if that had its last frame,
+// else nothing.
 #[test]
 fn the_last_view_stands_without_a_worker(rt: HostRuntime) -> Result<(), Fail> {
     for (count, wanted) in [(4, NONE), (6, KNOWN)] {
@@ -199,7 +200,7 @@ fn the_last_view_stands_without_a_worker(rt: HostRuntime) -> Result<(), Fail> {
     Ok(())
 }
 
-// A client that asks for a full discovery and then for an incremental one. It looks at the devices before, and after
+// A client that asks for a full discovery and then for an incremental one. It looks at the devices before and after
 // each.
 static SEARCHER: [Play; 8] = [
     Play::Do(Step::Look),

@@ -1,4 +1,5 @@
-//! Who waits for whom over rings, and who doesn't: clients and a worker that are driven by hand, over lines that fail.
+//! What waits for what with ring buffers, and what doesn't: clients and a worker that are driven by hand, over lines
+//! that fail.
 use super::rows::{Row, play_all};
 use rdm_join::Status;
 use rdm_rig::{Act, Heard, Refusal, Said, Step, Stop};
@@ -26,7 +27,7 @@ static ROWS: [Row; 7] = [
         is_closed: false,
         log: None,
     },
-    // All have left in the third turn, and one request waits for the fourth.
+    // In the third turn all have left, and one request still waits for the fourth turn.
     Row {
         shows: "what clients that have left asked is still sent, and they collect it",
         free: 100,
@@ -56,7 +57,7 @@ static ROWS: [Row; 7] = [
         is_closed: false,
         log: None,
     },
-    // Of 12 free entries the join takes 1, and each request 5 up to its collect.
+    // Of 12 free entries the join takes 1, and each request takes 5 up to its collect.
     Row {
         shows: "a full log still lets outcomes move",
         free: 12,

@@ -1,4 +1,4 @@
-//! Whole runs over a line in memory, by replies made by hand, and operations as bytes.
+//! Whole runs over a line in memory and with replies made by hand, and operations as bytes.
 
 mod by_hand;
 mod bytes;

@@ -1,4 +1,4 @@
-//! What a test expects. These calls are proved once, while an assertion is proved anew wherever it stands.
+//! Checks of values. A call of these is proved in less time than an assertion, which is proved anew at each place.
 ghost use Rattle.std.specs.Prelude.{IsTrue};
 
 use rdm_wire::Frame;
@@ -6,7 +6,7 @@ use std::alloc::Global;
 use std::fmt::Display;
 use std::process::Abort;
 
-/// Ends the test where the fact doesn't hold.
+/// Ends the test if the fact doesn't hold.
 pub fn check(rt: &impl Abort, fact: bool)
     ensures { IsTrue fact }
 {
@@ -26,7 +26,7 @@ pub fn frame_of(rt: &impl Abort, alloc: Global, text: &str) -> Frame {
     frame
 }
 
-/// What a fault says.
+/// The fault has this text.
 pub fn says<D: Display>(rt: &impl Abort, alloc: Global, fault: &D, text: &str) {
     let said = format!(in alloc; "{fault}").expect(rt, "memory");
     assert!(rt; said.as_str() == text, "{text}");

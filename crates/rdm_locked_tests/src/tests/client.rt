@@ -1,4 +1,4 @@
-//! Callbacks, and the desk that holds those of one client.
+//! Callbacks, and the desk that holds one client's callbacks.
 
 mod callbacks;
 mod desks;

@@ -1,4 +1,4 @@
-//! Moves of which one may find no memory.
+//! Moves of which one may run out of memory.
 use super::checks::check;
 use rdm_join::Status;
 use rdm_queue::JoinFault;
@@ -6,12 +6,12 @@ use rdm_rig::{Act, Driver, Heard, Move, Refusal, Said, Stage, Step};
 use std::alloc::Global;
 use std::process::Abort;
 
-/// Makes moves. If one of them finds no memory, it is made again.
+/// Makes moves. If one of them runs out of memory, it is made again.
 #[derive(Drop)]
 pub struct Careful<'a> {
     moves: &'a [Move],
     was_refused: bool,
-    /// The first move that came to something else, and what it came to.
+    /// The first move with another result than expected, and that result.
     wrong: Option<(usize, Heard)>,
 }
 
@@ -25,12 +25,12 @@ impl<'a> Careful<'a> {
         }
     }
 
-    /// All moves came to what they had to.
+    /// All moves had the expected results.
     pub fn is_right(&self, rt: &impl Abort) {
         assert!(rt; self.wrong.is_none(), "{:?}", self.wrong);
     }
 
-    // What the act comes to after another one had come to this for lack of memory.
+    // The result of the act when it is made again, after it had this result for lack of memory.
     fn again<S: Stage>(&mut self, alloc: Global, stage: &mut S, act: Act, came: Heard) -> Heard {
         if self.was_refused {
             return came;
@@ -39,7 +39,7 @@ impl<'a> Careful<'a> {
         match (act, came) {
             (Act::Join(_), Heard::Nothing | Heard::Refused(Refusal::Join(JoinFault::NoMemory))) =>
                 {}
-            // The turn before made no exchange, published nothing, or moved no outcome: the next one does.
+            // The last turn made no exchange, published no view, or moved no outcome: the next turn does.
             (Act::Client(_, Step::Collect), Heard::Nothing) => works(alloc, stage, 1),
             (Act::Client(client, Step::Collect), Heard::Request(tag, Status::NoMemory)) => {
                 let _ = stage.act(alloc, Act::Client(client, Step::Submit(tag)));
@@ -71,8 +71,8 @@ impl Driver for Careful<'_> {
     }
 }
 
-/// Whether a request in this log got no data and was made again. The log has this many entries, and more if a call
-/// found no memory: one for a join, this many for such a request.
+/// Whether a request in this log got no data and was made again. The log has to have `wanted` entries. If a call ran
+/// out of memory, it has more: one for a join, `request` for such a request.
 pub fn is_again(rt: &impl Abort, log: &[Said], wanted: usize, request: usize) -> bool {
     let mut more = 0;
     let mut is_again = false;

@@ -1,4 +1,4 @@
-//! Controllers without a log: how they are made, joins, and replies that are delivered.
+//! Controllers: their creation, joins, and replies that are delivered.
 use super::checks::check;
 use super::lines::first_device;
 use rdm_join::{LineEvent, Status};
@@ -10,7 +10,7 @@ use std::process::Abort;
 
 const CLIENT: ClientId = ClientId(0);
 
-// A controller with this many places, made again if an allocation fails.
+// A controller with this capacity, made again if an allocation fails.
 fn controller(rt: &impl Abort, alloc: Global, places: u8) -> Controller {
     match Controller::new(alloc, config(places)) {
         Ok(controller) => controller,
@@ -21,7 +21,7 @@ fn controller(rt: &impl Abort, alloc: Global, places: u8) -> Controller {
     }
 }
 
-// Lets the first client join with this many places, again if an allocation fails. Nothing has changed then.
+// Lets the first client join with this queue depth, again if an allocation fails, which has to change nothing.
 fn joins(rt: &impl Abort, alloc: Global, controller: &mut Controller, places: u8) {
     let mut joined = controller.join_client(alloc, places);
     if joined == Err(JoinFault::NoMemory) {
@@ -35,7 +35,7 @@ fn joins(rt: &impl Abort, alloc: Global, controller: &mut Controller, places: u8
     check(rt, joined == Ok(CLIENT));
 }
 
-// Why a submit is refused; the request comes back.
+// Why a submit is refused. The request has to be returned.
 fn refusal(rt: &impl Abort, controller: &mut Controller) -> Option<SubmitFault> {
     match controller.submit(CLIENT, request(0)) {
         Ok(_) => None,
@@ -46,7 +46,7 @@ fn refusal(rt: &impl Abort, controller: &mut Controller) -> Option<SubmitFault> 
     }
 }
 
-// In a controller of two places, one client has both: two requests are accepted and the third one comes back.
+// In a controller with capacity two, one client has it all: two requests are accepted, and the third one is returned.
 #[test]
 fn controller_new_and_join_client(rt: HostRuntime) {
     let mut controller = controller(&rt, rt.alloc(), 2);
@@ -59,7 +59,7 @@ fn controller_new_and_join_client(rt: HostRuntime) {
     );
 }
 
-// What comes of the request with this number, which is answered by two bytes. Then no reply is awaited.
+// The outcome of the request with this number, which is answered by two bytes. Then no reply is awaited.
 fn asks(
     rt: &impl Abort,
     alloc: Global,

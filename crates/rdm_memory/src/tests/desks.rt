@@ -7,7 +7,7 @@ use rdm_rig::{AskNote, Note, cancels};
 use std::alloc::Global;
 use std::process::Abort;
 
-// A desk with this many places, made again if an allocation fails.
+// A desk for this queue depth, made again if an allocation fails.
 fn desk(rt: &impl Abort, alloc: Global, places: u8) -> Desk<Note, AskNote> {
     match Desk::new(alloc, places) {
         Ok(desk) => desk,
@@ -18,7 +18,7 @@ fn desk(rt: &impl Abort, alloc: Global, places: u8) -> Desk<Note, AskNote> {
     }
 }
 
-// What a client is given for a request that wasn't answered.
+// A client's outcome of a request that wasn't answered.
 fn outcome(alloc: Global, number: u64) -> Outcome {
     Outcome::Request {
         number: Some(number),
@@ -30,10 +30,10 @@ fn outcome(alloc: Global, number: u64) -> Outcome {
     }
 }
 
-// What a settle answers.
+// What a settle returns.
 type Settled = Result<Collected, (Misdelivered, Outcome)>;
 
-// Whether the callback with this tag was told of that request.
+// Whether the callback with this tag was called with such an outcome.
 fn is_told(settled: &Settled, tag: u64) -> bool {
     match settled {
         Ok(Collected::Request(told)) => told.tag == tag && told.done.status == Status::Timeout,
@@ -41,7 +41,7 @@ fn is_told(settled: &Settled, tag: u64) -> bool {
     }
 }
 
-// Whether the outcome of the request with this number came back.
+// Whether the outcome of the request with this number was returned.
 fn is_back(settled: &Settled, wanted: u64) -> bool {
     match settled {
         Err((Misdelivered, Outcome::Request { number, .. })) => *number == Some(wanted),
@@ -61,7 +61,7 @@ fn desk_new_of_one_place(rt: HostRuntime) {
     check(&rt, is_told(&told, 1) && is_back(&again, 1) && left == 0);
 }
 
-// A desk holds as many callbacks of requests as it has places, and four of discoveries.
+// A desk holds as many callbacks of requests as its queue depth, and four of discoveries.
 fn holds(rt: &impl Abort, alloc: Global, places: u8) {
     let mut desk = desk(rt, alloc, places);
     let mut held = 0u64;

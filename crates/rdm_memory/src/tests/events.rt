@@ -1,4 +1,4 @@
-//! Lists of events that a session answers.
+//! Lists of events that a session runs.
 use super::checks::check;
 use super::lines::first_device;
 use rdm_agent::{DEFAULT_BUDGET, Kind};
@@ -13,12 +13,12 @@ use std::process::Abort;
 
 const CLIENT: ClientId = ClientId(0);
 
-// A session with 255 places.
+// A session with capacity 255.
 fn session(rt: &impl Abort, alloc: Global) -> Session {
     session_of(alloc, 255, DEFAULT_BUDGET, 2000).expect(rt, "memory for a session")
 }
 
-// Room for this many events.
+// A vector with capacity for this many events.
 fn room_for(rt: &impl Abort, alloc: Global, count: usize) -> Vec<Event> {
     match Vec::with_capacity(alloc, count) {
         Ok(events) => events,
@@ -30,7 +30,7 @@ fn adds(rt: &impl Abort, events: &mut Vec<Event>, event: Event) {
     check(rt, events.push(event).is_ok());
 }
 
-// A client joins, and so often submits a request, which is sent, not answered, and collected.
+// A client joins, and this many times submits a request, which is sent, not answered, and collected.
 fn events(rt: &impl Abort, alloc: Global, times: usize) -> Vec<Event> {
     let mut events = room_for(rt, alloc, times.saturating_mul(4).saturating_add(1));
     adds(rt, &mut events, Event::Join(255));
@@ -47,7 +47,7 @@ fn events(rt: &impl Abort, alloc: Global, times: usize) -> Vec<Event> {
     events
 }
 
-// Answers the events, again if there is no memory for the answers; the session is then as new.
+// Runs the events, again if there is no memory for the answers. In that case the session has to be like a new one.
 fn runs(rt: &impl Abort, alloc: Global, session: &mut Session, events: &[Event]) -> Vec<Answer> {
     match session.run(alloc, events) {
         Ok(answers) => answers,
@@ -73,7 +73,7 @@ fn is_served(answer: &Answer) -> bool {
     }
 }
 
-// How many answers are such.
+// How many answers are of that kind.
 fn served(answers: &[Answer]) -> usize {
     let mut served = 0usize;
     for answer in answers {
@@ -84,8 +84,8 @@ fn served(answers: &[Answer]) -> usize {
     served
 }
 
-// Runs so many requests. If the join finds no memory, there is no client, and nothing is sent. Says whether it found
-// it.
+// Runs this many requests. If the join fails for lack of memory, there is no client, and nothing is sent. Returns
+// whether it succeeded.
 fn runs_requests(rt: &impl Abort, alloc: Global, times: usize) -> bool {
     let mut session = session(rt, alloc);
     let answers = runs(rt, alloc, &mut session, &events(rt, alloc, times));
@@ -100,7 +100,7 @@ fn runs_requests(rt: &impl Abort, alloc: Global, times: usize) -> bool {
         0
     };
     check(rt, served(&answers) == wanted && session.is_idle());
-    // The join and the submits; of those that were accepted a frame, a reply, an end and a collect too.
+    // The join and the submits; each accepted one also has a frame, a reply, an end and a collect.
     let each = if is_joined { 5 } else { 1 };
     check(
         rt,
@@ -144,7 +144,7 @@ fn joins(rt: &impl Abort, alloc: Global, session: &mut Session) {
     );
 }
 
-// What comes of the request with this number, which is answered by two bytes.
+// The outcome of the request with this number, which is answered by two bytes.
 fn asks(
     rt: &impl Abort,
     alloc: Global,
@@ -194,7 +194,7 @@ fn discovers(rt: &impl Abort, alloc: Global, session: &mut Session, line: &mut S
     }
 }
 
-// Answers a collect of a discovery's outcome, again if there is no memory for it: the session is then unchanged.
+// Collects a discovery's outcome, again if there is no memory for it. In that case the session has to be unchanged.
 fn collects(rt: &impl Abort, alloc: Global, session: &mut Session) -> Answer {
     let entries = session.log().entries().len();
     let free = session.free();
@@ -210,7 +210,7 @@ fn collects(rt: &impl Abort, alloc: Global, session: &mut Session) -> Answer {
     session.answer(alloc, &Event::Collect(CLIENT))
 }
 
-// Whether the answer is the outcome of discovery 0, whose run found the first device alone, with its control field and
+// Whether the answer is the outcome of discovery 0, whose run found only the first device, with its control field and
 // its binding UID.
 fn is_found(answer: &Answer) -> bool {
     match answer {

@@ -1,4 +1,4 @@
-//! What the mutex of a port protects: how it is made, joins, and replies that are delivered.
+//! What the mutex of a port protects: its creation, joins, and replies that are delivered.
 ghost use Rattle.std.specs.Prelude.{◌≡◌};
 
 use super::checks::check;
@@ -15,7 +15,7 @@ use std::sync::ledger::{Blank, Ledger};
 
 const CLIENT: ClientId = ClientId(0);
 
-// What lies under the lock, made again with what came back if an allocation fails.
+// What the mutex protects, made again with what was returned if an allocation fails.
 fn inside<L: Ledger>(rt: &impl Abort, alloc: Global, blank: Blank) -> Inside<L>
     requires name { blank.name ≡ L.name }
     requires parts { (blank.parts ≡ L.parts) × (L.parts ≡ 17) }
@@ -33,7 +33,7 @@ fn inside<L: Ledger>(rt: &impl Abort, alloc: Global, blank: Blank) -> Inside<L>
     }
 }
 
-// The share of the first client, which joins again if an allocation fails. The log alone has changed then.
+// The share of the first client, which joins again if an allocation fails. In that case only the log may have changed.
 fn joined<L: Ledger>(rt: &impl Abort, alloc: Global, inside: &mut Inside<L>) -> CallShare<L> {
     let mut joined = inside.join(alloc, 2);
     if matches!(&joined, Err(JoinFault::NoMemory)) {
@@ -49,7 +49,7 @@ fn joined<L: Ledger>(rt: &impl Abort, alloc: Global, inside: &mut Inside<L>) -> 
     }
 }
 
-// What comes of the request with this number, which is answered by two bytes.
+// The outcome of the request with this number, which is answered by two bytes.
 fn asks<L: Ledger>(
     rt: &impl Abort,
     alloc: Global,

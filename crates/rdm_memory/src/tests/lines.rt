@@ -1,11 +1,11 @@
-//! Lines that are made again if their scenes find no memory.
+//! Lines that are made again if the allocation of their scene fails.
 use super::checks::check;
 use rdm_line::SimLine;
 use rdm_rig::{LineOf, Meeting, Placed, Who, Wrong, line_of};
 use std::alloc::Global;
 use std::process::Abort;
 
-/// A line of this scene. What `SimLine::new` refuses is made again by the rig, with the scene that came back.
+/// A line of this scene. If `SimLine::new` fails, the rig calls it again with the scene that was returned.
 pub fn line(rt: &impl Abort, alloc: Global, of: LineOf) -> SimLine {
     match line_of(alloc, of) {
         Ok(line) => line,

@@ -24,7 +24,7 @@ static IN_PARTS: [Move; 4] = [
     (Act::Client(0, Step::Collect), Heard::Data(LONG, 693)),
 ];
 
-// Makes these moves. None: the rig itself found no memory.
+// Makes these moves. None: the rig itself ran out of memory.
 fn plays<R: Wait + Abort>(rt: &R, alloc: Global, moves: &[Move]) -> Option<PortOver> {
     let line = first_device(rt, alloc, &[], &[]);
     let mut careful = Careful::new(moves);
@@ -38,13 +38,13 @@ fn plays<R: Wait + Abort>(rt: &R, alloc: Global, moves: &[Move]) -> Option<PortO
     }
 }
 
-// Makes these moves, again if the rig finds no memory. A request has this many parts.
+// Makes these moves, again if the rig runs out of memory. The answer to a request has this many parts.
 fn plays_again<R: Wait + Abort>(rt: &R, alloc: Global, moves: &[Move], parts: usize) {
     let over = match plays(rt, alloc, moves) {
         Some(over) => over,
         None => plays(rt, alloc, moves).expect(rt, "memory for the rig"),
     };
-    // The accept, a frame and a reply for each part, the end and the collect; before them the join.
+    // The accept, a frame and a reply for each part, the end and the collect. The join comes before them.
     let request = parts.saturating_mul(2).saturating_add(3);
     let is_again = is_again(rt, &over.log, request.saturating_add(1), request);
     let (calls, recorded) = if is_again {

@@ -1,5 +1,5 @@
-//! A view whose publication fails in two turns in a row. In a test whose name ends with `twice`, `check_memory` makes
-//! an allocation and the next one fail.
+//! A view whose publication fails in two turns in a row. In a test whose name ends with `twice`, `check_memory` lets an
+//! allocation and the next one fail.
 use super::checks::check;
 use rdm_agent::Kind;
 use rdm_join::{LineReply, Status};
@@ -40,11 +40,11 @@ impl<X: Line + Drop> Line for Counted<'_, X> {
     }
 }
 
-// Discovers on a line that keeps silent, which takes eight exchanges. A request waits after it.
+// Discovers on a silent line, which takes eight exchanges. A request waits meanwhile.
 #[derive(Drop)]
 struct Patient<'a> {
     made: &'a AtomicU64,
-    // Whether nothing was done before the view was published, and then both outcomes came.
+    // Whether nothing happened before the view was published, and then both outcomes came.
     is_right: bool,
 }
 
@@ -63,7 +63,7 @@ impl Driver for Patient<'_> {
     }
 }
 
-// Works until the client sees the run's view. Before that it sees the one from the start and collects nothing, and the
+// Works until the client sees the run's view. Until then it has to see the opening view and collect nothing, and the
 // line makes no exchange.
 fn waits_for_view<S: Stage>(alloc: Global, stage: &mut S, made: &AtomicU64) -> bool {
     for _turn in 0..FAILURES {
@@ -78,7 +78,7 @@ fn waits_for_view<S: Stage>(alloc: Global, stage: &mut S, made: &AtomicU64) -> b
     stage.act(alloc, LOOK) == Heard::Sees(1, Found::Nobody)
 }
 
-// Collects, after further turns if an outcome waits for memory.
+// Collects, with further turns if an outcome waits for memory.
 fn collects<S: Stage>(alloc: Global, stage: &mut S) -> Heard {
     for _turn in 0..=FAILURES {
         let heard = stage.act(alloc, COLLECT);
@@ -90,7 +90,7 @@ fn collects<S: Stage>(alloc: Global, stage: &mut S) -> Heard {
     Heard::Nothing
 }
 
-// Drives lanes over that line: whether all was right, and what is left.
+// Drives lanes over that line. Returns whether all was right, and what is left.
 fn drives<R: Wait>(rt: &R, alloc: Global) -> Result<(bool, LanesOver), Failed> {
     let made = AtomicU64::new(0);
     let line = Counted {

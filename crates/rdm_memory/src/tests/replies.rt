@@ -28,7 +28,7 @@ fn response(rt: &impl Abort, ack: AckType, length: usize) -> Response {
     }
 }
 
-// A joiner that was given this many parts of 231 bytes.
+// A joiner after this many parts of 231 bytes.
 fn with_parts(rt: &impl Abort, parts: usize) -> Joiner
     ensures { IsOpen result }
 {
@@ -40,7 +40,7 @@ fn with_parts(rt: &impl Abort, parts: usize) -> Joiner
     joiner
 }
 
-// The data of this many parts and of a last reply with this many bytes. They are taken again if an allocation fails.
+// Takes the data of this many parts and of a last reply with this many bytes, again if an allocation fails.
 fn takes(rt: &impl Abort, alloc: Global, parts: usize, last: usize, length: usize) {
     let mut joiner = with_parts(rt, parts);
     let step = joiner.add(Judged::Whole(response(rt, AckType::Ack, last)));

@@ -13,7 +13,7 @@ use std::sync::Wait;
 
 const TURN: Move = (Act::Work(1), Heard::Worked(Stop::Turns));
 
-// Lanes over rings of one slot.
+// Lanes with rings of one slot.
 fn setup(places: &[u8]) -> Setup {
     Setup {
         greatest: 4,
@@ -21,7 +21,7 @@ fn setup(places: &[u8]) -> Setup {
     }
 }
 
-// Makes these moves over this line. None: the rig itself found no memory.
+// Makes these moves over this line. None: the rig itself ran out of memory.
 fn plays<X: Line + Drop, R: Wait + Abort>(
     rt: &R,
     alloc: Global,
@@ -40,8 +40,8 @@ fn plays<X: Line + Drop, R: Wait + Abort>(
     }
 }
 
-// Makes these moves over a line that fails, again if the rig finds no memory. The clients then hold this many
-// callbacks.
+// Makes these moves over a line that fails, again if the rig runs out of memory. At the end the clients have to hold
+// this many callbacks.
 fn fails<R: Wait + Abort>(rt: &R, alloc: Global, places: &[u8], moves: &[Move], held: u64) {
     let over = match plays(rt, alloc, places, TapeLine::new(Vec::new(alloc)), moves) {
         Some(over) => over,
@@ -134,8 +134,8 @@ fn worker_work_of_a_request(rt: HostRuntime) {
     check(&rt, played.is_some() || requests(&rt, rt.alloc()).is_some());
 }
 
-// Discovery on a line that keeps silent takes eight exchanges; a request waits after it. If there is no memory for the
-// view of what the run found, or for the client's own copy, its outcome waits a turn.
+// Discovery on a silent line takes eight exchanges, and a request waits meanwhile. If there is no memory for the view
+// of what the run found, or for the client's own copy, the outcome waits a turn.
 static ONE_DISCOVERY: [Move; 8] = [
     (Act::Client(0, Step::Discover(Kind::Full, 1)), Heard::Done),
     TURN,
@@ -164,6 +164,6 @@ fn worker_work_of_a_discovery(rt: HostRuntime) {
         Some(over) => over,
         None => discovers(&rt, rt.alloc()).expect(&rt, "memory for the rig"),
     };
-    // The view of run 1, and the one from before all runs.
+    // The opening view and the view of run 1.
     check(&rt, over.published == 2);
 }

@@ -7,7 +7,7 @@ use rdm_wire::{Device, Frame, Uid, encode_mute};
 use std::alloc::Global;
 use std::process::Abort;
 
-// Puts in the device with this number. It has no parameters, and is on the line from the beginning.
+// Adds the device with this number. It has no parameters, and is on the line from the start.
 fn puts(
     rt: &impl Abort,
     alloc: Global,
@@ -29,7 +29,7 @@ fn puts(
     })
 }
 
-// If an allocation fails, the device isn't there, and can be put in again.
+// If an allocation fails, the device isn't there, and can be added again.
 #[test]
 fn scene_devices_add(rt: HostRuntime) {
     let mut devices = SceneDevices::new(rt.alloc());
@@ -53,8 +53,8 @@ fn mute(rt: &impl Abort) -> Frame {
     encode_mute(uid, controller(), 0)
 }
 
-// What comes of this many mutes of the device: the failures and the losses have their numbers, and else it answers,
-// with its binding UID.
+// Of this many mutes, those with these numbers fail or have no reply. The device acknowledges all others, with its
+// binding UID.
 fn has_faults(rt: &impl Abort, line: &mut SimLine, exchanges: u64, losses: &[u64], fails: &[u64]) {
     let frame = mute(rt);
     for number in 0..exchanges {

@@ -1,4 +1,4 @@
-//! Sessions and their logs: how they are made, joins, and replies that are delivered.
+//! Sessions and their logs: their creation, joins, and replies that are delivered.
 use super::careful::Careful;
 use super::checks::check;
 use super::lines::{first_device, line};
@@ -13,7 +13,7 @@ use rdm_rig::{
 use std::alloc::Global;
 use std::process::Abort;
 
-// A session with this many places over this line, and a log with this many free entries.
+// A session with this capacity, a line with the first device, and a log with this many free entries.
 fn session(rt: &impl Abort, alloc: Global, places: u8, free: usize) -> SessionStage<SimLine> {
     let line = first_device(rt, alloc, &[], &[]);
     open_session(alloc, places, DEFAULT_BUDGET, free, line).expect(rt, "memory for a session")
@@ -45,8 +45,8 @@ fn join_client_of_one_place(rt: HostRuntime) {
     moves(&rt, rt.alloc(), &mut stage, &all);
 }
 
-// A client with this many places, which are then taken one after the other. A join without memory changes the log
-// alone.
+// A client with this queue depth, which it uses up with requests. A join that runs out of memory may only change the
+// log.
 fn takes_all_places(rt: &impl Abort, alloc: Global, places: u8) {
     let mut stage = session(rt, alloc, places, 2000);
     let join = [(Act::Join(places), Heard::Number(0))];
@@ -82,8 +82,8 @@ fn join_client_of_the_most_places(rt: HostRuntime) {
     takes_all_places(&rt, rt.alloc(), 255);
 }
 
-// In a log with three free entries a client joins; then a submit is refused, its request comes back, and the close is
-// done. Says whether the join found memory.
+// In a log with three free entries a client joins. Then a submit is refused, its request is returned, and the close
+// succeeds. Returns whether the join had memory.
 fn fills_the_log(rt: &impl Abort, alloc: Global) -> bool {
     let mut stage = session(rt, alloc, 2, 3);
     check(rt, stage.state().free == 3);

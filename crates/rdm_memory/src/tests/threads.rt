@@ -10,10 +10,10 @@ use std::process::Abort;
 use std::sync::Wait;
 use std::thread::Threads;
 
-// How often a body tries before it gives up. It does so if no thread could be made for the other one.
+// How often a body tries before it gives up. It gives up if no thread could be made for the other one.
 const TRIES: u64 = 3_000_000;
 
-// The worker makes all of them if no thread could be made for the bodies.
+// The worker makes all these turns if no thread could be made for the bodies.
 const TURNS: u64 = 100_000_000;
 
 // A client that waits for the other one, and makes two requests.
@@ -27,7 +27,7 @@ static FIRST: [Play; 7] = [
     Play::Do(Step::Leave),
 ];
 
-// One that makes a request before it waits, and another one after that.
+// A client that makes one request before it waits, and another one after that.
 static SECOND: [Play; 7] = [
     Play::Do(Step::Submit(20)),
     Play::Hear,
@@ -64,7 +64,7 @@ fn body(script: &'static [Play]) -> Player {
     }
 }
 
-// Runs the two bodies over a line that keeps silent. None: the rig itself found no memory.
+// Runs the two bodies over a silent line. None: the rig itself ran out of memory.
 fn runs<R: Threads + Wait + Abort + Sync>(rt: &R, alloc: Global) -> Option<PlayersOver> {
     let line = silent(alloc, 4).ok()?;
     let bodies = Vec::from_slice(alloc, &[body(&FIRST), body(&SECOND)]).ok()?;
@@ -79,7 +79,8 @@ fn runs<R: Threads + Wait + Abort + Sync>(rt: &R, alloc: Global) -> Option<Playe
     }
 }
 
-// Whether the bodies met, and each request was told. If there was no memory for a thread, each has run all the same.
+// Whether the bodies met, and each request got its outcome. If there was no memory for a thread, each body has run all
+// the same.
 fn have_met(rt: &impl Abort, over: &PlayersOver) -> bool {
     let [first, second] = over.players.as_slice() else {
         panic!(rt; "two bodies")

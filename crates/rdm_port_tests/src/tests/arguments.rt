@@ -1,4 +1,4 @@
-//! What arguments ask for, where only values show it.
+//! What arguments ask for, if only values show it.
 use super::program::{Due, check, says, status_of};
 use rdm_port::{Complaint, Job, PortKind, USAGE, WordsFault, complaint_of, parse_words};
 use std::alloc::Global;
@@ -17,7 +17,7 @@ fn names(rt: &impl Abort, alloc: Global, words: &[&str], port: PortKind) {
     check(rt, parse_words(alloc, words) == Ok(job));
 }
 
-// Both ports print the same.
+// Both ports print the same, so only the value shows which one was named.
 #[test]
 fn arguments_name_their_port(rt: HostRuntime) {
     use PortKind::{Locked, Rings};
@@ -29,7 +29,7 @@ fn arguments_name_their_port(rt: HostRuntime) {
     names(&rt, alloc, &["run", "--port=rings", "file"], Rings);
 }
 
-// The arguments, which name no file, print this.
+// These arguments, which name no file, print this.
 fn prints<T: Threads + Wait + Abort + Sync>(rt: &T, alloc: Global, words: &[&str], due: Due<'_>) {
     let mut written = Vec::new(alloc);
     let status = status_of(rt, alloc, words, &mut io::empty(), &mut written);
@@ -56,7 +56,7 @@ fn arguments_have_null_characters(rt: HostRuntime) {
     prints(&rt, alloc, &["decode\u{0}", "fe"], no_words);
 }
 
-// The first complaint is about arguments that fit a command: no other one is true of them.
+// The first complaint is about arguments that fit a command, so no more specific complaint applies.
 #[test]
 fn faults_of_arguments_say_what_is_wrong(rt: HostRuntime) {
     let alloc = rt.alloc();

@@ -1,4 +1,4 @@
-//! Outcomes that aren't those of the log are found out.
+//! Outcomes that aren't those of the log are detected.
 use super::program::check;
 use arrayvec::ArrayVec;
 use rdm_agent::{AgentFault, Kind};
@@ -23,7 +23,7 @@ fn joined(alloc: Global) -> Option<(Session, ClientId)> {
     Some((session, client))
 }
 
-// The client makes a request and asks for a discovery. Whether both are accepted.
+// The client makes a request and asks for a discovery. Returns whether both are accepted.
 fn asks(session: &mut Session, client: ClientId) -> bool {
     let request = Request {
         target: Uid::new(0x1234, 1),
@@ -35,12 +35,12 @@ fn asks(session: &mut Session, client: ClientId) -> bool {
     session.submit(client, request).is_ok() && session.discover(client, Kind::Full).is_ok()
 }
 
-// The line fails at the next frame. Whether there is one.
+// The line fails at the next frame. Returns whether there is one.
 fn fails(alloc: Global, session: &mut Session) -> bool {
     matches!(session.take(), Ok(Some(_))) && session.deliver(alloc, LineEvent::Failed).is_ok()
 }
 
-// A session of one client, whose request failed to be sent, and whose discovery ended as the line failed.
+// A session of one client, whose request failed to be sent, and whose discovery ended because the line failed.
 fn session_of_one(rt: &impl Abort, alloc: Global) -> Session {
     let (mut session, client) = joined(alloc).expect(rt, "a session");
     check(rt, asks(&mut session, client));
@@ -81,7 +81,7 @@ fn are_of(rt: &impl Abort, alloc: Global, session: &Session, told: &[Outcomes], 
 
 const FAILED: Option<AgentFault> = Some(AgentFault::LineFailed);
 
-// Outcomes with another end.
+// Outcomes with a different end.
 #[test]
 fn outcomes_that_the_log_has_not_are_found_out(rt: HostRuntime) {
     let alloc = rt.alloc();
@@ -96,7 +96,7 @@ fn outcomes_that_the_log_has_not_are_found_out(rt: HostRuntime) {
     are_of(&rt, alloc, &session, &other_fault, false);
 }
 
-// Missing ones, and those of a client too many.
+// Missing outcomes, and those of one client too many.
 #[test]
 fn outcomes_of_too_few_and_too_many_are_found_out(rt: HostRuntime) {
     let alloc = rt.alloc();

@@ -8,7 +8,7 @@ use std::process::Abort;
 use std::sync::Wait;
 use std::thread::Threads;
 
-/// A log in memory, which takes so many bytes and no more.
+/// A log in memory with a limited number of bytes.
 #[derive(Drop)]
 pub struct MemoryLog {
     taken: Vec<u8>,
@@ -42,7 +42,7 @@ impl OpensLog for MemoryLog {
     }
 }
 
-/// What came of a command: its status, the reason if it isn't done, what it printed, and its log.
+/// The results of a command: its status, the reason if it failed, what it printed, and its log.
 #[derive(Drop)]
 pub struct Carried<'a> {
     pub status: u8,
@@ -79,7 +79,7 @@ pub fn carries<'a, R: Read, T: Threads + Wait + Sync>(
 const FIRST: &str = "{\"number\":0,\"operation\":\"unmute\",\
     \"frame\":\"cc0118ffffffffffff7a700000010000010000001000030007de\",\"reply\":\"\"}\n";
 
-// The whole log, of ten exchanges.
+// How many lines the whole log has: one for each exchange.
 const LINES: usize = 10;
 
 const WORDS: [&str; 5] = ["discover", "--incremental", "scene.json", "--log", "log"];
@@ -92,7 +92,7 @@ fn is_unlogged(reason: &Option<Reason<'_>>) -> bool {
     )
 }
 
-// The log, if it takes so many bytes. The status is this one then.
+// The log, if it takes at most `most` bytes. The command has to end with this status.
 fn logged<T: Threads + Wait + Abort + Sync>(
     rt: &T,
     alloc: Global,
@@ -112,7 +112,7 @@ fn logged<T: Threads + Wait + Abort + Sync>(
     log
 }
 
-// How many lines end in these bytes.
+// How many ends of lines these bytes have.
 fn ends_of_lines(bytes: &[u8]) -> usize {
     let mut lines = 0_usize;
     for byte in bytes {
@@ -123,7 +123,7 @@ fn ends_of_lines(bytes: &[u8]) -> usize {
     lines
 }
 
-// A log that is cut short has a prefix of the text. The answer is printed all the same.
+// A log that is cut short has a prefix of the text. The answer is still printed.
 #[test]
 fn a_log_fails_at_each_byte(rt: HostRuntime) {
     let alloc = rt.alloc();

@@ -1,4 +1,5 @@
-//! How a client plays its calls: it looks for the stop before it collects, and makes all its turns and no more.
+//! How a client plays its calls: it looks for the worker's stop before it collects, and makes all its turns and no
+//! more.
 ghost use Rattle.std.specs.Prelude.{⊤};
 
 use super::program::check;
@@ -11,7 +12,7 @@ use rdm_wire::DeviceSet;
 use std::alloc::Global;
 use std::sync::atomic::{AtomicBool, Ordering};
 
-// A client whose outcome comes just before somebody looks for the worker's stop, and not before so many collects.
+// A client whose outcome comes just before the first look for the worker's stop, but not before this many collects.
 #[derive(Drop)]
 struct Late {
     collects: u64,

@@ -12,7 +12,7 @@ use std::thread::Threads;
 /// What is printed, and the status.
 pub type Due<'a> = (&'a str, u8);
 
-/// An incremental run, and a session over each port.
+/// Arguments for an incremental run, and for a session over each port.
 pub const INCREMENTAL: [&str; 3] = ["discover", "--incremental", "scene.json"];
 
 pub const LOCKED: [&str; 2] = ["run", "session.json"];
@@ -26,8 +26,8 @@ pub const SCENE_FILE: &str =
     \"binding\":\"1234:00000005\",\"from\":0,\"until\":1000}],\"collisions\":[\"or\"],\"losses\":[3],\
     \"fails\":[900],\"known\":[\"1234:00000001\"],\"budget\":400}";
 
-/// What an incremental run prints of the scene: three unmutes, a mute that is lost and one that is acknowledged, and
-/// five branches without reply.
+/// What an incremental run prints for the scene. It makes three unmutes, a mute whose reply is lost, one that is
+/// acknowledged, and five branches without reply.
 pub const SCENE: Due<'static> = ("1234:00000001 0002 1234:00000005\nframes 10\n", 0);
 
 /// A session over that scene, with each key that there is: one client asks for a discovery, and makes a GET and a SET.
@@ -40,13 +40,13 @@ pub const SESSION_FILE: &str =
     \"param\":\"07\"},{\"set\":\"1234:00000001\",\"pid\":\"0060\",\"sub\":1,\"param\":\"07\"}]}],\
     \"ring\":2,\"search\":\"quick\",\"log\":1000,\"turns\":100000000}";
 
-/// What is printed of the session: the GET's two parts, the SET's answer without data, and the device.
+/// What is printed for the session: the GET's two parts, the SET's answer without data, and the device.
 pub const SESSION: Due<'static> = (
     "client 0 request 0: 0 00 0102\nclient 0 request 1: 0 00 -\nclient 0 discovery 0: ok 1234:00000001\n",
     0,
 );
 
-/// Does what the arguments ask for, and gives the status.
+/// Does what the arguments ask for, and returns the status.
 pub fn status_of<R: Read, W: Write, T: Threads + Wait + Sync>(
     rt: &T,
     alloc: Global,
@@ -64,12 +64,12 @@ pub fn check(rt: &impl Abort, fact: bool)
     assert!(rt; fact);
 }
 
-/// The same, with the place that the fact is about.
+/// The same. If the fact doesn't hold, it prints `place`.
 pub fn check_at(rt: &impl Abort, place: usize, fact: bool) {
     assert!(rt; fact, "{place}");
 }
 
-/// What this says.
+/// This value is displayed as this text.
 pub fn says<D: Display>(rt: &impl Abort, alloc: Global, shown: &D, text: &str) {
     let said = format!(in alloc; "{shown}").expect(rt, "memory");
     assert!(rt; said.as_str() == text, "{text}");

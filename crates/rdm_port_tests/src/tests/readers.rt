@@ -57,7 +57,7 @@ impl Read for FailingReader<'_> {
     }
 }
 
-// The command prints this of the reader's file.
+// The command prints this for the reader's file.
 fn reads<T: Threads + Wait + Abort + Sync>(
     rt: &T,
     alloc: Global,
@@ -72,8 +72,8 @@ fn reads<T: Threads + Wait + Abort + Sync>(
     check_at(rt, fails_at, is_due);
 }
 
-// The file is read byte by byte, and once more, which shows its end. A reader that fails until then is reported,
-// whatever came before; one that gives all is answered.
+// The file is read byte by byte, and once more, which shows its end. If one of these reads fails, the fault is printed,
+// whatever came before. If none does, the answer is printed.
 fn fails_at_each_read<T: Threads + Wait + Abort + Sync>(
     rt: &T,
     alloc: Global,

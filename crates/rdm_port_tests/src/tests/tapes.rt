@@ -1,4 +1,4 @@
-//! Runs on a tape.
+//! Runs on stored replies.
 use super::program::check;
 use rdm_agent::{DEFAULT_BUDGET, Kind, Search};
 use rdm_join::{LineEvent, LineReply};
@@ -8,7 +8,7 @@ use rdm_wire::{Uid, UidSet};
 use std::alloc::Global;
 use std::process::Abort;
 
-// So many silences, and then so many replies that spell nobody.
+// This many silences, and then this many replies that spell no UID.
 fn tape(rt: &impl Abort, alloc: Global, silences: usize, noises: usize) -> TapeLine {
     let mut events = Vec::new(alloc);
     for _ in 0..silences {
@@ -49,7 +49,7 @@ fn run<P: Progress>(
     )
 }
 
-// What a run reports that finds nobody, over so many silences and noises.
+// A run over this many silences and noises finds no device, and reports this.
 fn ends(rt: &impl Abort, alloc: Global, silences: usize, noises: usize, text: &str) {
     let mut line = tape(rt, alloc, silences, noises);
     let run = run(alloc, &mut line, &UidSet::new(), &mut Silent);
@@ -82,7 +82,7 @@ impl Progress for Reports {
     }
 }
 
-// So many devices that aren't there.
+// This many devices that aren't there.
 fn absent(rt: &impl Abort, count: u32) -> UidSet {
     let mut known = UidSet::new();
     for device in 0..count {
@@ -93,7 +93,8 @@ fn absent(rt: &impl Abort, count: u32) -> UidSet {
     known
 }
 
-// Three unmutes, five mutes of each of 40 known devices that aren't there, and five branches of the whole range.
+// The run makes three unmutes, five mutes for each of 40 known devices that aren't there, and five branches of the
+// whole range.
 #[test]
 fn every_hundredth_exchange_is_reported(rt: HostRuntime) {
     let known = absent(&rt, 40);

@@ -16,7 +16,7 @@ struct FailingWriter {
     at_most: usize,
     was_interrupted: bool,
     fails_at: usize,
-    // What comes then: a failure, or a write of no bytes.
+    // What comes then: an error, or a write of no bytes.
     fails: bool,
 }
 
@@ -39,7 +39,7 @@ impl Write for FailingWriter {
     }
 }
 
-// What a command prints of a file with this text.
+// What a command prints for a file with this text.
 #[derive(Clone, Copy)]
 struct Row<'a> {
     words: &'a [&'a str],
@@ -47,12 +47,12 @@ struct Row<'a> {
     due: Due<'a>,
 }
 
-// How many bytes a writer takes at a time, and whether it fails in the end or takes no more.
+// How many bytes a writer takes at a time, and whether it ends with an error or takes no more bytes.
 type Form = (usize, bool);
 
 const EACH_FORM: [Form; 4] = [(1, true), (1, false), (3, true), (1000, false)];
 
-// A writer that takes this many bytes has that prefix of what is due, and the status says that it failed.
+// A writer that takes only this many bytes gets that prefix of the output, and the status says that it failed.
 fn fails_at_each_byte<T: Threads + Wait + Abort + Sync>(
     rt: &T,
     alloc: Global,
@@ -83,7 +83,7 @@ fn fails_in_each_form<T: Threads + Wait + Abort + Sync>(rt: &T, alloc: Global, r
     }
 }
 
-// What commands print in one line. The file is for those that read one.
+// What commands print in one line. The file is only for commands that read one.
 static LINES: [Row<'static>; 9] = [
     Row {
         words: &["decode", ""],

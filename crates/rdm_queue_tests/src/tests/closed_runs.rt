@@ -1,4 +1,4 @@
-//! Lists of events with discoveries, and a close put in at each place.
+//! Lists of events with discoveries, and with a close inserted at each position.
 use super::checks::{check, check_eq};
 use super::lines::{event, first_device, run_of_one};
 use super::packets::{ACK, CLIENT, config, get, reply, session_of};
@@ -15,7 +15,7 @@ const FRAME: [u8; 26] = [
     0x01, 0x00, 0x00, 0x00, 0x20, 0x00, 0x60, 0x00, 0x02, 0xa2,
 ];
 
-/// How many events there are: seven, the ten exchanges of the run, that of the request, and three collects.
+/// How many events there are: seven, two for each of the run's ten exchanges and for the request's, and three collects.
 const EVENTS: usize = 32;
 
 // A session without clients.
@@ -23,7 +23,7 @@ fn new_session(rt: &impl Abort, alloc: Global) -> Session {
     session_of(rt, alloc, config(4, DEFAULT_BUDGET), 100)
 }
 
-// Adds an event, and before it a close where this many stand already.
+// Adds an event, and before it a close if there are `close_at` events so far.
 fn add(rt: &impl Abort, events: &mut Vec<Event>, close_at: usize, event: Event) {
     if events.len() == close_at {
         adds(rt, events, Event::Close);
@@ -49,8 +49,8 @@ fn add_exchange(rt: &impl Abort, events: &mut Vec<Event>, close_at: usize, came:
     add(rt, events, close_at, Event::Deliver(came));
 }
 
-// A request and two discoveries, which a pause holds back, and then their exchanges and collects; with a close after
-// this many of them.
+// A request and two discoveries, which a pause holds back, and then their exchanges and collects. A close comes after
+// this many events.
 fn events(rt: &impl Abort, alloc: Global, close_at: usize) -> Vec<Event> {
     let mut events = Vec::new(alloc);
     add_calls(rt, &mut events, close_at);
@@ -69,14 +69,14 @@ fn events(rt: &impl Abort, alloc: Global, close_at: usize) -> Vec<Event> {
     events
 }
 
-// Where its call was made before the close, it was accepted and has its outcome.
+// If the call was made before the close, it was accepted and has one outcome; else neither.
 fn has_one(rt: &impl Abort, answers: &[Answer], is_called: bool, accepted: Told, told: Told) {
     let times = is_called as usize;
     check_eq(rt, count(answers, 0, accepted), times);
     check_eq(rt, count(answers, 0, told), times);
 }
 
-// With a close at this place: one outcome for each call that was accepted, and no frame after the close.
+// With a close at this position, each accepted call has one outcome, and no frame is sent after the close.
 fn closes_at(rt: &impl Abort, alloc: Global, place: usize) {
     let mut session = new_session(rt, alloc);
     let events = events(rt, alloc, place);
@@ -99,7 +99,7 @@ fn a_close_comes_at_each_place(rt: HostRuntime) {
     }
 }
 
-// The discovery with this number found the first device, as the answer at this place tells.
+// The answer at this position is that the discovery with this number found the first device.
 fn finds_one(rt: &impl Abort, answers: &[Answer], place: usize, number: u64) {
     let answer = answers.get(place).expect(rt, "an answer");
     check(rt, is_found(answer, number, &[first_device()]));

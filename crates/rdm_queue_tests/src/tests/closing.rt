@@ -24,7 +24,7 @@ fn closed(rt: &impl Abort, alloc: Global) -> Session {
     session
 }
 
-// No reply is awaited, and one of 28 bytes comes back.
+// No reply is awaited, so one of 28 bytes is returned.
 fn gives_back(rt: &impl Abort, alloc: Global, session: &mut Session) {
     let refused = session.deliver(alloc, reply(rt, 1, ACK, 2));
     check(
@@ -33,7 +33,7 @@ fn gives_back(rt: &impl Abort, alloc: Global, session: &mut Session) {
     );
 }
 
-// What comes after that close; the first request's status is then this one, and the others were not sent.
+// After that close this event comes. Then the first request has this status, and the others weren't sent.
 fn closes(rt: &impl Abort, alloc: Global, event: LineEvent, first: Status) {
     let mut session = closed(rt, alloc);
     delivers(rt, alloc, &mut session, event);

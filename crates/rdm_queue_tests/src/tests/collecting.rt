@@ -1,4 +1,4 @@
-//! Outcomes collected by their kind.
+//! Outcomes that are collected by kind.
 ghost use Rattle.std.specs.Prelude.{◌≡◌, false};
 ghost use Rattle.rdm_wire.specs.Uid.{is_broadcast};
 
@@ -12,14 +12,14 @@ use rdm_wire::{Device, DeviceSet, Uid};
 use std::alloc::Global;
 use std::process::Abort;
 
-/// How discovery 0 ends, whose run is the first one.
+/// The end of discovery 0, which run 1 served.
 const END: DiscoveryEnd = DiscoveryEnd {
     number: 0,
     run: 1,
     fault: None,
 };
 
-// What a set holds that was never written.
+// A device in a set that mustn't be written.
 fn other_device() -> Device
     ensures { is_broadcast result.uid ≡ false }
 {
@@ -30,7 +30,7 @@ fn other_device() -> Device
     }
 }
 
-// The set has the first device alone.
+// The set has only the first device.
 fn has_one(rt: &impl Abort, set: &DeviceSet) {
     check(rt, set.len() == 1 && set.contains(first_device()));
 }
@@ -90,7 +90,7 @@ fn closed(rt: &impl Abort, alloc: Global) -> Controller {
     controller
 }
 
-// Another client has no outcome and writes no set. The first one is given that of its discovery.
+// Another client has no outcome, so its set isn't written. The first client gets the set of its discovery.
 fn gives_to_one(rt: &impl Abort, controller: &mut Controller) {
     let mut set = DeviceSet::new();
     check(rt, set.insert(other_device()).is_ok());

@@ -1,4 +1,4 @@
-//! A controller without a log.
+//! Controllers, which have no log.
 use super::checks::{check, check_eq};
 use super::lines::{controller_serves, run_of_one};
 use super::packets::{ACK, CLIENT, completion, config, get, reply, silence};
@@ -8,7 +8,7 @@ use rdm_queue::{AskFault, ClientId, Controller, Outcome};
 use std::alloc::Global;
 use std::process::Abort;
 
-// A controller with this budget, and with one client that has one place.
+// A controller with this budget, and with one client of queue depth one.
 fn with_one(rt: &impl Abort, alloc: Global, budget: u64) -> Controller {
     let made = Controller::new(alloc, config(1, budget));
     let mut controller = made.ok().expect(rt, "the memory of a controller");
@@ -16,7 +16,7 @@ fn with_one(rt: &impl Abort, alloc: Global, budget: u64) -> Controller {
     controller
 }
 
-// Answers the request, which is then done.
+// The line answers the request, which then ends.
 fn answers(rt: &impl Abort, alloc: Global, controller: &mut Controller) {
     check(rt, controller.awaits());
     check(rt, controller.deliver(alloc, reply(rt, 0, ACK, 1)).is_ok());

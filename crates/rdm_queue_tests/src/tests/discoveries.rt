@@ -65,7 +65,7 @@ fn a_later_discovery_waits_for_the_next_run(rt: HostRuntime) {
     check(&rt, session.is_idle());
 }
 
-// Takes a frame with this number, which asks this PID of this target, and delivers what came.
+// Takes a frame with this number, which has this PID and this target, and delivers what came.
 fn asks_of(
     rt: &impl Abort,
     alloc: Global,
@@ -81,7 +81,7 @@ fn asks_of(
     delivers(rt, alloc, session, event(rt, tn, came));
 }
 
-// The device that the second of two runs doesn't find any more.
+// The device that the second of two runs no longer finds.
 fn gone_device() -> Uid {
     Uid::new(0x5678, 9)
 }
@@ -106,7 +106,7 @@ fn finds_two(rt: &impl Abort, alloc: Global, session: &mut Session) {
 fn searches_again(rt: &impl Abort, alloc: Global, session: &mut Session, kept: Uid, came: Uid) {
     let (all, known) = ([0xff; 6], [0x12, 0x34, 0, 0, 0, 1]);
     let (absent, new) = ([0x56, 0x78, 0, 0, 0, 9], [0x9a, 0xbc, 0, 0, 0, 2]);
-    // How often it asks what of whom, and what comes; the reply to the first mute is lost.
+    // How many times it sends which PID to which target, and what comes. The reply to the first mute is lost.
     let run = [
         (3, (UNMUTE, all), Came::Nothing),
         (1, (MUTE, known), Came::Nothing),

@@ -1,11 +1,11 @@
-//! What the faults say.
+//! The texts of the faults.
 use super::checks::check_eq;
 use rdm_queue::{AskFault, JoinFault, LogFull, NoMemory, NotAsked, SubmitFault};
 use std::alloc::Global;
 use std::fmt::Display;
 use std::process::Abort;
 
-/// The fault says this.
+/// The fault has this text.
 pub fn says<F: Display>(rt: &impl Abort, alloc: Global, fault: &F, text: &str) {
     let made = format!(in alloc; "{fault}");
     let said = made.ok().expect(rt, "the memory of a text");

@@ -1,4 +1,4 @@
-//! The greatest sizes, with their numbers.
+//! The limits, with their numbers.
 use super::checks::{check, check_eq};
 use super::packets::{
     ACK, CLIENT, accepts, accepts_of, answers, are_all, collected, collects, config, delivers,
@@ -9,7 +9,7 @@ use rdm_queue::{ClientId, JoinFault, Session, SubmitFault};
 use std::alloc::Global;
 use std::process::Abort;
 
-// A session with this budget.
+// A session accepts this budget.
 fn takes_budget(rt: &impl Abort, alloc: Global, budget: u64) {
     let session = session_of(rt, alloc, config(4080, budget), 3);
     check_eq(rt, session.log().opening().budget, budget);
@@ -30,7 +30,7 @@ fn makes_a_log_of_a_million_free_entries(rt: HostRuntime) {
     check_eq(&rt, session.free(), 1_000_000);
 }
 
-// A client with this many places, all of which it takes.
+// A client with this queue depth, which it uses up.
 fn has_places(rt: &impl Abort, alloc: Global, places: u8) {
     let mut session = session(rt, alloc, 255, 2000);
     joins(rt, alloc, &mut session, places, Ok(CLIENT));
@@ -47,7 +47,7 @@ fn lets_a_client_have_so_many_places(rt: HostRuntime) {
     }
 }
 
-// A session of sixteen clients, with 255 places each, all of which they take.
+// A session of sixteen clients with queue depth 255, all of which they use up.
 fn session_of_all(rt: &impl Abort, alloc: Global) -> Session {
     let mut session = session(rt, alloc, 4080, 20_000);
     for number in 0..16 {
@@ -78,7 +78,7 @@ fn serves_4080_places(rt: HostRuntime) {
     check(&rt, !session.is_idle());
 }
 
-// An answer of this many parts with 231 bytes each, and of a last one with this length, comes as one.
+// An answer of this many parts with 231 bytes each, and of a last one with this length, is joined.
 fn joins_parts(rt: &impl Abort, alloc: Global, parts: usize, last: u8) {
     let mut session = with_parts(rt, alloc, parts, 231);
     let end = reply(rt, (parts % 256) as u8, ACK, last);

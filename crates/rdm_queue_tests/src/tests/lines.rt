@@ -9,7 +9,7 @@ use rdm_wire::{AckType, DeviceSet, RespClass, Response, Uid, encode_response, wr
 use std::alloc::Global;
 use std::process::Abort;
 
-/// What the line answers to a frame.
+/// The line's answer to a frame.
 #[derive(Clone, Copy)]
 pub enum Came {
     /// Silence.
@@ -18,7 +18,7 @@ pub enum Came {
     Spelt(Uid),
     /// The acknowledgement of this device's mute.
     Muted(Uid),
-    /// A reply to a branch that spells no device.
+    /// A reply to a branch that spells no UID.
     Noise,
     /// The line failed.
     Failure,
@@ -29,7 +29,7 @@ pub fn first_device() -> Uid {
     Uid::new(0x1234, 1)
 }
 
-/// A full run over a line with the first device alone: three unmutes, its reply, its acknowledgement, five silences.
+/// A full run over a line with only the first device: three unmutes, its reply, its acknowledgement, five silences.
 pub fn run_of_one() -> [Came; 10] {
     let mut run = [Came::Nothing; 10];
     run[3] = Came::Spelt(first_device());
@@ -45,19 +45,19 @@ pub fn rest_of_run() -> [Came; 9] {
     run
 }
 
-/// A session of `7a70:00000100` with this budget, and with one client that has four places.
+/// A session of `7a70:00000100` with this budget, and with one client of queue depth four.
 pub fn session_with_budget(rt: &impl Abort, alloc: Global, budget: u64) -> Session {
     let mut session = session_of(rt, alloc, config(4, budget), 5000);
     joins(rt, alloc, &mut session, 4, Ok(CLIENT));
     session
 }
 
-/// Such a session with the budget by default.
+/// Such a session with the default budget.
 pub fn session_for_runs(rt: &impl Abort, alloc: Global) -> Session {
     session_with_budget(rt, alloc, DEFAULT_BUDGET)
 }
 
-/// What the line answers to the frame with this transaction number.
+/// This answer as the line's event after the frame with this transaction number.
 pub fn event(rt: &impl Abort, tn: u8, came: Came) -> LineEvent {
     let mut bytes: LineReply = ArrayVec::new();
     match came {
@@ -101,7 +101,7 @@ pub fn serves(rt: &impl Abort, alloc: Global, session: &mut Session, first: u8, 
     }
 }
 
-/// Makes this many exchanges, the first with this transaction number, to all of which the line answers alike.
+/// Makes this many exchanges, the first with this transaction number. The line's answer to each is the same.
 pub fn repeats(
     rt: &impl Abort,
     alloc: Global,
@@ -148,7 +148,7 @@ pub fn discovers(
 }
 
 /// Collects the first client's next outcome: of the discovery with this number, answered by this run without fault,
-/// with the first device alone.
+/// with only the first device.
 pub fn discovers_one(rt: &impl Abort, session: &mut Session, number: u64, run: u64) {
     discovers(rt, session, number, run, None, &[first_device()]);
 }
@@ -177,7 +177,7 @@ pub fn is_of(set: &DeviceSet, devices: &[Uid]) -> bool {
     set.len() == devices.len() && devices.iter().all(|uid| set.contains(*uid))
 }
 
-/// The devices known are this many, of this run.
+/// This many devices are known, from this run.
 pub fn knows(rt: &impl Abort, session: &Session, devices: usize, run: u64) {
     check_eq(rt, session.devices().len(), devices);
     check_eq(rt, session.devices_run(), run);
@@ -188,7 +188,7 @@ pub fn number_of(frame: &[u8]) -> Option<u8> {
     frame.get(15).copied()
 }
 
-/// The frame asks this PID, with this transaction number.
+/// The frame has this PID and this transaction number.
 pub fn asks(rt: &impl Abort, frame: &[u8], pid: u16, tn: u8) {
     check(
         rt,
@@ -197,7 +197,7 @@ pub fn asks(rt: &impl Abort, frame: &[u8], pid: u16, tn: u8) {
     check_eq(rt, number_of(frame), Some(tn));
 }
 
-/// The next frame asks this PID, with this transaction number.
+/// The next frame has this PID and this transaction number.
 pub fn asks_next(rt: &impl Abort, session: &mut Session, pid: u16, tn: u8) {
     let frame = taken(rt, session);
     asks(rt, &frame, pid, tn);

@@ -31,7 +31,7 @@ const DEVICE: [u8; 6] = [0x12, 0x34, 0, 0, 0, 1];
 /// A log with this many free entries is large enough for most tests.
 pub const AMPLE: usize = 2000;
 
-/// A controller `7a70:00000100` with this many places and this budget.
+/// A controller `7a70:00000100` with this capacity and this budget.
 pub fn config(places: u16, budget: u64) -> Config
     ensures { IsConfig result }
 {
@@ -50,7 +50,7 @@ pub fn log(rt: &impl Abort, alloc: Global, free: usize) -> Log
     made.ok().expect(rt, "the memory of a log")
 }
 
-/// A session that is set up so, and a log with this many free entries.
+/// A session with this configuration, and a log with this many free entries.
 pub fn session_of(rt: &impl Abort, alloc: Global, config: Config, free: usize) -> Session
     requires { IsConfig config }
 {
@@ -58,19 +58,19 @@ pub fn session_of(rt: &impl Abort, alloc: Global, config: Config, free: usize) -
     made.ok().expect(rt, "the memory of a session")
 }
 
-/// A session with this many places, and a log with this many free entries.
+/// A session with this capacity, and a log with this many free entries.
 pub fn session(rt: &impl Abort, alloc: Global, places: u16, free: usize) -> Session {
     session_of(rt, alloc, config(places, 1), free)
 }
 
-/// A session with one client, which has all the places.
+/// A session with one client, which has the whole capacity.
 pub fn session_of_one(rt: &impl Abort, alloc: Global, places: u8) -> Session {
     let mut session = session(rt, alloc, u16::from(places), AMPLE);
     joins(rt, alloc, &mut session, places, Ok(CLIENT));
     session
 }
 
-/// A client with this many places asks to join, and this is answered.
+/// A client with this queue depth joins, with this result.
 pub fn joins(
     rt: &impl Abort,
     alloc: Global,
@@ -102,7 +102,7 @@ pub fn accepts_of(rt: &impl Abort, session: &mut Session, client: ClientId, numb
     check_eq(rt, session.submit(client, get()).ok(), Some(number));
 }
 
-/// A client submits that GET, which is refused with this fault and comes back.
+/// A client submits that GET, which is refused with this fault and returned.
 pub fn refuses(rt: &impl Abort, session: &mut Session, client: ClientId, fault: SubmitFault) {
     let refused = session.submit(client, get()).err();
     check(
@@ -111,12 +111,12 @@ pub fn refuses(rt: &impl Abort, session: &mut Session, client: ClientId, fault: 
     );
 }
 
-/// The first client asks for a discovery, and this is answered.
+/// The first client asks for a discovery, with this result.
 pub fn asks_for(rt: &impl Abort, session: &mut Session, kind: Kind, answer: Result<u64, AskFault>) {
     check_eq(rt, session.discover(CLIENT, kind), answer);
 }
 
-/// The next frame, which there is.
+/// The next frame. There has to be one.
 pub fn taken(rt: &impl Abort, session: &mut Session) -> Frame {
     session.take().ok().flatten().expect(rt, "a frame")
 }
@@ -148,18 +148,18 @@ pub fn is_done(rt: &impl Abort, session: &mut Session) {
     check(rt, session.is_idle());
 }
 
-/// What the line answers to the last frame; it is awaited.
+/// Delivers the line's answer to the last frame, which has to be awaited.
 pub fn delivers(rt: &impl Abort, alloc: Global, session: &mut Session, event: LineEvent) {
     check(rt, session.deliver(alloc, event).is_ok());
 }
 
-/// Takes the next frame, to which the line answers so.
+/// Takes the next frame, and delivers this answer.
 pub fn answers(rt: &impl Abort, alloc: Global, session: &mut Session, event: LineEvent) {
     let _ = taken(rt, session);
     delivers(rt, alloc, session, event);
 }
 
-/// A session with one request, of which this many parts of this length have come.
+/// A session with one request, whose answer has had this many parts of this length so far.
 pub fn with_parts(rt: &impl Abort, alloc: Global, count: usize, length: u8) -> Session {
     let mut session = session_of_one(rt, alloc, 1);
     accepts(rt, &mut session, 0);
@@ -199,14 +199,14 @@ pub fn completes(rt: &impl Abort, session: &mut Session, number: u64, bytes: usi
     check_eq(rt, done.bytes.len(), bytes);
 }
 
-/// All these bytes are this one.
+/// All these bytes have this value.
 pub fn are_all(rt: &impl Abort, bytes: &[u8], value: u8) {
     for byte in bytes {
         check(rt, *byte == value);
     }
 }
 
-/// The request's number and completion, where the outcome is a request's.
+/// The request's number and completion. None: the outcome isn't a request's.
 pub fn completion(outcome: Option<Outcome>) -> Option<(Option<u64>, Completion)> {
     match outcome? {
         Outcome::Request { number, done } => Some((number, done)),
@@ -224,7 +224,7 @@ pub fn reply(rt: &impl Abort, tn: u8, response_type: u8, length: u8) -> LineEven
     reply_of(rt, tn, response_type, length, 0x5a)
 }
 
-/// That reply, each of whose bytes of data is this one.
+/// The same reply with this value in each byte of data.
 pub fn reply_of(rt: &impl Abort, tn: u8, response_type: u8, length: u8, value: u8) -> LineEvent {
     let mut bytes: LineReply = ArrayVec::new();
     let size = length.wrapping_add(24);
@@ -247,7 +247,7 @@ pub fn reply_of(rt: &impl Abort, tn: u8, response_type: u8, length: u8, value: u
     LineEvent::Reply(bytes)
 }
 
-/// Adds these bytes, for which there is room.
+/// Adds these bytes, which have to fit.
 pub fn holds(rt: &impl Abort, reply: &mut LineReply, bytes: &[u8]) {
     check(rt, reply.try_extend_from_slice(bytes).is_ok());
 }

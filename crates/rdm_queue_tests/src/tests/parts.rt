@@ -10,7 +10,7 @@ use rdm_wire::{AckType, RespClass};
 use std::alloc::Global;
 use std::process::Abort;
 
-/// The most data that one reply has.
+/// The most bytes of data in one reply.
 const MOST: u8 = 231;
 
 /// The frames of the GET of the parameter `0060`, with numbers 0, 1 and 2.
@@ -29,7 +29,7 @@ const FRAMES: [[u8; 26]; 3] = [
     ],
 ];
 
-/// What the last reply to that GET says of itself.
+/// The head of the last reply to that GET.
 const HEAD: ReplyHead = ReplyHead {
     ack: AckType::Ack,
     class: RespClass::Get,
@@ -43,7 +43,7 @@ fn sends_part(rt: &impl Abort, session: &mut Session, number: u8) {
     sends(rt, session, frame);
 }
 
-// That frame is sent, and this comes: a reply of this type, with this many bytes of this value.
+// That frame is sent, and a reply comes: its type, how many bytes of data it has, and their value.
 fn hears(rt: &impl Abort, alloc: Global, session: &mut Session, number: u8, came: (u8, u8, u8)) {
     let (response_type, length, value) = came;
     sends_part(rt, session, number);
@@ -51,7 +51,7 @@ fn hears(rt: &impl Abort, alloc: Global, session: &mut Session, number: u8, came
     delivers(rt, alloc, session, part);
 }
 
-// The bytes of this part are all this one.
+// The bytes of this part all have this value.
 fn has_part(rt: &impl Abort, done: &Completion, from: usize, to: usize, value: u8) {
     let part = done.bytes.get(from..to).expect(rt, "a part");
     are_all(rt, part, value);

@@ -1,4 +1,4 @@
-//! Places, clients and the room of the log.
+//! Queue depths, clients, and the capacity of the log.
 use super::checks::{check, check_eq};
 use super::packets::{
     AMPLE, CLIENT, accepts, accepts_of, answers, collected_of, collects, joins, refuses, session,
@@ -47,7 +47,7 @@ fn a_seventeenth_client_is_refused(rt: HostRuntime) {
     joins(&rt, rt.alloc(), &mut session, 1, Err(JoinFault::Closed));
 }
 
-// The next request is this client's, and has this number.
+// The next request to be served is this client's, and has this number.
 fn serves(rt: &impl Abort, alloc: Global, session: &mut Session, client: ClientId, number: u64) {
     answers(rt, alloc, session, silence());
     let _ = collected_of(rt, session, client, number);
@@ -79,14 +79,14 @@ fn places_are_used_again_and_again(rt: HostRuntime) {
     }
 }
 
-// This client's calls are refused for the full log alone.
+// This client's calls are refused because the log is full.
 fn refuses_client(rt: &impl Abort, session: &mut Session, client: ClientId) {
     refuses(rt, session, client, SubmitFault::LogFull);
     let refused = session.discover(client, Kind::Full);
     check_eq(rt, refused, Err(AskFault::LogFull));
 }
 
-// Each call is refused for the full log alone, whatever else stands against it.
+// Each call is refused because the log is full, whatever other faults apply.
 fn refuses_all(rt: &impl Abort, alloc: Global, session: &mut Session) {
     check_eq(rt, session.free(), 2);
     refuses_client(rt, session, CLIENT);

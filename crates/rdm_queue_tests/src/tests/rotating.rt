@@ -1,4 +1,4 @@
-//! Sessions that go on with a new log.
+//! Sessions that continue with a new log.
 ghost use Rattle.std.specs.Prelude.{◌≡◌, []};
 
 use super::checks::{check, check_eq};
@@ -18,7 +18,7 @@ use rdm_wire::Uid;
 use std::alloc::Global;
 use std::process::Abort;
 
-/// An idle session with this log, and its old one.
+/// The session with this log, and its old log. The session has to be idle.
 pub fn rotated(rt: &impl Abort, session: Session, log: Log) -> (Session, Log)
     requires { log.entries ≡ [] }
 {
@@ -50,7 +50,7 @@ fn a_full_log_is_handed_back(rt: HostRuntime) {
     refuses(&rt, &mut session, CLIENT, SubmitFault::Closed);
 }
 
-// The session that isn't idle, as it comes back; and so does the log.
+// The session, which isn't idle, so that it is returned with the log.
 fn kept(rt: &impl Abort, alloc: Global, session: Session) -> Session {
     let refused = session.rotate(log(rt, alloc, 10)).err();
     let (fault, session, log) = refused.expect(rt, "a session that isn't idle");
@@ -83,7 +83,7 @@ fn used(rt: &impl Abort, alloc: Global) -> Session {
     session
 }
 
-// How it goes on.
+// The new log's opening after that.
 fn opens(rt: &impl Abort, opening: &Opening) {
     check_eq(rt, opening.source, Uid::new(0x7a70, 0x100));
     check(

@@ -1,4 +1,4 @@
-//! How runs end, and what they then report.
+//! How runs end, and what they report.
 use super::checks::{check, check_eq};
 use super::lines::{
     Came, asks_next, discovers, event, exchanges, first_device, knows, repeats, session_for_runs,
@@ -34,7 +34,7 @@ const FIRST_BRANCH: [u8; 38] = [
     0xff, 0xff, 0xff, 0xff, 0x0d, 0xf1,
 ];
 
-/// What `1234:00000001` answers to the mute with number 4: its control field is 0002, and its binding UID
+/// The acknowledgement of `1234:00000001` to the mute with number 4. Its control field is 0002, and its binding UID
 /// `1234:00000005`.
 const REPORT: [u8; 34] = [
     0xcc, 0x01, 0x20, 0x7a, 0x70, 0x00, 0x00, 0x01, 0x00, 0x12, 0x34, 0x00, 0x00, 0x00, 0x01, 0x04,
@@ -75,7 +75,7 @@ fn a_budget_ends_a_run(rt: HostRuntime) {
     asks_next(&rt, &mut session, REQUEST, 7);
 }
 
-// 1,025 devices, each of which is spelt and acknowledges its mute.
+// 1,025 devices, each of which replies to a branch and acknowledges its mute.
 fn finds_too_many(rt: &impl Abort, alloc: Global, session: &mut Session) {
     let mut tn = 3_u8;
     for number in 0..1025_u32 {
@@ -118,7 +118,7 @@ fn a_device_too_many_ends_a_run(rt: HostRuntime) {
     takes_none(&rt, &mut session);
 }
 
-// A run whose first device says more of itself.
+// A run whose first device reports a control field and a binding UID.
 fn reports(rt: &impl Abort, alloc: Global, session: &mut Session) {
     asks_for(rt, session, Kind::Full, Ok(0));
     sends(rt, session, &FIRST_UNMUTE);
@@ -134,7 +134,7 @@ fn reports(rt: &impl Abort, alloc: Global, session: &mut Session) {
     repeats(rt, alloc, session, 5, 5, &Came::Nothing);
 }
 
-// What that device says.
+// That device.
 fn found() -> Device {
     Device {
         uid: first_device(),
@@ -143,7 +143,7 @@ fn found() -> Device {
     }
 }
 
-// Whether it is the outcome of discovery 0, with that device alone.
+// Whether it is the outcome of discovery 0, with only that device.
 fn tells_found(outcome: &Option<Outcome>) -> bool {
     match outcome {
         Some(

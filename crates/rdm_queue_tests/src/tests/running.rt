@@ -13,7 +13,7 @@ const FRAME: [u8; 26] = [
     0x01, 0x00, 0x00, 0x00, 0x20, 0x00, 0x60, 0x00, 0x02, 0x98,
 ];
 
-// The exchange of a request, to which the line answers nothing.
+// A request's submit, exchange and collect. The line is silent.
 fn add_exchange(rt: &impl Abort, events: &mut Vec<Event>) {
     adds(rt, events, Event::Submit(CLIENT, get()));
     adds(rt, events, Event::Take);
@@ -67,7 +67,7 @@ fn no_events(rt: HostRuntime) {
     check_eq(&rt, session.log().entries().len(), 0);
 }
 
-// Two hundred exchanges, after a join.
+// A join, and then two hundred requests.
 fn events(rt: &impl Abort, alloc: Global) -> Vec<Event> {
     let mut events = Vec::new(alloc);
     adds(rt, &mut events, Event::Join(255));

@@ -19,7 +19,7 @@ fn second_device() -> Uid {
 }
 
 /// A quick run over a line with both devices: three unmutes, a collision, each device's reply and acknowledgement in
-/// its half, and five silences of the whole range. A steady one hears each half silent five times before.
+/// its half, and five silences of the whole range. A steady run would also have five silences in each half.
 fn quick_run_of_two() -> [Came; 13] {
     let mut run = [Came::Nothing; 13];
     run[3] = Came::Noise;
@@ -30,7 +30,7 @@ fn quick_run_of_two() -> [Came; 13] {
     run
 }
 
-/// A set-up whose runs search quickly.
+/// A setup whose runs search quickly.
 fn quick(places: u16) -> Setup
     ensures { IsConfig result.config }
 {

@@ -1,4 +1,4 @@
-//! What lists of events are answered.
+//! The answers to lists of events.
 use super::checks::check;
 use super::lines::is_of;
 use rdm_join::Status;
@@ -7,7 +7,7 @@ use rdm_wire::Uid;
 use std::alloc::Global;
 use std::process::Abort;
 
-/// What a session answers to these events.
+/// The session's answers to these events.
 pub fn answered(
     rt: &impl Abort,
     alloc: Global,
@@ -23,7 +23,7 @@ pub fn adds(rt: &impl Abort, events: &mut Vec<Event>, event: Event) {
     check(rt, events.push(event).is_ok());
 }
 
-/// What an answer tells, in short.
+/// What an answer says, in short.
 #[derive(Clone, Copy, PartialEq, Eq)]
 pub enum Told {
     /// This client joined.
@@ -36,15 +36,15 @@ pub enum Told {
     Frame,
     /// There was none.
     NoFrame,
-    /// What the line answered was taken.
+    /// The line's answer was accepted.
     Heard,
     /// The outcome of the request with this number.
     Request(u64),
     /// The outcome of the discovery with this number.
     Discovery(u64),
-    /// Sending was paused, or had been.
+    /// Sending is paused.
     Paused,
-    /// It was resumed, or had been.
+    /// Sending is resumed.
     Resumed,
     /// The session was closed.
     Closed,
@@ -52,7 +52,7 @@ pub enum Told {
     Other,
 }
 
-/// What this answer tells.
+/// What this answer says.
 pub fn told_by(answer: &Answer) -> Told {
     match answer {
         Answer::Join(Ok(client)) => Told::Joined(*client),
@@ -77,13 +77,13 @@ fn told_of(outcome: &BoxedOutcome) -> Told {
     }
 }
 
-/// The answer at this place tells that.
+/// The answer at this position says this.
 pub fn tells(rt: &impl Abort, answers: &[Answer], place: usize, told: Told) {
     let answer = answers.get(place).expect(rt, "an answer");
     check(rt, told_by(answer) == told);
 }
 
-/// How many answers from this place on tell that.
+/// How many answers from this position on say this.
 pub fn count(answers: &[Answer], from: usize, told: Told) -> usize {
     let mut count = 0_usize;
     let mut place = 0_usize;

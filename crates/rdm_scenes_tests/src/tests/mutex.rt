@@ -23,7 +23,8 @@ type Client<'a, L> = LockedClient<'a, L, Note, AskNote>;
 // More turns than a discovery with two requests takes.
 const TURNS: u64 = 60;
 
-/// Runs a session with a mutex over this line: what its client was told, and its end. None: out of memory.
+/// Runs a session with a mutex over this line. Returns the client's report, and the session after its end. None: out of
+/// memory.
 pub fn runs<R: Wait>(rt: &R, alloc: Global, line: SimLine) -> Option<(Report, Session)>
     ensures { IfSome result (λ ran. (t : SimState) × IsLogOver line t ran.1) }
 {
@@ -55,8 +56,8 @@ fn runs_on<L: Ledger, R: Wait>(
     }
 }
 
-// Lets a client ask and leave, with a worker that works between: what it was told, and its share. The worker records
-// what the line did.
+// Lets a client ask and leave, while a worker works in between. Returns the client's report and its share. The worker
+// records what the line did.
 fn asks<L: Ledger, R: Wait>(
     rt: &R,
     alloc: Global,

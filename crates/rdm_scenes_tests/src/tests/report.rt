@@ -1,4 +1,4 @@
-//! What a client does, whose session is shared with a worker, and what it is told.
+//! What a client does and gets, if it shares its session with a worker.
 //!
 //! It looks at the devices. It asks for a full discovery, and submits a GET and a SET of parameters that the device
 //! doesn't have. Once these have ended it looks again, and asks for an incremental discovery. Then it looks once more.
@@ -7,13 +7,14 @@ use rdm_join::ReplyHead;
 use rdm_rig::{Ending, Found, Heard, request};
 use rdm_wire::{AckType, ReqClass, Request, RespClass};
 
-/// How many exchanges are made before the incremental discovery, if the first device and the one that leaves are found.
+/// How many exchanges are made before the incremental discovery, if the first device and the one that leaves are both
+/// found.
 pub const LEAVES: u64 = 36;
 
 /// The tags of the full discovery, the GET, the SET and the incremental discovery.
 pub const TAGS: [u64; 4] = [7, 8, 9, 10];
 
-/// What a client was told.
+/// What a client got.
 #[derive(Clone, Copy, Debug, PartialEq, Eq)]
 pub struct Report {
     /// The devices that it saw, at first and after each discovery.
@@ -25,7 +26,7 @@ pub struct Report {
 }
 
 impl Report {
-    /// Of a client that was told nothing.
+    /// The report of a client that got nothing.
     pub fn new() -> Report {
         Report {
             seen: [Heard::Nothing; 3],
@@ -35,7 +36,7 @@ impl Report {
     }
 }
 
-/// What the client is told if its discoveries find these devices.
+/// What the client gets if its discoveries find these devices.
 pub fn report_of(first: Found, second: Found) -> Report {
     Report {
         seen: [

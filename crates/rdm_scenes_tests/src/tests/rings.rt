@@ -30,8 +30,8 @@ const TURNS: u64 = 1_000_000_000;
 // How often a client tries to collect before it gives up.
 const TRIES: u64 = 100_000_000;
 
-/// Runs a session with ring buffers over this line: what its client was told, and its end. None: out of memory, or the
-/// worker told that it has stopped before it had.
+/// Runs a session with ring buffers over this line. Returns the client's report, and the session after its end. None:
+/// it wasn't run, or the worker arrived at `WORKER_STOPPED` before the client left, or never.
 pub fn runs<R: Threads + Wait + Sync>(
     rt: &R,
     alloc: Global,
@@ -120,7 +120,7 @@ impl Gate for Stop {
     }
 }
 
-// A client, what it was told, and whether the worker had stopped before it left.
+// A client, its report, and whether the worker had stopped before it left.
 #[derive(Drop)]
 struct Asker {
     report: Report,

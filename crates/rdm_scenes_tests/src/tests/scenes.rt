@@ -9,7 +9,7 @@ use rdm_rig::{Who, device_of};
 use rdm_wire::Uid;
 use std::alloc::Global;
 
-/// Two devices that stay, on a line that loses two replies: that of a branch, and an acknowledgement.
+/// Two devices that stay, on a line that loses two replies: one to a branch, and one to a mute.
 pub fn staying_scene(alloc: Global) -> Option<Scene>
     ensures few_losses { IfSome result (λ scene. NoFiveSuccessive scene.losses.items) }
     ensures stay { IfSome result (λ scene. AllByRecursion Stays scene.devices) }
@@ -34,7 +34,7 @@ pub fn changing_scene(alloc: Global, leaves: u64) -> Option<Scene>
     scene_of(alloc, devices, Vec::new(alloc))
 }
 
-// Puts in a device that is there from the start, and leaves then if it ever does. It has no parameters.
+// Adds a device without parameters that is there from the start, and leaves at `until` if that is given.
 fn put(alloc: Global, devices: &mut SceneDevices, who: Who, until: Option<u64>) -> Option<()>
     ensures { until ≡ None → AllByRecursion Stays devices.old → AllByRecursion Stays devices.new }
 {
@@ -55,8 +55,8 @@ fn put(alloc: Global, devices: &mut SceneDevices, who: Who, until: Option<u64>) 
     }
 }
 
-// These devices, on a line that loses these exchanges. Where replies collide, the text of `5555:00000003` comes, a
-// device that isn't there.
+// These devices, on a line that loses the replies of these exchanges. If replies collide, the text of `5555:00000003`
+// comes, a device that isn't there.
 fn scene_of(alloc: Global, devices: SceneDevices, losses: Vec<u64>) -> Option<Scene>
     ensures devices { IfSome result (λ scene. scene.devices ≡ devices) }
     ensures losses { IfSome result (λ scene. scene.losses.items ≡ losses.items) }

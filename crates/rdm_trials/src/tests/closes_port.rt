@@ -1,4 +1,4 @@
-//! A close at each place, over a port and a simulated line: between any two steps, and during each exchange.
+//! A close at each position, with a mutex and a simulated line: between any two steps, and during each exchange.
 use super::due::{EXCHANGES, accepted_before, due, sees};
 use rdm_agent::Kind;
 use rdm_queue::{AskFault, SubmitFault};
@@ -8,12 +8,12 @@ use std::alloc::Global;
 use std::sync::Wait;
 use std::test::Fail;
 
-/// The last place of a close: after the pause, three calls, a turn without a frame, the resume, a turn for each
+/// The last position of a close: after the pause, three calls, a turn without a frame, the resume, a turn for each
 /// exchange, and three collects.
 const PLACES: usize = 20;
 
-// A close before the act at this place, if there is one, or during this exchange; and how many exchanges are made, and
-// how many calls accepted.
+// A close before the act at this position, if there is one, or during this exchange; how many exchanges are made, and
+// how many calls are accepted.
 #[derive(Clone, Copy)]
 struct Closing {
     before: usize,
@@ -22,7 +22,7 @@ struct Closing {
     accepted: usize,
 }
 
-// A close before the act at this place.
+// A close before the act at this position.
 fn before(place: usize) -> Closing {
     Closing {
         before: place,
@@ -42,7 +42,7 @@ fn during(exchange: usize) -> Closing {
     }
 }
 
-// The act at this place.
+// The act at this position.
 fn act(place: usize) -> Act {
     match place {
         0 => Act::Pause,
@@ -55,7 +55,7 @@ fn act(place: usize) -> Act {
     }
 }
 
-// What the act at this place comes to.
+// The result of the act at this position.
 fn wanted(place: usize, closing: Closing) -> Heard {
     match place {
         0 | 5 => Heard::Done,
@@ -65,7 +65,7 @@ fn wanted(place: usize, closing: Closing) -> Heard {
     }
 }
 
-// What the call at this place comes to.
+// The result of the call at this position.
 fn call(place: usize, is_closed: bool) -> Heard {
     match place {
         1 if is_closed => Heard::Refused(Refusal::Submit(SubmitFault::Closed, 0)),
@@ -76,7 +76,7 @@ fn call(place: usize, is_closed: bool) -> Heard {
     }
 }
 
-// After the close each call is refused, nothing more is told, and no frame goes out.
+// After the close each call is refused, no more outcomes come, and no frame is sent.
 static AFTER: [Move; 4] = [
     (
         Act::Client(0, Step::Submit(2)),
@@ -90,7 +90,7 @@ static AFTER: [Move; 4] = [
     (Act::Work(1), Heard::Worked(Stop::Turns)),
 ];
 
-// All acts with the close; then nothing more comes.
+// All acts with the close, and then those of `AFTER`.
 fn moves(alloc: Global, closing: Closing) -> Result<Vec<Move>, Fail> {
     let mut moves = Vec::new(alloc);
     moves.push((Act::Join(4), Heard::Number(0)))?;
@@ -107,8 +107,7 @@ fn moves(alloc: Global, closing: Closing) -> Result<Vec<Move>, Fail> {
     Ok(moves)
 }
 
-// The port is ended with the client's calls: the three, what was collected of those that were accepted, and the two
-// after the close.
+// The port counts the client's calls: the three, a collect for each accepted one, and the two after the close.
 fn closes<R: Wait>(rt: &R, alloc: Global, closing: Closing) -> Result<(), Fail> {
     let setup = PortSetup {
         closes_at: closing.during,

@@ -1,4 +1,4 @@
-//! A close at each place, over rings and a simulated line.
+//! A close at each position, with ring buffers and a simulated line.
 use super::due::{EXCHANGES, due, seen, sees};
 use rdm_agent::Kind;
 use rdm_join::Status;
@@ -7,13 +7,13 @@ use rdm_stage::{LanesOver, Setup, counts_are, play_lanes};
 use std::alloc::Global;
 use std::test::Fail;
 
-/// The last place of a close: after the pause, three calls, a turn for each of them, the resume, and a turn for each
+/// The last position of a close: after the pause, three calls, a turn for each of them, the resume, and a turn for each
 /// exchange.
 const PLACES: usize = 19;
 
 const COLLECT: Act = Act::Client(0, Step::Collect);
 
-// The move at this place. A turn takes a call of the client before one of the operator, and then makes an exchange.
+// The move at this position. A turn takes a call of the client, then one of the operator, and then makes an exchange.
 fn step(place: usize) -> Move {
     match place {
         0 => (Act::Pause, Heard::Done),
@@ -28,8 +28,9 @@ fn step(place: usize) -> Move {
     }
 }
 
-// How many exchanges are made before the close that the operator sends before this place. The turn after the resume
-// takes the resume, and makes the first exchange; one that comes after it takes the close.
+// How many exchanges are made before the close that the operator sends before this position. The turn after the resume
+// takes the resume and makes the first exchange. So a close that is sent between the resume and that turn is taken in
+// the next turn.
 fn exchanges_before(place: usize) -> usize {
     if place < 8 {
         0
@@ -47,7 +48,7 @@ fn accepted_before(place: usize) -> usize {
     }
 }
 
-// A call after the close is told at once, and no frame goes out.
+// A call after the close ends at once, and no frame is sent.
 static AFTER: [Move; 5] = [
     (COLLECT, Heard::Nothing),
     (Act::Client(0, Step::Submit(2)), Heard::Done),
@@ -56,8 +57,8 @@ static AFTER: [Move; 5] = [
     (COLLECT, Heard::Nothing),
 ];
 
-// All moves and a few turns more, and what came of them. Each call was sent before the close is taken or after it, and
-// each is told once.
+// All moves, a few more turns, and their results. Each call gets exactly one outcome, whether it was taken before the
+// close or after it.
 fn moves(alloc: Global, close_at: usize) -> Result<Vec<Move>, Fail> {
     let mut moves = Vec::new(alloc);
     for place in 0..=PLACES {
@@ -78,8 +79,8 @@ fn moves(alloc: Global, close_at: usize) -> Result<Vec<Move>, Fail> {
     Ok(moves)
 }
 
-// The log has this many exchanges, all before the close. What was accepted has one outcome each, and what was refused
-// is told all the same.
+// The log has this many exchanges, all before the close. It has one outcome for each accepted call. The client gets
+// outcomes of refused calls too.
 fn is_told(over: &LanesOver, close_at: usize) -> bool {
     let exchanges = exchanges_before(close_at);
     let accepted = accepted_before(close_at);

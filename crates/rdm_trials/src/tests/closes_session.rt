@@ -1,4 +1,4 @@
-//! A close at each place, over a session and a simulated line.
+//! A close at each position, in one thread and with a simulated line.
 use super::due::{EXCHANGES, accepted_before, due, seen, sees};
 use rdm_agent::{DEFAULT_BUDGET, Kind};
 use rdm_queue::{AskFault, JoinFault, SubmitFault};
@@ -6,11 +6,11 @@ use rdm_rig::{Act, Heard, Move, Refusal, Step, moved, one_device, open_session};
 use std::alloc::Global;
 use std::test::Fail;
 
-/// The last place of a close: after the pause, three calls, a take without a frame, the resume, a take and a deliver of
-/// each exchange, and three collects.
+/// The last position of a close: after the pause, three calls, a take without a frame, the resume, a take and a deliver
+/// for each exchange, and three collects.
 const PLACES: usize = 31;
 
-// The act at this place.
+// The act at this position.
 fn act(place: usize) -> Act {
     match place {
         0 => Act::Pause,
@@ -24,12 +24,12 @@ fn act(place: usize) -> Act {
     }
 }
 
-// How many frames were taken before a close at this place.
+// How many frames were taken before a close at this position.
 fn frames_before(place: usize) -> usize {
     (place.max(5).saturating_sub(5) / 2).min(EXCHANGES)
 }
 
-// What the act at this place comes to, where there is a close before the one at that place.
+// The result of the act at `place`, if the close comes before the act at `close_at`.
 fn wanted(place: usize, close_at: usize) -> Heard {
     match place {
         0 | 5 => Heard::Done,
@@ -45,7 +45,7 @@ fn wanted(place: usize, close_at: usize) -> Heard {
     }
 }
 
-// What the call at this place comes to.
+// The result of the call at this position.
 fn call(place: usize, is_closed: bool) -> Heard {
     match place {
         1 if is_closed => Heard::Refused(Refusal::Submit(SubmitFault::Closed, 0)),
@@ -56,7 +56,7 @@ fn call(place: usize, is_closed: bool) -> Heard {
     }
 }
 
-// What a take at this place comes to.
+// The result of a take at this position.
 fn taken(place: usize, close_at: usize) -> Heard {
     if place == 4 || place >= close_at {
         return Heard::Nothing;
@@ -64,7 +64,7 @@ fn taken(place: usize, close_at: usize) -> Heard {
     Heard::Frame((place.saturating_sub(6) / 2 % 256) as u8)
 }
 
-// After the close each call is refused, nothing more is told, and no frame goes out.
+// After the close each call is refused, no more outcomes come, and no frame is sent.
 static AFTER: [Move; 5] = [
     (
         Act::Client(0, Step::Submit(2)),
@@ -82,7 +82,7 @@ static AFTER: [Move; 5] = [
     (Act::Client(0, Step::Collect), Heard::Nothing),
 ];
 
-// All acts, with a close before the one at this place; then nothing more comes.
+// All acts, with a close before the one at this position, and then those of `AFTER`.
 fn moves(alloc: Global, close_at: usize) -> Result<Vec<Move>, Fail> {
     let mut moves = Vec::new(alloc);
     moves.push((Act::Join(4), Heard::Number(0)))?;

@@ -1,4 +1,4 @@
-//! A close beside a client over rings, in threads of their own, a hundred times each.
+//! A close beside a client with ring buffers, in threads of their own, a hundred times each.
 use rdm_agent::Kind;
 use rdm_join::Status;
 use rdm_rig::{Ending, Found, Heard, Said, Step, Stop, one_device, says};
@@ -21,8 +21,8 @@ const CLOSED: u8 = 1;
 // At this one the worker may begin.
 const BEGIN: u8 = 2;
 
-// Lets a client with two places do what its script says beside a close, over rings of two slots. It has sent and
-// collected this many calls, and left.
+// Lets a client with queue depth two and rings of two slots run its script beside a close. It has to send and collect
+// this many calls, and leave.
 fn plays<R: Threads + Wait + Sync>(
     rt: &R,
     alloc: Global,
@@ -40,7 +40,7 @@ fn plays<R: Threads + Wait + Sync>(
     }
 }
 
-// A client that submits before a close, and again once that is told. The worker begins once the close is sent.
+// A client that submits before a close, and again once it has that outcome. The worker begins once the close is sent.
 static CALLER: [Play; 8] = [
     Play::Do(Step::Submit(1)),
     Play::Arrive(CLOSE),
@@ -82,8 +82,8 @@ fn a_client_submits_before_a_close_and_after_it(rt: HostRuntime) -> Result<(), F
     Ok(())
 }
 
-// A client that makes a request and asks for a discovery, and collects what both tell, in each of four rounds. The
-// close is asked for after two of them, and is sent before the last one.
+// A client that makes a request and asks for a discovery, and collects both outcomes, in each of four rounds. It asks
+// for the close after two of them, and the close is sent before the last one.
 static ASKER: [Play; 20] = [
     Play::Arrive(BEGIN),
     Play::Do(Step::Submit(0)),
@@ -107,7 +107,7 @@ static ASKER: [Play; 20] = [
     Play::Do(Step::Leave),
 ];
 
-// What it hears, where this comes of the round in which the close comes.
+// What the client gets, if these are the outcomes of the third round.
 fn asker_heard(request: Heard, discovery: Heard) -> [Heard; 18] {
     [
         Heard::Done,
@@ -131,8 +131,8 @@ fn asker_heard(request: Heard, discovery: Heard) -> [Heard; 18] {
     ]
 }
 
-// Whether it was told of each call of the round in which the close came, once and in order. After one that the close
-// ended the next one is ended too.
+// Whether each call of the third round got one outcome, in order. If the close ended the request, it ended the
+// discovery too.
 fn is_cut(request: Heard, discovery: Heard) -> bool {
     match (request, discovery) {
         (Heard::Answered(2, 1, 2), Heard::Discovery(2, _, ending, _)) => {
@@ -143,8 +143,8 @@ fn is_cut(request: Heard, discovery: Heard) -> bool {
     }
 }
 
-// Two rounds come before the close is asked for, and one after it is sent. Whenever it comes, each call is told once,
-// in order, and no frame goes out after it.
+// Two rounds come before the client asks for the close, and one after it is sent. Whenever it comes, each call gets one
+// outcome, in order, and no frame is sent after it.
 #[test]
 fn a_close_comes_while_a_client_calls_over_rings(rt: HostRuntime) -> Result<(), Fail> {
     for _session in 0..TIMES {

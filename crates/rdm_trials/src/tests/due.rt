@@ -1,16 +1,16 @@
 //! A pause, a request, two discoveries and a resume; one run answers both discoveries in ten exchanges, and then the
-//! request goes out. What becomes of them where a close comes between.
+//! request is sent. Here is what becomes of them if a close comes in between.
 use rdm_join::Status;
 use rdm_rig::{Ending, Found, Heard};
 
 /// How many exchanges there are without a close: ten of the run, and one of the request.
 pub const EXCHANGES: usize = 11;
 
-/// What a client is told of its request and its discoveries, in this order; all have the tags or numbers 0 and 1. This
-/// many exchanges were made before the close, and this many of the three calls were accepted.
+/// The outcomes of a client's request and its discoveries, in the order in which it gets them. Their tags or numbers
+/// are 0 and 1. This many exchanges were made before the close, and this many of the three calls were accepted.
 ///
 /// Before the first exchange the request comes first, since no run has begun. Later the run comes first. It is aborted
-/// unless all its ten exchanges were made; by the fifth it has found the device.
+/// unless all its ten exchanges were made. By the fifth it has found the device.
 pub fn due(exchanges: usize, accepted: usize) -> [Heard; 3] {
     let mut due = [Heard::Nothing; 3];
     for (due, heard) in due.iter_mut().zip(&all_due(exchanges)[..accepted.min(3)]) {
@@ -35,7 +35,7 @@ fn all_due(exchanges: usize) -> [Heard; 3] {
     }
 }
 
-// What the discovery with this tag is told of the run.
+// The outcome of the discovery with this tag.
 fn discovery(tag: u64, exchanges: usize) -> Heard {
     if exchanges < 5 {
         Heard::Discovery(tag, 1, Ending::Aborted, Found::Nobody)
@@ -54,7 +54,7 @@ fn request(exchanges: usize) -> Heard {
     }
 }
 
-/// The run whose devices are seen then, and which they are.
+/// The run whose devices are seen after this many exchanges, and which they are.
 pub fn seen(exchanges: usize) -> (u64, Found) {
     if exchanges < 10 {
         (0, Found::Nobody)
@@ -69,7 +69,7 @@ pub fn sees(exchanges: usize) -> Heard {
     Heard::Sees(run, found)
 }
 
-/// How many of the three calls were accepted before a close at this place, where they are at the places 1, 2 and 3.
+/// How many of the three calls were accepted before a close at this position, if they are at the positions 1, 2 and 3.
 pub fn accepted_before(place: usize) -> usize {
     place.max(1).saturating_sub(1).min(3)
 }

@@ -1,4 +1,4 @@
-//! Logs of each size: what is refused for want of entries, and that nothing else is.
+//! Logs of each size: what is refused for lack of free entries, and that nothing else is.
 use rdm_agent::{DEFAULT_BUDGET, Kind};
 use rdm_line::SimLine;
 use rdm_queue::{AskFault, JoinFault, SubmitFault};
@@ -18,9 +18,9 @@ static ACTS: [Act; 6] = [
     Act::Resume,
 ];
 
-// How many entries are free, counted by hand, where the log had this many free entries. Of these and one for the close
-// the following are taken: the log's entries; one for the close, and one for the reply that is awaited; two for each
-// call that is accepted and not ended; one for each that is ended and not collected.
+// How many entries are free, counted by hand, if the log began with this many. The log also has one for the close.
+// These are taken: the log's entries; one for the close, until it comes; one for a reply that is awaited; two for each
+// accepted call that hasn't ended; one for each ended call that isn't collected.
 fn free_by_hand(state: &State, size: usize) -> usize {
     let counts = &state.counts;
     let due = counts.accepted.saturating_sub(counts.ended);
@@ -38,7 +38,7 @@ fn free_by_hand(state: &State, size: usize) -> usize {
     free
 }
 
-// Whether the act was refused for want of entries.
+// Whether the act was refused for lack of free entries.
 fn is_refused(heard: Heard) -> bool {
     matches!(
         heard,

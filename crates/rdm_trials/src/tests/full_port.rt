@@ -1,4 +1,4 @@
-//! A full log in a port.
+//! A full log in a session with a mutex.
 use rdm_agent::Kind;
 use rdm_join::Status;
 use rdm_queue::{AskFault, SubmitFault};
@@ -6,9 +6,9 @@ use rdm_rig::{Act, Heard, Move, Refusal, Step, Stop, one_device};
 use rdm_stage::{PortSetup, play_port};
 use std::test::Fail;
 
-// Of five free entries the join takes one, and a request that is accepted holds three. Another one is refused, and so
-// is all else that needs an entry. The close ends the request, whose outcome is collected; the log is as full as it
-// was.
+// Of five free entries the join takes one, and an accepted request takes three. Another request is refused, and so is
+// any other call that needs an entry. The close ends the request, whose outcome is collected. The log then still
+// refuses a submit.
 static MOVES: [Move; 12] = [
     (Act::Join(2), Heard::Number(0)),
     (Act::Client(0, Step::Submit(0)), Heard::Number(0)),
@@ -40,7 +40,7 @@ static MOVES: [Move; 12] = [
 fn a_full_log_in_a_port_still_closes(rt: HostRuntime) -> Result<(), Fail> {
     let line = one_device(rt.alloc(), &[])?;
     let over = play_port(&rt, rt.alloc(), PortSetup::new(2, 5), line, &MOVES)?;
-    // The submit that was accepted, and the collect of its outcome.
+    // The accepted submit, and the collect of its outcome.
     assert_eq!(rt; (over.calls, over.held, over.recorded), (2, 0, 0));
     let counts = over.state.counts;
     assert_eq!(rt; (counts.calls, counts.accepted), (1, 1));

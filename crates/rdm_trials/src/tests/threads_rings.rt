@@ -1,4 +1,4 @@
-//! Clients over rings in threads of their own, a hundred times each.
+//! Clients with ring buffers in threads of their own, a hundred times each.
 use rdm_agent::Kind;
 use rdm_join::Status;
 use rdm_line::SimLine;
@@ -15,7 +15,7 @@ use std::thread::Threads;
 
 const TIMES: u64 = 100;
 
-// Clients with these places each, over rings of one slot.
+// Clients with these queue depths and with rings of one slot.
 fn setup(places: &[u8]) -> Setup {
     Setup {
         greatest: 4,
@@ -23,8 +23,8 @@ fn setup(places: &[u8]) -> Setup {
     }
 }
 
-// A client that makes two calls, the second one once its ring has a slot, collects what both tell, and looks at the
-// devices. It does so twice, and leaves.
+// A client that makes two calls, the second one once its ring has a slot, collects both outcomes, and looks at the
+// devices. It does all this twice, and leaves.
 static ONE_CLIENT: [Play; 11] = [
     Play::Do(Step::Submit(1)),
     Play::Do(Step::Submit(2)),
@@ -39,7 +39,7 @@ static ONE_CLIENT: [Play; 11] = [
     Play::Do(Step::Leave),
 ];
 
-// What comes of four submits with tags from this one on.
+// The results of a script with four submits, with tags from this one on.
 fn served(tag: u64) -> [Heard; 11] {
     [
         Heard::Done,
@@ -56,7 +56,7 @@ fn served(tag: u64) -> [Heard; 11] {
     ]
 }
 
-// The log from this entry on is that of a request that is served before another call is taken.
+// From this entry on, the log shows a request that is served before another call is taken.
 fn is_served(log: &[Said], at: usize, number: u8) -> Result<(), Wrong> {
     let of = u64::from(number);
     let wanted = [
@@ -69,8 +69,8 @@ fn is_served(log: &[Said], at: usize, number: u8) -> Result<(), Wrong> {
     says_at(log, at, &wanted)
 }
 
-// A turn takes a call, makes its exchange and moves its outcome, unless the one before is still on the ring. So the log
-// is the same each time.
+// A turn takes a call, makes its exchange and moves its outcome, unless the previous outcome is still on the ring. So
+// the log is the same each time.
 #[test]
 fn a_client_tries_again_while_its_ring_is_full(rt: HostRuntime) -> Result<(), Fail> {
     for _session in 0..TIMES {
@@ -123,7 +123,7 @@ static TWENTIES: [Play; 11] = [
     Play::Do(Step::Leave),
 ];
 
-// The order between the clients may differ. What each is told may not, nor how many entries of each kind there are.
+// The order between the clients may differ. What each client gets may not, nor how many entries of each kind there are.
 #[test]
 fn two_clients_are_each_told_of_their_own_requests(rt: HostRuntime) -> Result<(), Fail> {
     let scripts: [&'static [Play]; 2] = [&TENS, &TWENTIES];
@@ -142,8 +142,8 @@ fn two_clients_are_each_told_of_their_own_requests(rt: HostRuntime) -> Result<()
     Ok(())
 }
 
-// When a second device is there, beside one that stays. What a full run finds then, and an incremental one after it;
-// and how many frames both runs take.
+// When a second device is there, beside one that stays; what a full run finds, and an incremental run after it; and how
+// many frames both runs take.
 #[derive(Clone, Copy)]
 struct Visit {
     from: u64,
@@ -153,9 +153,10 @@ struct Visit {
     frames: usize,
 }
 
-// It comes after the first device's mute. It stays: three unmutes, a branch and a mute of each, and five silences; then
-// three unmutes, both mutes, and five silences. It leaves after its own mute: the same, but five mutes of it without
-// answer. It leaves before that: five mutes of it, and five silences in each half; then it isn't known.
+// The second device always comes after the first one's mute. If it stays, the full run has three unmutes, a branch and
+// a mute for each device, and five silences. The incremental run has three unmutes, both mutes, and five silences. If
+// it leaves after its own mute, five mutes of it have no answer. If it leaves before, the full run has five mutes of
+// it, and five silences in each half; the incremental run doesn't know it.
 static VISITS: [Visit; 3] = [
     Visit {
         from: 5,
@@ -195,7 +196,7 @@ static SEARCHER: [Play; 11] = [
     Play::Do(Step::Leave),
 ];
 
-// What it hears, where its runs find these devices.
+// What the client gets if its runs find these devices.
 fn searched(found: Found, found_then: Found) -> [Heard; 11] {
     [
         Heard::Done,
@@ -237,7 +238,7 @@ fn a_second_device_comes_and_leaves_over_rings(rt: HostRuntime) -> Result<(), Fa
         let heard = searched(visit.found, visit.found_then);
         let over = play_threads(&rt, rt.alloc(), setup(&[2]), &[&SEARCHER], line, &[&heard])?;
         counts_are(&over.left, &[(4, 4, 0)])?;
-        // A frame of each request is beside those of the runs.
+        // Each of the two requests adds a frame.
         assert_eq!(rt;
             over.state.counts.frames,
             (visit.frames.saturating_add(2), 0)

@@ -19,7 +19,7 @@ fn broadcast() -> Uid {
     Uid::new(0x7a70, 0xffff_ffff)
 }
 
-// What bytes say.
+// These bytes are read as this reply.
 fn reads(rt: &impl Abort, alloc: Global, text: &str, wanted: BranchReply) {
     let bytes = bytes_of(rt, alloc, text);
     assert!(rt; read_branch_reply(&bytes) == wanted, "{text}");
@@ -32,7 +32,7 @@ fn reads_replies(rt: HostRuntime) {
     reads(&rt, alloc, LONGEST_REPLY, One(device()));
     reads(&rt, alloc, REPLY, One(device()));
     reads(&rt, alloc, REPLY_OF_BROADCAST, One(broadcast()));
-    // Bytes after the checksum, and then a pair of it with another byte whose AND is the same.
+    // Bytes after the checksum; and a pair of the checksum's bytes that differ from E1.20's but have the same AND.
     let more = "aafa7ffa75aa55aa55aa55ab55ae57eff51234";
     reads(&rt, alloc, more, One(device()));
     let paired = "aafa7ffa75aa55aa55aa55ab55ae57e5e51234";
@@ -42,10 +42,10 @@ fn reads_replies(rt: HostRuntime) {
 #[test]
 fn reads_collisions(rt: HostRuntime) {
     let alloc = rt.alloc();
-    // The UID's first pair with bytes whose AND is the same: the checksum is of the bytes as received.
+    // The UID's first pair has other bytes with the same AND. The checksum is that of the bytes as received.
     let paired = "aa7a7afa75aa55aa55aa55ab55ae57eff5";
     reads(&rt, alloc, paired, Collision);
-    // Eight bytes of preamble, nothing else, another last byte, none.
+    // Eight preamble bytes; nothing after the preamble; another last byte; no last byte.
     let long = "fefefefefefefefeaafa7ffa75aa55aa55aa55ab55ae57eff5";
     reads(&rt, alloc, long, Collision);
     reads(&rt, alloc, "fe", Collision);

@@ -7,8 +7,8 @@ use rdm_wire::{
 use std::alloc::Global;
 use std::process::Abort;
 
-// No bytes; a crossed branch; a mute of all devices; a wrong checksum; port id 2; a message count; a byte too many; one
-// too few; a response.
+// No bytes; a branch whose bounds are swapped; a mute of all devices; a wrong checksum; port id 2; a message count; a
+// byte too many; one too few; a response.
 const NO_COMMANDS: [&str; 9] = [
     "",
     "cc0124ffffffffffff7a700000010003010000001000010cffffffffffff0000000000000df1",
@@ -32,7 +32,7 @@ fn get(rt: &impl Abort) -> Request {
     }
 }
 
-// The frame reads as this command with this number.
+// The frame is read as this command with this number.
 fn reads(rt: &impl Abort, alloc: Global, text: &str, command: Command, tn: u8) {
     let bytes = bytes_of(rt, alloc, text);
     let wanted = Some((command, controller(), tn));
@@ -69,7 +69,7 @@ fn reads_requests(rt: HostRuntime) {
     reads(&rt, rt.alloc(), text, Command::Request(set), 255);
 }
 
-// The bytes are no command.
+// The bytes aren't a command.
 fn reads_none(rt: &impl Abort, alloc: Global, text: &str) {
     let bytes = bytes_of(rt, alloc, text);
     assert!(rt; read_command(&bytes).is_none(), "{text}");

@@ -1,4 +1,4 @@
-//! What the faults say.
+//! The texts of the faults.
 use rdm_wire::{PacketFault, SetFull, UidFault};
 use std::alloc::Global;
 use std::fmt::Display;

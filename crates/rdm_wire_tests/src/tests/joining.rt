@@ -1,4 +1,4 @@
-//! Replies in parts, and what they are joined to.
+//! Replies in parts, and their joined result.
 ghost use Rattle.rdm_join.specs.JoinerStanding.{IsOpen};
 
 use super::rig::{check, controller, device};
@@ -35,7 +35,7 @@ fn whole(rt: &impl Abort, length: usize, value: u8) -> Judged {
     Judged::Whole(response(rt, AckType::Ack, length, value))
 }
 
-// A joiner that was given this many parts of this length; the bytes of each are its number's low byte.
+// A joiner after this many parts of this length. Each byte of a part is the low byte of the part's number.
 fn with_parts(rt: &impl Abort, count: usize, length: usize) -> Joiner
     ensures { IsOpen result }
 {
@@ -47,7 +47,7 @@ fn with_parts(rt: &impl Abort, count: usize, length: usize) -> Joiner
     joiner
 }
 
-// The joiner is done with this status after the reply.
+// The reply ends the joining with this status.
 fn ends(rt: &impl Abort, joiner: &mut Joiner, reply: Judged, status: Status)
     requires { IsOpen joiner.old }
 {
@@ -64,7 +64,7 @@ fn data(rt: &impl Abort, alloc: Global, joiner: &Joiner) -> Vec<u8> {
     joiner.take_data(alloc).expect(rt, "memory")
 }
 
-// The bytes from one place to another are this value alone.
+// The bytes from `from` to `to` all have this value.
 fn has_part(rt: &impl Abort, data: &[u8], from: usize, to: usize, value: u8) {
     let part = data.get(from..to).expect(rt, "a part");
     for byte in part {
@@ -85,7 +85,7 @@ fn joins_parts_in_order(rt: HostRuntime) {
     has_part(&rt, &data, 462, 465, 2);
 }
 
-// The whole reply of this length is joined to these parts, in all to this many bytes.
+// A whole reply of `rest` bytes is joined to the parts, which gives `length` bytes in all.
 fn joins(rt: &impl Abort, alloc: Global, mut joiner: Joiner, rest: usize, length: usize)
     requires { IsOpen joiner }
 {
@@ -113,7 +113,7 @@ fn joins_no_more_bytes_than_fit(rt: HostRuntime) {
     check(&rt, data(&rt, rt.alloc(), &refused).is_empty());
 }
 
-// Each length is joined of parts of 231 bytes and a whole reply with the rest.
+// Each length comes as parts of 231 bytes and a whole reply with the rest.
 #[test]
 fn joins_answers_of_each_length(rt: HostRuntime) {
     let alloc = rt.alloc();

@@ -11,13 +11,13 @@ const OVERFLOW: [u8; 28] = [
     0x03, 0x00, 0x00, 0x00, 0x21, 0x00, 0x60, 0x02, 0x01, 0x02, 0x02, 0xa2,
 ];
 
-/// A byte of a reply, and where it stands.
+/// An offset in a reply, and a byte.
 type Change = (usize, u8);
 
-/// Nothing is changed: the start code.
+/// Changes nothing, since it is the start code.
 const SAME: Change = (0, 0xcc);
 
-/// Where some of a reply's fields stand.
+/// The offsets of some fields of a reply.
 mod offset {
     pub const DEST_LOW: usize = 8;
 
@@ -66,14 +66,14 @@ fn kind(judged: &Judged) -> Expected {
     }
 }
 
-// What the request makes of these bytes.
+// How these bytes are judged as a reply to the request.
 fn judged(rt: &impl Abort, sent: &Sent, bytes: &[u8]) -> Judged {
     let mut reply: LineReply = ArrayVec::new();
     check(rt, reply.try_extend_from_slice(bytes).is_ok());
     judge(sent, &LineEvent::Reply(reply))
 }
 
-// What the request makes of the part with these changes, and its checksum made right.
+// The part with these changes and this checksum is judged like this as a reply to the request.
 fn judges(rt: &impl Abort, sent: &Sent, changes: [Change; 2], checksum: u16, wanted: Expected) {
     let mut bytes = OVERFLOW;
     for (at, byte) in changes {
@@ -105,7 +105,7 @@ fn judges_changed_replies(rt: HostRuntime) {
     judges(&rt, &get, two_faults, 0x02b3, Ended(15));
 }
 
-// Changes that make it a part of the answer to a SET, all of it, and the answer of another sub-device.
+// Changes that make it a part of the answer to a SET, a whole answer to a SET, and an answer of another sub-device.
 const SET_OVERFLOW: [Change; 2] = [SAME, (offset::CLASS, 0x31)];
 
 const SET_RESPONSE: [Change; 2] = [(offset::CLASS, 0x31), (offset::RESPONSE_TYPE, 0x00)];
@@ -146,7 +146,7 @@ fn a_set_lets_pass_what_it_allows(rt: HostRuntime) {
     judges(&rt, &queued, [SAME, SAME], 0x02a2, Ended(17));
 }
 
-// What the request makes of an event that is no packet.
+// An event that isn't a packet is judged like this as the answer to the request.
 fn ends(rt: &impl Abort, sent: &Sent, bytes: Option<&[u8]>, status: u8) {
     let judged = match bytes {
         Some(bytes) => judged(rt, sent, bytes),

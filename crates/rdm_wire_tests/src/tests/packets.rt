@@ -18,7 +18,7 @@ const MUTE_ACK: &str = "cc011a7a700000010012340000000104000000001100020200000232
 const MUTE_ACK_WITH_BINDING: &str =
     "cc01207a700000010012340000000104000000001100020800031234000000020289";
 
-// A GET by its transaction number.
+// Transaction numbers, and the GET with each of them.
 const GETS: [(u8, &str); 3] = [
     (0, "cc01181234000000017a70000001000001000000200060000298"),
     (1, "cc01181234000000017a70000001000101000000200060000299"),
@@ -27,8 +27,8 @@ const GETS: [(u8, &str); 3] = [
 
 const SET: &str = "cc0119ffffffffffff7a7000000100ff0100ffff30100001010b0b";
 
-// Of three bytes; of a GET; of an unmute; a timer; of another device; to another controller; with a wrong checksum; no
-// bytes.
+// An acknowledgement with three bytes; of a GET; of an unmute; a timer; of another device; to another controller; with
+// a wrong checksum; no bytes.
 const NO_ACKNOWLEDGEMENTS: [&str; 8] = [
     "cc011b7a70000001001234000000010400000000110002030000000234",
     "cc011a7a700000010012340000000104000000002100020200000242",
@@ -40,7 +40,7 @@ const NO_ACKNOWLEDGEMENTS: [&str; 8] = [
     "",
 ];
 
-// A request of the parameter `0060`.
+// A request for the parameter `0060`.
 fn request(rt: &impl Abort, class: ReqClass, param: &[u8]) -> Request {
     Request {
         target: device(),
@@ -95,7 +95,7 @@ fn response(
     }
 }
 
-// What the bytes are as a response.
+// The bytes are decoded to this response or fault.
 fn decodes_to(rt: &impl Abort, alloc: Global, text: &str, wanted: Result<Response, PacketFault>) {
     let bytes = bytes_of(rt, alloc, text);
     assert!(rt; decode_response(&bytes) == wanted, "{text}");
@@ -122,7 +122,7 @@ fn ignores_bytes_after_the_checksum(rt: HostRuntime) {
     decodes_to(&rt, rt.alloc(), text, Ok(ack));
 }
 
-// The bytes are no response, for this fault.
+// The bytes aren't a response, because of this fault.
 fn is_no_packet(rt: &impl Abort, alloc: Global, fault: PacketFault, text: &str) {
     decodes_to(rt, alloc, text, Err(fault));
 }
@@ -146,7 +146,7 @@ fn finds_faults_of_starts_and_lengths(rt: HostRuntime) {
     is_no_packet(&rt, alloc, WrongStart, text);
     let text = "cc021a7a700000010012340000000104000000001100020200000232";
     is_no_packet(&rt, alloc, WrongSubStart, text);
-    // Message lengths 23 and 255, where 24 is the least, and for 255 there are too few bytes.
+    // Message length 23, although 24 is the least; and 255, for which there are too few bytes.
     let text = "cc01177a700000010012340000000104000000001100020200000232";
     is_no_packet(&rt, alloc, LengthMismatch, text);
     let text = "cc01ff7a700000010012340000000104000000001100020200000232";
@@ -199,7 +199,7 @@ fn reads_the_longest_packet(rt: HostRuntime) {
     }
 }
 
-// One byte of data more than the message length has room for.
+// The parameter data length is one more than the message length allows.
 #[test]
 fn reads_no_longer_packet(rt: HostRuntime) {
     let header = "cc01ff7a70000001001234000000010000000000210060e8";
@@ -215,7 +215,7 @@ fn encodes_the_longest_packet(rt: HostRuntime) {
     check(&rt, encode_request(&set, controller(), 0) == frame);
 }
 
-// Which acknowledgement of the mute with this number bytes are.
+// The bytes are read as this acknowledgement of the mute with this number. None: they aren't one.
 fn acknowledges(rt: &impl Abort, alloc: Global, tn: u8, text: &str, wanted: Option<MuteAck>) {
     let bytes = bytes_of(rt, alloc, text);
     assert!(rt;
@@ -243,6 +243,6 @@ fn reads_no_acknowledgements(rt: HostRuntime) {
     for text in NO_ACKNOWLEDGEMENTS {
         acknowledges(&rt, rt.alloc(), 4, text, None);
     }
-    // Of a mute with another transaction number.
+    // The acknowledgement of a mute with another transaction number.
     acknowledges(&rt, rt.alloc(), 5, MUTE_ACK, None);
 }

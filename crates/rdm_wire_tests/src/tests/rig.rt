@@ -1,4 +1,5 @@
-//! What the tests share. These calls are proved once, while an assertion is proved anew wherever it stands.
+//! What the tests share. A call of a check is proved in less time than an assertion, which is proved anew at each
+//! place.
 ghost use Rattle.std.specs.Prelude.{IsTrue};
 
 use arrayvec::ArrayVec;
@@ -6,7 +7,7 @@ use rdm_wire::{MOST_PARAMETER_BYTES, Uid};
 use std::alloc::Global;
 use std::process::Abort;
 
-/// Ends the test where the fact doesn't hold.
+/// Ends the test if the fact doesn't hold.
 pub fn check(rt: &impl Abort, fact: bool)
     ensures { IsTrue fact }
 {

@@ -41,7 +41,7 @@ fn small_ranges(rt: HostRuntime) {
     check(&rt, UidRange::new(Uid::new(0, 5), Uid::new(0, 4)).is_none());
 }
 
-// Whether the UID with this number was new.
+// Inserts the UID with this number, with this result: whether it was new.
 fn inserts(rt: &impl Abort, set: &mut UidSet, number: u32, wanted: Result<bool, SetFull>) {
     check(rt, set.insert(uid(rt, number)) == wanted);
 }
@@ -108,7 +108,7 @@ fn device(rt: &impl Abort, number: u32, control: u16) -> Device
     }
 }
 
-// Whether the device is new.
+// Inserts the device, with this result: whether it was new.
 fn adds(rt: &impl Abort, set: &mut DeviceSet, device: Device, wanted: Result<bool, SetFull>)
     requires { is_broadcast device.uid ≡ false }
 {
@@ -126,7 +126,7 @@ fn bound(rt: &impl Abort) -> Device
     }
 }
 
-// The devices 1, 5 and 9 in order; device 5 is the one that was put in first.
+// The devices 1, 5 and 9 in order. Of two devices with UID 5, the set keeps the first one.
 fn three_devices(rt: &impl Abort) -> DeviceSet {
     let mut set = DeviceSet::new();
     check(rt, set.is_empty());
@@ -138,7 +138,7 @@ fn three_devices(rt: &impl Abort) -> DeviceSet {
     set
 }
 
-// The UID of a device that is there.
+// The device's UID, if there is a device.
 fn uid_of(device: Option<&Device>) -> Option<&Uid> {
     match device {
         Some(device) => Some(&device.uid),

@@ -25,7 +25,7 @@ fn tells_broadcasts(rt: HostRuntime) {
     check(&rt, !Uid::new(0x7a70, 1).is_broadcast());
 }
 
-// What a text spells.
+// This text is read as this UID or fault.
 fn parses(rt: &impl Abort, text: &str, wanted: Result<Uid, UidFault>) {
     assert!(rt; Uid::parse(text) == wanted, "{text}");
     assert!(rt; text.parse::<Uid>() == wanted, "{text}");

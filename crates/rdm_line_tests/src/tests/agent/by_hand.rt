@@ -1,11 +1,11 @@
-//! Runs by replies made by hand.
+//! Runs with replies made by hand.
 use super::line::{ack_of, ended, far, near, plain, set_of};
 use crate::tests::checks::check;
 use rdm_agent::{Agent, AgentFault, DEFAULT_BUDGET, Kind, Op, OpReply};
 use rdm_wire::{BranchReply, DeviceSet, Uid, UidRange, UidSet};
 use std::process::Abort;
 
-// The agent hears a reply that is to fit.
+// The agent gets a reply, which has to fit its operation.
 fn hear(rt: &impl Abort, agent: &mut Agent, reply: OpReply) {
     let op = agent.next();
     check(rt, reply.fits(&op));
@@ -28,12 +28,12 @@ fn unmuted_once(rt: &impl Abort, budget: u64) -> Agent {
     agent.feed(OpReply::Done)
 }
 
-// The agent has ended with this fault, and found nobody.
+// The agent has ended with this fault, and found no devices.
 fn ends_by(rt: &impl Abort, agent: Agent, fault: AgentFault) {
     check(rt, ended(rt, agent) == Err((fault, DeviceSet::new())));
 }
 
-// It has asked this many frames.
+// The agent has sent this many frames.
 fn has_asked(rt: &impl Abort, agent: &Agent, frames: u64) {
     check(rt, agent.frames() == frames);
 }
@@ -103,7 +103,7 @@ fn an_abort(rt: HostRuntime) {
     ends_by(&rt, aborted, AgentFault::Aborted);
 }
 
-// What the last reply itself shows comes before a budget that is used up, and that before an abort.
+// A fault that the last reply shows takes precedence over a used-up budget, and that over an abort.
 #[test]
 fn the_first_of_several_faults(rt: HostRuntime) {
     let mut failed = unmuted_once(&rt, 2);
@@ -120,7 +120,7 @@ fn a_budget_of_no_frames(rt: HostRuntime) {
     ends_by(&rt, agent, AgentFault::Exhausted);
 }
 
-// The agent asks this, and hears that reply.
+// The agent asks this, and gets that reply.
 fn asks(rt: &impl Abort, agent: &mut Agent, op: &Op, reply: OpReply) {
     check(rt, agent.next() == *op);
     hear(rt, agent, reply);

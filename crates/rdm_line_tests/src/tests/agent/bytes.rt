@@ -22,10 +22,10 @@ const BRANCH: &str = "cc0124ffffffffffff7a700000010003010000001000010c0000000000
 // A mute of the device with number 4.
 const MUTE: &str = "cc01181234000000017a7000000100040100000010000200022e";
 
-// What acknowledges it, with control field 2 and the binding UID 1234:00000005.
+// The acknowledgement of that mute, with control field 2 and the binding UID 1234:00000005.
 const ACK: &str = "cc01207a70000001001234000000010400000000110002080002123400000005028b";
 
-// What a branch is answered by the device 7a70:00000001.
+// The reply of the device 7a70:00000001 to a branch.
 const TEXT: &str = "aafa7ffa75aa55aa55aa55ab55ae57eff5";
 
 // The frame is these bytes, in hexadecimal.
@@ -46,7 +46,7 @@ fn frames_of_operations(rt: HostRuntime) {
     is_frame(&rt, alloc, &mute, MUTE);
 }
 
-// Whether a reply may answer an unmute, a mute, a branch, and nothing.
+// Whether the reply fits an unmute, a mute, a branch, and the end of a run.
 fn fits_each(rt: &impl Abort, reply: OpReply, fits: [bool; 4]) {
     check(rt, reply.fits(&Op::UnmuteAll) == fits[0]);
     check(rt, reply.fits(&Op::Mute(device())) == fits[1]);

@@ -1,4 +1,4 @@
-//! What the faults say.
+//! The texts of the faults.
 use crate::tests::checks::{check, says};
 use rdm_agent::AgentFault;
 use rdm_wire::Uid;

@@ -4,17 +4,17 @@ use rdm_agent::{Agent, AgentFault, Op, OpReply};
 use rdm_wire::{BranchReply, Device, DeviceSet, MuteAck, Uid, UidRange, UidSet};
 use std::process::Abort;
 
-/// A device of one maker.
+/// A device of one manufacturer.
 pub(crate) fn near() -> Uid {
     Uid::new(0x1234, 1)
 }
 
-/// A device of another maker, in the upper half of all UIDs.
+/// A device of another manufacturer, in the upper half of all UIDs.
 pub(crate) fn far() -> Uid {
     Uid::new(0x9abc, 2)
 }
 
-/// A device that says nothing of itself.
+/// A device whose control field is 0, without a binding UID.
 pub(crate) fn plain(uid: Uid) -> Device {
     Device {
         uid,
@@ -34,15 +34,15 @@ pub(crate) fn ack_of(device: Device) -> MuteAck {
 /// How a device misbehaves.
 #[derive(Clone, Copy, PartialEq)]
 pub(crate) enum Fault {
-    /// It acknowledges no mute, and isn't muted.
+    /// It doesn't acknowledge mutes, and doesn't obey them.
     NeverMutes,
     /// Its reply to a branch has too few bytes to spell a UID.
     AnswersShort,
-    /// It acknowledges its mute, and goes on answering branches.
+    /// It acknowledges its mute, but still answers branches.
     GoesOn,
 }
 
-/// Devices on a line, which answer each exchange but the lost ones.
+/// Devices on a line, which answer each exchange except the lost one.
 #[derive(Drop)]
 pub(crate) struct TestLine<'a> {
     devices: &'a [Device],
@@ -66,7 +66,7 @@ impl<'a> TestLine<'a> {
         }
     }
 
-    /// What comes after an operation.
+    /// The line's reply to an operation.
     fn answer(&mut self, op: Op) -> OpReply {
         let lost = self.lost == Some(self.exchanges);
         let reply = match op {
@@ -86,7 +86,7 @@ impl<'a> TestLine<'a> {
         reply
     }
 
-    // What a device replies that is muted.
+    // The device's reply to its mute.
     fn muted(&mut self, uid: Uid) -> Option<MuteAck> {
         let found = self.devices.iter().find(|device| device.uid == uid)?;
         if uid.is_broadcast() || self.has(uid, Fault::NeverMutes) {
@@ -117,7 +117,7 @@ impl<'a> TestLine<'a> {
         reply
     }
 
-    // Whether a device misbehaves so.
+    // Whether the device misbehaves like this.
     fn has(&self, uid: Uid, fault: Fault) -> bool {
         match self.bad {
             Some((bad, own)) => bad == uid && own == fault,
@@ -139,7 +139,7 @@ impl<'a> TestLine<'a> {
     }
 }
 
-/// What an agent that has ended answers.
+/// The result of an agent that has ended.
 pub(crate) fn ended(rt: &impl Abort, agent: Agent) -> Result<DeviceSet, (AgentFault, DeviceSet)> {
     let Op::End = agent.next() else {
         panic!(rt; "it goes on")

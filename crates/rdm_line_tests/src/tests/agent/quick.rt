@@ -1,21 +1,21 @@
-//! Searches over a line in memory, which loses a reply or has a device that misbehaves.
+//! Searches over a line in memory that loses a reply or has a device that misbehaves.
 use super::line::{Fault, TestLine, ended, far, near, plain, set_of};
 use crate::tests::checks::check;
 use rdm_agent::{Agent, AgentFault, DEFAULT_BUDGET, Kind, Op, Search};
 use rdm_wire::{Device, Uid, UidSet};
 use std::process::Abort;
 
-// A full run of this search.
+// A full run with this search.
 fn full(search: Search, budget: u64) -> Agent {
     Agent::start_by(search, Kind::Full, &UidSet::new(), budget)
 }
 
-// The device with this least UID.
+// The device with this number as its UID.
 fn neighbour(number: u32) -> Device {
     plain(Uid::new(0, number))
 }
 
-// Each of the first exchanges may be lost, and both devices are found.
+// Any one of the first 13 replies may be lost, and both devices are found.
 #[test]
 fn a_lost_reply(rt: HostRuntime) {
     let devices = [plain(near()), plain(far())];
@@ -29,7 +29,7 @@ fn a_lost_reply(rt: HostRuntime) {
     }
 }
 
-// Eleven devices: in sequence, or far from each other.
+// Eleven devices, whose UIDs are consecutive or far apart.
 fn eleven(apart: bool) -> [Device; 11] {
     let mut devices = [neighbour(0); 11];
     for (number, found) in (0u16..).zip(&mut devices) {
@@ -42,7 +42,7 @@ fn eleven(apart: bool) -> [Device; 11] {
     devices
 }
 
-// How many of the good devices a run finds, beside Corrupt of the bad one.
+// How many of the good devices a run finds. It has to report the bad one as Corrupt.
 fn good_found(
     rt: &impl Abort,
     search: Search,
@@ -71,7 +71,7 @@ fn good_found(
     }
 }
 
-// One bad device hides none of these ten good ones, where the steady search finds those below it alone.
+// With one bad device, the quick search still finds all ten good ones. The steady search finds only those below it.
 #[test]
 fn one_bad_device_hides_none_of_these(rt: HostRuntime) {
     for apart in [false, true] {

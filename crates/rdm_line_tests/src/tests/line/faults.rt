@@ -1,4 +1,4 @@
-//! What the faults say.
+//! The texts of the faults.
 use crate::tests::checks::says;
 use rdm_line::{AddFault, LineFault, NoMemory};
 

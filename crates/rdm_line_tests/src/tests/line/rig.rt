@@ -1,4 +1,4 @@
-//! Scenes, lines that are made of them, and what these answer.
+//! Scenes, lines made from them, and the lines' replies.
 use crate::tests::checks::{bytes_of, check, frame_of};
 use rdm_join::LineReply;
 use rdm_line::{
@@ -32,7 +32,7 @@ pub fn plain(uid: Uid) -> Device {
     }
 }
 
-/// How a device is put into a scene.
+/// The preamble bytes of a device in a scene, and when it is there.
 #[derive(Clone, Copy)]
 pub struct Placing {
     pub preamble: u8,
@@ -47,7 +47,7 @@ pub const ALWAYS: Placing = Placing {
     until: None,
 };
 
-/// Adds a device that is no broadcast UID's, has few preamble bytes and comes early.
+/// Adds a device. Its UID mustn't be broadcast, and its number of preamble bytes and its arrival have to be in range.
 pub fn add(
     rt: &impl Abort,
     devices: &mut SceneDevices,
@@ -66,7 +66,7 @@ pub fn add(
     })
 }
 
-/// Adds a device without parameters, and succeeds.
+/// Adds a device without parameters, which has to succeed.
 pub fn put(
     rt: &impl Abort,
     alloc: Global,
@@ -82,7 +82,7 @@ pub fn no_params(alloc: Global) -> Parameters {
     Parameters::new(Vec::new(alloc))
 }
 
-/// The devices of a scene with this one, which has no parameters.
+/// A scene's devices: only this one, without parameters.
 pub fn one_device(
     rt: &impl Abort,
     alloc: Global,
@@ -94,7 +94,7 @@ pub fn one_device(
     devices
 }
 
-/// The devices of a scene with these two, without parameters; the first one has these preamble bytes.
+/// A scene's devices: these two, without parameters. The first one has this many preamble bytes.
 pub fn two_devices(
     rt: &impl Abort,
     alloc: Global,
@@ -108,7 +108,7 @@ pub fn two_devices(
     devices
 }
 
-/// The part of a parameter with these bytes.
+/// A part of a parameter, with these bytes.
 pub fn part(rt: &impl Abort, bytes: &[u8]) -> ParameterPart {
     let mut part = ParameterPart::new();
     check(rt, part.try_extend_from_slice(bytes).is_ok());
@@ -123,7 +123,7 @@ pub fn params_of(rt: &impl Abort, alloc: Global, parts: Vec<ParameterPart>) -> P
     Parameters::new(params)
 }
 
-/// The devices of a scene with the first device, which has this parameter.
+/// A scene's devices: only the first device, with these parameters.
 pub fn device_with(rt: &impl Abort, alloc: Global, params: Parameters) -> SceneDevices {
     let mut devices = SceneDevices::new(alloc);
     check(
@@ -133,7 +133,7 @@ pub fn device_with(rt: &impl Abort, alloc: Global, params: Parameters) -> SceneD
     devices
 }
 
-/// The devices of a scene with the first device, which has the parameter `0060` in two parts: `0102` and `03`.
+/// A scene's devices: only the first device, with the parameter `0060` in two parts, `0102` and `03`.
 pub fn two_parts(rt: &impl Abort, alloc: Global) -> SceneDevices {
     let mut parts = Vec::new(alloc);
     check(rt, parts.push(part(rt, &[1, 2])).is_ok());
@@ -165,7 +165,8 @@ pub fn collisions(
     collisions
 }
 
-/// A line of these devices and collisions, which loses and fails the exchanges with these numbers.
+/// A line with these devices and collisions. It loses the replies of the exchanges in `losses`, and fails at those in
+/// `fails`.
 pub fn line_of(
     rt: &impl Abort,
     alloc: Global,
@@ -187,12 +188,12 @@ pub fn line_of(
     }
 }
 
-/// A line of these devices without collisions, losses and failures.
+/// A line with these devices, without losses and failures. Colliding replies are the bitwise OR.
 pub fn quiet_line(rt: &impl Abort, alloc: Global, devices: SceneDevices) -> SimLine {
     line_of(rt, alloc, devices, Vec::new(alloc), &[], &[])
 }
 
-/// Whom a request is for: one of both devices, the devices of a maker, or all.
+/// The target of a request: one of the two devices, all devices of a manufacturer, or all devices.
 #[derive(Clone, Copy)]
 pub enum Who {
     First,
@@ -210,9 +211,9 @@ pub enum Ask {
     Mute(u8),
     /// An unmute of all devices with this number.
     Unmute(u8),
-    /// A request with number 0 and no data: for whom, its class, its PID and its sub-device.
+    /// A request with number 0 and no data: its target, its class, its PID and its sub-device.
     Request(Who, ReqClass, u16, u16),
-    /// A frame that is no command: its bytes in hexadecimal.
+    /// A frame with these bytes, in hexadecimal.
     Bytes(&'static str),
 }
 
@@ -244,7 +245,7 @@ fn is_text(rt: &impl Abort, alloc: Global, bytes: &[u8], text: &str) {
     assert!(rt; bytes == bytes_of(rt, alloc, text).as_slice(), "{text}");
 }
 
-// The frame that is meant.
+// The frame of this `Ask`.
 fn frame_for(rt: &impl Abort, alloc: Global, ask: Ask) -> Frame {
     match ask {
         Ask::Branch(tn) => encode_branch(UidRange::whole(), controller(), tn),
@@ -277,7 +278,7 @@ pub fn asks(who: Who, class: ReqClass, pid: u16, sub_device: u16) -> Frame {
     encode_request(&request, controller(), 0)
 }
 
-/// What any line answers to a frame of two bytes, whose text is `cc01`: these bytes, or None for a failure.
+/// The line's reply to a frame of two bytes, whose text is `cc01`, is these bytes. None: the line fails.
 pub fn meets<L: Line>(rt: &impl Abort, line: &mut L, wanted: Option<&[u8]>) {
     let mut frame = Frame::new();
     let _ = frame.try_extend_from_slice(&[0xcc, 0x01]);

@@ -1,4 +1,4 @@
-//! The rules of the simulated line, each by what a line sends.
+//! The rules of the simulated line, each shown by replies.
 use super::rig::{
     Ask, GET, Row, SET, Who, collisions, first, line_of, noise, plays, quiet_line, second,
     two_devices, two_parts,
@@ -10,7 +10,7 @@ use rdm_wire::{ReqClass, Uid};
 use std::alloc::Global;
 use std::process::Abort;
 
-// What the first device sends of itself after a branch, without preamble bytes.
+// The first device's own reply to a branch, without preamble bytes.
 const TEXT: &str = "aaba57be75aa55aa55aa55ab55ae57eb55";
 
 // The parts `0102` and `03` of its parameter `0060`, each after the GET with number 0.
@@ -18,13 +18,13 @@ const FIRST_PART: &str = "cc011a7a7000000100123400000001000300000021006002010202
 
 const LAST_PART: &str = "cc01197a700000010012340000000100000000002100600103029d";
 
-// What comes of replies that collide: of the first device with these preamble bytes, and of this one.
+// Replies of two devices collide and give this text: the first device with this many preamble bytes, and the other one.
 fn collide(rt: &impl Abort, alloc: Global, preamble: u8, other: Uid, text: &str) {
     let rows = [(Ask::Branch(0), Some(text)), (Ask::Branch(1), Some(text))];
     let devices = two_devices(rt, alloc, preamble, first(), other);
     plays(rt, alloc, quiet_line(rt, alloc, devices), &rows);
 
-    // So it is also if the scene says so.
+    // The same if the scene says `Or`.
     let devices = two_devices(rt, alloc, preamble, first(), other);
     let mut collisions = Vec::new(alloc);
     check(rt, collisions.push(Collision::Or).is_ok());
@@ -46,8 +46,8 @@ fn no_bytes_come_of_no_collision(rt: HostRuntime) {
     check(&rt, CollisionBytes::new(LineReply::new()).is_none());
 }
 
-// What comes of a line with the first device and its parameter `0060`, which loses and fails the exchanges with these
-// numbers.
+// The line with the first device and its parameter `0060` answers like this. It loses and fails the exchanges with
+// these numbers.
 fn first_plays(rt: &impl Abort, alloc: Global, losses: &[u64], fails: &[u64], rows: &[Row<'_>]) {
     let devices = two_parts(rt, alloc);
     let line = line_of(rt, alloc, devices, Vec::new(alloc), losses, fails);
@@ -61,7 +61,7 @@ const SET_UNKNOWN: Ask = Ask::Request(Who::First, ReqClass::Set, 0x0070, 0);
 
 const SET_UNKNOWN_OF_200: Ask = Ask::Request(Who::First, ReqClass::Set, 0x0070, 0x0200);
 
-// A parameter's parts come one after the other, whatever the sub-device, and a SET leaves them.
+// A parameter's parts come in order, whatever the sub-device is. A SET doesn't change which part is next.
 #[test]
 fn answers_repeat_the_sub_device(rt: HostRuntime) {
     let part_of_200 = "cc011a7a7000000100123400000001000300020021006002010202a4";
@@ -101,8 +101,8 @@ fn a_failed_exchange_changes_nothing(rt: HostRuntime) {
     first_plays(&rt, rt.alloc(), &[], &[0, 2], &rows);
 }
 
-// What comes of branches of a line with both devices, whose collisions spell `7a70:00000001`, and then are noise. It
-// loses and fails exchanges with these numbers.
+// The line with both devices answers like this. Its first collision spells `7a70:00000001`, and later ones are noise.
+// It loses and fails the exchanges with these numbers.
 fn both_play(rt: &impl Abort, alloc: Global, losses: &[u64], fails: &[u64], rows: &[Row<'_>]) {
     let devices = two_devices(rt, alloc, 0, first(), second());
     let spelt = Collision::Uid(Uid::new(0x7a70, 1));
@@ -129,7 +129,7 @@ fn a_lost_branch_takes_a_collision(rt: HostRuntime) {
     both_play(&rt, rt.alloc(), &[0], &[], &rows);
 }
 
-// A GET and a SET of the parameter `0060`, to the second device, to all, and to all of a maker.
+// A GET and a SET of the parameter `0060`, to the second device, to all devices, and to all of a manufacturer.
 static OTHERS: [Ask; 6] = [
     Ask::Request(Who::Second, ReqClass::Get, 0x0060, 0),
     Ask::Request(Who::Second, ReqClass::Set, 0x0060, 0),
@@ -148,7 +148,7 @@ static NO_COMMANDS: [Ask; 5] = [
     Ask::Bytes(""),
 ];
 
-// The first device answers none of these. Then its parts have not moved, and it isn't muted.
+// The first device answers none of these. Afterwards its next part is still the first one, and it isn't muted.
 fn answers_none(rt: &impl Abort, alloc: Global, unanswered: &[Ask]) {
     let mut rows: Vec<Row<'_>> = Vec::new(alloc);
     for ask in unanswered {

@@ -13,7 +13,7 @@ use std::process::Abort;
 // The first device's acknowledgement of the mute with number 4.
 const ACK: &str = "cc011a7a700000010012340000000104000000001100020200000232";
 
-// What comes of a line with these devices alone.
+// A line with these devices, without losses and failures, answers like this.
 fn quiet_plays(rt: &impl Abort, alloc: Global, devices: SceneDevices, rows: &[Row<'_>]) {
     plays(rt, alloc, quiet_line(rt, alloc, devices), rows);
 }
@@ -123,7 +123,7 @@ fn refuses_repeated_devices(rt: HostRuntime) {
     check(&rt, again == Err(AddFault::Repeated));
 }
 
-// As many devices as a scene may have. They come late.
+// As many devices as a scene may have. They come as late as they may.
 fn most_devices(rt: &impl Abort, alloc: Global) -> SceneDevices {
     let late = Placing {
         preamble: 0,

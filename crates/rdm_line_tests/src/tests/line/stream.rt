@@ -1,4 +1,4 @@
-//! A line over streams of text: which line says what, and what an exchange takes when it fails.
+//! A line over streams of text: what each line means, and what an exchange reads when it fails.
 use super::rig::meets;
 use crate::tests::checks::check;
 use rdm_line::{Line, StreamLine};
@@ -15,7 +15,7 @@ fn add_digits(rt: &impl Abort, text: &mut Vec<u8>, count: usize, end: &str) {
     check(rt, text.extend_from_slice(end.as_bytes()).is_ok());
 }
 
-// The line answers each of these, and then fails. By then it has failed this many times.
+// The line gives each of these replies, and then fails. By then it has failed this many times.
 fn ends<L: Line>(rt: &impl Abort, line: &mut L, wanted: &[Option<&[u8]>], failures: u64) {
     for wanted in wanted {
         meets(rt, line, *wanted);
@@ -24,7 +24,8 @@ fn ends<L: Line>(rt: &impl Abort, line: &mut L, wanted: &[Option<&[u8]>], failur
     check(rt, line.failures() == failures);
 }
 
-// The exchanges over these lines are answered by these bytes, or fail, and then the line has failed this many times.
+// Exchanges with this text as their answers have these replies, or fail. At the end the line has failed this many
+// times.
 fn meets_each(
     rt: &impl Abort,
     alloc: Global,
@@ -43,7 +44,7 @@ fn meets_each(
     );
 }
 
-// What comes of these lines.
+// Lines that answer, and their replies.
 const TEXT: &[u8] = b"\n\r\nFE01\r\nfe01\nf\nf\r\nfailed\nfailed\r\n0g\n 01\n01\r\r\n01\n02";
 
 const WANTED: [Option<&[u8]>; 13] = [
@@ -67,7 +68,7 @@ fn each_line_answers_one_exchange(rt: HostRuntime) {
     meets_each(&rt, rt.alloc(), TEXT, &WANTED, 9);
 }
 
-// The longest reply, in a line with either end, and two that are too long.
+// The longest reply, with either end of line, and two that are too long.
 #[test]
 fn a_line_has_a_reply_of_257_bytes_at_most(rt: HostRuntime) {
     let alloc = rt.alloc();
@@ -82,7 +83,7 @@ fn a_line_has_a_reply_of_257_bytes_at_most(rt: HostRuntime) {
     meets_each(&rt, alloc, &text, &wanted, 3);
 }
 
-// Gives a byte at each read; `!` stands for an error and `?` for an interrupted call.
+// Returns a byte at each read; `!` means an error, and `?` an interrupted call.
 #[derive(Drop)]
 struct Faulty<'a> {
     text: &'a [u8],

@@ -12,7 +12,7 @@ fn adds(rt: &impl Abort, events: &mut Vec<LineEvent>, bytes: &[u8]) {
     check(rt, events.push(LineEvent::Reply(reply)).is_ok());
 }
 
-// The line answers these bytes, or fails. By then it has failed this many times.
+// The line's reply is these bytes, or it fails. By then it has failed this many times.
 fn gives(rt: &impl Abort, line: &mut TapeLine, wanted: Option<&[u8]>, failures: u64) {
     meets(rt, line, wanted);
     check(rt, line.failures() == failures);

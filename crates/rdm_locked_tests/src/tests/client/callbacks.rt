@@ -10,7 +10,7 @@ use std::sync::Arc;
 use std::sync::atomic::{AtomicU64, Ordering};
 use std::test::Fail;
 
-// How a request ended that was answered with two bytes.
+// The completion of a request that was answered with two bytes.
 fn answered(alloc: Global) -> Result<Completion, Fail> {
     Ok(Completion {
         status: Status::Completed,
@@ -24,17 +24,17 @@ fn answered(alloc: Global) -> Result<Completion, Fail> {
     })
 }
 
-// What a request's callback told.
+// What a request's callback returned.
 fn of_request(one: Told) -> Heard {
     told(&Some(Collected::Request(one)))
 }
 
-// What a discovery's callback told.
+// What a discovery's callback returned.
 fn of_ask(one: AskTold) -> Heard {
     told(&Some(Collected::Ask(one)))
 }
 
-// A closure may work with what it is called with: the numbers are in the ranges of their types, and so are the bytes.
+// A closure may compute with its arguments: numbers and bytes are in the ranges of their types.
 #[test]
 fn calls_the_box_with_the_answer(rt: HostRuntime) -> Result<(), Fail> {
     let calls = Arc::new(rt.alloc(), AtomicU64::new(0))?;

@@ -7,12 +7,12 @@ use rdm_rig::{AskNote, Ending, Found, Heard, Note, cancels, outcome_told, told};
 use std::alloc::Global;
 use std::test::Fail;
 
-// What a settle came to.
+// The result of a settle.
 #[derive(Clone, Copy, Debug, PartialEq, Eq)]
 enum Settled {
-    // A callback was spent.
+    // A callback was called.
     Spent(Heard),
-    // The outcome came back.
+    // The outcome was returned.
     Back(Heard),
 }
 
@@ -47,7 +47,7 @@ fn spends_the_callback_that_it_has_a_place_for(rt: HostRuntime) -> Result<(), Fa
     Ok(())
 }
 
-// The tag of the callback that came back, since the desk was full.
+// The tag of the callback that was returned because the desk was full.
 fn holds(alloc: Global, desk: &mut Desk, callback: Callback) -> Option<u64> {
     match desk.hold(callback) {
         Ok(()) => None,
@@ -111,7 +111,7 @@ fn keeps_requests_and_discoveries_apart(rt: HostRuntime) -> Result<(), Fail> {
     Ok(())
 }
 
-// Whether a discovery's completion comes back, since no callback is held for it.
+// Whether a discovery's completion is returned because no callback is held for it.
 #[inline(never)]
 fn hands_back_discovery(desk: &mut Desk<Note, AskNote>) -> bool {
     let settled = desk.settle_ask(found(4));

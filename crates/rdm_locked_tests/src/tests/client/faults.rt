@@ -1,4 +1,4 @@
-//! What the faults say.
+//! The texts of the faults.
 use rdm_client::{Full, Misdelivered};
 use std::test::Fail;
 

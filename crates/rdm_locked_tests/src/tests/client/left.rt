@@ -1,4 +1,4 @@
-//! What is left of desks.
+//! The callbacks that are left in desks.
 use rdm_client::{Desk, Unfinished};
 use rdm_rig::{AskNote, Note, cancels};
 use std::test::Fail;
@@ -46,7 +46,7 @@ fn closes_where_nothing_is_left(rt: HostRuntime) -> Result<(), Fail> {
     Ok(())
 }
 
-// Whose callback it is, and its tag.
+// The kind of the callback, and its tag.
 fn told(left: Option<Unfinished<Note, AskNote>>) -> Option<(&'static str, u64)> {
     match left {
         Some(Unfinished::Request(Note(tag))) => Some(("request", tag)),

@@ -5,7 +5,7 @@ use rdm_rig::{Who, device_of};
 use rdm_wire::DeviceSet;
 use std::alloc::Global;
 
-/// How a request without data ended.
+/// The completion of a request without data.
 pub fn ended(alloc: Global, status: Status) -> Completion {
     Completion {
         status,
@@ -14,7 +14,7 @@ pub fn ended(alloc: Global, status: Status) -> Completion {
     }
 }
 
-/// What a client is given for such a request.
+/// A client's outcome of such a request.
 pub fn request_outcome(alloc: Global, number: u64, status: Status) -> Outcome {
     Outcome::Request {
         number: Some(number),
@@ -22,7 +22,7 @@ pub fn request_outcome(alloc: Global, number: u64, status: Status) -> Outcome {
     }
 }
 
-/// A run that found `1234:00000001`.
+/// The completion of a discovery whose run found `1234:00000001`.
 pub fn found(run: u64) -> AskCompletion {
     let mut set = DeviceSet::new();
     let device = device_of(Who::First);
@@ -36,7 +36,7 @@ pub fn found(run: u64) -> AskCompletion {
     }
 }
 
-/// What a client is given for a discovery whose run found that device.
+/// A client's outcome of such a discovery.
 pub fn ask_outcome(number: u64, run: u64) -> Outcome {
     Outcome::Discovery {
         number: Some(number),

@@ -1,9 +1,9 @@
-//! A port whose end was refused goes on.
+//! A port whose end was refused continues.
 use rdm_rig::{Act, Found, Heard, Move, Step, Stop, one_device};
 use rdm_stage::{PortSetup, play_port_again};
 use std::test::Fail;
 
-// A client leaves with a request that is answered, and one that waits.
+// A client leaves an answered request behind, and one that waits.
 static FIRST: [Move; 4] = [
     (Act::Join(2), Heard::Number(0)),
     (Act::Client(0, Step::Submit(1)), Heard::Number(0)),
@@ -11,7 +11,7 @@ static FIRST: [Move; 4] = [
     (Act::Work(1), Heard::Worked(Stop::Turns)),
 ];
 
-// The request that waited goes out, and each call is made as before.
+// The request that waited is sent, and each call works as before.
 static LATER: [Move; 8] = [
     (Act::Join(1), Heard::Number(0)),
     (Act::Client(0, Step::Submit(3)), Heard::Number(2)),

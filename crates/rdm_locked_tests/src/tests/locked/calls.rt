@@ -9,8 +9,8 @@ use rdm_rig::{
 use rdm_stage::{PortSetup, play_port};
 use std::test::Fail;
 
-// Two clients make each call at least once. The worker sees that all have left only once both have; the second one is
-// number 0 once the first one has left.
+// Two clients make each call at least once. The worker stops only once both have left. After the first one has left,
+// the second one is number 0.
 static EACH_CALL: [Move; 22] = [
     (Act::Join(2), Heard::Number(0)),
     (Act::Join(1), Heard::Number(1)),
@@ -54,7 +54,7 @@ static EACH_CALL: [Move; 22] = [
     (Act::Work(1), Heard::Worked(Stop::AllLeft)),
 ];
 
-// The log, written by hand: a run on one device takes 10 frames, and where it is known 9.
+// The log, worked out by hand: a run on one device takes 10 frames, and 9 if the device is known.
 static BEFORE: [Said; 11] = [
     Said::Join(0, 2),
     Said::Join(1, 1),
@@ -97,7 +97,8 @@ fn each_locked_call_is_the_sessions_call(rt: HostRuntime) -> Result<(), Fail> {
     Ok(())
 }
 
-// A client submits and collects. The port isn't ended without the client's share, nor with an empty record; then it is.
+// A client submits and collects. Before the port is ended, it refuses to end without the client's share, and with an
+// empty record.
 #[test]
 fn collect_gives_the_outcomes_own_completion(rt: HostRuntime) -> Result<(), Fail> {
     static MOVES: [Move; 5] = [

@@ -1,4 +1,4 @@
-//! What the faults say.
+//! The texts of the faults.
 use rdm_locked::FinishFault;
 use std::test::Fail;
 

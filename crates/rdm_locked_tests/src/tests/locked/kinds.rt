@@ -1,4 +1,4 @@
-//! A client that collects each kind of outcome by a call of its own.
+//! A client that collects each kind of outcome with its own call.
 use rdm_agent::Kind;
 use rdm_join::Status;
 use rdm_line::SimLine;
@@ -11,15 +11,14 @@ use std::sync::Wait;
 use std::sync::ledger::Ledger;
 use std::test::Fail;
 
-// What the oldest outcome is, the tag of a request's that is collected and how it ended, and the tag of a discovery's
-// that is collected and its run.
+// The kind of the oldest outcome; the tag and status of a collected request; the tag and run of a collected discovery.
 type Looks = (
     Option<OutcomeKind>,
     Option<(u64, Status)>,
     Option<(u64, u64)>,
 );
 
-// A discovery and a request are answered, in this order. The client tries to collect each kind, four times.
+// A discovery and a request are answered, in this order. The client tries to collect each kind four times.
 #[derive(Drop)]
 struct Collects {
     line: SimLine,
@@ -45,7 +44,7 @@ impl PortJob for Collects {
     }
 }
 
-// Looks at the oldest outcome, and tries to collect both kinds, a request's first or last.
+// Looks at the oldest outcome, and tries to collect both kinds, starting with a request or with a discovery.
 fn looks<L: Ledger, R: Wait>(rt: &R, client: &mut PortClient<'_, L>, request_first: bool) -> Looks {
     let oldest = client.oldest(rt);
     if request_first {

@@ -6,14 +6,14 @@ use rdm_rig::{Act, Heard, Move, Refusal, Step, silent};
 use rdm_stage::{PortSetup, play_port};
 use std::test::Fail;
 
-// How many places there are, how many entries are free, what is done, and how many calls are counted and callbacks are
-// held.
+// The capacity, how many entries are free, the moves, and how many calls are counted and callbacks are held at the end.
 type Row = (u8, usize, &'static [Move], (u64, u64));
 
 const MANY: Heard = Heard::Refused(Refusal::Join(JoinFault::TooManyClients));
 
 static ROWS: [Row; 3] = [
-    // Sixteen clients may join, and after a close none; what stands against both is told first.
+    // Sixteen clients may join, and none after a close. If several faults apply, the order is Closed, TooManyClients,
+    // NoPlaces.
     (
         1,
         1000,
@@ -44,8 +44,8 @@ static ROWS: [Row; 3] = [
         ],
         (0, 0),
     ),
-    // The desk's Full comes before all other faults and isn't counted; after a close a call is refused and counted.
-    // Counted are a submit, four discovers, a collect, and the submit after the close.
+    // The desk's Full comes before all other faults and isn't counted. After a close a call is refused and counted. The
+    // calls counted are a submit, four discovers, a collect, and the submit after the close.
     (
         1,
         1000,
@@ -92,7 +92,8 @@ static ROWS: [Row; 3] = [
         ],
         (7, 4),
     ),
-    // Four discoveries fill the log and the client's desk: the desk is told first, and of the rest the log.
+    // Four discoveries fill the log and the client's desk. The desk's fault comes first; calls without a desk get the
+    // log's.
     (
         1,
         15,

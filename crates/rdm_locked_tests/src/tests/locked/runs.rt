@@ -9,8 +9,8 @@ use rdm_rig::{
 use rdm_stage::{PortSetup, play_port};
 use std::test::Fail;
 
-// A request and two discoveries wait in a pause; after it one run answers both discoveries, and then the request goes
-// out.
+// A request and two discoveries wait during a pause. After it one run answers both discoveries, and then the request is
+// sent.
 static IN_A_PAUSE: [Move; 16] = [
     (Act::Join(1), Heard::Number(0)),
     (Act::Client(0, Step::Look), Heard::Sees(0, Found::Nobody)),

@@ -1,4 +1,4 @@
-//! Sessions over lines.
+//! Sessions in one thread over lines.
 use rdm_agent::{DEFAULT_BUDGET, Kind};
 use rdm_join::Status;
 use rdm_rig::{
@@ -12,7 +12,7 @@ const JOINS: (Act, Heard) = (Act::Join(1), Heard::Number(0));
 
 const COLLECT: Act = Act::Client(0, Step::Collect);
 
-// A GET over a tape of 511 empty parts and a last reply: how it ends, and how many frames it took.
+// A GET whose answer has 511 empty parts and a last reply. Returns how it ended, and how many frames it took.
 fn with_empty_parts(alloc: Global, last: AckType) -> Result<(Heard, usize), Fail> {
     let mut came = [Came::Empty(AckType::Overflow); 512];
     came[511] = Came::Empty(last);
@@ -40,16 +40,16 @@ fn refuses_a_512th_part(rt: HostRuntime) -> Result<(), Fail> {
     Ok(())
 }
 
-// What comes of two discoveries and a GET over a line that fails at one exchange alone. The mute's acknowledgement is
-// that of the fifth exchange, and the GET's is the eleventh.
+// The results of two discoveries and a GET over a line that fails at just one exchange. The fifth exchange is the mute
+// that is acknowledged, and the eleventh is the GET if no earlier one fails.
 #[derive(Clone, Copy)]
 struct Failure {
     ending: Ending,
     found: Found,
-    // The devices that the session knows after that.
+    // The devices that the session knows afterwards.
     known: (u64, Found),
     request: Heard,
-    // The last frame's transaction number: that of the GET, which the failing exchange comes before, or is.
+    // The last frame's transaction number, which is that of the GET.
     last: u8,
 }
 

@@ -1,4 +1,4 @@
-//! A worker makes all its turns, also where they are many.
+//! A worker makes all its turns, even if there are many.
 use rdm_rig::{Act, Came, Heard, Move, Step, Stop, tape_of};
 use rdm_stage::{PortSetup, play_port};
 use rdm_wire::AckType;

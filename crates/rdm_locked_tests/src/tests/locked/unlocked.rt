@@ -1,4 +1,4 @@
-//! The lock is given back before a callback runs. A body that kept it would wait for ever.
+//! The mutex is unlocked before a callback runs. Otherwise these callbacks would deadlock.
 use rdm_agent::Kind;
 use rdm_join::Status;
 use rdm_queue::Owner;
@@ -6,7 +6,7 @@ use rdm_rig::{Act, Ending, Found, Heard, Move, Said, Step, Stop, one_device, say
 use rdm_stage::{PortSetup, play_port};
 use std::test::Fail;
 
-// A client's request and its discovery are collected: each callback pauses the port, so no frame goes out after it.
+// A client's request and its discovery are collected. Each callback pauses the port, so no frame is sent after it.
 static MOVES: [Move; 11] = [
     (Act::Join(2), Heard::Number(0)),
     (Act::Client(0, Step::Submit(1)), Heard::Number(0)),

@@ -1,4 +1,4 @@
-//! Requests through a port, compared byte for byte on the line and with what their callbacks are told.
+//! Requests through a port: their frames are compared byte for byte, and so is what their callbacks get.
 use rdm_client::Told;
 use rdm_join::{LineEvent, LineReply, ReplyHead, Status};
 use rdm_line::TapeLine;
@@ -53,7 +53,7 @@ fn set() -> Request {
     set
 }
 
-// A line that answers this.
+// A line that gives these replies.
 fn answers(alloc: Global, replies: [&[u8]; 2]) -> Result<TapeLine, Wrong> {
     let mut events = Vec::new(alloc);
     for bytes in replies {
@@ -66,7 +66,7 @@ fn answers(alloc: Global, replies: [&[u8]; 2]) -> Result<TapeLine, Wrong> {
     Ok(TapeLine::new(events))
 }
 
-// A GET and a SET go out, one after the other. What the callback of each is told, and whether the worker recorded their
+// A GET and a SET are sent, one after the other. Keeps what each callback got, and whether the worker recorded their
 // frames.
 #[derive(Drop)]
 struct Sends {
@@ -107,7 +107,7 @@ fn is(exchange: &Exchange, bytes: &[u8]) -> bool {
     exchange.frame.as_slice() == bytes
 }
 
-// Whether the callback with this tag was told of a reply with this head and these bytes.
+// Whether the callback with this tag got a reply with this head and these bytes.
 fn is_told(told: &Option<Told>, tag: u64, head: ReplyHead, bytes: &[u8]) -> bool {
     let Some(
         Told {
