@@ -1,7 +1,7 @@
 -- What the steps of a worker leave.
 use Rattle.std.proofs.Common.{◌≡◌, ◌≢◌, ◌≤◌, ◌+◌, ℕ, true, List, refl, ◌∙◌}
 use Rattle.rdm_log.specs.log.LogState.{LogState}
-use Rattle.std.specs.Prelude.{◌⊎◌}
+use Rattle.std.specs.Prelude.{◌⊎◌, Option, None, Some, IfNone}
 use mathlib.Core.List.{IsPrefix}
 use Rattle.std.specs.declared.alloc.Global.{Global}
 use Rattle.rtrb.specs.declared.AnyItems.{AnyItems}
@@ -114,6 +114,11 @@ pub turn_did : {L : Type 0} (step : L → Exchange → L → Type 0) (a b : L) (
     → (exchange_count new ≡ exchange_count old + 1)
     ⊎ (NoSend new.opening new.entries ⊎ (shown ≢ all_views new.entries)) → IsTurn old new shown
 turn_did step a b old new shown exchanged did = record { block = exchanged.block; grows = exchanged.grows; did = did }
+
+-- what holds where a turn doesn't end the work
+pub goes_on : {E : Type 0} {P : Type 0} (end : Option E) → ((e : E) → end ≡ Some e → ⊥) → IfNone end P → P
+goes_on None other is = is
+goes_on (Some e) other is = absurd (other e refl)
 
 -- the worker's end of the operator's ring
 abbrev pub OperatorEnd : Type 0

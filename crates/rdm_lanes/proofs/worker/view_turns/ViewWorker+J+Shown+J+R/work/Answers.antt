@@ -5,7 +5,7 @@ use Rattle.rdm_lanes.proofs.LineLemmas.{line_same, switches_same, switches_join}
 use Rattle.rdm_lanes.proofs.ExchangeLemmas.{exchanged_none, exchanged_join}
 use Rattle.rdm_lanes.proofs.Fronts.{prefix_self, prefix_trans}
 use Rattle.rdm_lanes.proofs.TurnLemmas.{turns_more}
-use Rattle.rdm_lanes.proofs.WorkLemmas.{ring_same, ring_join}
+use Rattle.rdm_lanes.proofs.WorkLemmas.{goes_on, ring_same, ring_join}
 use Rattle.rdm_lanes.proofs.worker.view_turns.ViewWorker+J+Shown+J+R.work.Goals as goal
 
 pub returns-in-Some-clause-exchanged : goal.returns-in-Some-clause-exchanged
@@ -26,7 +26,8 @@ loop-turn-preserved g c = record {
       c.loop-turn.invariant.exchanged c.turn.ensures.exchanged;
   turns_are = turns_more c.loop-turn._turn c.args.self.now.server.session c.loop-turn.self.server.session
       c.turn.new.self.server.session c.args.self.now.views.shown c.loop-turn.self.views.shown
-      c.turn.new.self.views.shown c.loop-turn.invariant.turns_are (rw c.in-None.is at c.turn.ensures.went_on)
+      c.turn.new.self.views.shown c.loop-turn.invariant.turns_are 
+      (goes_on c.turn.result c.in_default.not-Some c.turn.ensures.went_on)
       c.turn.ensures.views;
   few = omega (arith, c.loop-turn.invariant.few, c.turn.ensures.one);
   count = omega (arith, c.loop-turn.invariant.count, c.turn.ensures.counted);
