@@ -1,7 +1,7 @@
 -- What a worker has done for each client, and in all its turns.
-use Rattle.std.proofs.Common.{◌≡◌, ◌≤◌, ℕ, ◌+◌, List, length, refl, sym, subst, ◌∙◌, Some, slice_get, inl, inr, arith}
+use Rattle.std.proofs.Common.{◌≡◌, ◌≤◌, ℕ, ◌+◌, List, length, sym, subst, ◌∙◌, Some, slice_get, inl, inr, arith}
 use Rattle.std.proofs.lemmas.Option.{same_Some, slice_get_within}
-use Rattle.std.specs.Prelude.{suc, slice_set}
+use Rattle.std.specs.Prelude.{suc}
 use mathlib.Core.List.{IsPrefix}
 use Rattle.rdm_client.specs.declared.view.DeviceView.{DeviceView}
 use Rattle.rdm_log.specs.log.LogState.{LogState}
