@@ -22,6 +22,7 @@ pub mod RefusalLemmas
 pub mod ServeLemmas
 pub mod MovingLemmas
 pub mod ExchangeLemmas
+pub mod TurnLemmas
 pub mod WorkLemmas
 pub mod EndLemmas
 pub mod OpenLemmas

@@ -1,5 +1,5 @@
 -- What a client's outcomes leave, while they are moved.
-use Rattle.std.proofs.Common.{◌≡◌, ◌≢◌, ℕ, true≢false, false, Some, sym}
+use Rattle.std.proofs.Common.{◌≡◌, ◌≢◌, ℕ, true≢false, false, Some, refl, sym}
 use Rattle.rdm_log.specs.declared.outcome.OutcomeKind.TheVariants as kinds
 use Rattle.rdm_log.specs.promises.Outcomes.{oldest_kind}
 use Rattle.rdm_log.specs.log.LogState.{LogState}
@@ -29,6 +29,7 @@ moves_nothing c k new lane may same kind =
     rw same (record {
       moves = moves_same c k lane may.fits may.served;
       moved = λ is. absurd (true≢false (sym is));
+      kept = λ is. (refl, refl);
       none = λ is. kind;
     })
 

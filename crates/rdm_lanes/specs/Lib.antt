@@ -9,6 +9,7 @@ pub mod Operators
 pub mod Lines
 pub mod Lanes
 pub mod Workers
+pub mod Turns
 pub mod ViewsRead
 pub mod Ends
 pub mod Opened

@@ -12,4 +12,3 @@ pub mod Rooms
 pub mod Seats
 pub mod Serving
 pub mod Showing
-pub mod Turns

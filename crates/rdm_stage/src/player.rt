@@ -2,7 +2,7 @@
 ghost use Rattle.rdm_lanes.specs.Clients.{SameClient};
 
 use crate::lanes::makes;
-use rdm_lanes::{Body, Gate, RingClient, ViewHistory};
+use rdm_lanes::{Body, Gate, RingClient, ViewHistory, WORKER_STOPPED};
 use rdm_rig::{AskNote, Heard, Note, Refusal, Step};
 use std::sync::atomic::{AtomicU64, Ordering};
 use std::thread;
@@ -13,12 +13,13 @@ pub const TRIES: u64 = 100_000_000;
 /// How many steps of a player are noted.
 pub const MOST_NOTED: usize = 20;
 
-/// Three points, 0, 1 and 2, that are reached or not.
+/// Three points, 0, 1 and 2, and that of the worker's stop. Each is reached or not.
 #[derive(Drop)]
 pub struct Points {
     first: AtomicU64,
     second: AtomicU64,
     third: AtomicU64,
+    stopped: AtomicU64,
 }
 
 impl Points {
@@ -28,6 +29,7 @@ impl Points {
             first: AtomicU64::new(0),
             second: AtomicU64::new(0),
             third: AtomicU64::new(0),
+            stopped: AtomicU64::new(0),
         }
     }
 
@@ -36,6 +38,7 @@ impl Points {
             0 => Some(&self.first),
             1 => Some(&self.second),
             2 => Some(&self.third),
+            WORKER_STOPPED => Some(&self.stopped),
             _ => None,
         }
     }
@@ -74,6 +77,8 @@ pub enum Play {
     Arrive(u8),
     /// It waits for this point: Done, or Nothing if it gave up.
     Wait(u8),
+    /// It looks whether this point is reached: Done, or Nothing if it isn't.
+    Look(u8),
     /// It makes this step, and retries while the ring has no slot.
     Do(Step),
     /// It collects, and retries while nothing has come.
@@ -153,7 +158,8 @@ fn does<J: ViewHistory, G: Gate>(
             None
         }
         Play::Wait(point) if waits(gate, point, tries) => Some(Heard::Done),
-        Play::Wait(_) => Some(Heard::Nothing),
+        Play::Look(point) if gate.passed(point) => Some(Heard::Done),
+        Play::Wait(_) | Play::Look(_) => Some(Heard::Nothing),
         Play::Do(step) => Some(sends(client, step, tries)),
         Play::Hear => Some(awaits(client, tries)),
     }

@@ -100,8 +100,26 @@ pub fn run_bodies<X: Line + Send + Drop, R: Threads + Wait + Sync>(
         Err(wrong) => return Err(NotRun::Failed(Failed::Rig(wrong))),
     };
     let new = BlankHistory::new();
-    let first = runs::<Brand, X, R>(rt, alloc, new, &setup, log, players, turns, line);
-    let (fault, log, players, line, _) = match first {
+    runs_twice::<Brand, X, R>(rt, alloc, new, &setup, log, players, turns, line)
+}
+
+// Runs the session. If there is no memory for it, it is run with what came back, the history too.
+fn runs_twice<J: ViewHistory + Send + Sync, X: Line + Send + Drop, R: Threads + Wait + Sync>(
+    rt: &R,
+    alloc: Global,
+    history: BlankHistory,
+    setup: &Setup,
+    log: Log,
+    players: Vec<Player>,
+    turns: u64,
+    line: X,
+) -> Result<PlayersOver, NotRun>
+    requires name { book_of history ≡ J.book }
+    requires empty { log.entries ≡ [] }
+    requires one_each { length players.items ≡ length setup.now.places.now }
+{
+    let first = runs::<J, X, R>(rt, alloc, history, setup, log, players, turns, line);
+    let (fault, log, players, line, history) = match first {
         Ok(over) => return over,
         Err(back) => back,
     };
@@ -111,8 +129,7 @@ pub fn run_bodies<X: Line + Send + Drop, R: Threads + Wait + Sync>(
     if fault != OpenFault::NoMemory {
         return Err(NotRun::Refused(fault, players));
     }
-    let again = BlankHistory::new();
-    match runs::<Brand, X, R>(rt, alloc, again, &setup, log, players, turns, line) {
+    match runs::<J, X, R>(rt, alloc, history, setup, log, players, turns, line) {
         Ok(over) => over,
         Err(_) => Err(NotRun::Failed(Failed::Rig(Wrong::NotAgain))),
     }
@@ -190,6 +207,7 @@ fn runs<J: ViewHistory + Send + Sync, X: Line + Send + Drop, R: Threads + Wait +
     requires one_each { length players.items ≡ length setup.now.places.now }
     ensures empty { IfErr result (λ back. back.1.entries ≡ []) }
     ensures one_each { IfErr result (λ back. length back.2.items ≡ length setup.now.places.now) }
+    ensures same_name { IfErr result (λ back. book_of back.4 ≡ J.book) }
 {
     let end = run::<J, X, R>(rt, alloc, history, setup, log, players, turns, line)?;
     Ok(over_of(alloc, end))
@@ -211,6 +229,7 @@ fn run<J: ViewHistory + Send + Sync, X: Line + Send, R: Threads + Wait + Sync>(
     requires one_each { length players.items ≡ length setup.now.places.now }
     ensures empty { IfErr result (λ back. back.1.entries ≡ []) }
     ensures one_each { IfErr result (λ back. length back.2.items ≡ length setup.now.places.now) }
+    ensures same_name { IfErr result (λ back. book_of back.4 ≡ J.book) }
 {
     let gate = Points::new();
     let places = setup.places;

@@ -13,7 +13,7 @@ ghost use Rattle.rdm_lanes.specs.body.Showing.{Publishes, AllPublished};
 ghost use Rattle.rdm_lanes.specs.Operators.{switches, effective};
 ghost use Rattle.rdm_lanes.specs.Workers.{session_of, lanes_of, operator_has_left, published_by, HasPublishedAll};
 ghost use Rattle.rdm_lanes.specs.Workers.{operator_ring, received_by, turns_made_of};
-ghost use Rattle.rdm_lanes.specs.body.Turns.{IsTurn};
+ghost use Rattle.rdm_lanes.specs.Turns.{IsTurn, AreTurns};
 ghost use Rattle.rdm_client.specs.declared.worker_end.WorkerEnd.TheVariants.{AllLeft, Turns, LogFull as FullLog};
 ghost use Rattle.rdm_lanes.specs.declared.worker.working.Attempt.TheVariants.{NothingToSend, LogFull as NoRoom};
 ghost use Rattle.rdm_lanes.specs.declared.worker.working.Attempt.TheVariants.{Exchanged as MadeOne};
@@ -36,7 +36,8 @@ impl<J: ViewHistory, R: Wait + Drop> ViewWorker<J, Shown<J>, R> {
     /// - it makes at most one exchange, and publishes the devices that it found;
     /// - it moves outcomes to the clients' rings, while they have free slots.
     ///
-    /// It stops early once all have left, or once the log is full. If it ends with Turns, it made all its turns.
+    /// It stops early once all have left, or once the log is full. If it ends with Turns, it made all its turns: after
+    /// each an exchange is made, or no frame may be sent, or a publication was refused.
     ///
     /// It looks at a call before it takes it from a ring. While fewer than three entries of the log are free, it takes
     /// none. A submit waits until its client has fewer requests outstanding in the session than its queue depth. A
@@ -58,6 +59,8 @@ impl<J: ViewHistory, R: Wait + Drop> ViewWorker<J, Shown<J>, R> {
         ensures lanes { SameLanes (lanes_of self.old) (lanes_of self.new) }
         ensures turns { (turns_made_of self.new ≤ turns) × (turns ≡ 0 → result ≡ Turns) }
         ensures all_turns { result ≡ Turns → turns_made_of self.new ≡ turns }
+        ensures worked { result ≡ Turns → AreTurns turns (session_of self.old) (published_by self.old)
+            (session_of self.new) (published_by self.new) }
         ensures exchanges { exchange_count (session_of self.new)
             ≤ exchange_count (session_of self.old) + turns_made_of self.new }
         ensures all_left { result ≡ AllLeft → AllHaveLeft (lanes_of self.new) × (operator_has_left self.new ≡ true)

@@ -1,5 +1,5 @@
 //! What is done in the worker's turns.
-ghost use Rattle.std.specs.Prelude.{◌≡◌, ◌<◌, ◌≤◌, ◌+◌, true, vec_len};
+ghost use Rattle.std.specs.Prelude.{◌≡◌, ◌<◌, ◌≤◌, ◌+◌, true, length, vec_len};
 ghost use Rattle.rtrb.specs.Ring.{SameConsumer};
 ghost use Rattle.rdm_log.specs.log.LogState.{is_full_log};
 ghost use Rattle.rdm_log.specs.log.MaySend.{NoSend};
@@ -9,6 +9,7 @@ ghost use Rattle.rdm_lanes.specs.body.Quiet.{NoExchange, OnlyCollects};
 ghost use Rattle.rdm_lanes.specs.Lanes.{SameLanes, AllHaveLeft};
 ghost use Rattle.rdm_lanes.specs.Views.{views_found};
 ghost use Rattle.rdm_lanes.specs.body.Gains.{GainOneAtMost};
+ghost use Rattle.rdm_lanes.specs.body.Doing.{ServesAt, AreServed, MovesAt, AreMoved};
 ghost use Rattle.rdm_lanes.specs.declared.worker.working.Attempt.TheVariants.{NothingToSend, LogFull as NoRoom};
 ghost use Rattle.rdm_lanes.specs.declared.worker.working.Attempt.TheVariants.{Exchanged as MadeOne};
 
@@ -36,6 +37,8 @@ pub enum Attempt {
 impl Worker {
     // Makes at most one call of each client.
     pub(crate) fn serve_clients(&mut self, alloc: Global)
+        ensures served { AreServed (length self.old.lanes.items) self.old.session self.old.lanes.items self.new.session
+            self.new.lanes.items }
         ensures line { NoExchange self.old.session self.new.session }
         ensures switches { SameSwitches self.old.session self.new.session }
         ensures lanes { SameLanes self.old.lanes.items self.new.lanes.items }
@@ -50,6 +53,7 @@ impl Worker {
     // Makes at most one call of the client.
     fn serve_client(&mut self, alloc: Global, at: usize)
         requires { at < vec_len self.old.lanes }
+        ensures served { ServesAt at self.old.lanes.items self.new.session self.new.lanes.items }
         ensures line { NoExchange self.old.session self.new.session }
         ensures switches { SameSwitches self.old.session self.new.session }
         ensures lanes { SameLanes self.old.lanes.items self.new.lanes.items }
@@ -62,6 +66,7 @@ impl Worker {
 
     // Moves the outcomes of each client.
     pub(crate) fn move_all(&mut self, alloc: Global)
+        ensures moved { AreMoved (length self.old.lanes.items) self.old.session self.new.session self.new.lanes.items }
         ensures collects { OnlyCollects self.old.session self.new.session }
         ensures lanes { SameLanes self.old.lanes.items self.new.lanes.items }
         ensures operator { self.new.operator_left ≡ self.old.operator_left }
@@ -75,6 +80,7 @@ impl Worker {
     // Moves the outcomes of the client.
     fn move_for(&mut self, alloc: Global, at: usize)
         requires { at < vec_len self.old.lanes }
+        ensures moved { MovesAt at self.old.lanes.items self.new.session self.new.lanes.items }
         ensures collects { OnlyCollects self.old.session self.new.session }
         ensures lanes { SameLanes self.old.lanes.items self.new.lanes.items }
         ensures operator { self.new.operator_left ≡ self.old.operator_left }

@@ -1,6 +1,6 @@
 //! Bodies that meet in threads, and sessions that aren't run.
 use rdm_join::Status;
-use rdm_lanes::OpenFault;
+use rdm_lanes::{OpenFault, WORKER_STOPPED};
 use rdm_rig::{Heard, Step, silent};
 use rdm_stage::{NotRun, Play, Setup, counts_are, play_threads, run_players};
 use std::alloc::Global;
@@ -69,6 +69,34 @@ fn two_bodies_meet_at_both_gates(rt: HostRuntime) -> Result<(), Fail> {
         counts_are(&over.left, &[(2, 2, 0), (2, 2, 0)])?;
         assert!(rt; over.state.is_idle && !over.state.is_closed);
     }
+    Ok(())
+}
+
+// A client that looks for the worker's stop before it leaves, and waits for it after that.
+static LOOKS: [Play; 5] = [
+    Play::Do(Step::Submit(10)),
+    Play::Hear,
+    Play::Look(WORKER_STOPPED),
+    Play::Do(Step::Leave),
+    Play::Wait(WORKER_STOPPED),
+];
+
+static LOOKS_HEARD: [&[Heard]; 1] = [
+    &[
+        Heard::Done,
+        Heard::Request(10, Status::Timeout),
+        Heard::Nothing,
+        Heard::Done,
+        Heard::Done,
+    ],
+];
+
+#[test]
+fn the_stop_comes_last(rt: HostRuntime) -> Result<(), Fail> {
+    let scripts: [&'static [Play]; 1] = [&LOOKS];
+    let line = silent(rt.alloc(), 1)?;
+    let setup = Setup::new(100, 1, &[1]);
+    play_threads(&rt, rt.alloc(), setup, &scripts, line, &LOOKS_HEARD)?;
     Ok(())
 }
 

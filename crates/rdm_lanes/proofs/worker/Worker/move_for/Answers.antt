@@ -40,3 +40,7 @@ invariant_of-self-clause-operated c =
     let collects = c.move_outcomes.ensures.moves.collects in
     operated_quiet me.session next (popped me.operator) (collects_line me.session next collects)
     (collects_switches me.session next collects) me.operated
+
+pub returns-clause-moved : goal.returns-clause-moved
+returns-clause-moved c =
+    record { next = c.move_outcomes.new.lane; set = refl; moved = c.move_outcomes.ensures.all }

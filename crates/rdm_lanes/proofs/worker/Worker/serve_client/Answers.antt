@@ -46,3 +46,15 @@ invariant_of-self-clause-operated c =
     let me = c.args.self.now in
     let serves = c.serve_call.ensures.serves in
     operated_quiet me.session c.serve_call.new.session (popped me.operator) serves.line serves.switches me.operated
+
+pub returns-clause-served : goal.returns-clause-served
+returns-clause-served c =
+    let me = c.args.self.now in
+    record {
+      lane = c.index_mut.result.now;
+      next = c.serve_call.new.lane;
+      was = slice_get_read me.lanes.items (length me.lanes.items) c.args.at c.index_mut.result.now refl
+          (omega (arith, c.requires, me.lanes.ok.0)) c.index_mut.ensures.value;
+      set = refl;
+      served = c.serve_call.ensures.made;
+    }

@@ -31,5 +31,6 @@ returns c =
         rings = (((refl, refl, refl, refl), refl), c.push_reserved.ensures.ring, refl);
       };
       moved = λ is. c.push_reserved.ensures.sent.1;
+      kept = λ is. absurd (true≢false is);
       none = λ is. absurd (true≢false is);
     }

@@ -1,9 +1,11 @@
-use Rattle.std.proofs.Common.{◌∙◌, Some, refl, ap, arith}
+use Rattle.std.proofs.Common.{◌∙◌, ℕ, Some, refl, ap, subst, arith}
+use Rattle.rdm_lanes.specs.Turns.{AreTurns}
 use Rattle.rdm_lanes.proofs.LaneLemmas.{same_lanes, same_lanes_join}
 use Rattle.rdm_lanes.proofs.LineLemmas.{line_same, switches_same, switches_join}
 use Rattle.rdm_lanes.proofs.ExchangeLemmas.{exchanged_none, exchanged_join}
 use Rattle.rdm_lanes.proofs.Fronts.{prefix_self, prefix_trans}
-use Rattle.rdm_lanes.proofs.WorkLemmas.{ring_same, ring_join}
+use Rattle.rdm_lanes.proofs.TurnLemmas.{turns_more}
+use Rattle.rdm_lanes.proofs.WorkLemmas.{goes_on, ring_same, ring_join}
 use Rattle.rdm_lanes.proofs.worker.view_turns.ViewWorker+J+Shown+J+R.work.Goals as goal
 
 pub returns-in-Some-clause-exchanged : goal.returns-in-Some-clause-exchanged
@@ -22,6 +24,11 @@ loop-turn-preserved g c = record {
   exchanged = exchanged_join g.X.Line.step c.args.line.now c.loop-turn.line c.turn.new.line
       c.args.self.now.server.session c.loop-turn.self.server.session c.turn.new.self.server.session
       c.loop-turn.invariant.exchanged c.turn.ensures.exchanged;
+  turns_are = turns_more c.loop-turn._turn c.args.self.now.server.session c.loop-turn.self.server.session
+      c.turn.new.self.server.session c.args.self.now.views.shown c.loop-turn.self.views.shown
+      c.turn.new.self.views.shown c.loop-turn.invariant.turns_are 
+      (goes_on c.turn.result c.in_default.not-Some c.turn.ensures.went_on)
+      c.turn.ensures.views;
   few = omega (arith, c.loop-turn.invariant.few, c.turn.ensures.one);
   count = omega (arith, c.loop-turn.invariant.count, c.turn.ensures.counted);
   lanes = same_lanes_join c.args.self.now.server.lanes.items c.loop-turn.self.server.lanes.items
@@ -74,6 +81,7 @@ pub loop-turn-init : goal.loop-turn-init
 loop-turn-init g c = record {
   exchanged = exchanged_none g.X.Line.step c.args.line.now c.args.self.now.server.session c.args.self.now.server.session
       (line_same c.args.self.now.server.session);
+  turns_are = (refl, refl);
   few = omega arith;
   count = refl;
   lanes = same_lanes c.args.self.now.server.lanes.items;
@@ -100,3 +108,13 @@ returns-in-Some-clause-all_turns g c is = absurd (c.turn.ensures.no_turns (c.in-
 
 pub returns-clause-all_turns : goal.returns-clause-all_turns
 returns-clause-all_turns g c is = omega (arith, c.loop-turn.invariant.count, c.loop-turn-test.false)
+
+pub returns-in-Some-clause-worked : goal.returns-in-Some-clause-worked
+returns-in-Some-clause-worked g c is = absurd (c.turn.ensures.no_turns (c.in-Some.is ∙ ap (λ x. Some x) is))
+
+pub returns-clause-worked : goal.returns-clause-worked
+returns-clause-worked g c is =
+    subst (λ (n : ℕ). AreTurns n c.args.self.now.server.session c.args.self.now.views.shown
+    c.loop-turn.self.server.session c.loop-turn.self.views.shown)
+    (omega (arith, c.loop-turn-test.false, c.loop-turn.invariant.count, c.loop-turn.invariant.few))
+    c.loop-turn.invariant.turns_are
