@@ -4,9 +4,9 @@ use Rattle.std.proofs.Common.{sym, ap, subst, ◌∙◌}
 use Rattle.std.specs.Prelude.{IfOk, IfErr, OnErr}
 use Rattle.std.specs.Io.KnownBytes.{Keeps}
 use Rattle.std.proofs.KnownBytes.{Appends-nil, Keeps-refl, Keeps-trans}
-use Rattle.rdm_serving.specs.Report.{line_of}
-use Rattle.rdm_serving.specs.Writing.{IsWritten, LogState, LogsFrom, Logs}
-use Rattle.rdm_serving.proofs.WritingLemmas.{kept_appends}
+use Rattle.rdm_reports.specs.Report.{line_of}
+use Rattle.rdm_reports.specs.Writing.{IsWritten, LogState, LogsFrom, Logs}
+use Rattle.rdm_reports.proofs.WritingLemmas.{kept_appends}
 use Rattle.rdm_port.specs.Fault.{fault_line, fault_status}
 use Rattle.rdm_port.specs.Outcome.{Answers, IsLogUnreported, IsLogged, IsLoggedWith, IsPrinted, has_log}
 use Rattle.rdm_words.specs.Words.{keeps_log}

@@ -7,12 +7,12 @@ use Rattle.serde_json.specs.Data.{Data}
 use Rattle.rdm_log.specs.declared.entry.Opening.{Opening}
 use Rattle.rdm_log.specs.declared.entry.Entry.{Entry}
 use Rattle.rdm_files.specs.declared.session.client.ClientFile.{ClientFile}
-use Rattle.rdm_serving.specs.LogText.{log_text}
+use Rattle.rdm_reports.specs.LogText.{log_text}
 use Rattle.rdm_serving.specs.LoggedOutcomes.{IsLogOf}
 use Rattle.rdm_serving.specs.LoggedCalls.{HasCalls}
-use Rattle.rdm_serving.specs.SessionReport.{AllSettled, session_text}
-use Rattle.rdm_serving.specs.Writing.{LogState, Logs}
-use Rattle.rdm_serving.specs.declared.outcomes.Outcomes.{Outcomes}
+use Rattle.rdm_reports.specs.SessionReport.{AllSettled, session_text}
+use Rattle.rdm_reports.specs.Writing.{LogState, Logs}
+use Rattle.rdm_reports.specs.declared.outcomes.Outcomes.{Outcomes}
 use Rattle.rdm_port.specs.Fault.{ReadsSession, IsRunFault, IsSessionTextFault}
 use Rattle.rdm_port.specs.LineOutcome.{replies_path}
 use Rattle.rdm_port.specs.Outcome.{HasServed}

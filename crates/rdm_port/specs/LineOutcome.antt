@@ -17,9 +17,9 @@ use Rattle.rdm_words.specs.Words.{path_text}
 use Rattle.rdm_words.specs.declared.line_job.LineDiscovery.{LineDiscovery}
 use Rattle.rdm_words.specs.declared.line_job.LineRun.{LineRun}
 use Rattle.rdm_port.specs.declared.line_values.LineValues.{LineValues}
-use Rattle.rdm_serving.specs.Discovery.{IsDiscovery}
-use Rattle.rdm_serving.specs.LogText.{exchanges_text}
-use Rattle.rdm_serving.specs.Report.{line_of, report_text, report_status}
+use Rattle.rdm_reports.specs.Discovery.{IsDiscovery}
+use Rattle.rdm_reports.specs.LogText.{exchanges_text}
+use Rattle.rdm_reports.specs.Report.{line_of, report_text, report_status}
 
 -- the text spells the UID of one device
 abbrev pub SpellsDevice : List ℕ → ℕ → Type 0

@@ -26,14 +26,14 @@ use Rattle.rdm_port.specs.declared.fault.Fault.{Fault}
 use Rattle.rdm_port.specs.declared.fault.Fault.TheVariants.{Memory}
 use Rattle.rdm_words.specs.Words.{keeps_log}
 use Rattle.rdm_port.specs.Fault.{ReadsScene, ReadsSession, IsFaultOf, fault_line, fault_status}
-use Rattle.rdm_serving.specs.Report.{line_of, report_text, report_status}
-use Rattle.rdm_serving.specs.SessionReport.{AllSettled, session_text}
+use Rattle.rdm_reports.specs.Report.{line_of, report_text, report_status}
+use Rattle.rdm_reports.specs.SessionReport.{AllSettled, session_text}
 use Rattle.rdm_serving.specs.LoggedOutcomes.{IsLogOf}
 use Rattle.rdm_serving.specs.LoggedCalls.{HasCalls}
-use Rattle.rdm_serving.specs.LogText.{exchanges_text, log_text}
-use Rattle.rdm_serving.specs.Writing.{IsCutShort}
-use Rattle.rdm_serving.specs.declared.outcomes.Outcomes.{Outcomes}
-use Rattle.rdm_serving.specs.SceneDiscovery.{IsSceneDiscovery, IsHonestReport}
+use Rattle.rdm_reports.specs.LogText.{exchanges_text, log_text}
+use Rattle.rdm_reports.specs.Writing.{IsCutShort}
+use Rattle.rdm_reports.specs.declared.outcomes.Outcomes.{Outcomes}
+use Rattle.rdm_reports.specs.SceneDiscovery.{IsSceneDiscovery, IsHonestReport}
 
 -- how a reply to a branch is printed
 abbrev pub reply_text : BranchReply → List ℕ

@@ -1,6 +1,6 @@
 //! What is printed.
 ghost use Rattle.std.specs.Prelude.{◌≡◌, ◌≤◌, length};
-ghost use Rattle.rdm_serving.specs.Report.{line_of};
+ghost use Rattle.rdm_reports.specs.Report.{line_of};
 ghost use Rattle.rdm_port.specs.body.Texts.{answer_bytes};
 
 use crate::fault::Fault;

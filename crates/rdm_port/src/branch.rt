@@ -2,7 +2,7 @@
 ghost use Rattle.std.specs.Prelude.{◌≡◌, ◌≤◌, IfOk, IfErr, length};
 ghost use Rattle.hex.specs.Hex.{encode_lower};
 ghost use Rattle.rdm_port.specs.Fault.{IsDecodeFault, IsEncodeFault};
-ghost use Rattle.rdm_serving.specs.Report.{line_of};
+ghost use Rattle.rdm_reports.specs.Report.{line_of};
 ghost use Rattle.rdm_port.specs.Outcome.{Decodes, Encodes, reply_text};
 ghost use Rattle.rdm_port.specs.body.Texts.{answer_bytes};
 

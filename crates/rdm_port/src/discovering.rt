@@ -5,7 +5,7 @@ ghost use Rattle.rdm_port.specs.Fault.{ReadsScene, SaysScene, IsFileFault, IsTex
 ghost use Rattle.rdm_port.specs.Outcome.{Discovers, IsLogUnreported, kind_of, search_of};
 ghost use Rattle.rdm_port.specs.body.Logged.{HasLogged};
 ghost use Rattle.rdm_port.specs.body.Texts.{answer_bytes};
-ghost use Rattle.rdm_serving.specs.Report.{report_text, report_status};
+ghost use Rattle.rdm_reports.specs.Report.{report_text, report_status};
 
 use crate::answer::{Answer, Answered, Refused};
 use crate::fault::Fault;

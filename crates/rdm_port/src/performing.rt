@@ -1,7 +1,7 @@
 //! What is printed for a command, its status, and the reason if it isn't done.
 ghost use Rattle.std.specs.Prelude.{◌≡◌, ℕ, List, None, Ok, IfOk, IfErr, false};
 ghost use Rattle.rdm_port.specs.Fault.{IsFaultOf, fault_line, fault_status};
-ghost use Rattle.rdm_serving.specs.Report.{line_of};
+ghost use Rattle.rdm_reports.specs.Report.{line_of};
 ghost use Rattle.rdm_port.specs.Outcome.{Answers, IsLogged, IsLoggedWith, IsOutcome, IsPrinted, has_log};
 ghost use Rattle.rdm_port.specs.body.Logged.{HasLogged, IsTold, status_after};
 ghost use Rattle.rdm_port.specs.body.Texts.{answer_bytes};

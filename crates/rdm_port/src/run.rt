@@ -9,9 +9,9 @@ ghost use Rattle.rdm_port.specs.Outcome.{Runs};
 ghost use Rattle.rdm_port.specs.body.Logged.{HasLogged};
 ghost use Rattle.rdm_port.specs.body.Sessions.{IsSessionValue, IsNoValue};
 ghost use Rattle.rdm_port.specs.body.Texts.{answer_bytes};
-ghost use Rattle.rdm_serving.specs.Writing.{Logs};
-ghost use Rattle.rdm_serving.specs.LogText.{log_text};
-ghost use Rattle.rdm_serving.specs.SessionReport.{session_text};
+ghost use Rattle.rdm_reports.specs.Writing.{Logs};
+ghost use Rattle.rdm_reports.specs.LogText.{log_text};
+ghost use Rattle.rdm_reports.specs.SessionReport.{session_text};
 
 use crate::answer::{Answer, Answered, Refused};
 use crate::discovering::no_json;

@@ -21,8 +21,8 @@ use Rattle.rdm_client.specs.declared.told.Collected.{Collected}
 use Rattle.rdm_client.specs.declared.told.Collected.TheVariants as collected
 use Rattle.rdm_serving.specs.LoggedOutcomes.{AreLogged, AllLogged, end_told, ends_logged, faults_logged}
 use Rattle.rdm_serving.specs.body.Scripts.{Notes, IsToldBy}
-use Rattle.rdm_serving.specs.declared.outcomes.Discovered.{Discovered}
-use Rattle.rdm_serving.specs.declared.outcomes.Outcomes.{Outcomes}
+use Rattle.rdm_reports.specs.declared.outcomes.Discovered.{Discovered}
+use Rattle.rdm_reports.specs.declared.outcomes.Outcomes.{Outcomes}
 
 module _ {X : Type 0} where
   -- what f finds from the i-th entry on, where it finds nothing there, and where it finds x

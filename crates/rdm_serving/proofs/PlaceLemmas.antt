@@ -4,7 +4,7 @@ use Rattle.std.proofs.Common.{refl, sym, ap, ◌∙◌, arith}
 use Rattle.std.specs.Prelude.{if◌then◌else◌}
 use Rattle.std.proofs.Math.Seq.{take-suc}
 use Rattle.std.proofs.lemmas.List.{map-append, append-nil, length-take-le}
-use Rattle.rdm_serving.specs.SessionReport.{places_of}
+use Rattle.rdm_reports.specs.SessionReport.{places_of}
 use Rattle.rdm_files.specs.declared.session.call.ClientCall.{ClientCall}
 
 module _ (is_of_kind : ClientCall → Bool) where

@@ -2,8 +2,8 @@
 use Rattle.std.proofs.Common.{◌≡◌, ℕ, suc, ◌+◌, ◌<◌, ◌++◌, ◌∷◌, [], List, length, take, get_or, sym, ap, ◌∙◌, subst}
 use Rattle.std.proofs.Common.{arith}
 use Rattle.std.proofs.Math.Seq.{take-suc}
-use Rattle.rdm_serving.specs.SessionReport.{IsSettled, AllSettled}
-use Rattle.rdm_serving.specs.declared.outcomes.Outcomes.{Outcomes}
+use Rattle.rdm_reports.specs.SessionReport.{IsSettled, AllSettled}
+use Rattle.rdm_reports.specs.declared.outcomes.Outcomes.{Outcomes}
 use Rattle.rdm_files.specs.declared.session.client.ClientFile.{ClientFile}
 
 settled_more : (cs : List ClientFile) (os : List Outcomes) (c : ClientFile) (o : Outcomes) → AllSettled cs os

@@ -1,10 +1,4 @@
-pub mod Discovery
-pub mod SceneDiscovery
-pub mod Report
-pub mod SessionReport
 pub mod Serving
 pub mod LoggedOutcomes
 pub mod LoggedCalls
-pub mod Writing
-pub mod LogText
 pub mod body

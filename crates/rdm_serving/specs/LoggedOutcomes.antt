@@ -9,8 +9,8 @@ use Rattle.rdm_log.specs.declared.entry.Entry.TheVariants.{Finish, Answer}
 use Rattle.rdm_log.specs.log.Clients.{is_client_of, client_of_request, client_of_discovery}
 use Rattle.rdm_log.specs.log.Legal.{Legal}
 use Rattle.rdm_log.specs.promises.Promised.{LegalPromised}
-use Rattle.rdm_serving.specs.declared.outcomes.Outcomes.{Outcomes}
-use Rattle.rdm_serving.specs.declared.outcomes.Discovered.{Discovered}
+use Rattle.rdm_reports.specs.declared.outcomes.Outcomes.{Outcomes}
+use Rattle.rdm_reports.specs.declared.outcomes.Discovered.{Discovered}
 
 -- how a request ended: its status, and how many bytes of data its callback received
 abbrev pub end_told : Told → Status × ℕ

@@ -1,7 +1,7 @@
 -- What was written to a log while a command was answered.
 use Rattle.std.specs.Prelude.{◌≡◌, ℕ, Bool, true, false, List}
 use Rattle.std.specs.Io.KnownBytes.{Keeps}
-use Rattle.rdm_serving.specs.Writing.{LogState, IsWritten}
+use Rattle.rdm_reports.specs.Writing.{LogState, IsWritten}
 use Rattle.rdm_port.specs.body.Texts.{answer_bytes}
 use Rattle.rdm_port.specs.declared.answer.Answered.{Answered}
 

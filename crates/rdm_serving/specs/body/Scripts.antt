@@ -5,8 +5,8 @@ use Rattle.rdm_wire.specs.Devices.{uids_of}
 use Rattle.rdm_client.specs.declared.told.AskTold.{AskTold}
 use Rattle.rdm_client.specs.declared.told.Collected.{Collected}
 use Rattle.rdm_client.specs.declared.told.Collected.TheVariants as collected
-use Rattle.rdm_serving.specs.declared.outcomes.Outcomes.{Outcomes}
-use Rattle.rdm_serving.specs.declared.outcomes.Discovered.{Discovered}
+use Rattle.rdm_reports.specs.declared.outcomes.Outcomes.{Outcomes}
+use Rattle.rdm_reports.specs.declared.outcomes.Discovered.{Discovered}
 use Rattle.rdm_serving.specs.declared.serving.script.Script.{Script}
 use Rattle.rdm_serving.specs.declared.serving.script.Next.{Next}
 use Rattle.rdm_serving.specs.declared.serving.script.Next.TheVariants.{Call, Collect, Done}

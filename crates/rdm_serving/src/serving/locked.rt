@@ -3,7 +3,6 @@ ghost use Rattle.std.specs.Prelude.{◌≡◌, ◌≤◌, ◌+◌, [], ⊤, None
 ghost use Rattle.rdm_log.specs.log.Config.{IsConfig};
 ghost use Rattle.rdm_lanes.specs.Lines.{exchange_count};
 
-use crate::outcomes::Outcomes;
 use crate::serving::calls::cancel_all;
 use crate::serving::playing::{Player, play};
 use crate::serving::ticket::{AskTicket, RequestTicket};
@@ -14,6 +13,7 @@ use rdm_files::{ClientCall, ClientFile};
 use rdm_line::Line;
 use rdm_locked::{CallShare, Exchange, Left, LockedClient, Port};
 use rdm_queue::{AskFault, JoinFault, Setup, SubmitFault};
+use rdm_reports::Outcomes;
 use rdm_wire::Request;
 use std::alloc::Global;
 use std::sync::Wait;

@@ -4,15 +4,15 @@ ghost use Rattle.std.specs.Bool.{OnTrue};
 ghost use Rattle.rdm_log.specs.log.Entries.{accepts, asks};
 ghost use Rattle.rdm_log.specs.log.Clients.{is_client_of};
 ghost use Rattle.rdm_log.specs.declared.entry.Entry.{Entry as EntryState};
-ghost use Rattle.rdm_serving.specs.declared.outcomes.Discovered.{Discovered as DiscoveredState};
+ghost use Rattle.rdm_reports.specs.declared.outcomes.Discovered.{Discovered as DiscoveredState};
 ghost use Rattle.rdm_serving.specs.LoggedOutcomes.{AllLogged, AreLogged, end_told, end_logged, ends_logged};
 ghost use Rattle.rdm_serving.specs.LoggedOutcomes.{fault_logged, faults_logged};
 
-use crate::outcomes::{Discovered, Outcomes};
 use rdm_agent::AgentFault;
 use rdm_client::Told;
 use rdm_join::Status;
 use rdm_queue::{Entry, Log, Opening};
+use rdm_reports::{Discovered, Outcomes};
 use std::alloc::{AllocError, Global};
 
 /// Whether each client received the outcomes of all its requests and discoveries that ended, in order, and each agrees

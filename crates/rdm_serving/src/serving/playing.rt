@@ -3,11 +3,11 @@ ghost use Rattle.std.specs.Prelude.{◌≡◌, ◌⊎◌, ◌+◌, ◌≤◌, Bo
 ghost use Rattle.rdm_client.specs.declared.told.Collected.{Collected as CollectedState};
 ghost use Rattle.rdm_serving.specs.body.Scripts.{Notes, has_all, done_by};
 
-use crate::outcomes::Outcomes;
 use crate::serving::ServeFault;
 use crate::serving::script::{Next, Script};
 use rdm_client::Collected;
 use rdm_files::ClientCall;
+use rdm_reports::Outcomes;
 use std::alloc::Global;
 use std::thread;
 

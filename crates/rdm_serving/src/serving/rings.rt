@@ -9,7 +9,6 @@ ghost use Rattle.rdm_lanes.specs.Lines.{exchange_count};
 ghost use Rattle.rdm_lanes.specs.Workers.{book_of};
 ghost use Rattle.rdm_serving.specs.Serving.{slots_by};
 
-use crate::outcomes::Outcomes;
 use crate::serving::calls::cancel_all;
 use crate::serving::playing::{Player, play};
 use crate::serving::ticket::{AskTicket, RequestTicket};
@@ -22,6 +21,7 @@ use rdm_lanes::{
 };
 use rdm_line::Line;
 use rdm_queue::Setup;
+use rdm_reports::Outcomes;
 use std::alloc::Global;
 use std::marker::Brand;
 use std::sync::Wait;

@@ -3,10 +3,10 @@ ghost use Rattle.std.specs.Prelude.{◌≡◌, ◌⊎◌, ◌<◌, ◌+◌, ◌^
 ghost use Rattle.std.specs.Prelude.{nat_lt, if◌then◌else◌, OnOk, IfErr, Ok, Err, None};
 ghost use Rattle.rdm_serving.specs.body.Scripts.{IsNext, Notes, has_all};
 
-use crate::outcomes::{Discovered, Outcomes};
 use crate::serving::ServeFault;
 use rdm_client::Collected;
 use rdm_files::ClientCall;
+use rdm_reports::{Discovered, Outcomes};
 use std::alloc::Global;
 
 /// A client's calls, and their outcomes.

@@ -1,9 +1,9 @@
 //! A line that reports how many exchanges it has made.
 ghost use Rattle.std.specs.Prelude.{◌≡◌};
 
-use crate::progress::{Progress, write_often};
 use rdm_join::LineReply;
 use rdm_line::{Line, LineFault};
+use rdm_reports::{Progress, write_often};
 use rdm_wire::Frame;
 
 /// A line that reports every hundredth exchange, and otherwise behaves like the line that it was made of.

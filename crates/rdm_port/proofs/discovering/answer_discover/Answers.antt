@@ -3,13 +3,13 @@ use Rattle.std.specs.Prelude.{is_some}
 use Rattle.rdm_agent.specs.declared.kind.Kind.{Kind}
 use Rattle.rdm_agent.specs.declared.search.Search.{Search}
 use Rattle.rdm_line.specs.SimRuns.{NoFiveSuccessive}
-use Rattle.rdm_serving.specs.LogText.{exchanges_text}
-use Rattle.rdm_serving.specs.SceneDiscovery.{IsSceneDiscovery, IsHonestReport}
-use Rattle.rdm_serving.specs.Writing.{LogState, Logs}
+use Rattle.rdm_reports.specs.LogText.{exchanges_text}
+use Rattle.rdm_reports.specs.SceneDiscovery.{IsSceneDiscovery, IsHonestReport}
+use Rattle.rdm_reports.specs.Writing.{LogState, Logs}
 use Rattle.rdm_port.specs.Fault.{ReadsScene}
 use Rattle.rdm_port.specs.Outcome.{Discovers, kind_of, search_of}
-use Rattle.rdm_serving.specs.Report.{report_text, report_status}
-use Rattle.rdm_serving.specs.declared.discovery.Discovery.{Discovery}
+use Rattle.rdm_reports.specs.Report.{report_text, report_status}
+use Rattle.rdm_reports.specs.declared.discovery.Discovery.{Discovery}
 use Rattle.rdm_files.specs.declared.scene.file.SceneFile.{SceneFile}
 use Rattle.rdm_port.proofs.LoggedLemmas.{unreported_unlogged, report_logged, memory_logged}
 use Rattle.rdm_port.proofs.discovering.answer_discover.Goals as goal

@@ -4,11 +4,11 @@ use Rattle.clap.specs.Words.{Text}
 use Rattle.rdm_agent.specs.declared.kind.Kind.{Kind}
 use Rattle.rdm_agent.specs.declared.search.Search.{Search}
 use Rattle.rdm_line.specs.Events.{Exchange}
-use Rattle.rdm_serving.specs.Discovery.{IsDiscovery}
-use Rattle.rdm_serving.specs.LogText.{exchanges_text}
-use Rattle.rdm_serving.specs.Report.{report_text, report_status}
-use Rattle.rdm_serving.specs.Writing.{LogState, Logs}
-use Rattle.rdm_serving.specs.declared.discovery.Discovery.{Discovery}
+use Rattle.rdm_reports.specs.Discovery.{IsDiscovery}
+use Rattle.rdm_reports.specs.LogText.{exchanges_text}
+use Rattle.rdm_reports.specs.Report.{report_text, report_status}
+use Rattle.rdm_reports.specs.Writing.{LogState, Logs}
+use Rattle.rdm_reports.specs.declared.discovery.Discovery.{Discovery}
 use Rattle.rdm_port.specs.LineOutcome.{DiscoversOnLine, SaysValues, replies_path}
 use Rattle.rdm_port.specs.Outcome.{kind_of, search_of}
 use Rattle.rdm_words.specs.declared.line_job.LineDiscovery.{LineDiscovery}

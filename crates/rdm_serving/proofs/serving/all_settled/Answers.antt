@@ -1,5 +1,5 @@
 use Rattle.std.proofs.Common.{ap, sym, ◌∙◌, subst, arith}
-use Rattle.rdm_serving.specs.SessionReport.{IsSettled}
+use Rattle.rdm_reports.specs.SessionReport.{IsSettled}
 use Rattle.rdm_files.specs.declared.session.client.ClientFile.{ClientFile}
 use Rattle.rdm_serving.proofs.SettledLemmas.{settled_next}
 use Rattle.rdm_serving.proofs.serving.all_settled.Goals as goal

@@ -1,5 +1,5 @@
 use Rattle.std.proofs.Common.{take}
-use Rattle.rdm_serving.specs.SessionReport.{AllSettled}
+use Rattle.rdm_reports.specs.SessionReport.{AllSettled}
 use Rattle.rdm_serving.proofs.serving.all_settled.Given as goal
 
 abbrev pub invariant-clients : goal.invariant-clients

@@ -1,6 +1,6 @@
 use Rattle.std.proofs.Common.{map, take, ap, ◌∙◌, arith}
-use Rattle.rdm_serving.specs.declared.outcomes.Discovered.{Discovered}
-use Rattle.rdm_serving.specs.SessionReport.{is_ask}
+use Rattle.rdm_reports.specs.declared.outcomes.Discovered.{Discovered}
+use Rattle.rdm_reports.specs.SessionReport.{is_ask}
 use Rattle.rdm_serving.proofs.PlaceLemmas.{next_call, other_call}
 use Rattle.rdm_serving.proofs.serving.are_of_discoveries.Goals as goal
 use Rattle.rdm_serving.proofs.serving.are_of_discoveries.Goals.{in-Submit}

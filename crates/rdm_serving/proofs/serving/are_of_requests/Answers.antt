@@ -1,6 +1,6 @@
 use Rattle.std.proofs.Common.{map, take, ap, ◌∙◌, arith}
 use Rattle.rdm_client.specs.declared.told.Told.{Told}
-use Rattle.rdm_serving.specs.SessionReport.{is_request}
+use Rattle.rdm_reports.specs.SessionReport.{is_request}
 use Rattle.rdm_serving.proofs.PlaceLemmas.{next_call, other_call}
 use Rattle.rdm_serving.proofs.serving.are_of_requests.Goals as goal
 use Rattle.rdm_serving.proofs.serving.are_of_requests.Goals.{in-Submit+else-count-outcomes+else-outcomes-count}

@@ -1,7 +1,7 @@
 use Rattle.std.proofs.Common.{◌≡◌, ◌≤◌, take, length}
 use Rattle.std.specs.Prelude.{map}
 use Rattle.rdm_client.specs.declared.told.Told.{Told}
-use Rattle.rdm_serving.specs.SessionReport.{is_request, places_of}
+use Rattle.rdm_reports.specs.SessionReport.{is_request, places_of}
 use Rattle.rdm_serving.proofs.serving.are_of_requests.Given as goal
 
 abbrev pub invariant-calls : goal.invariant-calls

@@ -1,7 +1,7 @@
 use Rattle.std.proofs.Common.{◌≡◌, drop, map}
 use Rattle.std.specs.Prelude.{filter_map}
 use Rattle.rdm_serving.specs.LoggedOutcomes.{fault_logged, faults_logged}
-use Rattle.rdm_serving.specs.declared.outcomes.Discovered.{Discovered}
+use Rattle.rdm_reports.specs.declared.outcomes.Discovered.{Discovered}
 use Rattle.rdm_serving.proofs.serving.logged.are_discoveries_logged.Given as goal
 
 abbrev pub invariant-entries : goal.invariant-entries

@@ -1,0 +1,4 @@
+pub mod DiscoveryLemmas
+pub mod SceneRuns
+pub mod NumberedLemmas
+pub mod WritingLemmas

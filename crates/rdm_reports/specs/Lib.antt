@@ -1,0 +1,6 @@
+pub mod Discovery
+pub mod SceneDiscovery
+pub mod Report
+pub mod SessionReport
+pub mod Writing
+pub mod LogText

@@ -1,5 +1,0 @@
-use Rattle.rdm_serving.proofs.SceneRuns.{honest_report}
-use Rattle.rdm_serving.proofs.laws.few_losses_are_honest.Goals as goal
-
-pub returns : goal.returns
-returns c = honest_report

@@ -1,6 +1,0 @@
-use Rattle.std.proofs.Common.{◌≡◌, ◌++◌, take}
-use Rattle.rdm_serving.specs.SessionReport.{uids_text}
-use Rattle.rdm_serving.proofs.outcomes.write_uids.Given as goal
-
-abbrev pub invariant-uids : goal.invariant-uids
-invariant-uids l = l.text.items ≡ l.initial.text.items ++ uids_text (take l.uid-index l.uids)
