@@ -38,6 +38,8 @@ pub trait Opens<L> {
 pub enum Unopened<'a> {
     /// The stream at this path can't be opened.
     Stream(&'a str, ErrorKind),
+    /// The stream at this path is for frames and replies, but is a FIFO: it would return the frames as replies.
+    OneWay(&'a str),
     /// Out of memory.
     NoMemory,
 }
@@ -167,6 +169,7 @@ impl<'a> Unopened<'a> {
     {
         match self {
             Unopened::Stream(path, kind) => (Fault::File, Some(Reason::Unopened(path, kind))),
+            Unopened::OneWay(path) => (Fault::File, Some(Reason::OneWay(path))),
             Unopened::NoMemory => (Fault::Memory, None),
         }
     }

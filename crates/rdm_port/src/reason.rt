@@ -62,6 +62,8 @@ pub enum Reason<'a> {
     NoDevice(&'static str, &'a str),
     /// The stream or the log at this path can't be opened.
     Unopened(&'a str, ErrorKind),
+    /// The stream at this path is a FIFO, which can't be for both frames and replies.
+    OneWay(&'a str),
     /// The log at this path couldn't be written.
     Unlogged(&'a str, ErrorKind),
 }
@@ -148,6 +150,12 @@ impl fmt::Display for Reason<'_> {
                 write_no_device(f, text)
             }
             Reason::Unopened(path, kind) => write_unopened(f, path, *kind),
+            Reason::OneWay(path) => {
+                write!(
+                    f,
+                    "{path:?} is a FIFO, which goes one way; name another stream for the replies by --replies"
+                )
+            }
             Reason::Unlogged(path, kind) => {
                 write!(f, "the log {path:?} can't be written: {kind}")
             }

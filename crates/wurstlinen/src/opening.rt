@@ -4,8 +4,9 @@ ghost use Rattle.std.specs.Prelude.{◌≡◌};
 use rdm_line::StreamLine;
 use rdm_port::{Opens, Unopened};
 use std::alloc::Global;
-use std::fs::{File, OpenOptions};
+use std::fs::{File, Metadata, OpenOptions};
 use std::io::{BufReader, ErrorKind};
+use std::os::unix::fs::FileTypeExt;
 use std::rt::Files;
 use std::{fs, io};
 
@@ -33,10 +34,16 @@ impl<R: Files<File = File>> Opens<TextLine> for FileOpener<'_, R> {
     // Both streams are checked first. Opening a FIFO for reading waits until its other end is opened. That may never
     // happen if the other stream is missing.
     fn open<'a>(&mut self, out: &'a str, replies: &'a str) -> Result<TextLine, Unopened<'a>> {
-        for path in [out, replies] {
-            if let Err(error) = look_at(self.rt, path) {
-                return Err(Unopened::Stream(path, error.kind()));
-            }
+        let looked_at = match look_at(self.rt, out) {
+            Ok(looked_at) => looked_at,
+            Err(error) => return Err(Unopened::Stream(out, error.kind())),
+        };
+        if let Err(error) = look_at(self.rt, replies) {
+            return Err(Unopened::Stream(replies, error.kind()));
+        }
+        // The program would read its own frames.
+        if out == replies && looked_at.file_type().is_fifo() {
+            return Err(Unopened::OneWay(out));
         }
         let writer = match open_out(self.rt, out) {
             Ok(writer) => writer,
@@ -54,11 +61,12 @@ impl<R: Files<File = File>> Opens<TextLine> for FileOpener<'_, R> {
 }
 
 // Err: there is no such file, or it is a folder.
-fn look_at<R: Files>(rt: &R, path: &str) -> io::Result<()> {
-    if fs::metadata(rt, path)?.is_dir() {
+fn look_at<R: Files>(rt: &R, path: &str) -> io::Result<Metadata> {
+    let metadata = fs::metadata(rt, path)?;
+    if metadata.is_dir() {
         return Err(io::Error::from(ErrorKind::IsADirectory));
     }
-    Ok(())
+    Ok(metadata)
 }
 
 // Opening a FIFO for reading and writing doesn't wait for its other end. So the far end may open the two in any order.

@@ -4,6 +4,8 @@ from __future__ import annotations
 import contextlib
 import io
 import os
+import re
+import shutil
 import signal
 import subprocess
 import sys
@@ -23,6 +25,22 @@ STAND_IN = Path(__file__).resolve().parent / "stand_in.py"
 UIDS = ["1234:00000001", "1234:00000002", "454e:0a000017", "9abc:00000002", "9abc:00000003"]
 LEFT = parse_uid(UIDS[0])
 COMMAND = [sys.executable, "-m", "wurstlinen"]
+# The module that the page's skeleton of a bridge imports: an adapter over a rig.
+MY_ADAPTER = """
+from wurstlinen.lines import Rig
+
+class Port:
+    def __init__(self, file):
+        self.rig, self.reply = Rig(file), b""
+    def drop_what_has_come(self):
+        self.reply = b""
+    def send_with_break(self, frame):
+        self.reply = self.rig.exchange(frame)
+    def receive(self, wait, until_quiet):
+        return self.reply
+
+open = Port
+"""
 ENVIRONMENT = {**os.environ, "PYTHONPATH": str(PACKAGE), "PYTHONDONTWRITEBYTECODE": "1"}
 
 
@@ -93,6 +111,17 @@ class Bridges(TestCase):
         with open_line(f"exec:{command}") as line:
             self.assertEqual(Controller(line).get(LEFT, 0x0082).data, b"Front left")
             self.assertEqual(len(discover(line)), 5)
+
+    def test_the_skeleton_on_the_page_is_a_bridge(self) -> None:
+        page = (PACKAGE / "LINES.md").read_text(encoding="utf-8")
+        (skeleton,) = re.findall(r"^```python\n(.*?)^```$", page, re.DOTALL | re.MULTILINE)
+        os.environ["PYTHONPATH"] = str(PACKAGE)
+        with folder() as place:
+            (place / "my_bridge.py").write_text(skeleton)
+            (place / "my_adapter.py").write_text(MY_ADAPTER)
+            with open_line(f"exec:{sys.executable} {place}/my_bridge.py {FIVE}") as line:
+                self.assertEqual(len(discover(line)), 5)
+                self.assertEqual(Controller(line).get(LEFT, 0x0082).data, b"Front left")
 
     def test_a_bridge_whose_reader_is_gone_ends_quietly(self) -> None:
         frame = "00" * 26 + "\n"
@@ -175,6 +204,27 @@ class Adapters(TestCase):
         return str(path)
 
 
+class WithoutProof(TestCase):
+    def test_an_unproved_run_has_no_line(self) -> None:
+        with folder() as place:
+            for name in ("wurstlinen", "crates.txt"):
+                shutil.copy(ROOT / name, place)
+            shutil.copytree(ROOT / "tools", place / "tools")
+            # The script wants this command, but refuses before it is called.
+            rt = place / "rt"
+            rt.write_text("#!/bin/sh\nexit 1\n")
+            rt.chmod(0o755)
+            environment = {**os.environ, "PATH": f"{place}:{os.environ['PATH']}"}
+            for option, words in (("--line", ["--line", "out"]), ("--line", ["--line=out"]), ("--log", ["--log=l"])):
+                arguments = ["discover", "--source", UIDS[0], *words]
+                result = subprocess.run([str(place / "wurstlinen"), "--unproved", *arguments], capture_output=True,
+                                        text=True, env=environment, check=False)
+                self.assertEqual((result.returncode, result.stdout), (125, ""))
+                proved = " ".join([str(place / "wurstlinen"), *arguments])
+                reason = f"an unproved run can't use {option}; the proved one can: {proved}"
+                self.assertEqual(result.stderr, f"wurstlinen: {reason}\n")
+
+
 @needs_library
 class WithTheLibrary(TestCase):
     def lines(self, *arguments: str) -> List[str]:
@@ -185,7 +235,8 @@ class WithTheLibrary(TestCase):
     def test_discover(self) -> None:
         *devices, frames = self.lines("discover")
         self.assertEqual(devices, [*UIDS[:4], f"{UIDS[4]} 0002 {UIDS[3]}"])
-        self.assertRegex(frames, r"^frames \d+$")
+        # README.md and LINES.md show this number.
+        self.assertEqual(frames, "frames 525")
         self.assertEqual(self.lines("discover", "--quick")[:-1], devices)
         known = [word for uid in UIDS for word in ("--known", uid)]
         *again, fewer = self.lines("discover", "--incremental", *known)

@@ -52,6 +52,11 @@ class Discoveries(TestCase):
             for loss in LOSSES:
                 self.check(widget, 5, loss, SEEDS)
 
+    def test_firmware_that_behaves_otherwise(self) -> None:
+        for widget in (Widget((2, 4), ends_branches=False), Widget((2, 4), end_delay=0.003)):
+            for loss in (0.0, 0.1):
+                self.check(widget, 5, loss, SEEDS)
+
     def test_forty_fixtures_without_losses(self) -> None:
         self.check_large(0.0)
 

@@ -173,6 +173,16 @@ class Locks(TestCase):
                 driver.open()
             self.assertEqual(os.listdir(locks), [])
 
+    def test_a_link_to_the_device_has_the_same_lock(self) -> None:
+        with folder() as locks, folder() as place, Emulator(ListLine()) as emulator:
+            link = place / "usb-ENTTEC-port0"
+            link.symlink_to(emulator.path)
+            with EnttecPro(str(link), locks):
+                self.assertEqual(os.listdir(locks), [f"LCK..{os.path.basename(emulator.path)}"])
+                with self.assertRaisesRegex(LineFailed, f"used by process {os.getpid()}"):
+                    EnttecPro(emulator.path, locks)
+            self.assertEqual(os.listdir(locks), [])
+
     def test_no_other_program_may_open_it(self) -> None:
         with folder() as locks, Emulator(ListLine()) as emulator:
             self.assertFalse(is_exclusive(emulator.path))

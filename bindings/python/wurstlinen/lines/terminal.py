@@ -22,11 +22,12 @@ READ_BYTES = 4096
 class Terminal:
     """An open serial device: raw, 115,200 baud, locked against other programs. One that fails is closed.
 
-    The lock is a file LCK..NAME in the lock folder, as OLA has it, and TIOCEXCL beside it.
+    The lock is a file LCK..NAME in the lock folder, as OLA has it, and TIOCEXCL beside it. NAME is the device's own,
+    even if the path is a link to it: OLA searches /dev for the devices themselves.
     """
 
     def __init__(self, path: str, lock_folder: Path = LOCK_FOLDER) -> None:
-        self._lock: Optional[Path] = lock_folder / f"LCK..{os.path.basename(path)}"
+        self._lock: Optional[Path] = lock_folder / f"LCK..{os.path.basename(os.path.realpath(path))}"
         self._descriptor = -1
         _lock(self._lock, path)
         try:

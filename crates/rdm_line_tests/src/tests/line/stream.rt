@@ -4,7 +4,7 @@ use crate::tests::checks::check;
 use rdm_line::{Line, StreamLine};
 use std::alloc::Global;
 use std::io;
-use std::io::{ErrorKind, Read};
+use std::io::{ErrorKind, Read, Write};
 use std::process::Abort;
 
 // Adds a line of this many digits, and how it ends.
@@ -107,6 +107,17 @@ impl Read for Faulty<'_> {
     }
 }
 
+// A line that is too long is read to its end, which is here the end of the input.
+#[test]
+fn a_line_too_long_may_have_no_end(rt: HostRuntime) {
+    let alloc = rt.alloc();
+    let mut text = Vec::new(alloc);
+    add_digits(&rt, &mut text, 2, "\n");
+    add_digits(&rt, &mut text, 600, "");
+    let wanted: [Option<&[u8]>; 1] = [Some(&[0xaa])];
+    meets_each(&rt, alloc, &text, &wanted, 1);
+}
+
 const WANTED_OF_FAULTY: [Option<&[u8]>; 7] = [
     Some(&[0x01]),
     None,
@@ -126,6 +137,19 @@ fn an_error_of_the_reader_fails_one_exchange(rt: HostRuntime) {
     ends(&rt, &mut line, &WANTED_OF_FAULTY, 4);
 }
 
+// What is left of a line that is too long, after an error in it, is the next exchange's line.
+#[test]
+fn an_error_ends_a_line_that_is_too_long(rt: HostRuntime) {
+    let alloc = rt.alloc();
+    let mut text = Vec::new(alloc);
+    add_digits(&rt, &mut text, 520, "!");
+    add_digits(&rt, &mut text, 2, "\n");
+    add_digits(&rt, &mut text, 4, "\n");
+    let mut line = StreamLine::new(Faulty { text: &text }, Vec::new(alloc));
+    let wanted: [Option<&[u8]>; 3] = [None, Some(&[0xaa]), Some(&[0xaa, 0xaa])];
+    ends(&rt, &mut line, &wanted, 2);
+}
+
 #[test]
 fn takes_no_line_when_its_frame_is_not_written(rt: HostRuntime) {
     let mut room = [0; 9];
@@ -133,4 +157,32 @@ fn takes_no_line_when_its_frame_is_not_written(rt: HostRuntime) {
     ends(&rt, &mut line, &[Some(&[0x01])], 1);
     let (left, _) = line.into_parts();
     check(&rt, left == b"02\n".as_slice());
+}
+
+// Accepts everything, but can't be flushed.
+#[derive(Drop)]
+struct Unflushed {
+    accepted: Vec<u8>,
+}
+
+impl Write for Unflushed {
+    fn write(&mut self, bytes: &[u8]) -> io::Result<usize> {
+        self.accepted.write(bytes)
+    }
+
+    fn flush(&mut self) -> io::Result<()> {
+        Err(ErrorKind::Other.into())
+    }
+}
+
+#[test]
+fn takes_no_line_when_its_frame_is_not_flushed(rt: HostRuntime) {
+    let writer = Unflushed {
+        accepted: Vec::new(rt.alloc()),
+    };
+    let mut line = StreamLine::new(b"01\n".as_slice(), writer);
+    ends(&rt, &mut line, &[], 1);
+    let (left, writer) = line.into_parts();
+    check(&rt, left == b"01\n".as_slice());
+    check(&rt, writer.accepted.as_slice() == b"cc01\n".as_slice());
 }
