@@ -1,5 +1,5 @@
 //! Serves the clients of a session file with a mutex.
-ghost use Rattle.std.specs.Prelude.{◌≡◌, ◌≤◌, ◌+◌, [], ⊤, None, length, IfOk};
+ghost use Rattle.std.specs.Prelude.{◌≡◌, ◌≤◌, ◌+◌, [], ⊤, None, length, IfOk, IfErr};
 ghost use Rattle.rdm_log.specs.log.Config.{IsConfig};
 ghost use Rattle.rdm_lanes.specs.Lines.{exchange_count};
 
@@ -332,7 +332,9 @@ fn is_accepted<L: Ledger, R: Wait>(
     client: &mut Client<'_, L>,
     call: &ClientCall,
     place: u64,
-) -> Result<bool, ServeFault> {
+) -> Result<bool, ServeFault>
+    ensures { IfErr result (λ e. e ≡ ServeFault.Log) }
+{
     match call {
         ClientCall::Submit(request) => {
             is_submitted(rt, alloc, client, request.copied(), RequestTicket(place))
@@ -347,7 +349,9 @@ fn is_submitted<L: Ledger, R: Wait>(
     client: &mut Client<'_, L>,
     request: Request,
     callback: RequestTicket,
-) -> Result<bool, ServeFault> {
+) -> Result<bool, ServeFault>
+    ensures { IfErr result (λ e. e ≡ ServeFault.Log) }
+{
     match client.submit(rt, request, callback) {
         Ok(_) => Ok(true),
         Err((fault, _, callback)) => {
@@ -366,7 +370,9 @@ fn is_asked<L: Ledger, R: Wait>(
     client: &mut Client<'_, L>,
     kind: Kind,
     callback: AskTicket,
-) -> Result<bool, ServeFault> {
+) -> Result<bool, ServeFault>
+    ensures { IfErr result (λ e. e ≡ ServeFault.Log) }
+{
     match client.discover(rt, kind, callback) {
         Ok(_) => Ok(true),
         Err((fault, callback)) => {
