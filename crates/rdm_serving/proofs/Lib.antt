@@ -7,3 +7,4 @@ pub mod LoggedLemmas
 pub mod CalledLemmas
 pub mod WritingLemmas
 pub mod RingLemmas
+pub mod TurnLemmas

@@ -1,5 +1,6 @@
 //! Serves the clients of a session file with ring buffers.
 ghost use Rattle.std.specs.Prelude.{◌≡◌, ◌≤◌, [], ⊤, length, slice_get, option_map, IfSome, IfOk};
+ghost use Rattle.std.specs.List.{All};
 ghost use Rattle.std.proofs.Common.{rules};
 ghost use Rattle.rdm_log.specs.log.Config.{IsConfig};
 ghost use Rattle.rdm_words.specs.declared.port_kind.PortKind.TheVariants.{Rings};
@@ -93,6 +94,7 @@ fn serve_views<J: ViewHistory + Send + Sync, X: Line + Send + Drop, R: Threads +
 fn seats_of(alloc: Global, clients: &[ClientFile], turns: u64) -> Option<(Vec<u8>, Vec<Caller<'_>>)>
     ensures places { IfSome result (λ seats. length seats.0.items ≡ length clients.now) }
     ensures callers { IfSome result (λ seats. length seats.1.items ≡ length seats.0.items) }
+    ensures turns { IfSome result (λ seats. All (λ c. c.turns ≡ turns) seats.1.items) }
 {
     let mut places = Vec::new(alloc);
     let mut callers = Vec::new(alloc);
@@ -182,7 +184,9 @@ struct Caller<'a> {
 
 impl<'a> Caller<'a> {
     // A client that has made none of these calls.
-    fn new(alloc: Global, calls: &'a [ClientCall], turns: u64) -> Caller<'a> {
+    fn new(alloc: Global, calls: &'a [ClientCall], turns: u64) -> Caller<'a>
+        ensures { result.turns ≡ turns }
+    {
         Caller {
             alloc,
             calls,
@@ -206,7 +210,10 @@ impl<'a> Caller<'a> {
 }
 
 impl Body<RequestTicket, AskTicket> for Caller<'_> {
-    fn run<J: ViewHistory, G: Gate>(&mut self, client: &mut Client<J>, gate: &G) {
+    fn run<J: ViewHistory, G: Gate>(&mut self, client: &mut Client<J>, gate: &G)
+        ensures in_turns { self.new.outcomes.turns ≤ self.old.turns }
+        ensures same { SameClient client.old client.new }
+    {
         let (outcomes, end) = play(self.alloc, self.calls, client, gate, self.turns);
         self.outcomes = outcomes;
         self.end = end;
