@@ -117,6 +117,7 @@ pub(crate) fn answer_served<'a, G: Write>(
         outcomes,
         session,
         slots: _,
+        ran_out: _,
     } = served;
     let Ok(text) = session_text(alloc, &outcomes) else {
         return Err((Fault::Memory, None));

@@ -1,5 +1,5 @@
 -- What serving a session asks of its caller, and what it leaves.
-use Rattle.std.specs.Prelude.{◌≡◌, ℕ, ◌+◌, ◌*◌, ◌≤◌, List, [], ◌∷◌, Option, Some, None, length}
+use Rattle.std.specs.Prelude.{◌≡◌, ℕ, ◌+◌, ◌*◌, ◌≤◌, List, [], ◌∷◌, Option, Some, None, IfSome, length}
 use Rattle.std.specs.List.{All}
 use Rattle.std.specs.declared.sync.ledger.Blank.{Blank}
 use Rattle.rdm_wire.specs.Uid.{IsDevice}
@@ -38,7 +38,7 @@ pub record IsInTurns (turns : ℕ) (o : Outcomes) : Type 0 where
 
 -- What is left of a session with these clients: the outcomes of all their calls, which agree with its log. The log has
 -- exactly these clients and calls. The worker made at most this many exchanges, and each client at most as many turns.
--- With ring buffers, the first client's rings had this many slots
+-- With ring buffers, the first client's rings had this many slots, and a worker whose turns ran out made all of them
 pub record IsServedBy (port : PortKind) (clients : List ClientFile) (ring turns : ℕ) (s : Served) : Type 0 where
   pub settled : AllSettled clients s.outcomes.items
   pub logged : IsLogOf s.session.opening s.session.entries s.outcomes.items
@@ -46,3 +46,4 @@ pub record IsServedBy (port : PortKind) (clients : List ClientFile) (ring turns 
   pub in_turns : exchange_count s.session ≤ turns
   pub client_turns : All (IsInTurns turns) s.outcomes.items
   pub slots : s.slots ≡ slots_by port ring clients
+  pub ran_out : IfSome s.ran_out (λ made. made ≡ turns)

@@ -75,6 +75,9 @@ pub struct Served {
     /// With ring buffers: how many slots the first client's rings had, the one for its calls and the one for its
     /// outcomes. None with a mutex, or without clients.
     pub slots: Option<(usize, usize)>,
+    /// With ring buffers: how many turns the worker made, if it stopped because it had made all of them. None with a
+    /// mutex, or if it stopped for another reason.
+    pub ran_out: Option<u64>,
 }
 
 /// Serves a session on the line of its scene, and returns the outcomes of each client's calls, with the session and its

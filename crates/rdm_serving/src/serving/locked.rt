@@ -41,7 +41,7 @@ pub fn serve_locked<L: Ledger + Send + Sync, X: Line + Send + Drop, R: Threads +
     requires config_is { IsConfig set_up.config }
     requires empty { set_up.log.entries ≡ [] }
     ensures in_turns { IfOk result (λ s. exchange_count s.session ≤ set_up.turns) }
-    ensures slots { IfOk result (λ s. s.slots ≡ None) }
+    ensures slots { IfOk result (λ s. (s.slots ≡ None) × (s.ran_out ≡ None)) }
 {
     let SetUp {
         search,
@@ -70,7 +70,7 @@ fn finish<L: Ledger>(
 ) -> Result<Served, ServeFault>
     requires { L.parts ≡ 17 }
     ensures exchanges { IfOk result (λ s. exchange_count s.session ≡ length «record».now) }
-    ensures slots { IfOk result (λ s. s.slots ≡ None) }
+    ensures slots { IfOk result (λ s. (s.slots ≡ None) × (s.ran_out ≡ None)) }
 {
     let Ended { outcomes, shares } = ended;
     match port.finish(shares, record) {
@@ -78,6 +78,7 @@ fn finish<L: Ledger>(
             outcomes,
             session: end.session,
             slots: None,
+            ran_out: None,
         }),
         // This never happens: all shares are there, and the record is the worker's own.
         Err(_) => Err(ServeFault::Log),
