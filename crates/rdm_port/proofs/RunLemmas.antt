@@ -4,15 +4,13 @@ use Rattle.std.specs.Prelude.{IfOk, OnOk, unwrap_or}
 use Rattle.std.specs.Borrow.{Bor}
 use Rattle.clap.specs.Words.{Text}
 use Rattle.serde_json.specs.Data.{Data}
-use Rattle.rdm_log.specs.declared.entry.Opening.{Opening}
-use Rattle.rdm_log.specs.declared.entry.Entry.{Entry}
 use Rattle.rdm_files.specs.declared.session.client.ClientFile.{ClientFile}
 use Rattle.rdm_reports.specs.LogText.{log_text}
-use Rattle.rdm_serving.specs.LoggedOutcomes.{IsLogOf}
-use Rattle.rdm_serving.specs.LoggedCalls.{HasCalls}
-use Rattle.rdm_reports.specs.SessionReport.{AllSettled, session_text}
+use Rattle.rdm_serving.specs.Serving.{IsServedBy}
+use Rattle.rdm_reports.specs.SessionReport.{session_text}
 use Rattle.rdm_reports.specs.Writing.{LogState, Logs}
-use Rattle.rdm_reports.specs.declared.outcomes.Outcomes.{Outcomes}
+use Rattle.rdm_serving.specs.declared.serving.Served.{Served}
+use Rattle.rdm_words.specs.declared.port_kind.PortKind.{PortKind}
 use Rattle.rdm_port.specs.Fault.{ReadsSession, IsRunFault, IsSessionTextFault}
 use Rattle.rdm_port.specs.LineOutcome.{replies_path}
 use Rattle.rdm_port.specs.Outcome.{HasServed}
@@ -24,6 +22,7 @@ use Rattle.rdm_port.specs.declared.fault.Fault.{Fault}
 use Rattle.rdm_port.specs.declared.fault.Fault.TheVariants.{CommandLine, Hex, Uid, File, Json, DiscoveryCommand, Scene}
 use Rattle.rdm_port.specs.declared.fault.Fault.TheVariants.{Log, Turns, Memory}
 use Rattle.rdm_port.proofs.LoggedLemmas.{opened_then}
+use Rattle.rdm_serving.proofs.TurnLemmas.{calls_in_turns}
 
 -- why a session that was read isn't answered
 pub served_fault : (F : Type 0) (P : Data → F → Type 0) (known : Option (List ℕ)) (file : F)
@@ -62,29 +61,30 @@ no_value F P bytes Turns none = none
 no_value F P bytes Memory none = none
 
 -- a session that was served, whose text is printed and whose log is written
-pub served_then : {E : Type 0} (r : Result Answered (Fault × E)) (clients : List ClientFile) (outcomes : List Outcomes)
-    (opening : Opening) (entries : List Entry)
-    (wanted : Bool) (old mid new : LogState) → IsOpened wanted old mid → AllSettled clients outcomes
-    → IsLogOf opening entries outcomes → HasCalls entries clients
-    → IfOk r (λ a. answer_bytes a.text ≡ session_text outcomes) → IfOk r (λ a. a.status ≡ 0)
-    → OnOk r (Logs mid new (log_text entries))
-    → IfOk r (λ a. (logged : List ℕ) × HasServed clients (answer_bytes a.text) logged a.status
+pub served_then : {E : Type 0} (r : Result Answered (Fault × E)) (port : PortKind) (clients : List ClientFile)
+    (ring turns : ℕ) (s : Served) (wanted : Bool) (old mid new : LogState) → IsOpened wanted old mid
+    → IsServedBy port clients ring turns s
+    → IfOk r (λ a. answer_bytes a.text ≡ session_text s.outcomes.items) → IfOk r (λ a. a.status ≡ 0)
+    → OnOk r (Logs mid new (log_text s.session.entries))
+    → IfOk r (λ a. (logged : List ℕ) × HasServed clients turns (answer_bytes a.text) logged a.status
     × HasLogged wanted old new logged)
-served_then (Err e) clients outcomes opening entries wanted old mid new opened settled log called text status logs = tt
-served_then (Ok a) clients outcomes opening entries wanted old mid new opened settled log called text status logs = (
-  log_text entries,
+served_then (Err e) port clients ring turns s wanted old mid new opened by text status logs = tt
+served_then (Ok a) port clients ring turns s wanted old mid new opened by text status logs = (
+  log_text s.session.entries,
   record {
-    outcomes = outcomes;
-    settled = settled;
-    opening = opening;
-    entries = entries;
-    log = log;
-    called = called;
+    outcomes = s.outcomes.items;
+    settled = by.settled;
+    opening = s.session.opening;
+    entries = s.session.entries;
+    log = by.logged;
+    called = by.called;
+    in_turns = by.in_turns;
+    client_turns = calls_in_turns clients s.outcomes.items turns by.settled by.client_turns;
     prints = text;
     logs = refl;
     ends = status;
   },
-  opened_then wanted old mid new (log_text entries) opened logs,
+  opened_then wanted old mid new (log_text s.session.entries) opened logs,
 )
 
 -- what holds of its three texts holds with more

@@ -84,7 +84,7 @@ pub record RunsOnLine (L : Type 0) (opens : Text → Text → L → Type 0) (job
   pub begins : opens job.out.now (replies_path job.out job.replies) line
   pub file : LineSessionFile
   pub reads : ReadsSession LineSessionFile IsLineSessionFile known file
-  pub served : HasServed file.clients.items text logged status
+  pub served : HasServed file.clients.items file.turns text logged status
 
 -- the texts and the status that answer a session on a line; with a fault nothing is logged
 abbrev pub IsLineRunOutcome : (L : Type 0) → (Text → Text → L → Type 0) → LineRun → Option (List ℕ)

@@ -1,5 +1,7 @@
 -- What is printed for a command, and the status.
-use Rattle.std.specs.Prelude.{◌≡◌, ◌⊎◌, [], ℕ, Bool, true, false, List, Option, codes, Result, Ok, Err}
+use Rattle.std.specs.Prelude.{◌≡◌, ◌⊎◌, ◌*◌, ◌≤◌, [], ℕ, Bool, true, false, List, Option, codes, length, Result, Ok}
+use Rattle.std.specs.Prelude.{Err}
+use Rattle.std.specs.List.{All}
 use Rattle.std.specs.Io.KnownBytes.{Appends, Keeps}
 use Rattle.hex.specs.Hex.{decode_of, encode_lower}
 use Rattle.rdm_wire.specs.UidText.{UidText, uid_text}
@@ -22,6 +24,7 @@ use Rattle.rdm_files.specs.declared.session.file.SessionFile.{SessionFile}
 use Rattle.rdm_files.specs.declared.session.client.ClientFile.{ClientFile}
 use Rattle.rdm_log.specs.declared.entry.Opening.{Opening}
 use Rattle.rdm_log.specs.declared.entry.Entry.{Entry}
+use Rattle.rdm_log.specs.log.Entries.{exchanges}
 use Rattle.rdm_port.specs.declared.fault.Fault.{Fault}
 use Rattle.rdm_port.specs.declared.fault.Fault.TheVariants.{Memory}
 use Rattle.rdm_words.specs.Words.{keeps_log}
@@ -77,14 +80,17 @@ pub record Discovers (incremental quick : Bool) (known : Option (List ℕ)) (tex
   pub ends : status ≡ report_status found
 
 -- The text has the outcomes of all calls of these clients. They agree with a legal log, which has exactly these clients
--- and calls. The other text is that log's. The order in which the threads made the calls isn't stated.
-pub record HasServed (clients : List ClientFile) (text logged : List ℕ) (status : ℕ) : Type 0 where
+-- and calls, and at most this many exchanges. As many turns suffice for each client's calls and their outcomes. The
+-- other text is that log's. The order in which the threads made the calls isn't stated.
+pub record HasServed (clients : List ClientFile) (turns : ℕ) (text logged : List ℕ) (status : ℕ) : Type 0 where
   pub outcomes : List Outcomes
   pub settled : AllSettled clients outcomes
   pub opening : Opening
   pub entries : List Entry
   pub log : IsLogOf opening entries outcomes
   pub called : HasCalls entries clients
+  pub in_turns : length (exchanges entries) ≤ turns
+  pub client_turns : All (λ (c : ClientFile). 2 * length c.calls.items ≤ turns) clients
   pub prints : text ≡ session_text outcomes
   pub logs : logged ≡ log_text entries
   pub ends : status ≡ 0
@@ -93,7 +99,7 @@ pub record HasServed (clients : List ClientFile) (text logged : List ℕ) (statu
 pub record Runs (known : Option (List ℕ)) (text logged : List ℕ) (status : ℕ) : Type 0 where
   pub file : SessionFile
   pub reads : ReadsSession SessionFile IsSessionFile known file
-  pub served : HasServed file.clients.items text logged status
+  pub served : HasServed file.clients.items file.turns text logged status
 
 -- the texts and the status answer the job, whose file has these bytes, if they are known. The second text is for the
 -- log, if the job has one

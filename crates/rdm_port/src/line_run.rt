@@ -1,12 +1,13 @@
 //! Answers the command that runs a session of clients on a line of the caller's own.
-ghost use Rattle.std.specs.Prelude.{◌≡◌, ◌≤◌, ℕ, List, [], IfOk, IfErr, OnErr, false, is_some};
+ghost use Rattle.std.specs.Prelude.{◌≡◌, ◌≤◌, ℕ, List, [], IfOk, IfErr, OnOk, OnErr, false, is_some};
 ghost use Rattle.rdm_wire.specs.Uid.{IsDevice};
 ghost use Rattle.rdm_files.specs.LineSessionFiles.{IsLineSessionFile};
 ghost use Rattle.rdm_files.specs.declared.session.line_file.LineSessionFile.{LineSessionFile as LineSessionState};
 ghost use Rattle.rdm_port.specs.Fault.{SaysSession, ReadsSession, IsSessionTextFault, IsRunFault};
-ghost use Rattle.rdm_port.specs.LineOutcome.{RunsOnLine};
-ghost use Rattle.rdm_port.specs.body.Logged.{HasLogged};
+ghost use Rattle.rdm_port.specs.LineOutcome.{RunsOnLine, replies_path};
+ghost use Rattle.rdm_port.specs.body.Logged.{HasLogged, IsOpened};
 ghost use Rattle.rdm_port.specs.body.Texts.{answer_bytes};
+ghost use Rattle.rdm_serving.specs.Serving.{IsServedBy};
 
 use crate::answer::{Answered, Refused};
 use crate::fault::Fault;
@@ -20,7 +21,7 @@ use rdm_files::{
     unknown_in_line_session,
 };
 use rdm_line::Line;
-use rdm_serving::{LogOutput, OpensLog, Progress, serve_on_line};
+use rdm_serving::{LogOutput, OpensLog, Progress, Served, serve_on_line};
 use rdm_words::LineRun;
 use std::alloc::Global;
 use std::io::Read;
@@ -58,6 +59,41 @@ pub fn answer_run_on_line<
     ensures fault { IfErr result (λ e. IsRunFault LineSessionState IsLineSessionFile (R.remaining reader.old) e.0) }
     ensures logged { OnErr result (HasLogged (is_some job.now.log) log.old log.new []) }
 {
+    match serve_file_on_line(rt, alloc, job, reader, opener, log, progress) {
+        Ok(served) => answer_served(alloc, served, log),
+        Err(refused) => Err(refused),
+    }
+}
+
+// Serves the session in the reader's file, on a line that is opened once the file is read, and once the log is open.
+fn serve_file_on_line<
+    'a,
+    L: Line + Send + Drop,
+    O: Opens<L>,
+    R: Read,
+    G: OpensLog,
+    P: Progress + Send,
+    T: Threads + Wait + Sync,
+>(
+    rt: &T,
+    alloc: Global,
+    job: &LineRun<'a>,
+    reader: &mut R,
+    opener: &mut O,
+    log: &mut LogOutput<G>,
+    progress: &mut P,
+) -> Result<Served, Refused<'a>>
+    requires closed { log.old.is_open ≡ false }
+    requires sound { log.old.is_failed ≡ false }
+    ensures begins { IfOk result (λ s. (line : L)
+        × O.opens opener.old job.now.out.now (replies_path job.now.out job.now.replies) line) }
+    ensures served { IfOk result (λ s. (file : LineSessionState)
+        × ReadsSession LineSessionState IsLineSessionFile (R.remaining reader.old) file
+        × IsServedBy job.now.port file.clients.items file.ring file.turns s) }
+    ensures opened { OnOk result (IsOpened (is_some job.now.log) log.old log.new) }
+    ensures fault { IfErr result (λ e. IsRunFault LineSessionState IsLineSessionFile (R.remaining reader.old) e.0) }
+    ensures logged { OnErr result (HasLogged (is_some job.now.log) log.old log.new []) }
+{
     let file = match line_session_file(alloc, job.file, reader, progress) {
         Ok(file) => file,
         Err(refused) => return Err(refused),
@@ -72,7 +108,7 @@ pub fn answer_run_on_line<
     let (entries, turns) = (file.log, file.turns);
     let blank = Blank::new(17);
     match serve_on_line::<Brand, L, P, T>(rt, alloc, blank, job.port, file, line, progress) {
-        Ok(served) => answer_served(alloc, served, log),
+        Ok(served) => Ok(served),
         Err(fault) => Err(refused(fault, entries, turns)),
     }
 }

@@ -6,12 +6,13 @@ ghost use Rattle.rdm_files.specs.SessionFiles.{IsSessionFile};
 ghost use Rattle.rdm_files.specs.declared.session.file.SessionFile.{SessionFile as SessionState};
 ghost use Rattle.rdm_port.specs.Fault.{SaysSession, ReadsSession, IsSessionTextFault, IsRunFault};
 ghost use Rattle.rdm_port.specs.Outcome.{Runs};
-ghost use Rattle.rdm_port.specs.body.Logged.{HasLogged};
+ghost use Rattle.rdm_port.specs.body.Logged.{HasLogged, IsOpened};
 ghost use Rattle.rdm_port.specs.body.Sessions.{IsSessionValue, IsNoValue};
 ghost use Rattle.rdm_port.specs.body.Texts.{answer_bytes};
 ghost use Rattle.rdm_reports.specs.Writing.{Logs};
 ghost use Rattle.rdm_reports.specs.LogText.{log_text};
 ghost use Rattle.rdm_reports.specs.SessionReport.{session_text};
+ghost use Rattle.rdm_serving.specs.Serving.{IsServedBy};
 
 use crate::answer::{Answer, Answered, Refused};
 use crate::discovering::no_json;
@@ -59,6 +60,32 @@ pub fn answer_run<'a, R: Read, G: OpensLog, P: Progress + Send, T: Threads + Wai
     ensures fault { IfErr result (λ e. IsRunFault SessionState IsSessionFile (R.remaining reader.old) e.0) }
     ensures logged { OnErr result (HasLogged (is_some log_path.entry) log.old log.new []) }
 {
+    match serve_file(rt, alloc, path, port, log_path, reader, log, progress) {
+        Ok(served) => answer_served(alloc, served, log),
+        Err(refused) => Err(refused),
+    }
+}
+
+// Serves the session in the reader's file, once the log is open.
+fn serve_file<'a, R: Read, G: OpensLog, P: Progress + Send, T: Threads + Wait + Sync>(
+    rt: &T,
+    alloc: Global,
+    path: &'a str,
+    port: PortKind,
+    log_path: Option<&'a str>,
+    reader: &mut R,
+    log: &mut LogOutput<G>,
+    progress: &mut P,
+) -> Result<Served, Refused<'a>>
+    requires closed { log.old.is_open ≡ false }
+    requires sound { log.old.is_failed ≡ false }
+    ensures served { IfOk result (λ s. (file : SessionState)
+        × ReadsSession SessionState IsSessionFile (R.remaining reader.old) file
+        × IsServedBy port file.clients.items file.ring file.turns s) }
+    ensures opened { OnOk result (IsOpened (is_some log_path.entry) log.old log.new) }
+    ensures fault { IfErr result (λ e. IsRunFault SessionState IsSessionFile (R.remaining reader.old) e.0) }
+    ensures logged { OnErr result (HasLogged (is_some log_path.entry) log.old log.new []) }
+{
     let file = match session_file(alloc, path, reader, progress) {
         Ok(file) => file,
         Err(refused) => return Err(refused),
@@ -69,7 +96,7 @@ pub fn answer_run<'a, R: Read, G: OpensLog, P: Progress + Send, T: Threads + Wai
     let (entries, turns) = (file.log, file.turns);
     let blank = Blank::new(17);
     match serve::<Brand, P, T>(rt, alloc, blank, port, file, progress) {
-        Ok(served) => answer_served(alloc, served, log),
+        Ok(served) => Ok(served),
         Err(fault) => Err(refused(fault, entries, turns)),
     }
 }
@@ -90,6 +117,7 @@ pub(crate) fn answer_served<'a, G: Write>(
         outcomes,
         session,
         slots: _,
+        ran_out: _,
     } = served;
     let Ok(text) = session_text(alloc, &outcomes) else {
         return Err((Fault::Memory, None));

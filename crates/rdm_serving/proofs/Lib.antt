@@ -3,3 +3,4 @@ pub mod PlaceLemmas
 pub mod LoggedLemmas
 pub mod CalledLemmas
 pub mod RingLemmas
+pub mod TurnLemmas

@@ -1,10 +1,17 @@
--- What serving a session asks of its caller, and how many slots its rings have.
-use Rattle.std.specs.Prelude.{◌≡◌, ℕ, ◌≤◌, List, [], ◌∷◌, Option, Some, None}
+-- What serving a session asks of its caller, and what it leaves.
+use Rattle.std.specs.Prelude.{◌≡◌, ℕ, ◌+◌, ◌*◌, ◌≤◌, List, [], ◌∷◌, Option, Some, None, IfSome, length}
+use Rattle.std.specs.List.{All}
 use Rattle.std.specs.declared.sync.ledger.Blank.{Blank}
 use Rattle.rdm_wire.specs.Uid.{IsDevice}
+use Rattle.rdm_lanes.specs.Lines.{exchange_count}
 use Rattle.rdm_files.specs.declared.session.client.ClientFile.{ClientFile}
 use Rattle.rdm_words.specs.declared.port_kind.PortKind.{PortKind}
 use Rattle.rdm_words.specs.declared.port_kind.PortKind.TheVariants.{Locked, Rings}
+use Rattle.rdm_serving.specs.LoggedCalls.{HasCalls}
+use Rattle.rdm_serving.specs.LoggedOutcomes.{IsLogOf}
+use Rattle.rdm_reports.specs.SessionReport.{AllSettled}
+use Rattle.rdm_reports.specs.declared.outcomes.Outcomes.{Outcomes}
+use Rattle.rdm_serving.specs.declared.serving.Served.{Served}
 
 -- The blank is that of the book with this name and these parts, which are 17: one for each client, and one for the
 -- rest. The source is a device's UID, the budget is at least one exchange, and each ring has at least one slot. The log
@@ -23,3 +30,20 @@ abbrev pub slots_by : PortKind → ℕ → List ClientFile → Option (ℕ × �
 slots_by Locked ring clients = None
 slots_by Rings ring [] = None
 slots_by Rings ring (client ∷ later) = Some (ring, ring)
+
+-- a client made at most this many turns, and at least two for each outcome: one for its call, and one to collect it
+pub record IsInTurns (turns : ℕ) (o : Outcomes) : Type 0 where
+  pub counted : 2 * (length o.requests.items + length o.discoveries.items) ≤ o.turns
+  pub few : o.turns ≤ turns
+
+-- What is left of a session with these clients: the outcomes of all their calls, which agree with its log. The log has
+-- exactly these clients and calls. The worker made at most this many exchanges, and each client at most as many turns.
+-- With ring buffers, the first client's rings had this many slots, and a worker whose turns ran out made all of them
+pub record IsServedBy (port : PortKind) (clients : List ClientFile) (ring turns : ℕ) (s : Served) : Type 0 where
+  pub settled : AllSettled clients s.outcomes.items
+  pub logged : IsLogOf s.session.opening s.session.entries s.outcomes.items
+  pub called : HasCalls s.session.entries clients
+  pub in_turns : exchange_count s.session ≤ turns
+  pub client_turns : All (IsInTurns turns) s.outcomes.items
+  pub slots : s.slots ≡ slots_by port ring clients
+  pub ran_out : IfSome s.ran_out (λ made. made ≡ turns)

@@ -5,12 +5,10 @@ ghost use Rattle.std.specs.List.{All};
 ghost use Rattle.rdm_wire.specs.Uid.{IsDevice};
 ghost use Rattle.rdm_log.specs.log.Config.{IsConfig};
 ghost use Rattle.rdm_client.specs.declared.told.Told.{Told};
-ghost use Rattle.rdm_lanes.specs.Lines.{exchange_count};
-ghost use Rattle.rdm_serving.specs.Serving.{MayServe, slots_by};
+ghost use Rattle.rdm_serving.specs.Serving.{MayServe, IsInTurns, IsServedBy};
 ghost use Rattle.rdm_serving.specs.LoggedOutcomes.{IsLogOf};
 ghost use Rattle.rdm_serving.specs.LoggedCalls.{HasCalls};
 ghost use Rattle.rdm_reports.specs.SessionReport.{AllSettled, IsSettled, is_request, is_ask, places_of};
-ghost use Rattle.rdm_reports.specs.declared.outcomes.Outcomes.{Outcomes as OutcomesState};
 ghost use Rattle.rdm_reports.specs.declared.outcomes.Discovered.{Discovered};
 
 mod called;
@@ -74,14 +72,18 @@ pub struct Served {
     /// The session, with its log.
     pub session: Session,
     /// With ring buffers: how many slots the first client's rings had, the one for its calls and the one for its
-    /// outcomes. Those of the other clients had as many. None with a mutex, or without clients.
+    /// outcomes. None with a mutex, or without clients.
     pub slots: Option<(usize, usize)>,
+    /// With ring buffers: how many turns the worker made, if it stopped because it had made all of them. None with a
+    /// mutex, or if it stopped for another reason.
+    pub ran_out: Option<u64>,
 }
 
 /// Serves a session on the line of its scene, and returns the outcomes of each client's calls, with the session and its
 /// log. The log has exactly the file's clients and calls. Each outcome has its call's tag. It agrees with that log in
 /// its status and the number of its bytes, or in its fault. The worker made at most as many exchanges as `turns` says,
-/// and each client at most as many turns. With ring buffers, each ring had as many slots as the file says.
+/// and each client at most as many turns. With ring buffers, each of the first client's rings had as many slots as the
+/// file says.
 ///
 /// The file's fields must be in their ranges: the source isn't broadcast ([`Uid::is_broadcast`]), the budget and the
 /// ring are at least 1, and the log is at most [`MOST_FREE_ENTRIES`](rdm_queue::MOST_FREE_ENTRIES). Those of a file
@@ -97,12 +99,7 @@ pub fn serve<L: Ledger + Send + Sync, P: Progress + Send, R: Threads + Wait + Sy
     progress: &mut P,
 ) -> Result<Served, ServeFault>
     requires may_serve { MayServe L.name L.parts blank file.scene.scene.source file.scene.budget file.ring file.log }
-    ensures settled { IfOk result (λ s. AllSettled file.clients.items s.outcomes.items) }
-    ensures logged { IfOk result (λ s. IsLogOf s.session.opening s.session.entries s.outcomes.items) }
-    ensures called { IfOk result (λ s. HasCalls s.session.entries file.clients.items) }
-    ensures in_turns { IfOk result (λ s. exchange_count s.session ≤ file.turns) }
-    ensures client_turns { IfOk result (λ s. All (λ (o : OutcomesState). o.turns ≤ file.turns) s.outcomes.items) }
-    ensures slots { IfOk result (λ s. s.slots ≡ slots_by port file.ring file.clients.items) }
+    ensures served { IfOk result (IsServedBy port file.clients.items file.ring file.turns) }
 {
     let SessionFile {
         scene,
@@ -144,12 +141,7 @@ pub fn serve_on_line<
     progress: &mut P,
 ) -> Result<Served, ServeFault>
     requires may_serve { MayServe L.name L.parts blank file.source file.budget file.ring file.log }
-    ensures settled { IfOk result (λ s. AllSettled file.clients.items s.outcomes.items) }
-    ensures logged { IfOk result (λ s. IsLogOf s.session.opening s.session.entries s.outcomes.items) }
-    ensures called { IfOk result (λ s. HasCalls s.session.entries file.clients.items) }
-    ensures in_turns { IfOk result (λ s. exchange_count s.session ≤ file.turns) }
-    ensures client_turns { IfOk result (λ s. All (λ (o : OutcomesState). o.turns ≤ file.turns) s.outcomes.items) }
-    ensures slots { IfOk result (λ s. s.slots ≡ slots_by port file.ring file.clients.items) }
+    ensures served { IfOk result (IsServedBy port file.clients.items file.ring file.turns) }
 {
     let LineSessionFile {
         source,
@@ -183,7 +175,7 @@ pub fn serve_on_line<
 
 // What is left of the session, if each call has an outcome. A log with fewer than three free entries would have
 // refused the worker's next frame, so it is full, even if no frame was left. It never happens that the log lacks an
-// outcome, or has other calls than the file's, or that a client made more turns than these.
+// outcome, or has other calls than the file's, or that a client made more turns than these, or fewer than it needed.
 fn settled(
     alloc: Global,
     clients: &[ClientFile],
@@ -193,7 +185,7 @@ fn settled(
     ensures settled { IfOk result (λ s. AllSettled clients.now s.outcomes.items) }
     ensures logged { IfOk result (λ s. IsLogOf s.session.opening s.session.entries s.outcomes.items) }
     ensures called { IfOk result (λ s. HasCalls s.session.entries clients.now) }
-    ensures client_turns { IfOk result (λ s. All (λ (o : OutcomesState). o.turns ≤ turns) s.outcomes.items) }
+    ensures client_turns { IfOk result (λ s. All (IsInTurns turns) s.outcomes.items) }
     ensures same { IfOk result (λ s. s ≡ served) }
 {
     if served.session.free() < LEAST_FREE {
@@ -229,11 +221,19 @@ fn config_of(source: Uid, budget: u64, clients: &[ClientFile]) -> Config
     }
 }
 
-// Whether each client made at most this many turns.
-fn all_in_turns(turns: u64, outcomes: &[Outcomes]) -> bool
-    ensures { OnTrue result (All (λ (o : OutcomesState). o.turns ≤ turns) outcomes.now) }
+// Whether a client made at most this many turns, and at least two for each outcome.
+fn is_in_turns(turns: u64, outcomes: &Outcomes) -> bool
+    ensures { OnTrue result (IsInTurns turns outcomes.now) }
 {
-    outcomes.iter().all(|client| client.turns <= turns)
+    let told = outcomes.requests.len() + outcomes.discoveries.len();
+    told as u64 <= outcomes.turns / 2 && outcomes.turns <= turns
+}
+
+// Whether the same holds of each client.
+fn all_in_turns(turns: u64, outcomes: &[Outcomes]) -> bool
+    ensures { OnTrue result (All (IsInTurns turns) outcomes.now) }
+{
+    outcomes.iter().all(|client| is_in_turns(turns, client))
 }
 
 // Whether each client's calls have all their outcomes.

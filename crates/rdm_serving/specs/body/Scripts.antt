@@ -5,6 +5,8 @@ use Rattle.rdm_wire.specs.Devices.{uids_of}
 use Rattle.rdm_client.specs.declared.told.AskTold.{AskTold}
 use Rattle.rdm_client.specs.declared.told.Collected.{Collected}
 use Rattle.rdm_client.specs.declared.told.Collected.TheVariants as collected
+use Rattle.rdm_client.specs.declared.worker_end.WorkerEnd.{WorkerEnd}
+use Rattle.rdm_client.specs.declared.worker_end.WorkerEnd.TheVariants.{AllLeft, Turns, LogFull}
 use Rattle.rdm_reports.specs.declared.outcomes.Outcomes.{Outcomes}
 use Rattle.rdm_reports.specs.declared.outcomes.Discovered.{Discovered}
 use Rattle.rdm_serving.specs.declared.serving.script.Script.{Script}
@@ -41,3 +43,9 @@ Notes (Some (collected.Request told)) old new =
 Notes (Some (collected.Ask told)) old new =
     (d : Discovered) × IsToldBy told d × (new.discoveries.items ≡ old.discoveries.items ++ d ∷ [])
     × (new.requests ≡ old.requests)
+
+-- how many turns a worker made, if it made all of them
+abbrev pub ran_out_by : WorkerEnd → ℕ → Option ℕ
+ran_out_by Turns made = Some made
+ran_out_by AllLeft made = None
+ran_out_by LogFull made = None

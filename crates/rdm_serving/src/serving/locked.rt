@@ -1,5 +1,6 @@
 //! Serves the clients of a session file with a mutex.
-ghost use Rattle.std.specs.Prelude.{◌≡◌, ◌≤◌, ◌+◌, [], ⊤, None, length, IfOk};
+ghost use Rattle.std.specs.Prelude.{◌≡◌, ◌⊎◌, ◌≤◌, ◌+◌, [], ⊤, None, length, IfOk, IfErr};
+ghost use Rattle.std.specs.List.{All};
 ghost use Rattle.rdm_log.specs.log.Config.{IsConfig};
 ghost use Rattle.rdm_lanes.specs.Lines.{exchange_count};
 
@@ -40,7 +41,7 @@ pub fn serve_locked<L: Ledger + Send + Sync, X: Line + Send + Drop, R: Threads +
     requires config_is { IsConfig set_up.config }
     requires empty { set_up.log.entries ≡ [] }
     ensures in_turns { IfOk result (λ s. exchange_count s.session ≤ set_up.turns) }
-    ensures slots { IfOk result (λ s. s.slots ≡ None) }
+    ensures slots { IfOk result (λ s. (s.slots ≡ None) × (s.ran_out ≡ None)) }
 {
     let SetUp {
         search,
@@ -69,7 +70,7 @@ fn finish<L: Ledger>(
 ) -> Result<Served, ServeFault>
     requires { L.parts ≡ 17 }
     ensures exchanges { IfOk result (λ s. exchange_count s.session ≡ length «record».now) }
-    ensures slots { IfOk result (λ s. s.slots ≡ None) }
+    ensures slots { IfOk result (λ s. (s.slots ≡ None) × (s.ran_out ≡ None)) }
 {
     let Ended { outcomes, shares } = ended;
     match port.finish(shares, record) {
@@ -77,6 +78,7 @@ fn finish<L: Ledger>(
             outcomes,
             session: end.session,
             slots: None,
+            ran_out: None,
         }),
         // This never happens: all shares are there, and the record is the worker's own.
         Err(_) => Err(ServeFault::Log),
@@ -102,7 +104,7 @@ fn together<L: Ledger + Send + Sync, X: Line + Send, R: Threads + Wait + Sync>(
 ) -> Result<Ended<L>, ServeFault>
     ensures { length «record».new.items ≤ length «record».old.items + turns }
 {
-    let (mut callers, refused) = join_all(rt, alloc, port, clients);
+    let (mut callers, refused) = join_all(rt, alloc, port, clients, turns);
     if refused.is_none() {
         serve_callers(rt, alloc, port, &mut callers, line, turns, record);
     }
@@ -130,7 +132,7 @@ fn serve_callers<L: Ledger + Send + Sync, X: Line + Send, R: Threads + Wait + Sy
     join_mut(
         rt,
         &mut || work(rt, alloc, port, line, turns, record, &stop),
-        &mut || call_all(rt, alloc, turns, &stop, all),
+        &mut || call_all(rt, alloc, &stop, all),
     );
 }
 
@@ -153,7 +155,6 @@ fn work<L: Ledger, X: Line, R: Wait>(
 fn call_all<L: Ledger + Send + Sync, R: Threads + Wait + Sync>(
     rt: &R,
     alloc: Global,
-    turns: u64,
     stop: &AtomicBool,
     callers: &mut [Caller<'_, '_, L>],
 ) {
@@ -161,22 +162,25 @@ fn call_all<L: Ledger + Send + Sync, R: Threads + Wait + Sync>(
         rt,
         callers,
         16,
-        &|_, caller| { caller.call(rt, alloc, turns, stop) },
+        &|_, caller| { caller.call(rt, alloc, stop) },
     );
 }
 
-// The clients in their order. If one can't join: those before it, and why.
+// The clients in their order, with this many turns each. If one can't join: those before it, and why.
 fn join_all<'p, 'c, L: Ledger, R: Wait>(
     rt: &R,
     alloc: Global,
     port: &'p Port<L>,
     clients: &'c [ClientFile],
-) -> (Vec<Caller<'p, 'c, L>>, Option<ServeFault>) {
+    turns: u64,
+) -> (Vec<Caller<'p, 'c, L>>, Option<ServeFault>)
+    ensures { All (λ c. c.turns ≡ turns) result.0.items }
+{
     let mut callers = Vec::new(alloc);
     for client in clients {
         match port.client(rt, alloc, client.places) {
             Ok(joined) => {
-                let caller = Caller::new(alloc, joined, &client.calls);
+                let caller = Caller::new(alloc, joined, &client.calls, turns);
                 if let Err(refused) = callers.push(caller) {
                     drop(refused.value.end(rt, alloc));
                     return (callers, Some(ServeFault::Memory));
@@ -223,6 +227,7 @@ struct Caller<'p, 'c, L: Ledger> {
     // None until it has left.
     share: Option<CallShare<L>>,
     calls: &'c [ClientCall],
+    turns: u64,
     outcomes: Outcomes,
     end: Result<(), ServeFault>,
 }
@@ -237,23 +242,33 @@ struct Called<L: Ledger> {
 
 impl<'p, 'c, L: Ledger> Caller<'p, 'c, L> {
     // A client that has made none of these calls.
-    fn new(alloc: Global, client: Client<'p, L>, calls: &'c [ClientCall]) -> Caller<'p, 'c, L> {
+    fn new(
+        alloc: Global,
+        client: Client<'p, L>,
+        calls: &'c [ClientCall],
+        turns: u64,
+    ) -> Caller<'p, 'c, L>
+        ensures { result.turns ≡ turns }
+    {
         Caller {
             client: Some(client),
             share: None,
             calls,
+            turns,
             outcomes: Outcomes::new(alloc),
             end: Err(ServeFault::Turns),
         }
     }
 
-    // Makes the calls in this many turns at most, and leaves.
-    fn call<R: Wait>(&mut self, rt: &R, alloc: Global, turns: u64, stop: &AtomicBool) {
+    // Makes the calls in its turns, and leaves. If it has left before, nothing changes.
+    fn call<R: Wait>(&mut self, rt: &R, alloc: Global, stop: &AtomicBool)
+        ensures in_turns { (self.new.outcomes.turns ≤ self.old.turns) ⊎ (self.new.outcomes ≡ self.old.outcomes) }
+    {
         let Some(mut client) = mem::replace(&mut self.client, None) else {
             return;
         };
         let beside = Beside { rt, stop };
-        let (outcomes, end) = play(alloc, self.calls, &mut client, &beside, turns);
+        let (outcomes, end) = play(alloc, self.calls, &mut client, &beside, self.turns);
         self.outcomes = outcomes;
         self.end = end;
         self.share = Some(leave(rt, alloc, client));
@@ -265,6 +280,7 @@ impl<'p, 'c, L: Ledger> Caller<'p, 'c, L> {
             client,
             share,
             calls: _,
+            turns: _,
             outcomes,
             end,
         } = self;
@@ -332,7 +348,9 @@ fn is_accepted<L: Ledger, R: Wait>(
     client: &mut Client<'_, L>,
     call: &ClientCall,
     place: u64,
-) -> Result<bool, ServeFault> {
+) -> Result<bool, ServeFault>
+    ensures { IfErr result (λ e. e ≡ ServeFault.Log) }
+{
     match call {
         ClientCall::Submit(request) => {
             is_submitted(rt, alloc, client, request.copied(), RequestTicket(place))
@@ -347,7 +365,9 @@ fn is_submitted<L: Ledger, R: Wait>(
     client: &mut Client<'_, L>,
     request: Request,
     callback: RequestTicket,
-) -> Result<bool, ServeFault> {
+) -> Result<bool, ServeFault>
+    ensures { IfErr result (λ e. e ≡ ServeFault.Log) }
+{
     match client.submit(rt, request, callback) {
         Ok(_) => Ok(true),
         Err((fault, _, callback)) => {
@@ -366,7 +386,9 @@ fn is_asked<L: Ledger, R: Wait>(
     client: &mut Client<'_, L>,
     kind: Kind,
     callback: AskTicket,
-) -> Result<bool, ServeFault> {
+) -> Result<bool, ServeFault>
+    ensures { IfErr result (λ e. e ≡ ServeFault.Log) }
+{
     match client.discover(rt, kind, callback) {
         Ok(_) => Ok(true),
         Err((fault, callback)) => {

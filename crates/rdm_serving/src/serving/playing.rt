@@ -1,5 +1,5 @@
 //! Makes the calls of a client and collects their outcomes, whichever port it has.
-ghost use Rattle.std.specs.Prelude.{◌≡◌, ◌⊎◌, ◌+◌, ◌≤◌, Bool, true, Option, None, length, OnOk, IfErr};
+ghost use Rattle.std.specs.Prelude.{◌≡◌, ◌⊎◌, ◌+◌, ◌≤◌, Bool, true, Option, None, Err, length, OnOk, IfErr};
 ghost use Rattle.rdm_client.specs.declared.told.Collected.{Collected as CollectedState};
 ghost use Rattle.rdm_serving.specs.body.Scripts.{Notes, has_all, done_by};
 
@@ -31,7 +31,8 @@ pub trait Player<P> {
         call: &ClientCall,
         place: u64,
     ) -> Result<bool, ServeFault>
-        ensures { same self.old self.new };
+        ensures fault { IfErr result (λ e. e ≡ ServeFault.Log) }
+        ensures same { same self.old self.new };
 
     /// Looks whether the worker has stopped.
     fn has_stopped(&self, beside: &P) -> bool
@@ -53,7 +54,8 @@ pub trait Player<P> {
 /// made, and whether the turns sufficed. A turn is one submit, discover or collect, with or without success.
 ///
 /// Ok only if each call has its outcome. Err: there was no memory; the log is full; or not all outcomes have come,
-/// though all turns are made or the worker has stopped. The outcomes that came are returned too.
+/// though all turns are made, or the worker was seen to have stopped before a last collect that found nothing. The
+/// outcomes that came are returned too.
 pub fn play<P, C: Player<P>>(
     alloc: Global,
     calls: &[ClientCall],
@@ -66,6 +68,8 @@ pub fn play<P, C: Player<P>>(
     ensures in_turns { result.0.turns ≤ turns }
     ensures counted { OnOk result.1
         (length result.0.requests.items + length result.0.discoveries.items ≤ result.0.turns) }
+    ensures all_turns { result.1 ≡ Err ServeFault.Turns → (result.0.turns ≡ turns)
+        ⊎ ((before : C) × C.same client.old before × C.sees before true × C.collects before None client.new) }
     ensures same { C.same client.old client.new }
 {
     let mut script = Script::new(alloc, calls);
@@ -84,6 +88,8 @@ fn play_script<P, C: Player<P>>(
     ensures settled { OnOk result (has_all script.new ≡ true) }
     ensures in_turns { script.new.outcomes.turns ≤ turns }
     ensures counted { OnOk result (done_by script.new ≤ done_by script.old + script.new.outcomes.turns) }
+    ensures all_turns { result ≡ Err ServeFault.Turns → (script.new.outcomes.turns ≡ turns)
+        ⊎ ((before : C) × C.same client.old before × C.sees before true × C.collects before None client.new) }
     ensures calls { script.new.calls ≡ script.old.calls }
     ensures same { C.same client.old client.new }
 {

@@ -1,5 +1,6 @@
 //! Serves the clients of a session file with ring buffers.
 ghost use Rattle.std.specs.Prelude.{◌≡◌, ◌≤◌, [], ⊤, length, slice_get, option_map, IfSome, IfOk};
+ghost use Rattle.std.specs.List.{All};
 ghost use Rattle.std.proofs.Common.{rules};
 ghost use Rattle.rdm_log.specs.log.Config.{IsConfig};
 ghost use Rattle.rdm_words.specs.declared.port_kind.PortKind.TheVariants.{Rings};
@@ -8,12 +9,13 @@ ghost use Rattle.rdm_lanes.specs.Ends.{end_slots};
 ghost use Rattle.rdm_lanes.specs.Lines.{exchange_count};
 ghost use Rattle.rdm_lanes.specs.Workers.{book_of};
 ghost use Rattle.rdm_serving.specs.Serving.{slots_by};
+ghost use Rattle.rdm_serving.specs.body.Scripts.{ran_out_by};
 
 use crate::serving::calls::cancel_all;
 use crate::serving::playing::{Player, play};
 use crate::serving::ticket::{AskTicket, RequestTicket};
 use crate::serving::{ServeFault, Served, SetUp};
-use rdm_client::{Collected, Tells, TellsAsk};
+use rdm_client::{Collected, Tells, TellsAsk, WorkerEnd};
 use rdm_files::{ClientCall, ClientFile};
 use rdm_lanes::{
     BlankHistory, Body, ClientEnd, Gate, LanesEnd, OpenFault, RingClient, ViewHistory,
@@ -46,6 +48,7 @@ pub fn serve_rings<X: Line + Send + Drop, R: Threads + Wait + Sync>(
     requires slots { 1 ≤ ring }
     ensures in_turns { IfOk result (λ s. exchange_count s.session ≤ set_up.turns) }
     ensures slots { IfOk result (λ s. s.slots ≡ slots_by Rings ring clients.now) }
+    ensures ran_out { IfOk result (λ s. IfSome s.ran_out (λ made. made ≡ set_up.turns)) }
 {
     let history = BlankHistory::new();
     serve_views::<Brand, X, R>(rt, alloc, history, set_up, ring, clients, line)
@@ -67,6 +70,7 @@ fn serve_views<J: ViewHistory + Send + Sync, X: Line + Send + Drop, R: Threads +
     requires slots { 1 ≤ ring }
     ensures in_turns { IfOk result (λ s. exchange_count s.session ≤ set_up.turns) }
     ensures slots { IfOk result (λ s. s.slots ≡ slots_by Rings ring clients.now) }
+    ensures ran_out { IfOk result (λ s. IfSome s.ran_out (λ made. made ≡ set_up.turns)) }
 {
     let SetUp {
         search,
@@ -93,6 +97,7 @@ fn serve_views<J: ViewHistory + Send + Sync, X: Line + Send + Drop, R: Threads +
 fn seats_of(alloc: Global, clients: &[ClientFile], turns: u64) -> Option<(Vec<u8>, Vec<Caller<'_>>)>
     ensures places { IfSome result (λ seats. length seats.0.items ≡ length clients.now) }
     ensures callers { IfSome result (λ seats. length seats.1.items ≡ length seats.0.items) }
+    ensures turns { IfSome result (λ seats. All (λ c. c.turns ≡ turns) seats.1.items) }
 {
     let mut places = Vec::new(alloc);
     let mut callers = Vec::new(alloc);
@@ -110,14 +115,15 @@ fn served<J: ViewHistory, X: Drop>(
 ) -> Result<Served, ServeFault>
     ensures session { IfOk result (λ s. s.session ≡ end.entry.session) }
     ensures slots { IfOk result (λ s. s.slots ≡ option_map end_slots (slice_get end.entry.ends.items 0)) }
+    ensures ran_out { IfOk result (λ s. s.ran_out ≡ ran_out_by end.entry.worker end.entry.turns) }
 {
     let LanesEnd {
         session,
         ends,
         matched: _,
         bodies,
-        worker: _,
-        turns: _,
+        worker,
+        turns,
         line: _,
         published: _,
     } = end;
@@ -133,6 +139,7 @@ fn served<J: ViewHistory, X: Drop>(
         outcomes,
         session,
         slots,
+        ran_out: ran_out_by(worker, turns),
     })
 }
 
@@ -143,6 +150,16 @@ fn slots_of<J: ViewHistory>(
     ensures { result ≡ option_map end_slots (slice_get ends.now 0) }
 {
     ends.first().map(|end| end.slots())
+}
+
+// The turns that a worker made, if it made all of them.
+fn ran_out_by(end: WorkerEnd, made: u64) -> Option<u64>
+    ensures { result ≡ ran_out_by end made }
+{
+    match end {
+        WorkerEnd::Turns => Some(made),
+        WorkerEnd::AllLeft | WorkerEnd::LogFull => None,
+    }
 }
 
 // Cancels the callbacks that the clients held at their ends.
@@ -182,7 +199,9 @@ struct Caller<'a> {
 
 impl<'a> Caller<'a> {
     // A client that has made none of these calls.
-    fn new(alloc: Global, calls: &'a [ClientCall], turns: u64) -> Caller<'a> {
+    fn new(alloc: Global, calls: &'a [ClientCall], turns: u64) -> Caller<'a>
+        ensures { result.turns ≡ turns }
+    {
         Caller {
             alloc,
             calls,
@@ -206,7 +225,10 @@ impl<'a> Caller<'a> {
 }
 
 impl Body<RequestTicket, AskTicket> for Caller<'_> {
-    fn run<J: ViewHistory, G: Gate>(&mut self, client: &mut Client<J>, gate: &G) {
+    fn run<J: ViewHistory, G: Gate>(&mut self, client: &mut Client<J>, gate: &G)
+        ensures in_turns { self.new.outcomes.turns ≤ self.old.turns }
+        ensures same { SameClient client.old client.new }
+    {
         let (outcomes, end) = play(self.alloc, self.calls, client, gate, self.turns);
         self.outcomes = outcomes;
         self.end = end;

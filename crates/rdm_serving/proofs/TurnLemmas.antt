@@ -1,0 +1,42 @@
+-- How many turns the clients of a session that was served need.
+use Rattle.std.proofs.Common.{◌≡◌, ℕ, ◌+◌, ◌*◌, ◌≤◌, List, [], ◌∷◌, length, refl, sym, ap, ◌∙◌, arith}
+use Rattle.std.specs.List.{All}
+use Rattle.std.proofs.lemmas.List.{length-map}
+use Rattle.std.proofs.lemmas.List.Elements.{All-nil, All-cons, All-head, All-tail}
+use Rattle.rdm_client.specs.declared.told.Told.{Told}
+use Rattle.rdm_files.specs.declared.session.call.ClientCall.{ClientCall}
+use Rattle.rdm_files.specs.declared.session.call.ClientCall.TheVariants.{Submit, Discover}
+use Rattle.rdm_files.specs.declared.session.client.ClientFile.{ClientFile}
+use Rattle.rdm_serving.specs.Serving.{IsInTurns}
+use Rattle.rdm_reports.specs.SessionReport.{AllSettled, IsSettled, is_request, is_ask, places_of}
+use Rattle.rdm_reports.specs.declared.outcomes.Discovered.{Discovered}
+use Rattle.rdm_reports.specs.declared.outcomes.Outcomes.{Outcomes}
+
+-- the requests and the discoveries are all calls
+all_places : (n : ℕ) (calls : List ClientCall)
+    → length (places_of is_request n calls) + length (places_of is_ask n calls) ≡ length calls
+all_places n [] = refl
+all_places n (Submit request ∷ calls) = let rest = all_places (n + 1) calls in omega (arith, rest)
+all_places n (Discover kind ∷ calls) = let rest = all_places (n + 1) calls in omega (arith, rest)
+
+-- a settled client has as many outcomes as calls
+one_outcome_each : (calls : List ClientCall) (o : Outcomes) → IsSettled calls o
+    → length o.requests.items + length o.discoveries.items ≡ length calls
+one_outcome_each calls o settled =
+    let requests : length o.requests.items ≡ length (places_of is_request 0 calls) =
+    sym (length-map o.requests.items (λ (t : Told). t.tag)) ∙ ap length settled.requests in
+    let discoveries : length o.discoveries.items ≡ length (places_of is_ask 0 calls) =
+    sym (length-map o.discoveries.items (λ (d : Discovered). d.tag)) ∙ ap length settled.discoveries in
+    let all = all_places 0 calls in
+    omega (arith, requests, discoveries, all)
+
+pub calls_in_turns : (clients : List ClientFile) (outcomes : List Outcomes) (turns : ℕ) → AllSettled clients outcomes
+    → All (IsInTurns turns) outcomes → All (λ (c : ClientFile). 2 * length c.calls.items ≤ turns) clients
+calls_in_turns [] [] turns settled in_turns = All-nil (λ (c : ClientFile). 2 * length c.calls.items ≤ turns)
+calls_in_turns [] (o ∷ os) turns settled in_turns = absurd settled
+calls_in_turns (c ∷ cs) [] turns settled in_turns = absurd settled
+calls_in_turns (c ∷ cs) (o ∷ os) turns (here, later) in_turns =
+    let own = All-head (IsInTurns turns) o os in_turns in
+    let many = one_outcome_each c.calls.items o here in
+    All-cons (λ (c : ClientFile). 2 * length c.calls.items ≤ turns) c cs (omega (arith, own.counted, own.few, many))
+    (calls_in_turns cs os turns later (All-tail (IsInTurns turns) o os in_turns))
