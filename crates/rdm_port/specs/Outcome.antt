@@ -80,8 +80,8 @@ pub record Discovers (incremental quick : Bool) (known : Option (List ℕ)) (tex
   pub ends : status ≡ report_status found
 
 -- The text has the outcomes of all calls of these clients. They agree with a legal log, which has exactly these clients
--- and calls, and at most this many exchanges. As many turns suffice for each client's calls and their outcomes. The
--- other text is that log's. The order in which the threads made the calls isn't stated.
+-- and calls, and at most this many exchanges. Each client has at most half as many calls, since each call needs a turn,
+-- and its outcome another one. The other text is that log's. The order of the threads' calls isn't stated.
 pub record HasServed (clients : List ClientFile) (turns : ℕ) (text logged : List ℕ) (status : ℕ) : Type 0 where
   pub outcomes : List Outcomes
   pub settled : AllSettled clients outcomes

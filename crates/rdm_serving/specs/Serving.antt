@@ -38,7 +38,7 @@ pub record IsInTurns (turns : ℕ) (o : Outcomes) : Type 0 where
 
 -- What is left of a session with these clients: the outcomes of all their calls, which agree with its log. The log has
 -- exactly these clients and calls. The worker made at most this many exchanges, and each client at most as many turns.
--- With ring buffers, the first client's rings had this many slots, and a worker whose turns ran out made all of them
+-- With ring buffers, the first client's rings had this many slots, and a worker whose turns ran out made all of them.
 pub record IsServedBy (port : PortKind) (clients : List ClientFile) (ring turns : ℕ) (s : Served) : Type 0 where
   pub settled : AllSettled clients s.outcomes.items
   pub logged : IsLogOf s.session.opening s.session.entries s.outcomes.items
