@@ -9,6 +9,7 @@
 #![tactic(auto)]
 
 mod ask_callback;
+mod boxed_ask;
 mod callback;
 mod desk;
 mod fault;
@@ -18,6 +19,7 @@ mod view;
 mod worker_end;
 
 pub use ask_callback::{AskCallback, TellsAsk};
+pub use boxed_ask::BoxedAsk;
 pub use callback::{Callback, Tells};
 pub use desk::{Desk, MOST_ASKS_HELD};
 pub use fault::{Full, Misdelivered};
