@@ -87,8 +87,8 @@ pub fn time_discoveries<R: CpuClock + Print + Eprint + Wait>(
 
 // How many devices a discovery found. None: it ended with a fault.
 fn count_of(told: &AskTold) -> Option<usize> {
-    holds(told.done.fault.is_none())?;
-    Some(told.done.set.len())
+    holds(told.done.fault().is_none())?;
+    Some(told.done.devices().len())
 }
 
 fn count_in(collected: &Option<Collected>) -> Option<usize> {
@@ -135,7 +135,7 @@ impl<L: Ledger, R: Wait, X: Line> Served for Locked<'_, L, R, X> {
         let client = self.clients.get_mut(0)?;
         holds(
             client
-                .discover(self.bench.rt, Kind::Full, AskNote(0))
+                .discover(self.bench.rt, self.bench.alloc, Kind::Full, AskNote(0))
                 .is_ok(),
         )
     }

@@ -1,14 +1,16 @@
 //! A desk, which holds the callbacks of what is outstanding.
 ghost use Rattle.std.specs.Prelude.{◌≡◌, ◌<◌, ◌≤◌, ℕ, [], ◌∷◌, ◌++◌, length, drop, nat_le};
 ghost use Rattle.std.specs.Prelude.{Some, None, OnOk, OnErr, IfOk, IfErr};
+ghost use Rattle.rdm_log.specs.promises.Outcomes.{unboxed};
 ghost use Rattle.rdm_client.specs.Desks.{spent, ask_spent, settled, without_oldest, OldestCalled, Called};
 
 use crate::ask_callback::{AskCallback, TellsAsk};
+use crate::boxed_ask::BoxedAsk;
 use crate::callback::{Callback, Tells};
 use crate::fault::{Full, Misdelivered};
 use crate::told::{AskTold, Collected, Told};
 use crate::unspent::Unspent;
-use rdm_queue::{AskCompletion, Completion, NoMemory, Outcome};
+use rdm_queue::{BoxedOutcome, Completion, NoMemory};
 use std::alloc::Global;
 use std::collections::VecDeque;
 use std::marker::Model;
@@ -137,10 +139,7 @@ impl<C: Tells, A: TellsAsk> Desk<C, A> {
 
     /// Calls the oldest discovery's callback with how its discovery ended. [`Misdelivered`]: no discovery's callback is
     /// held; the completion is returned, and the desk is unchanged.
-    pub fn settle_ask(
-        &mut self,
-        done: AskCompletion,
-    ) -> Result<AskTold, (Misdelivered, AskCompletion)>
+    pub fn settle_ask(&mut self, done: BoxedAsk) -> Result<AskTold, (Misdelivered, BoxedAsk)>
         ensures called { IfOk result (λ told. OldestCalled A.calls self.old.asks done told) }
         ensures told { IfOk result (λ told. ask_spent A.tag_of self.old.asks done ≡ Some told) }
         ensures taken { OnOk result (self.new ≡ record self.old { asks = drop 1 self.old.asks }) }
@@ -155,9 +154,7 @@ impl<C: Tells, A: TellsAsk> Desk<C, A> {
 
     /// Calls the oldest discovery's callback with how its discovery ended. A discovery's callback must be held, which
     /// [`Desk::asks_held`] tests. Unlike [`Desk::settle_ask`] it has no error that returns the completion.
-    // It isn't inlined. If two arms moved one set, LLVM would split it into thousands of pieces, and take minutes.
-    #[inline(never)]
-    pub fn call_oldest_ask(&mut self, done: AskCompletion) -> AskTold
+    pub fn call_oldest_ask(&mut self, done: BoxedAsk) -> AskTold
         requires held { 0 < length self.old.asks }
         ensures called { OldestCalled A.calls self.old.asks done result }
         ensures told { ask_spent A.tag_of self.old.asks done ≡ Some result }
@@ -168,23 +165,27 @@ impl<C: Tells, A: TellsAsk> Desk<C, A> {
 
     /// Calls the oldest callback of the outcome's kind with the outcome's completion, as [`Desk::settle_request`] or
     /// [`Desk::settle_ask`] does. [`Misdelivered`]: no callback of that kind is held; the outcome is returned, and the
-    /// desk is unchanged. It moves the whole outcome, 32 KB. If the kind is known, those two move less.
-    pub fn settle(&mut self, outcome: Outcome) -> Result<Collected, (Misdelivered, Outcome)>
-        ensures called { IfOk result (λ told. Called C.calls A.calls self.old outcome told) }
-        ensures told { IfOk result (λ told. settled C.tag_of A.tag_of self.old outcome ≡ Some told) }
-        ensures taken { OnOk result (self.new ≡ without_oldest self.old outcome) }
-        ensures misdelivered { OnErr result (settled C.tag_of A.tag_of self.old outcome ≡ None) }
+    /// desk is unchanged.
+    pub fn settle(
+        &mut self,
+        outcome: BoxedOutcome,
+    ) -> Result<Collected, (Misdelivered, BoxedOutcome)>
+        ensures called { IfOk result (λ told. Called C.calls A.calls self.old (unboxed outcome) told) }
+        ensures told { IfOk result (λ told. settled C.tag_of A.tag_of self.old (unboxed outcome) ≡ Some told) }
+        ensures taken { OnOk result (self.new ≡ without_oldest self.old (unboxed outcome)) }
+        ensures misdelivered { OnErr result (settled C.tag_of A.tag_of self.old (unboxed outcome) ≡ None) }
         ensures back { IfErr result (λ e. (e.1 ≡ outcome) × (self.new ≡ self.old)) }
     {
         match outcome {
-            Outcome::Request { number, done } => match self.settle_request(done) {
+            BoxedOutcome::Request { number, done } => match self.settle_request(done) {
                 Ok(told) => Ok(Collected::Request(told)),
-                Err((refused, done)) => Err((refused, Outcome::Request { number, done })),
+                Err((refused, done)) => Err((refused, BoxedOutcome::Request { number, done })),
             },
-            Outcome::Discovery { number, done } => {
+            BoxedOutcome::Discovery { end, set } => {
                 if self.asks.is_empty() {
-                    return Err((Misdelivered, Outcome::Discovery { number, done }));
+                    return Err((Misdelivered, BoxedOutcome::Discovery { end, set }));
                 }
+                let done = BoxedAsk::new(end.run, end.fault, Some(set));
                 Ok(Collected::Ask(self.call_oldest_ask(done)))
             }
         }

@@ -10,6 +10,7 @@
 #![tactic(auto)]
 
 mod ask_callback;
+mod boxed_ask;
 mod callback;
 mod desk;
 mod fault;
@@ -19,6 +20,7 @@ mod view;
 mod worker_end;
 
 pub use ask_callback::{AskCallback, TellsAsk};
+pub use boxed_ask::BoxedAsk;
 pub use callback::{Callback, Tells};
 pub use desk::{Desk, MOST_ASKS_HELD};
 pub use fault::{Full, Misdelivered};

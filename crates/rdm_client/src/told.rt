@@ -1,5 +1,7 @@
 //! What callbacks return.
-use rdm_queue::{AskCompletion, Completion};
+use crate::boxed_ask::BoxedAsk;
+use rdm_queue::Completion;
+use std::mem::size_of;
 
 /// What a request's callback returns: the tag that it was made with, and the completion that it was called with.
 #[derive(Debug, Drop)]
@@ -16,10 +18,10 @@ pub struct AskTold {
     /// The callback's tag.
     pub tag: u64,
     /// How the discovery ended.
-    pub done: AskCompletion,
+    pub done: BoxedAsk,
 }
 
-/// What a callback of either kind returned.
+/// What a callback of either kind returned. It has no set of devices in its value.
 #[derive(Debug, Drop)]
 pub enum Collected {
     /// A request has ended.
@@ -27,3 +29,6 @@ pub enum Collected {
     /// A discovery has ended.
     Ask(AskTold),
 }
+
+// It is small.
+const _: () = prove!(size_of::<Collected>() < 100);

@@ -86,7 +86,7 @@ module _ {C A : Type 0} where
       → HoldsForRequest desk item → HoldsItsOwn calls (values_in items) desk.requests desk.asks
       → HoldsItsOwn calls (values_in (items ++ item ∷ [])) (without_oldest desk (outcome_in item)).requests
       (without_oldest desk (outcome_in item)).asks
-  own_request calls items (Discovery number run fault set) desk held own = absurd held
+  own_request calls items (Discovery number done) desk held own = absurd held
   own_request calls items (RequestDone number done) desk held own =
       let item : RingOutcome = RequestDone number done in
       let mine = ap length
@@ -107,8 +107,8 @@ module _ {C A : Type 0} where
       → HoldsItsOwn calls (values_in (items ++ item ∷ [])) (without_oldest desk (outcome_in item)).requests
       (without_oldest desk (outcome_in item)).asks
   own_discovery calls items (RequestDone number done) desk held own = absurd held
-  own_discovery calls items (Discovery number run fault set) desk held own =
-      let item : RingOutcome = Discovery number run fault set in
+  own_discovery calls items (Discovery number done) desk held own =
+      let item : RingOutcome = Discovery number done in
       let mine = ap length
       (ap (filter is_of_discovery) (value_more items item)
       ∙ filter-append is_of_discovery (values_in items) (value_in item ∷ []))

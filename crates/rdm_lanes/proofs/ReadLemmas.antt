@@ -38,7 +38,7 @@ found_more items item =
 pub request_finds_nothing : {C A : Type 0} (v : DeviceView) (desk : Held C A) (item : RingOutcome)
     → HoldsForRequest desk item → found_after v (value_in item) ≡ v
 request_finds_nothing v desk (Request number done) held = refl
-request_finds_nothing v desk (Discovery number run fault set) held = absurd held
+request_finds_nothing v desk (Discovery number done) held = absurd held
 
 -- the last of views whose runs rise
 abbrev last_of : DeviceView → List DeviceView → DeviceView

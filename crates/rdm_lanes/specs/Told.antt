@@ -1,6 +1,5 @@
 -- Outcomes on their way to a client, and those that a log has for it.
-use Rattle.std.specs.Prelude.{◌≡◌, ℕ, List, [], ◌++◌, map, Option, Some, None, Box}
-use Rattle.rdm_wire.specs.declared.device.Device.{Device}
+use Rattle.std.specs.Prelude.{◌≡◌, ℕ, List, ◌++◌, map, Option, Some}
 use Rattle.rdm_log.specs.declared.entry.Opening.{Opening}
 use Rattle.rdm_log.specs.declared.entry.Entry.{Entry}
 use Rattle.rdm_log.specs.declared.outcome.Outcome.{Outcome}
@@ -10,16 +9,10 @@ use Rattle.rdm_log.specs.promises.Outcomes.{OutcomeValue, outcome_value, outcome
 use Rattle.rdm_lanes.specs.declared.ring_outcome.RingOutcome.{RingOutcome}
 use Rattle.rdm_lanes.specs.declared.ring_outcome.RingOutcome.TheVariants.{Request, Discovery}
 
--- the devices that lie in memory of their own; none where there is none
-abbrev pub devices_in : {Z : Type 0} → Option (Box (List Device) Z) → List Device
-devices_in None = []
-devices_in (Some set) = set.value
-
 -- the outcome in an item of a ring
 abbrev pub outcome_in : RingOutcome → Outcome
 outcome_in (Request number done) = outcomes.Request number done
-outcome_in (Discovery number run fault set) =
-    outcomes.Discovery number (record { run = run; fault = fault; set = devices_in set })
+outcome_in (Discovery number done) = outcomes.Discovery number done
 
 -- as its client sees it
 abbrev pub value_in : RingOutcome → OutcomeValue

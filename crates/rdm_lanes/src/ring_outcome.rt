@@ -1,11 +1,9 @@
 //! What goes through the rings of outcomes.
-use rdm_agent::AgentFault;
+use rdm_client::BoxedAsk;
 use rdm_queue::Completion;
-use rdm_wire::DeviceSet;
 use std::mem::size_of;
 
-/// An outcome on its way to its client. The set of a discovery is large, so it lies in memory of its own, which the
-/// worker takes.
+/// An outcome on its way to its client. The set of a discovery is in a box, which the worker allocates.
 #[derive(Debug, Drop)]
 pub enum RingOutcome {
     /// A request has ended.
@@ -19,12 +17,8 @@ pub enum RingOutcome {
     Discovery {
         /// Its number; None if a close refused it.
         number: Option<u64>,
-        /// The run that served it; 0 where none was begun for it.
-        run: u64,
-        /// Why the run ended early; None where it ended without fault.
-        fault: Option<AgentFault>,
-        /// The devices that the run found; None where a close refused the discovery, which has none.
-        set: Option<Box<DeviceSet>>,
+        /// How it ended. Without a set if a close refused it.
+        done: BoxedAsk,
     },
 }
 

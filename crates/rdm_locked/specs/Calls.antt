@@ -7,6 +7,8 @@ use Rattle.rdm_log.specs.declared.fault.SubmitFault.{SubmitFault}
 use Rattle.rdm_log.specs.declared.fault.SubmitFault.TheVariants as submit_faults
 use Rattle.rdm_log.specs.declared.fault.AskFault.{AskFault}
 use Rattle.rdm_log.specs.declared.fault.AskFault.TheVariants as ask_faults
+use Rattle.rdm_locked.specs.declared.fault.DiscoverFault.{DiscoverFault}
+use Rattle.rdm_locked.specs.declared.fault.DiscoverFault.TheVariants as discover_faults
 
 -- an accepted request, an accepted discovery, a collected outcome, or a refusal of a client's call; the refusal of a
 -- join has no client
@@ -30,6 +32,11 @@ refused_submits _ = 1
 abbrev pub refused_discovers : AskFault → ℕ
 refused_discovers ask_faults.LogFull = 0
 refused_discovers _ = 1
+
+-- the same for a client's discover: none too if there was no memory, since the session wasn't asked
+abbrev pub refused_asks : DiscoverFault → ℕ
+refused_asks discover_faults.NoMemory = 0
+refused_asks (discover_faults.Refused fault) = refused_discovers fault
 
 -- how many calls in the log a submit with this answer is
 abbrev pub submits_logged : Result ℕ (SubmitFault × Request) → ℕ

@@ -1,17 +1,21 @@
 //! A client of a session with a mutex.
 ghost use Rattle.std.specs.Prelude.{◌≡◌, ◌⊎◌, ◌≤◌, ◌+◌, ◌++◌, ◌∷◌, [], length, nat_le, true, false, OnOk, IfErr};
 ghost use Rattle.std.specs.Prelude.{IsErrAnd, IfSome, IfNone, OnSome, IsNone, if◌then◌else◌};
-ghost use Rattle.rdm_locked.specs.Calls.{refused_submits, refused_discovers};
+ghost use Rattle.rdm_locked.specs.Calls.{refused_submits, refused_asks};
 ghost use Rattle.rdm_locked.specs.Collects.{Collects, CollectsRequest, CollectsDiscovery};
 
+use crate::fault::DiscoverFault;
 use crate::port::Port;
 use crate::share::CallShare;
+use crate::spares::reserve_set;
 use rdm_agent::Kind;
 use rdm_client::{
-    AskCallback, AskTold, Callback, Collected, Desk, DeviceView, Tells, TellsAsk, Told, Unspent,
+    AskCallback, AskTold, BoxedAsk, Callback, Collected, Desk, DeviceView, Tells, TellsAsk, Told,
+    Unspent,
 };
-use rdm_queue::{AskCompletion, AskFault, ClientId, OutcomeKind, SubmitFault};
+use rdm_queue::{AskFault, ClientId, OutcomeKind, SubmitFault};
 use rdm_wire::{DeviceSet, Request};
+use std::alloc::Global;
 use std::sync::Wait;
 use std::sync::ledger::Ledger;
 
@@ -26,6 +30,9 @@ pub struct LockedClient<'a, L: Ledger, C = Callback, A = AskCallback> {
     calls: CallShare<L>,
     // Whether no callback was held for its oldest outcome: then it collects nothing any more.
     stranded: bool,
+    // A set for each discovery that may be collected. So a collect allocates nothing.
+    spares: Vec<Box<DeviceSet>>,
+    ghost spared: { length desk.asks ≤ length spares.items },
 }
 
 /// What is left of a client.
@@ -37,13 +44,15 @@ pub struct Left<L: Ledger, C = Callback, A = AskCallback> {
 }
 
 impl<'a, L: Ledger, C: Tells, A: TellsAsk> LockedClient<'a, L, C, A> {
-    // A client that has made no call.
+    // A client that has made no call, with a desk without discoveries' callbacks.
     pub(crate) fn new(
+        alloc: Global,
         port: &'a Port<L>,
         number: ClientId,
         desk: Desk<C, A>,
         calls: CallShare<L>,
     ) -> LockedClient<'a, L, C, A>
+        requires { desk.asks ≡ [] }
         ensures holds { (result.desk ≡ desk) × (result.calls ≡ calls) }
         ensures is_new { (result.number ≡ number) × (result.stranded ≡ false) }
     {
@@ -53,6 +62,7 @@ impl<'a, L: Ledger, C: Tells, A: TellsAsk> LockedClient<'a, L, C, A> {
             desk,
             calls,
             stranded: false,
+            spares: Vec::new(alloc),
         }
     }
 
@@ -97,42 +107,49 @@ impl<'a, L: Ledger, C: Tells, A: TellsAsk> LockedClient<'a, L, C, A> {
         }
     }
 
-    /// Asks for a discovery, and returns its number. The callback is held until it is called with the discovery's
-    /// completion.
-    /// Err: Full if the desk can't hold the callback, before all other faults; such a call has no entry, and isn't
-    /// counted. Otherwise as [`Inside::discover`](crate::Inside::discover) returns. The callback is returned.
+    /// Asks for a discovery, and returns its number. Memory for the devices that it may find, 32 KB, is allocated
+    /// before. The callback is held until it is called with the discovery's completion.
+    /// Err: Refused with Full if the desk can't hold the callback, and then NoMemory, before all other faults; such a
+    /// call has no entry, and isn't counted. Otherwise Refused as [`Inside::discover`](crate::Inside::discover)
+    /// returns. The callback is returned.
     pub fn discover<R: Wait>(
         &mut self,
         rt: &R,
+        alloc: Global,
         kind: Kind,
         callback: A,
-    ) -> Result<u64, (AskFault, A)>
+    ) -> Result<u64, (DiscoverFault, A)>
         ensures held { OnOk result
             (self.new.desk ≡ record self.old.desk { asks = self.old.desk.asks ++ callback ∷ [] }) }
         ensures accepted { OnOk result (self.new.calls.count ≡ self.old.calls.count + 1) }
         ensures refused { IfErr result (λ e. self.new.calls.count ≡ self.old.calls.count
-            + (if nat_le 4 (length self.old.desk.asks) then 0 else refused_discovers e.0)) }
-        ensures full { 4 ≤ length self.old.desk.asks → IsErrAnd result (λ e. e.0 ≡ AskFault.Full) }
+            + (if nat_le 4 (length self.old.desk.asks) then 0 else refused_asks e.0)) }
+        ensures full { 4 ≤ length self.old.desk.asks
+            → IsErrAnd result (λ e. e.0 ≡ DiscoverFault.Refused AskFault.Full) }
         ensures back { IfErr result (λ e. (e.1 ≡ callback) × (self.new.desk ≡ self.old.desk)) }
         ensures client { (self.new.number ≡ self.old.number) × (self.new.stranded ≡ self.old.stranded) }
     {
         if self.desk.is_full_of_asks() {
-            return Err((AskFault::Full, callback));
+            return Err((DiscoverFault::Refused(AskFault::Full), callback));
         }
         let LockedClient {
             port,
             number,
             desk,
             calls,
+            spares,
             ..
         } = self;
+        if reserve_set(alloc, spares, desk.asks_held()).is_err() {
+            return Err((DiscoverFault::NoMemory, callback));
+        }
         let answer = port.inside.lock(rt).discover(*number, kind, calls);
         match answer {
             Ok(accepted) => match desk.hold_ask(callback) {
                 Ok(()) => Ok(accepted),
                 Err(_) => unreachable!(),
             },
-            Err(fault) => Err((fault, callback)),
+            Err(fault) => Err((DiscoverFault::Refused(fault), callback)),
         }
     }
 
@@ -143,8 +160,9 @@ impl<'a, L: Ledger, C: Tells, A: TellsAsk> LockedClient<'a, L, C, A> {
     }
 
     /// Collects the client's oldest outcome: the oldest callback of its kind is called with its completion, after the
-    /// mutex is released. The result has 32 KB, since it may contain a set of devices. For requests,
-    /// [`collect_request`](LockedClient::collect_request) costs less.
+    /// mutex is released. It allocates nothing. If the kind is known,
+    /// [`collect_request`](LockedClient::collect_request) and
+    /// [`collect_discovery`](LockedClient::collect_discovery) take the mutex once less.
     /// None: there is no outcome, or no callback is held for it; nothing changes. In the second case this call,
     /// `collect_request` and `collect_discovery` return None from then on, and the outcome stays in the session.
     pub fn collect<R: Wait>(&mut self, rt: &R) -> Option<Collected>
@@ -166,12 +184,14 @@ impl<'a, L: Ledger, C: Tells, A: TellsAsk> LockedClient<'a, L, C, A> {
                 let told = self.collect_request(rt)?;
                 Some(Collected::Request(told))
             }
-            OutcomeKind::Discovery => self.collect_ask(rt),
+            OutcomeKind::Discovery => {
+                let told = self.collect_discovery(rt)?;
+                Some(Collected::Ask(told))
+            }
         }
     }
 
-    /// Collects the client's oldest outcome if that is a request's, as [`collect`](LockedClient::collect) does. It
-    /// neither moves a set of devices nor has room for one.
+    /// Collects the client's oldest outcome if that is a request's, as [`collect`](LockedClient::collect) does.
     /// None: there is no outcome, it is a discovery's, or no callback is held for it; nothing changes. In the last
     /// case this call, `collect` and `collect_discovery` return None from then on.
     pub fn collect_request<R: Wait>(&mut self, rt: &R) -> Option<Told>
@@ -205,7 +225,8 @@ impl<'a, L: Ledger, C: Tells, A: TellsAsk> LockedClient<'a, L, C, A> {
         }
     }
 
-    /// Collects the client's oldest outcome if that is a discovery's, as [`collect`](LockedClient::collect) does.
+    /// Collects the client's oldest outcome if that is a discovery's, as [`collect`](LockedClient::collect) does. The
+    /// devices are copied once, out of the session.
     /// None: there is no outcome, it is a request's, or no callback is held for it; nothing changes. In the last case
     /// this call, `collect` and `collect_request` return None from then on.
     pub fn collect_discovery<R: Wait>(&mut self, rt: &R) -> Option<AskTold>
@@ -229,35 +250,16 @@ impl<'a, L: Ledger, C: Tells, A: TellsAsk> LockedClient<'a, L, C, A> {
             number,
             desk,
             calls,
+            spares,
             ..
         } = self;
-        let mut done = AskCompletion {
-            run: 0,
-            fault: None,
-            set: DeviceSet::new(),
+        let Some(set) = spares.last_mut() else {
+            unreachable!();
         };
-        let collected = port
-            .inside
-            .lock(rt)
-            .collect_discovery(*number, &mut done.set, calls);
+        let collected = port.inside.lock(rt).collect_discovery(*number, set, calls);
         let end = collected?;
-        done.run = end.run;
-        done.fault = end.fault;
+        let done = BoxedAsk::new(end.run, end.fault, spares.pop());
         Some(desk.call_oldest_ask(done))
-    }
-
-    // Collects a discovery's outcome. It isn't inlined, so that `collect` has no set for a request's.
-    #[inline(never)]
-    fn collect_ask<R: Wait>(&mut self, rt: &R) -> Option<Collected>
-        ensures collected { IfSome result (λ told.
-            Collects C.calls C.tag_of A.calls A.tag_of self.old.desk told self.new.desk) }
-        ensures counted { OnSome result (self.new.calls.count ≡ self.old.calls.count + 1) }
-        ensures none { IfNone result ((self.new.desk ≡ self.old.desk) × (self.new.calls.count ≡ self.old.calls.count)) }
-        ensures strands { self.old.stranded ≡ false → self.new.stranded ≡ true → length self.old.desk.asks ≡ 0 }
-        ensures client { self.new.number ≡ self.old.number }
-    {
-        let told = self.collect_discovery(rt)?;
-        Some(Collected::Ask(told))
     }
 
     /// The devices that the last run without fault found, and that run; none and 0 before the first.
@@ -277,6 +279,7 @@ impl<'a, L: Ledger, C: Tells, A: TellsAsk> LockedClient<'a, L, C, A> {
             desk,
             calls,
             stranded: _,
+            spares: _,
         } = self;
         port.inside.lock(rt).leave();
         Left {

@@ -1,5 +1,17 @@
-//! Why a port can't be ended.
+//! Why a discovery isn't accepted, and why a port can't be ended.
+use rdm_queue::AskFault;
 use thiserror::Error;
+
+/// Why a client's discovery isn't accepted; nothing has changed but the log.
+#[derive(Clone, Copy, Debug, PartialEq, Eq, Error)]
+pub enum DiscoverFault {
+    /// There is no memory for the devices that it may find. It has no entry in the log.
+    #[error("out of memory")]
+    NoMemory,
+    /// The client's desk is full, or the session refuses it.
+    #[error("{0}")]
+    Refused(AskFault),
+}
 
 /// Why a port can't be ended; nothing has changed. They are tested in this order.
 #[derive(Clone, Copy, Debug, PartialEq, Eq, Error)]

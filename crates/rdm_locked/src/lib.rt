@@ -12,11 +12,12 @@ mod fault;
 mod inside;
 mod port;
 mod share;
+mod spares;
 mod turn;
 
 pub use client::{Left, LockedClient};
 pub use exchange::Exchange;
-pub use fault::FinishFault;
+pub use fault::{DiscoverFault, FinishFault};
 pub use inside::{Inside, SessionEnd};
 pub use port::Port;
 pub use rdm_client::WorkerEnd;

@@ -91,7 +91,7 @@ impl<L: Ledger> Port<L> {
         };
         let joined = self.inside.lock(rt).join(alloc, places);
         match joined {
-            Ok((number, calls)) => Ok(LockedClient::new(self, number, desk, calls)),
+            Ok((number, calls)) => Ok(LockedClient::new(alloc, self, number, desk, calls)),
             Err(fault) => {
                 desk.end().close_empty();
                 Err(fault)

@@ -59,12 +59,12 @@ impl Discovered {
         ensures uids { IfOk result (λ d. d.uids.items ≡ uids_of told.now.done.set) }
     {
         let mut uids = Vec::new(alloc);
-        'devices: for device in told.done.set.as_slice() {
+        'devices: for device in told.done.devices() {
             uids.push(device.uid)?;
         }
         Ok(Discovered {
             tag: told.tag,
-            fault: told.done.fault,
+            fault: told.done.fault(),
             uids,
         })
     }

@@ -5,9 +5,10 @@
 use crate::found::{Ending, Found, ending_by, found_in};
 use crate::refusal::Refusal;
 use crate::setup::{pid_of, sub_device_of};
-use rdm_client::Collected;
+use rdm_agent::AgentFault;
+use rdm_client::{BoxedAsk, Collected};
 use rdm_join::{ReplyHead, Status};
-use rdm_queue::{AskCompletion, Completion, Outcome};
+use rdm_queue::{BoxedOutcome, Completion, Outcome};
 use rdm_wire::{AckType, RespClass};
 
 /// Why a worker stopped.
@@ -52,12 +53,14 @@ pub enum Heard {
 }
 
 /// What a client collected. The number of a request or a discovery is its callback's tag.
-#[inline(never)]
 pub fn told(collected: &Option<Collected>) -> Heard {
     match collected {
         None => Heard::Nothing,
         Some(Collected::Request(told)) => of_request(told.tag, &told.done),
-        Some(Collected::Ask(told)) => of_discovery(told.tag, &told.done),
+        Some(Collected::Ask(told)) => {
+            let done = &told.done;
+            of_discovery(told.tag, done.run(), done.fault(), found_by(done))
+        }
     }
 }
 
@@ -67,7 +70,20 @@ pub fn outcome_told(outcome: &Option<Outcome>) -> Heard {
     match outcome {
         None => Heard::Nothing,
         Some(Outcome::Request { number, done }) => of_request(number.unwrap_or(u64::MAX), done),
-        Some(Outcome::Discovery { number, done }) => of_discovery(number.unwrap_or(u64::MAX), done),
+        Some(Outcome::Discovery { number, done }) => {
+            let number = number.unwrap_or(u64::MAX);
+            of_discovery(number, done.run, done.fault, found_in(&done.set))
+        }
+    }
+}
+
+/// What a boxed outcome says.
+pub fn boxed_told(outcome: &BoxedOutcome) -> Heard {
+    match outcome {
+        BoxedOutcome::Request { number, done } => of_request(*number, done),
+        BoxedOutcome::Discovery { end, set } => {
+            of_discovery(end.number, end.run, end.fault, found_in(set))
+        }
     }
 }
 
@@ -108,7 +124,15 @@ fn of_data(tag: u64, bytes: &[u8]) -> Heard {
     }
 }
 
+// Which devices the discovery found.
+fn found_by(done: &BoxedAsk) -> Found {
+    match done.set() {
+        Some(set) => found_in(set),
+        None => Found::Nobody,
+    }
+}
+
 // How the discovery with this tag ended.
-fn of_discovery(tag: u64, done: &AskCompletion) -> Heard {
-    Heard::Discovery(tag, done.run, ending_by(done.fault), found_in(&done.set))
+fn of_discovery(tag: u64, run: u64, fault: Option<AgentFault>, found: Found) -> Heard {
+    Heard::Discovery(tag, run, ending_by(fault), found)
 }

@@ -24,7 +24,7 @@ mod wrong;
 pub use act::{Act, Driver, Move, Mover, Stage, Step, moved};
 pub use device::{Who, device_of};
 pub use found::{Ending, Found, ending_by, found_in};
-pub use heard::{Heard, Stop, completion_told, outcome_told, told};
+pub use heard::{Heard, Stop, boxed_told, completion_told, outcome_told, told};
 pub use line::{LineOf, Meeting, Placed, line_of, one_device, two_devices};
 pub use note::{AskNote, Note, cancels};
 pub use refusal::Refusal;

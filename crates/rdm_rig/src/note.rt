@@ -3,10 +3,9 @@ ghost use Rattle.std.specs.Prelude.{◌≡◌};
 ghost use Rattle.rdm_client.specs.Callbacks.{told, ask_told};
 
 use rdm_agent::AgentFault;
-use rdm_client::{AskTold, Tells, TellsAsk, Told, Unfinished, Unspent};
+use rdm_client::{AskTold, BoxedAsk, Tells, TellsAsk, Told, Unfinished, Unspent};
 use rdm_join::Status;
-use rdm_queue::{AskCompletion, Completion};
-use rdm_wire::DeviceSet;
+use rdm_queue::Completion;
 use std::alloc::Global;
 
 /// A request's callback that returns what it was called with, and does nothing else.
@@ -40,16 +39,12 @@ impl TellsAsk for AskNote {
 
     ghost calls = { λ note done t. t ≡ ask_told note.0 done };
 
-    fn spend(self, done: AskCompletion) -> AskTold {
+    fn spend(self, done: BoxedAsk) -> AskTold {
         AskTold { tag: self.0, done }
     }
 
     fn cancel(self) -> AskTold {
-        self.spend(AskCompletion {
-            run: 0,
-            fault: Some(AgentFault::Aborted),
-            set: DeviceSet::new(),
-        })
+        self.spend(BoxedAsk::new(0, Some(AgentFault::Aborted), None))
     }
 }
 

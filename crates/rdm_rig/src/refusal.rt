@@ -10,6 +10,8 @@ pub enum Refusal {
     Submit(SubmitFault, u64),
     /// A discovery requested from a session, with or without a mutex.
     Ask(AskFault, u64),
+    /// A discovery with a mutex: there is no memory for the devices that it may find.
+    NoMemory(u64),
     /// A submit or a discovery with ring buffers: the client already has as many calls outstanding as its limit.
     Full(u64),
     /// The same: the ring of calls has no free slot.

@@ -6,7 +6,8 @@ use crate::port_line::{ClosingLine, PortNote};
 use rdm_agent::{Kind, Search};
 use rdm_line::Line;
 use rdm_locked::{
-    CallShare, Exchange, FinishFault, Left, LockedClient, Port, SessionEnd, WorkerEnd,
+    CallShare, DiscoverFault, Exchange, FinishFault, Left, LockedClient, Port, SessionEnd,
+    WorkerEnd,
 };
 use rdm_queue::{Log, NoMemory, Setup as SessionSetup};
 use rdm_rig::{
@@ -129,7 +130,7 @@ impl<'a, L: Ledger, R: Wait, X: Line + Drop> PortStage<'a, L, R, X> {
     fn client(&mut self, alloc: Global, at: u8, step: Step) -> Heard {
         match step {
             Step::Submit(tag) => self.submit(at, tag),
-            Step::Discover(kind, tag) => self.discover(at, kind, tag),
+            Step::Discover(kind, tag) => self.discover(alloc, at, kind, tag),
             Step::Collect => self.collect(at),
             Step::Look | Step::Know => self.look(at),
             Step::Leave => self.leave(alloc, at),
@@ -144,15 +145,14 @@ impl<'a, L: Ledger, R: Wait, X: Line + Drop> PortStage<'a, L, R, X> {
         }
     }
 
-    fn discover(&mut self, at: u8, kind: Kind, tag: u64) -> Heard {
+    fn discover(&mut self, alloc: Global, at: u8, kind: Kind, tag: u64) -> Heard {
         let note = self.note(tag);
         match self.clients.get_mut(usize::from(at)) {
-            Some(client) => discovers(self.rt, client, kind, note),
+            Some(client) => discovers(self.rt, alloc, client, kind, note),
             None => Heard::Nothing,
         }
     }
 
-    #[inline(never)]
     fn collect(&mut self, at: u8) -> Heard {
         match self.clients.get_mut(usize::from(at)) {
             Some(client) => told(&client.collect(self.rt)),
@@ -272,13 +272,17 @@ fn submits<'a, L: Ledger, R: Wait>(
 // This client asks for a discovery.
 fn discovers<'a, L: Ledger, R: Wait>(
     rt: &R,
+    alloc: Global,
     client: &mut Client<'a, L, R>,
     kind: Kind,
     note: PortNote<'a, L, R>,
 ) -> Heard {
-    match client.discover(rt, kind, note) {
+    match client.discover(rt, alloc, kind, note) {
         Ok(number) => Heard::Number(number),
-        Err((fault, note)) => Heard::Refused(Refusal::Ask(fault, note.tag)),
+        Err((DiscoverFault::NoMemory, note)) => Heard::Refused(Refusal::NoMemory(note.tag)),
+        Err((DiscoverFault::Refused(fault), note)) => {
+            Heard::Refused(Refusal::Ask(fault, note.tag))
+        }
     }
 }
 

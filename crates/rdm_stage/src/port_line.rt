@@ -4,12 +4,12 @@ ghost use Rattle.std.specs.Prelude.{◌≡◌};
 ghost use Rattle.rdm_client.specs.Callbacks.{told, ask_told};
 
 use rdm_agent::AgentFault;
-use rdm_client::{AskTold, Tells, TellsAsk, Told};
+use rdm_client::{AskTold, BoxedAsk, Tells, TellsAsk, Told};
 use rdm_join::{LineReply, Status};
 use rdm_line::{Line, LineFault};
 use rdm_locked::Port;
-use rdm_queue::{AskCompletion, Completion};
-use rdm_wire::{DeviceSet, Frame};
+use rdm_queue::Completion;
+use rdm_wire::Frame;
 use std::alloc::Global;
 use std::sync::Wait;
 use std::sync::ledger::Ledger;
@@ -64,7 +64,7 @@ impl<L: Ledger, R: Wait> TellsAsk for PortNote<'_, L, R> {
 
     ghost calls = { λ callback done t. t ≡ ask_told callback.tag done };
 
-    fn spend(self, done: AskCompletion) -> AskTold {
+    fn spend(self, done: BoxedAsk) -> AskTold {
         self.run();
         AskTold {
             tag: self.tag,
@@ -73,11 +73,7 @@ impl<L: Ledger, R: Wait> TellsAsk for PortNote<'_, L, R> {
     }
 
     fn cancel(self) -> AskTold {
-        let done = AskCompletion {
-            run: 0,
-            fault: Some(AgentFault::Aborted),
-            set: DeviceSet::new(),
-        };
+        let done = BoxedAsk::new(0, Some(AgentFault::Aborted), None);
         TellsAsk::spend(self, done)
     }
 }

@@ -95,8 +95,8 @@ impl<J: ViewHistory, C: Tells, A: TellsAsk> RingClient<J, C, A> {
     }
 
     /// Collects the oldest outcome that has come: the oldest callback of its kind is called with it. None: no outcome
-    /// has come, or no callback of its kind is held; the outcome then stays in the ring. A discovery's outcome is moved
-    /// with its set of 32 KB, and a request's without one.
+    /// has come, or no callback of its kind is held; the outcome then stays in the ring. The set of a discovery that
+    /// ended without fault is copied once, for [`RingClient::known_devices`].
     pub fn collect(&mut self) -> Option<Collected>
         ensures got { IfSome result (λ told. Collects C.calls C.tag_of A.calls A.tag_of self.old told self.new) }
         ensures none { IfNone result ((got_by self.new ≡ got_by self.old) × (self.new.desk ≡ self.old.desk)) }
@@ -115,7 +115,7 @@ impl<J: ViewHistory, C: Tells, A: TellsAsk> RingClient<J, C, A> {
     }
 
     /// Collects the oldest outcome that has come, if it is a request's. None: no outcome has come, it is a discovery's,
-    /// or no request's callback is held; the outcome then stays in the ring. It moves no set.
+    /// or no request's callback is held; the outcome then stays in the ring.
     pub fn collect_request(&mut self) -> Option<Told>
         ensures got { IfSome result (λ told.
             Collects C.calls C.tag_of A.calls A.tag_of self.old (RequestTold told) self.new) }
@@ -135,9 +135,7 @@ impl<J: ViewHistory, C: Tells, A: TellsAsk> RingClient<J, C, A> {
         Some(told)
     }
 
-    // Collects the outcome at the front, if it is a discovery's and a callback is held for it. It isn't inlined. So a
-    // request's outcome never has a set in its frame.
-    #[inline(never)]
+    // Collects the outcome at the front, if it is a discovery's and a callback is held for it.
     fn collect_discovery(&mut self) -> Option<Collected>
         requires known { 0 < length (known_items self.old.replies) }
         ensures got { IfSome result (λ told. Collects C.calls C.tag_of A.calls A.tag_of self.old told self.new) }

@@ -1,35 +1,31 @@
 //! What a client knows of devices by its own discoveries.
 ghost use Rattle.std.specs.Prelude.{◌≡◌};
-ghost use Rattle.rdm_lanes.specs.Told.{value_in, devices_in};
-ghost use Rattle.rdm_lanes.specs.Views.{later_view, found_after};
+ghost use Rattle.rdm_lanes.specs.Told.{value_in};
+ghost use Rattle.rdm_lanes.specs.Views.{later_view, found_after, found_by};
 
 use crate::ring_outcome::RingOutcome;
-use rdm_client::DeviceView;
-use rdm_wire::DeviceSet;
+use rdm_client::{BoxedAsk, DeviceView};
 
 /// Keeps what the outcome tells of devices, if it is that of a discovery without fault.
 pub fn keep_found(found: &mut DeviceView, item: &RingOutcome)
     ensures { found.new ≡ found_after found.old (value_in item.now) }
 {
-    if let RingOutcome::Discovery {
-        run,
-        fault: None,
-        set,
-        ..
-    } = item
-    {
-        found.run = *run;
-        copy_boxed(&mut found.set, set);
+    if let RingOutcome::Discovery { done, .. } = item {
+        keep_devices(found, done);
     }
 }
 
-/// Copies the set that lies in memory of its own, once, in place of what was there; none is the empty set.
-pub fn copy_boxed(to: &mut DeviceSet, set: &Option<Box<DeviceSet>>)
-    ensures { to.new ≡ devices_in set.now }
+// Keeps what the completion tells of devices, if it has no fault.
+fn keep_devices(found: &mut DeviceView, done: &BoxedAsk)
+    ensures { found.new ≡ found_by found.old done.now.run done.now.fault done.now.set }
 {
-    match set {
-        Some(set) => to.copy_from(set),
-        None => to.clear(),
+    if done.fault().is_some() {
+        return;
+    }
+    found.run = done.run();
+    match done.set() {
+        Some(set) => found.set.copy_from(set),
+        None => found.set.clear(),
     }
 }
 

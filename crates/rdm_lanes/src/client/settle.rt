@@ -5,11 +5,8 @@ ghost use Rattle.rdm_client.specs.Desks.{settled, without_oldest, Called};
 ghost use Rattle.rdm_lanes.specs.Told.{outcome_in};
 ghost use Rattle.rdm_lanes.specs.body.Holding.{HoldsForRequest, HoldsForDiscovery};
 
-use crate::client::found::copy_boxed;
 use crate::ring_outcome::RingOutcome;
 use rdm_client::{Collected, Desk, Tells, TellsAsk, Told};
-use rdm_queue::AskCompletion;
-use rdm_wire::DeviceSet;
 
 /// Calls the oldest callback of a request with this outcome of a request.
 pub fn settle_request<C: Tells, A: TellsAsk>(desk: &mut Desk<C, A>, item: RingOutcome) -> Told
@@ -39,20 +36,6 @@ pub fn settle_discovery<C: Tells, A: TellsAsk>(
 {
     match item {
         RingOutcome::Request { .. } => unreachable!(),
-        RingOutcome::Discovery {
-            number: _,
-            run,
-            fault,
-            set,
-        } => {
-            let mut done = AskCompletion {
-                run,
-                fault,
-                set: DeviceSet::new(),
-            };
-            copy_boxed(&mut done.set, &set);
-            drop(set);
-            Collected::Ask(desk.call_oldest_ask(done))
-        }
+        RingOutcome::Discovery { number: _, done } => Collected::Ask(desk.call_oldest_ask(done)),
     }
 }

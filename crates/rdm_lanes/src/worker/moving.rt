@@ -8,6 +8,7 @@ ghost use Rattle.rdm_lanes.specs.body.Doing.{IsMoved, MayMoveOne, MovesFor, Move
 
 use crate::ring_outcome::RingOutcome;
 use crate::worker::lane::Lane;
+use rdm_client::BoxedAsk;
 use rdm_queue::{ClientId, OutcomeKind, Session};
 use rdm_wire::DeviceSet;
 use std::alloc::Global;
@@ -77,12 +78,11 @@ fn move_discovery(alloc: Global, session: &mut Session, client: ClientId, lane: 
     let Some(end) = session.next_discovery(client, &mut set) else {
         return false;
     };
+    let done = BoxedAsk::new(end.run, end.fault, Some(set));
     lane.asks -= 1;
     lane.replies.push_reserved(RingOutcome::Discovery {
         number: Some(end.number),
-        run: end.run,
-        fault: end.fault,
-        set: Some(set),
+        done,
     });
     true
 }

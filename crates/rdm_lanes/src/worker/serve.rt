@@ -13,6 +13,7 @@ use crate::call::ClientCall;
 use crate::ring_outcome::RingOutcome;
 use crate::worker::lane::Lane;
 use rdm_agent::{AgentFault, Kind};
+use rdm_client::BoxedAsk;
 use rdm_join::Status;
 use rdm_queue::{
     AskFault, ClientId, Completion, LEAST_FREE, MOST_DISCOVERIES, Session, SubmitFault,
@@ -138,9 +139,7 @@ fn take_discover(lane: &mut Lane, answer: Result<u64, AskFault>)
         Ok(_) => lane.asks += 1,
         Err(AskFault::Closed) => lane.replies.push_reserved(RingOutcome::Discovery {
             number: None,
-            run: 0,
-            fault: Some(AgentFault::Aborted),
-            set: None,
+            done: BoxedAsk::new(0, Some(AgentFault::Aborted), None),
         }),
         Err(_) => {}
     }

@@ -39,6 +39,7 @@ impl<'a> Careful<'a> {
         match (act, came) {
             (Act::Join(_), Heard::Nothing | Heard::Refused(Refusal::Join(JoinFault::NoMemory))) =>
                 {}
+            (Act::Client(_, Step::Discover(..)), Heard::Refused(Refusal::NoMemory(_))) => {}
             // The last turn made no exchange, published no view, or moved no outcome: the next turn does.
             (Act::Client(_, Step::Collect), Heard::Nothing) => works(alloc, stage, 1),
             (Act::Client(client, Step::Collect), Heard::Request(tag, Status::NoMemory)) => {

@@ -2,7 +2,7 @@
 use super::checks::check;
 use rdm_client::{Collected, Desk, Full, Misdelivered};
 use rdm_join::Status;
-use rdm_queue::{Completion, NoMemory, Outcome};
+use rdm_queue::{BoxedOutcome, Completion, NoMemory};
 use rdm_rig::{AskNote, Note, cancels};
 use std::alloc::Global;
 use std::process::Abort;
@@ -19,9 +19,9 @@ fn desk(rt: &impl Abort, alloc: Global, places: u8) -> Desk<Note, AskNote> {
 }
 
 // A client's outcome of a request that wasn't answered.
-fn outcome(alloc: Global, number: u64) -> Outcome {
-    Outcome::Request {
-        number: Some(number),
+fn outcome(alloc: Global, number: u64) -> BoxedOutcome {
+    BoxedOutcome::Request {
+        number,
         done: Completion {
             status: Status::Timeout,
             reply: None,
@@ -31,7 +31,7 @@ fn outcome(alloc: Global, number: u64) -> Outcome {
 }
 
 // What a settle returns.
-type Settled = Result<Collected, (Misdelivered, Outcome)>;
+type Settled = Result<Collected, (Misdelivered, BoxedOutcome)>;
 
 // Whether the callback with this tag was called with such an outcome.
 fn is_told(settled: &Settled, tag: u64) -> bool {
@@ -44,7 +44,7 @@ fn is_told(settled: &Settled, tag: u64) -> bool {
 // Whether the outcome of the request with this number was returned.
 fn is_back(settled: &Settled, wanted: u64) -> bool {
     match settled {
-        Err((Misdelivered, Outcome::Request { number, .. })) => *number == Some(wanted),
+        Err((Misdelivered, BoxedOutcome::Request { number, .. })) => *number == wanted,
         _ => false,
     }
 }

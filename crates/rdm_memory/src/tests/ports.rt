@@ -2,7 +2,8 @@
 use super::careful::{Careful, is_again};
 use super::checks::check;
 use super::lines::first_device;
-use rdm_rig::{Act, Heard, LONG, Move, Step, Stop, Wrong};
+use rdm_agent::Kind;
+use rdm_rig::{Act, Ending, Found, Heard, LONG, Move, Step, Stop, Wrong};
 use rdm_stage::{Failed, PortOver, PortSetup, drive_port};
 use std::alloc::Global;
 use std::process::Abort;
@@ -22,6 +23,20 @@ static IN_PARTS: [Move; 4] = [
     (Act::Client(0, Step::Submit(LONG)), Heard::Number(0)),
     (Act::Work(3), Heard::Worked(Stop::Turns)),
     (Act::Client(0, Step::Collect), Heard::Data(LONG, 693)),
+];
+
+// A client asks for a discovery, which finds the device in ten exchanges, and collects.
+static DISCOVERY: [Move; 4] = [
+    (Act::Join(2), Heard::Number(0)),
+    (
+        Act::Client(0, Step::Discover(Kind::Full, 1)),
+        Heard::Number(0),
+    ),
+    (Act::Work(10), Heard::Worked(Stop::Turns)),
+    (
+        Act::Client(0, Step::Collect),
+        Heard::Discovery(1, 1, Ending::Faultless, Found::First),
+    ),
 ];
 
 // Makes these moves. None: the rig itself ran out of memory.
@@ -67,4 +82,15 @@ fn port_new_and_client_and_work(rt: HostRuntime) {
 #[test]
 fn port_work_of_parts(rt: HostRuntime) {
     plays_again(&rt, rt.alloc(), &IN_PARTS, 3);
+}
+
+// A discovery that found no memory isn't counted.
+#[test]
+fn port_client_discover_and_collect(rt: HostRuntime) {
+    let over = match plays(&rt, rt.alloc(), &DISCOVERY) {
+        Some(over) => over,
+        None => plays(&rt, rt.alloc(), &DISCOVERY).expect(&rt, "memory for the rig"),
+    };
+    check(&rt, over.calls == 2 && over.recorded == 10);
+    check(&rt, over.held == 0 && over.state.is_idle);
 }

@@ -4,11 +4,9 @@ ghost use Rattle.std.specs.Prelude.{⊤};
 
 use super::program::check;
 use rdm_agent::Kind;
-use rdm_client::{AskTold, Collected};
+use rdm_client::{AskTold, BoxedAsk, Collected};
 use rdm_files::ClientCall;
-use rdm_queue::AskCompletion;
 use rdm_serving::{Player, ServeFault, play};
-use rdm_wire::DeviceSet;
 use std::alloc::Global;
 use std::sync::atomic::{AtomicBool, Ordering};
 
@@ -68,11 +66,7 @@ impl Player<()> for Late {
         if self.collects > 0 || !self.has_come.load(Ordering::SeqCst) {
             return None;
         }
-        let done = AskCompletion {
-            run: 0,
-            fault: None,
-            set: DeviceSet::new(),
-        };
+        let done = BoxedAsk::new(0, None, None);
         Some(Collected::Ask(AskTold { tag: 0, done }))
     }
 

@@ -73,9 +73,9 @@ fn asks<L: Ledger, R: Wait>(
         return None;
     };
     let mut report = Report::new();
-    begins(rt, &mut client, &mut report);
+    begins(rt, alloc, &mut client, &mut report);
     port.work(rt, alloc, line, TURNS, made);
-    goes_on(rt, &mut client, &mut report);
+    goes_on(rt, alloc, &mut client, &mut report);
     port.work(rt, alloc, line, TURNS, made);
     ends(rt, &mut client, &mut report);
     let Left { unspent, calls } = client.leave(rt);
@@ -87,19 +87,29 @@ fn asks<L: Ledger, R: Wait>(
     }
 }
 
-fn begins<L: Ledger, R: Wait>(rt: &R, client: &mut Client<'_, L>, report: &mut Report) {
+fn begins<L: Ledger, R: Wait>(
+    rt: &R,
+    alloc: Global,
+    client: &mut Client<'_, L>,
+    report: &mut Report,
+) {
     report.seen[0] = sees(&client.devices(rt));
-    let _ = client.discover(rt, Kind::Full, AskNote(TAGS[0]));
+    let _ = client.discover(rt, alloc, Kind::Full, AskNote(TAGS[0]));
     let _ = client.submit(rt, get(), Note(TAGS[1]));
     let _ = client.submit(rt, set(), Note(TAGS[2]));
 }
 
-fn goes_on<L: Ledger, R: Wait>(rt: &R, client: &mut Client<'_, L>, report: &mut Report) {
+fn goes_on<L: Ledger, R: Wait>(
+    rt: &R,
+    alloc: Global,
+    client: &mut Client<'_, L>,
+    report: &mut Report,
+) {
     report.found[0] = told(&client.collect(rt));
     report.replies[0] = reply_in(&client.collect(rt));
     report.replies[1] = reply_in(&client.collect(rt));
     report.seen[1] = sees(&client.devices(rt));
-    let _ = client.discover(rt, Kind::Incremental, AskNote(TAGS[3]));
+    let _ = client.discover(rt, alloc, Kind::Incremental, AskNote(TAGS[3]));
 }
 
 fn ends<L: Ledger, R: Wait>(rt: &R, client: &mut Client<'_, L>, report: &mut Report) {

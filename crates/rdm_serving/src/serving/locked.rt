@@ -12,7 +12,7 @@ use rdm_agent::Kind;
 use rdm_client::{Collected, Tells, TellsAsk};
 use rdm_files::{ClientCall, ClientFile};
 use rdm_line::Line;
-use rdm_locked::{CallShare, Exchange, Left, LockedClient, Port};
+use rdm_locked::{CallShare, DiscoverFault, Exchange, Left, LockedClient, Port};
 use rdm_queue::{AskFault, JoinFault, Setup, SubmitFault};
 use rdm_reports::Outcomes;
 use rdm_wire::Request;
@@ -341,7 +341,7 @@ impl<L: Ledger, R: Wait> Player<Beside<'_, R>> for LockedClient<'_, L, RequestTi
     ghost follows = { λ a b c before after. tt };
 }
 
-// Whether a call is accepted; if not, the client's queue is full. Err: the log is full.
+// Whether a call is accepted; if not, the client's queue is full. Err: there was no memory, or the log is full.
 fn is_accepted<L: Ledger, R: Wait>(
     rt: &R,
     alloc: Global,
@@ -349,13 +349,13 @@ fn is_accepted<L: Ledger, R: Wait>(
     call: &ClientCall,
     place: u64,
 ) -> Result<bool, ServeFault>
-    ensures { IfErr result (λ e. e ≡ ServeFault.Log) }
+    ensures { IfErr result (λ e. (e ≡ ServeFault.Log) ⊎ (e ≡ ServeFault.Memory)) }
 {
     match call {
         ClientCall::Submit(request) => {
             is_submitted(rt, alloc, client, request.copied(), RequestTicket(place))
         }
-        ClientCall::Discover(kind) => is_asked(rt, client, *kind, AskTicket(place)),
+        ClientCall::Discover(kind) => is_asked(rt, alloc, client, *kind, AskTicket(place)),
     }
 }
 
@@ -383,20 +383,21 @@ fn is_submitted<L: Ledger, R: Wait>(
 
 fn is_asked<L: Ledger, R: Wait>(
     rt: &R,
+    alloc: Global,
     client: &mut Client<'_, L>,
     kind: Kind,
     callback: AskTicket,
 ) -> Result<bool, ServeFault>
-    ensures { IfErr result (λ e. e ≡ ServeFault.Log) }
+    ensures { IfErr result (λ e. (e ≡ ServeFault.Log) ⊎ (e ≡ ServeFault.Memory)) }
 {
-    match client.discover(rt, kind, callback) {
+    match client.discover(rt, alloc, kind, callback) {
         Ok(_) => Ok(true),
         Err((fault, callback)) => {
             drop(callback.cancel());
-            if fault == AskFault::LogFull {
-                Err(ServeFault::Log)
-            } else {
-                Ok(false)
+            match fault {
+                DiscoverFault::NoMemory => Err(ServeFault::Memory),
+                DiscoverFault::Refused(AskFault::LogFull) => Err(ServeFault::Log),
+                DiscoverFault::Refused(_) => Ok(false),
             }
         }
     }

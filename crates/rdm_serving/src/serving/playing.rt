@@ -23,7 +23,7 @@ pub trait Player<P> {
     ghost collects: { Self → Option CollectedState → Self → Type 0 };
 
     /// Makes a call, with its index among the client's calls. Returns whether it is accepted. If not, the queue or the
-    /// ring is full. Err: the log is full.
+    /// ring is full. Err: there was no memory, or the log is full.
     fn make(
         &mut self,
         alloc: Global,
@@ -31,7 +31,7 @@ pub trait Player<P> {
         call: &ClientCall,
         place: u64,
     ) -> Result<bool, ServeFault>
-        ensures fault { IfErr result (λ e. e ≡ ServeFault.Log) }
+        ensures fault { IfErr result (λ e. (e ≡ ServeFault.Log) ⊎ (e ≡ ServeFault.Memory)) }
         ensures same { same self.old self.new };
 
     /// Looks whether the worker has stopped.

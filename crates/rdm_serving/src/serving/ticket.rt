@@ -3,10 +3,9 @@ ghost use Rattle.std.specs.Prelude.{◌≡◌};
 ghost use Rattle.rdm_client.specs.Callbacks.{told, ask_told};
 
 use rdm_agent::AgentFault;
-use rdm_client::{AskTold, Tells, TellsAsk, Told};
+use rdm_client::{AskTold, BoxedAsk, Tells, TellsAsk, Told};
 use rdm_join::Status;
-use rdm_queue::{AskCompletion, Completion};
-use rdm_wire::DeviceSet;
+use rdm_queue::Completion;
 use std::alloc::Global;
 
 /// The callback of a request: the index of its call among the client's calls, from 0. It isn't [`Drop`].
@@ -41,16 +40,12 @@ impl TellsAsk for AskTicket {
 
     ghost calls = { λ ticket done t. t ≡ ask_told ticket.0 done };
 
-    fn spend(self, done: AskCompletion) -> AskTold {
+    fn spend(self, done: BoxedAsk) -> AskTold {
         let AskTicket(tag) = self;
         AskTold { tag, done }
     }
 
     fn cancel(self) -> AskTold {
-        self.spend(AskCompletion {
-            run: 0,
-            fault: Some(AgentFault::Aborted),
-            set: DeviceSet::new(),
-        })
+        self.spend(BoxedAsk::new(0, Some(AgentFault::Aborted), None))
     }
 }

@@ -1,8 +1,8 @@
 //! Boxed callbacks.
 use super::outcomes::found;
-use rdm_client::{AskCallback, AskTold, Callback, Collected, Tells, TellsAsk, Told};
+use rdm_client::{AskCallback, AskTold, BoxedAsk, Callback, Collected, Tells, TellsAsk, Told};
 use rdm_join::{ReplyHead, Status};
-use rdm_queue::{AskCompletion, Completion};
+use rdm_queue::Completion;
 use rdm_rig::{Ending, Found, Heard, told};
 use rdm_wire::{AckType, RespClass};
 use std::alloc::Global;
@@ -70,16 +70,17 @@ fn tells_a_cancelled_callback_that_its_request_was_not_sent(rt: HostRuntime) -> 
 fn calls_the_box_with_the_devices(rt: HostRuntime) -> Result<(), Fail> {
     let calls = Arc::new(rt.alloc(), AtomicU64::new(0))?;
     let counter = Arc::try_clone(&calls)?;
-    let run = Box::new(rt.alloc(), move |done: AskCompletion| {
-        if let Some(device) = done.set.as_slice().first() {
+    let run = Box::new(rt.alloc(), move |done: BoxedAsk| {
+        if let Some(device) = done.devices().first() {
             counter.fetch_add(
-                u64::from(device.control) + done.run / 2 + 1,
+                u64::from(device.control) + done.run() / 2 + 1,
                 Ordering::SeqCst,
             );
         }
         AskTold { tag: 9, done }
     })?;
-    let told = AskCallback::new(9, run).spend(found(4));
+    let done = found(rt.alloc(), 4)?;
+    let told = AskCallback::new(9, run).spend(done);
     assert_eq!(rt;
         of_ask(told),
         Heard::Discovery(9, 4, Ending::Faultless, Found::First)
@@ -92,7 +93,7 @@ fn calls_the_box_with_the_devices(rt: HostRuntime) -> Result<(), Fail> {
 fn tells_a_cancelled_callback_that_no_run_was_begun(rt: HostRuntime) -> Result<(), Fail> {
     let calls = Arc::new(rt.alloc(), AtomicU64::new(0))?;
     let counter = Arc::try_clone(&calls)?;
-    let run = Box::new(rt.alloc(), move |done: AskCompletion| {
+    let run = Box::new(rt.alloc(), move |done: BoxedAsk| {
         counter.fetch_add(1, Ordering::SeqCst);
         AskTold { tag: 10, done }
     })?;

@@ -2,8 +2,8 @@
 use super::outcomes::{ask_outcome, ended, found, request_outcome};
 use rdm_client::{Callback, Desk, Full, Misdelivered, Tells, Told};
 use rdm_join::Status;
-use rdm_queue::{Completion, Outcome};
-use rdm_rig::{AskNote, Ending, Found, Heard, Note, cancels, outcome_told, told};
+use rdm_queue::{BoxedOutcome, Completion};
+use rdm_rig::{AskNote, Ending, Found, Heard, Note, boxed_told, cancels, told};
 use std::alloc::Global;
 use std::test::Fail;
 
@@ -17,11 +17,10 @@ enum Settled {
 }
 
 // Settles this outcome.
-#[inline(never)]
-fn settles(desk: &mut Desk<Note, AskNote>, outcome: Outcome) -> Settled {
+fn settles(desk: &mut Desk<Note, AskNote>, outcome: BoxedOutcome) -> Settled {
     match desk.settle(outcome) {
         Ok(collected) => Settled::Spent(told(&Some(collected))),
-        Err((Misdelivered, outcome)) => Settled::Back(outcome_told(&Some(outcome))),
+        Err((Misdelivered, outcome)) => Settled::Back(boxed_told(&outcome)),
     }
 }
 
@@ -41,7 +40,7 @@ fn spends_the_callback_that_it_has_a_place_for(rt: HostRuntime) -> Result<(), Fa
         Some(Heard::Request(1, Status::Timeout))
     );
     assert_eq!(rt;
-        back.err().map(|(_, one)| outcome_told(&Some(one))),
+        back.err().map(|(_, one)| boxed_told(&one)),
         Some(Heard::Request(1, Status::Checksum))
     );
     Ok(())
@@ -57,11 +56,12 @@ fn holds(alloc: Global, desk: &mut Desk, callback: Callback) -> Option<u64> {
 
 #[test]
 fn holds_four_discoveries(rt: HostRuntime) -> Result<(), Fail> {
+    let outcome = ask_outcome(rt.alloc(), 0, 1)?;
     let mut desk: Desk<Note, AskNote> = Desk::new(rt.alloc(), 0)?;
     let held = (0..4).all(|tag| desk.hold_ask(AskNote(tag)).is_ok());
     let was_full = desk.is_full_of_asks();
     let refused = desk.hold_ask(AskNote(4)).err();
-    let spent = settles(&mut desk, ask_outcome(0, 1));
+    let spent = settles(&mut desk, outcome);
     let held_after = desk.asks_held();
     let has_a_place = desk.hold_ask(AskNote(5)).is_ok();
     let left = cancels(rt.alloc(), desk.end());
@@ -89,15 +89,20 @@ fn ask_spent(tag: u64, run: u64) -> Settled {
 
 #[test]
 fn keeps_requests_and_discoveries_apart(rt: HostRuntime) -> Result<(), Fail> {
+    let first_run = ask_outcome(rt.alloc(), 0, 1)?;
+    let second_run = ask_outcome(rt.alloc(), 1, 2)?;
+    let third_run = ask_outcome(rt.alloc(), 2, 3)?;
+    let fourth_run = found(rt.alloc(), 4)?;
     let mut desk: Desk<Note, AskNote> = Desk::new(rt.alloc(), 2)?;
     let held = holds_both(&mut desk);
     let first = settles(&mut desk, request_outcome(rt.alloc(), 0, Status::Timeout));
-    let second = settles(&mut desk, ask_outcome(0, 1));
+    let second = settles(&mut desk, first_run);
     let third = desk.settle_request(ended(rt.alloc(), Status::Checksum));
     let none = desk.settle_request(ended(rt.alloc(), Status::TooShort));
-    let last = settles(&mut desk, ask_outcome(1, 2));
-    let back = settles(&mut desk, ask_outcome(2, 3));
-    let is_handed_back = hands_back_discovery(&mut desk);
+    let last = settles(&mut desk, second_run);
+    let back = settles(&mut desk, third_run);
+    let handed = desk.settle_ask(fourth_run);
+    let is_handed_back = matches!(&handed, Err((Misdelivered, done)) if done.run() == 4);
     let left = cancels(rt.alloc(), desk.end());
     assert_eq!(rt; first, Settled::Spent(Heard::Request(10, Status::Timeout)));
     assert_eq!(rt; (second, last), (ask_spent(20, 1), ask_spent(21, 2)));
@@ -109,13 +114,6 @@ fn keeps_requests_and_discoveries_apart(rt: HostRuntime) -> Result<(), Fail> {
     );
     assert!(rt; held && is_handed_back && left == 0);
     Ok(())
-}
-
-// Whether a discovery's completion is returned because no callback is held for it.
-#[inline(never)]
-fn hands_back_discovery(desk: &mut Desk<Note, AskNote>) -> bool {
-    let settled = desk.settle_ask(found(4));
-    matches!(&settled, Err((Misdelivered, done)) if done.run == 4)
 }
 
 #[test]

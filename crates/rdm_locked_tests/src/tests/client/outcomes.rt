@@ -1,9 +1,10 @@
 //! What callbacks are called with.
+use rdm_client::BoxedAsk;
 use rdm_join::Status;
-use rdm_queue::{AskCompletion, Completion, Outcome};
+use rdm_queue::{BoxedOutcome, Completion, DiscoveryEnd};
 use rdm_rig::{Who, device_of};
 use rdm_wire::DeviceSet;
-use std::alloc::Global;
+use std::alloc::{AllocError, Global};
 
 /// The completion of a request without data.
 pub fn ended(alloc: Global, status: Status) -> Completion {
@@ -15,31 +16,37 @@ pub fn ended(alloc: Global, status: Status) -> Completion {
 }
 
 /// A client's outcome of such a request.
-pub fn request_outcome(alloc: Global, number: u64, status: Status) -> Outcome {
-    Outcome::Request {
-        number: Some(number),
+pub fn request_outcome(alloc: Global, number: u64, status: Status) -> BoxedOutcome {
+    BoxedOutcome::Request {
+        number,
         done: ended(alloc, status),
     }
 }
 
-/// The completion of a discovery whose run found `1234:00000001`.
-pub fn found(run: u64) -> AskCompletion {
-    let mut set = DeviceSet::new();
+// `1234:00000001`, in a box.
+fn first_device(alloc: Global) -> Result<Box<DeviceSet>, AllocError> {
+    let mut set = Box::new(alloc, DeviceSet::new())?;
     let device = device_of(Who::First);
     if !device.uid.is_broadcast() {
         let _ = set.insert(device);
     }
-    AskCompletion {
-        run,
-        fault: None,
-        set,
-    }
+    Ok(set)
 }
 
-/// A client's outcome of such a discovery.
-pub fn ask_outcome(number: u64, run: u64) -> Outcome {
-    Outcome::Discovery {
-        number: Some(number),
-        done: found(run),
-    }
+/// A run that found `1234:00000001`.
+pub fn found(alloc: Global, run: u64) -> Result<BoxedAsk, AllocError> {
+    Ok(BoxedAsk::new(run, None, Some(first_device(alloc)?)))
+}
+
+/// A client's outcome of a discovery whose run found that device.
+pub fn ask_outcome(alloc: Global, number: u64, run: u64) -> Result<BoxedOutcome, AllocError> {
+    let end = DiscoveryEnd {
+        number,
+        run,
+        fault: None,
+    };
+    Ok(BoxedOutcome::Discovery {
+        end,
+        set: first_device(alloc)?,
+    })
 }

@@ -1,5 +1,6 @@
 //! The texts of the faults.
-use rdm_locked::FinishFault;
+use rdm_locked::{DiscoverFault, FinishFault};
+use rdm_queue::AskFault;
 use std::test::Fail;
 
 #[test]
@@ -9,6 +10,21 @@ fn tells_why_a_port_is_not_ended(rt: HostRuntime) -> Result<(), Fail> {
         (
             FinishFault::ExchangesDiffer,
             "the log's exchanges aren't those of the record",
+        ),
+    ];
+    for (fault, text) in rows {
+        assert_eq!(rt; format!(in rt.alloc(); "{fault}")?.as_str(), text);
+    }
+    Ok(())
+}
+
+#[test]
+fn tells_why_a_discovery_is_not_accepted(rt: HostRuntime) -> Result<(), Fail> {
+    let rows = [
+        (DiscoverFault::NoMemory, "out of memory"),
+        (
+            DiscoverFault::Refused(AskFault::Closed),
+            "the queue is closed",
         ),
     ];
     for (fault, text) in rows {

@@ -35,7 +35,7 @@ impl PortJob for Collects {
         record: &mut Vec<Exchange>,
     ) {
         self.looks[0] = looks(rt, client, true);
-        let _ = client.discover(rt, Kind::Full, AskNote(8));
+        let _ = client.discover(rt, alloc, Kind::Full, AskNote(8));
         let _ = client.submit(rt, request(9), Note(9));
         port.work(rt, alloc, &mut self.line, 11, record);
         self.looks[1] = looks(rt, client, true);
@@ -60,10 +60,9 @@ fn of_request<L: Ledger, R: Wait>(rt: &R, client: &mut PortClient<'_, L>) -> Opt
     Some((told.tag, told.done.status))
 }
 
-#[inline(never)]
 fn of_discovery<L: Ledger, R: Wait>(rt: &R, client: &mut PortClient<'_, L>) -> Option<(u64, u64)> {
     let told = client.collect_discovery(rt)?;
-    Some((told.tag, told.done.run))
+    Some((told.tag, told.done.run()))
 }
 
 #[test]

@@ -1,5 +1,7 @@
-use Rattle.std.proofs.Common.{refl, true≢false}
-use Rattle.rdm_log.specs.promises.Outcomes.{discovery_outcome}
+use Rattle.std.proofs.Common.{refl, true≢false, ap, Some}
+use Rattle.rdm_log.specs.declared.outcome.AskCompletion.{AskCompletion}
+use Rattle.rdm_log.specs.declared.outcome.Outcome.TheVariants as outcomes
+use Rattle.rdm_log.specs.promises.Outcomes.{discovery_outcome, outcome_value}
 use Rattle.rdm_lanes.proofs.CollectedLemmas.{has_ask, fits_discovery}
 use Rattle.rdm_lanes.proofs.StepLemmas.{collects, collect_served, others_wait_collect}
 use Rattle.rdm_lanes.proofs.worker.moving.move_discovery.Goals as goal
@@ -22,7 +24,9 @@ returns c =
       moves = record {
         fits = fits_discovery old new c.args.client end.number
             (record { run = end.run; fault = end.fault; set = c.next_discovery.new.set }) _ c.args.lane.now _ adds legal
-            refl c.requires.may.fits
+            (ap (λ (done : AskCompletion). outcome_value (outcomes.Discovery (Some end.number) done))
+            c.new-done.ensures)
+            c.requires.may.fits
             (record { calls_are = refl; requests_are = refl; asks_are = refl; left_is = refl })
             c.push_reserved.ensures.sent.0;
         served = collect_served old new c.args.client outcome adds c.requires.may.served;

@@ -1,0 +1,117 @@
+//! A discovery's completion without a set in its value.
+ghost use Rattle.std.specs.Prelude.{◌≡◌, ◌≤◌, [], length, IfSome, IfNone};
+ghost use Rattle.std.specs.List.{All};
+ghost use Rattle.rdm_wire.specs.Uid.{IsDeviceSet};
+ghost use Rattle.rdm_wire.specs.Devices.{uids_of};
+ghost use Rattle.rdm_client.specs.Boxed.{devices_in};
+ghost use Rattle.rdm_client.specs.Callbacks.{AskFits, DeviceFits, FaultFits};
+
+use rdm_agent::AgentFault;
+use rdm_wire::{Device, DeviceSet};
+use std::marker::Model;
+use std::mem::size_of;
+
+/// An [`AskCompletion`](rdm_queue::AskCompletion) whose set is in a box, or left out if it is empty (profile of this
+/// project). So it is moved without its 32 KB. Contracts see that completion.
+#[derive(Debug, Drop)]
+pub struct BoxedAsk {
+    run: u64,
+    fault: Option<AgentFault>,
+    set: Option<Box<DeviceSet>>,
+}
+
+// The size that the docs state.
+const _: () = prove!(size_of::<BoxedAsk>() == 48);
+
+impl Model for BoxedAsk {
+    ghost use Rattle.rdm_log.specs.declared.outcome.AskCompletion.{AskCompletion};
+    ghost use Rattle.rdm_client.specs.Boxed.{devices_in};
+
+    ghost Value = { AskCompletion };
+
+    ghost view = { λ b. record { run = b.run; fault = b.fault; set = devices_in b.set } };
+}
+
+impl BoxedAsk {
+    /// The completion of a discovery that this run served, 0 if none was begun for it. It ended with this fault, None
+    /// if it ended without one, and found these devices. None for the set: no devices.
+    pub fn new(run: u64, fault: Option<AgentFault>, set: Option<Box<DeviceSet>>) -> BoxedAsk
+        ensures { result ≡ record { run = run; fault = fault; set = devices_in set } }
+    {
+        BoxedAsk { run, fault, set }
+    }
+
+    /// The run that served the discovery; 0 if none was begun for it.
+    pub fn run(&self) -> u64
+        ensures { result ≡ self.now.run }
+    {
+        self.run
+    }
+
+    /// Why the run ended early; None if it ended without fault.
+    pub fn fault(&self) -> Option<AgentFault>
+        ensures { result ≡ self.now.fault }
+    {
+        self.fault
+    }
+
+    /// The devices that the run found. None: no devices, and there is no box.
+    pub fn set(&self) -> Option<&DeviceSet>
+        ensures some { IfSome result (λ set. set.now ≡ self.now.set) }
+        ensures none { IfNone result (self.now.set ≡ []) }
+    {
+        match &self.set {
+            Some(set) => Some(set),
+            None => None,
+        }
+    }
+
+    /// The devices that the run found, ascending by UID.
+    pub fn devices(&self) -> &[Device]
+        ensures value { result.now ≡ self.now.set }
+        ensures fits { length result.now ≤ 1024 }
+        ensures devices { IsDeviceSet (uids_of self.now.set) }
+    {
+        match &self.set {
+            Some(set) => set.as_slice(),
+            None => &[],
+        }
+    }
+
+    // For the proof alone: its numbers are in the ranges of their types.
+    pub(crate) fn fits(&self)
+        ensures { AskFits self.now }
+    {
+        let _run = self.run();
+        fault_fits(self.fault());
+        devices_fit(self.devices());
+    }
+}
+
+// For the proof alone: the fault's UID is in the range of its type.
+fn fault_fits(fault: Option<AgentFault>)
+    ensures { FaultFits fault }
+{}
+
+// For the proof alone: each device's numbers are in the ranges of their types.
+fn devices_fit(devices: &[Device])
+    ensures { All DeviceFits devices.now }
+{
+    'devices: for device in devices {
+        device_fits(device);
+    }
+}
+
+// For the proof alone: this device's numbers are.
+fn device_fits(device: &Device)
+    ensures { DeviceFits device.now }
+{
+    let Device {
+        control: _control,
+        binding,
+        ..
+    } = *device;
+    if let Some(uid) = binding {
+        let _number = uid.number();
+    }
+}
