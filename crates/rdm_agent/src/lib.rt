@@ -9,8 +9,8 @@ pub mod laws;
 mod limits;
 mod op;
 mod phase;
-mod run_state;
 mod ranges;
+mod run_state;
 mod search;
 mod sweep;
 
