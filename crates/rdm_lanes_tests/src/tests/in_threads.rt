@@ -81,15 +81,13 @@ static LOOKS: [Play; 5] = [
     Play::Wait(WORKER_STOPPED),
 ];
 
-static LOOKS_HEARD: [&[Heard]; 1] = [
-    &[
-        Heard::Done,
-        Heard::Request(10, Status::Timeout),
-        Heard::Nothing,
-        Heard::Done,
-        Heard::Done,
-    ],
-];
+static LOOKS_HEARD: [&[Heard]; 1] = [&[
+    Heard::Done,
+    Heard::Request(10, Status::Timeout),
+    Heard::Nothing,
+    Heard::Done,
+    Heard::Done,
+]];
 
 #[test]
 fn the_stop_comes_last(rt: HostRuntime) -> Result<(), Fail> {
