@@ -2,5 +2,5 @@
 use Rattle.rdm_lanes.specs.Workers.{book_of}
 use Rattle.rdm_stage.proofs.threads.run_bodies.Given as goal
 
-abbrev pub ghosts-runs : goal.ghosts-runs
-ghosts-runs g a = record { book = book_of a.history }
+abbrev pub ghosts-runs_twice : goal.ghosts-runs_twice
+ghosts-runs_twice g a = record { book = book_of a.history }
