@@ -49,6 +49,17 @@ pub enum Odd {
 const MOST_EXCHANGES: u64 = 40_000;
 
 impl Wrong {
+    // A scene of these devices. What is wrong with it is drawn by this generator.
+    fn scene(self, alloc: Global, good: &UidSet, random: &mut Random) -> Option<Scene> {
+        Some(Scene {
+            source: controller(),
+            devices: placed(alloc, good)?,
+            collisions: self.collisions(alloc, random)?,
+            losses: self.losses(alloc, random)?,
+            fails: Vec::new(alloc),
+        })
+    }
+
     // The device that breaks the rules, if there is one.
     fn odd(self) -> Option<Uid> {
         match self {
@@ -121,7 +132,15 @@ pub fn device_of(uid: Uid) -> Device
     }
 }
 
-// Puts into a scene a device that stays.
+// These devices, which stay.
+fn placed(alloc: Global, uids: &UidSet) -> Option<SceneDevices> {
+    let mut devices = SceneDevices::new(alloc);
+    for uid in uids.as_slice() {
+        add(alloc, &mut devices, *uid)?;
+    }
+    Some(devices)
+}
+
 fn add(alloc: Global, devices: &mut SceneDevices, uid: Uid) -> Option<()> {
     if uid.is_broadcast() {
         return None;
@@ -136,29 +155,21 @@ fn add(alloc: Global, devices: &mut SceneDevices, uid: Uid) -> Option<()> {
     devices.add(device).ok()
 }
 
-/// What an operation asks.
-#[derive(Clone, Copy)]
-pub enum Asked {
-    Unmute,
-    Mute,
-    Branch,
-}
-
 /// What came after an operation of a run.
 #[derive(Drop)]
 pub struct Taped {
-    asked: Asked,
+    op: Op,
     pub reply: LineReply,
 }
 
 impl Taped {
     /// What an agent hears of it.
     pub fn heard(&self) -> OpReply {
-        match self.asked {
-            Asked::Unmute => OpReply::Done,
-            Asked::Mute if self.reply.is_empty() => OpReply::Mute(None),
-            Asked::Mute => OpReply::Mute(Some(ACK)),
-            Asked::Branch => OpReply::Branch(read_branch_reply(&self.reply)),
+        match self.op {
+            Op::UnmuteAll | Op::End => OpReply::Done,
+            Op::Mute(_) if self.reply.is_empty() => OpReply::Mute(None),
+            Op::Mute(_) => OpReply::Mute(Some(ACK)),
+            Op::Branch(_) => OpReply::Branch(read_branch_reply(&self.reply)),
         }
     }
 }
@@ -183,17 +194,7 @@ impl TestLine {
     /// A line with these devices, which keep to the rules. What is wrong with it is drawn by this seed.
     pub fn new(alloc: Global, wrong: Wrong, good: &UidSet, seed: u64) -> Option<TestLine> {
         let mut random = Random::new(seed);
-        let mut devices = SceneDevices::new(alloc);
-        for uid in good.iter().copied() {
-            add(alloc, &mut devices, uid)?;
-        }
-        let scene = Scene {
-            source: controller(),
-            devices,
-            collisions: wrong.collisions(alloc, &mut random)?,
-            losses: wrong.losses(alloc, &mut random)?,
-            fails: Vec::new(alloc),
-        };
+        let scene = wrong.scene(alloc, good, &mut random)?;
         Some(TestLine {
             line: SimLine::new(alloc, scene).ok()?,
             wrong,
@@ -225,11 +226,8 @@ impl TestLine {
             Err(failure) => Err(failure),
         };
         agent.hear(read(op, tn, &answer));
-        self.keep(asked_by(op), answer.ok()?)
-    }
-
-    fn keep(&mut self, asked: Asked, reply: LineReply) -> Option<()> {
-        self.tape.push(Taped { asked, reply }).ok()
+        let reply = answer.ok()?;
+        self.tape.push(Taped { op, reply }).ok()
     }
 
     // What comes in place of the reply of those that keep to the rules.
@@ -266,14 +264,6 @@ impl TestLine {
         } else {
             Some(LineReply::new())
         }
-    }
-}
-
-fn asked_by(op: Op) -> Asked {
-    match op {
-        Op::UnmuteAll | Op::End => Asked::Unmute,
-        Op::Mute(_) => Asked::Mute,
-        Op::Branch(_) => Asked::Branch,
     }
 }
 
@@ -385,14 +375,23 @@ fn print<R: Print>(
     spread: Spread,
     size: usize,
 ) -> Option<usize> {
+    let steady = print_ends(bench, wrong, spread, size, Search::Steady)?;
+    let quick = print_ends(bench, wrong, spread, size, Search::Quick)?;
+    Some(steady.wrapping_add(quick))
+}
+
+// The same with this search alone.
+fn print_ends<R: Print>(
+    bench: &Bench<'_, R>,
+    wrong: Wrong,
+    spread: Spread,
+    size: usize,
+    search: Search,
+) -> Option<usize> {
     let rt = bench.rt;
-    let mut right: usize = 0;
-    for search in [Search::Steady, Search::Quick] {
-        let ends = ends_of(bench, wrong, spread, size, search)?;
-        println!(rt; "{spread:?}, {wrong:?}, {search:?}: {ends:?}").ok()?;
-        right = right.wrapping_add(ends.right);
-    }
-    Some(right)
+    let ends = ends_of(bench, wrong, spread, size, search)?;
+    println!(rt; "{spread:?}, {wrong:?}, {search:?}: {ends:?}").ok()?;
+    Some(ends.right)
 }
 
 fn ends_of<R>(
@@ -412,7 +411,7 @@ fn ends_of<R>(
 }
 
 /// How their UIDs are spread.
-#[derive(Clone, Copy, Debug, PartialEq, Eq)]
+#[derive(Clone, Copy, Debug)]
 pub enum Spread {
     /// Anywhere.
     Random,
@@ -454,7 +453,7 @@ pub fn uid_of(number: u64) -> Uid {
 }
 
 /// A generator of numbers (xorshift64*).
-#[derive(Clone, Copy, Debug)]
+#[derive(Drop)]
 pub struct Random(u64);
 
 impl Random {

@@ -2,7 +2,7 @@
 //! be accepted and told once. Clients take turns drawn at random, the same in each run.
 use crate::bench::{Bench, holds};
 use crate::lines::Random;
-use crate::ports::{on_port, on_rings};
+use crate::ports::on_session;
 use crate::served::{CLIENTS, FREE, Job, Served};
 use rdm_client::Told;
 use rdm_join::Status;
@@ -54,6 +54,8 @@ fn soaked<R: Wait>(
     seed: u64,
 ) -> Option<Tally> {
     let alloc = bench.alloc;
+    let line = line_for(alloc, requests, seed)?;
+    let log = log(alloc, FREE).ok()?;
     let mut tally = Tally {
         requests,
         random: Random::new(seed),
@@ -62,13 +64,8 @@ fn soaked<R: Wait>(
         timeouts: 0,
         failed: 0,
     };
-    let line = line_for(alloc, requests, seed)?;
-    let log = log(alloc, FREE).ok()?;
-    if with_mutex {
-        on_port(bench, CLIENTS, log, Vec::new(alloc), line, &mut tally)?;
-    } else {
-        on_rings(bench, CLIENTS, log, line, &mut tally)?;
-    }
+    let record = Vec::new(alloc);
+    on_session(bench, with_mutex, CLIENTS, log, record, line, &mut tally)?;
     Some(tally)
 }
 
