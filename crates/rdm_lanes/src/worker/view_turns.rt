@@ -38,8 +38,8 @@ impl<J: ViewHistory, R: Wait + Drop> ViewWorker<J, Shown<J>, R> {
     /// - it makes at most one exchange, and publishes the devices that it found;
     /// - it moves outcomes to the clients' rings, while they have free slots.
     ///
-    /// It stops early once all have left, or once the log is full. If it ends with Turns, it made all its turns. In each
-    /// it made an exchange, or no frame may be sent after it, or a view isn't published yet.
+    /// It stops early once all have left, or once the log is full. If it ends with Turns, it made all its turns. In
+    /// each it made an exchange, or no frame may be sent after it, or a view isn't published yet.
     ///
     /// It looks at a call before it takes it from a ring. While fewer than three entries of the log are free, it takes
     /// none. A submit waits until its client has fewer requests outstanding in the session than its queue depth. A

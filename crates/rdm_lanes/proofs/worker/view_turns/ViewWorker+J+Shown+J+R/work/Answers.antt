@@ -26,7 +26,7 @@ loop-turn-preserved g c = record {
       c.loop-turn.invariant.exchanged c.turn.ensures.exchanged;
   turns_are = turns_more c.loop-turn._turn c.args.self.now.server.session c.loop-turn.self.server.session
       c.turn.new.self.server.session c.args.self.now.views.shown c.loop-turn.self.views.shown
-      c.turn.new.self.views.shown c.loop-turn.invariant.turns_are 
+      c.turn.new.self.views.shown c.loop-turn.invariant.turns_are
       (goes_on c.turn.result c.in_default.not-Some c.turn.ensures.went_on)
       c.turn.ensures.views;
   few = omega (arith, c.loop-turn.invariant.few, c.turn.ensures.one);
