@@ -55,6 +55,20 @@ served_all n m a b xs ys past long all = record {
   rest = λ i lane from is. absurd (omega (arith, from, long, slice_get_within ys i lane is));
 }
 
+pub served_later : (n : ℕ) (a b d : LogState) (xs ys : List Lane) → AreServed n a xs b ys → NoExchange b d
+    → AreServed n a xs d ys
+served_later n a b d xs ys all more = record {
+  each = λ i lane next below was is.
+      let one = all.each i lane next below was is in
+      record {
+        moment = one.moment;
+        before = one.before;
+        after = line_join one.moment b d one.after more;
+        served = one.served;
+      };
+  rest = all.rest;
+}
+
 pub moved_none : (k : LogState) (lanes : List Lane) → AreMoved 0 k k lanes
 moved_none k lanes = record { each = λ i lane below is. absurd (omega (arith, below)) }
 

@@ -55,7 +55,7 @@ pub record ServesAt (c : ℕ) (lanes : List Lane) (k : LogState) (nexts : List L
   pub set : nexts ≡ slice_set lanes c next
   pub served : IsServed c k lane next
 
--- Client c was served at a moment from old to new. Its lane was `lane` before that, and is `next` since then.
+-- At some point from old to new, client c was served, or couldn't be. Its lane is `lane` before, and `next` after.
 pub record WasServed (c : ℕ) (old : LogState) (lane : Lane) (new : LogState) (next : Lane) : Type 0 where
   pub moment : LogState
   pub before : NoExchange old moment
@@ -68,19 +68,21 @@ pub record AreServed (n : ℕ) (old : LogState) (lanes : List Lane) (new : LogSt
       → WasServed i old lane new next
   pub rest : (i : ℕ) (lane : Lane) → n ≤ i → slice_get nexts i ≡ Some lane → slice_get lanes i ≡ Some lane
 
--- The lane of client c is `next`, and the others are the same. Its outcomes were moved.
+-- The lane of client c is `next`, and the others are the same. No request's outcome is left that is known to fit its
+-- ring.
 pub record MovesAt (c : ℕ) (lanes : List Lane) (k : LogState) (nexts : List Lane) : Type 0 where
   pub next : Lane
   pub set : nexts ≡ slice_set lanes c next
   pub moved : IsMoved c k next
 
--- The outcomes of client c, whose lane is this now, were moved at a moment from old to new.
+-- At some point from old to new, no request's outcome of client c was left that was known to fit its ring. Its lane is
+-- this one.
 pub record WasMoved (c : ℕ) (old new : LogState) (lane : Lane) : Type 0 where
   pub moment : LogState
   pub before : OnlyCollects old moment
   pub after : OnlyCollects moment new
   pub moved : IsMoved c moment lane
 
--- those of each of the first n clients were moved from old to new
+-- the same for each of the first n clients
 pub record AreMoved (n : ℕ) (old new : LogState) (lanes : List Lane) : Type 0 where
   pub each : (i : ℕ) (lane : Lane) → i < n → slice_get lanes i ≡ Some lane → WasMoved i old new lane

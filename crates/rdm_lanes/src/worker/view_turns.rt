@@ -1,12 +1,14 @@
 //! What the worker does in its turns. After each exchange that ends a run without fault it publishes a view of the
 //! devices. Only then does it move that run's outcomes to the clients' rings.
 ghost use Rattle.std.specs.Prelude.{◌≡◌, ◌≢◌, ◌<◌, ◌≤◌, ◌+◌, ◌-◌, ◌^◌, true, false, Some, None, IfSome, IfNone};
+ghost use Rattle.std.specs.Prelude.{length};
 ghost use mathlib.Core.List.{IsPrefix};
 ghost use Rattle.rtrb.specs.Ring.{SameConsumer};
 ghost use Rattle.rdm_log.specs.log.LogState.{is_full_log};
 ghost use Rattle.rdm_log.specs.log.MaySend.{NoSend};
 ghost use Rattle.rdm_lanes.specs.Lines.{Exchanged, SameSwitches, exchange_count};
 ghost use Rattle.rdm_lanes.specs.body.Quiet.{NoExchange, OnlyCollects};
+ghost use Rattle.rdm_lanes.specs.body.Doing.{AreServed, AreMoved};
 ghost use Rattle.rdm_lanes.specs.Lanes.{SameLanes, AllHaveLeft};
 ghost use Rattle.rdm_lanes.specs.Views.{all_views};
 ghost use Rattle.rdm_lanes.specs.body.Showing.{Publishes, AllPublished};
@@ -36,8 +38,8 @@ impl<J: ViewHistory, R: Wait + Drop> ViewWorker<J, Shown<J>, R> {
     /// - it makes at most one exchange, and publishes the devices that it found;
     /// - it moves outcomes to the clients' rings, while they have free slots.
     ///
-    /// It stops early once all have left, or once the log is full. If it ends with Turns, it made all its turns: after
-    /// each an exchange is made, or no frame may be sent, or a publication was refused.
+    /// It stops early once all have left, or once the log is full. If it ends with Turns, it made all its turns. In
+    /// each it made an exchange, or no frame may be sent after it, or a view isn't published yet.
     ///
     /// It looks at a call before it takes it from a ring. While fewer than three entries of the log are free, it takes
     /// none. A submit waits until its client has fewer requests outstanding in the session than its queue depth. A
@@ -149,6 +151,8 @@ impl<J: ViewHistory, R: Wait + Drop> ViewWorker<J, Shown<J>, R> {
     fn serve_calls(&mut self, alloc: Global)
         requires { AllPublished self.old.server.session self.old.views }
         ensures published { AllPublished self.new.server.session self.new.views }
+        ensures served { AreServed (length self.old.server.lanes.items) self.old.server.session
+            self.old.server.lanes.items self.new.server.session self.new.server.lanes.items }
         ensures views { self.new.views ≡ self.old.views }
         ensures line { NoExchange self.old.server.session self.new.server.session }
         ensures lanes { SameLanes self.old.server.lanes.items self.new.server.lanes.items }
@@ -196,6 +200,8 @@ impl<J: ViewHistory, R: Wait + Drop> ViewWorker<J, Shown<J>, R> {
     // Moves the outcomes of each client, once all views are published.
     fn move_all(&mut self, alloc: Global)
         requires { AllPublished self.old.server.session self.old.views }
+        ensures moved { AreMoved (length self.old.server.lanes.items) self.old.server.session self.new.server.session
+            self.new.server.lanes.items }
         ensures collects { OnlyCollects self.old.server.session self.new.server.session }
         ensures lanes { SameLanes self.old.server.lanes.items self.new.server.lanes.items }
         ensures operator { self.new.server.operator_left ≡ self.old.server.operator_left }

@@ -1,6 +1,7 @@
-use Rattle.std.proofs.Common.{◌∙◌, subst}
+use Rattle.std.proofs.Common.{◌∙◌, length, subst}
 use Rattle.rtrb.specs.Ring.{SameConsumer}
 use Rattle.rdm_lanes.proofs.WorkLemmas.{OperatorEnd}
+use Rattle.rdm_lanes.proofs.TurnLemmas.{served_later}
 use Rattle.rdm_lanes.proofs.LineLemmas.{line_join, switches_join}
 use Rattle.rdm_lanes.proofs.ShowingLemmas.{publishes_same, all_published_same}
 use Rattle.rdm_lanes.proofs.FirstLemmas.{first_shown}
@@ -24,6 +25,13 @@ returns-clause-published g c =
     let me = c.args.self.now in
     all_published_same me.server.session c.serve_operator.new.self.session me.views
     (line_join _ _ _ c.serve_clients.ensures.line c.serve_operator.ensures.line) c.requires
+
+pub returns-clause-served : goal.returns-clause-served
+returns-clause-served g c =
+    let me = c.args.self.now.server in
+    rw (c.serve_operator.ensures.lanes)
+    (served_later (length me.lanes.items) me.session c.serve_clients.new.self.session c.serve_operator.new.self.session
+    me.lanes.items c.serve_clients.new.self.lanes.items c.serve_clients.ensures.served c.serve_operator.ensures.line)
 
 pub returns-clause-line : goal.returns-clause-line
 returns-clause-line g c = line_join _ _ _ c.serve_clients.ensures.line c.serve_operator.ensures.line
