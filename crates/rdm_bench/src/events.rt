@@ -16,9 +16,6 @@ pub fn time<R: CpuClock + Print + Eprint>(
     waiting: usize,
 ) -> Option<()> {
     let mut session = session(bench, waiting)?;
-    for _ in 0..CLIENTS {
-        session.join_client(bench.alloc, u8::MAX).ok()?;
-    }
     for place in 0..waiting {
         let client = id_of(place % usize::from(CLIENTS));
         holds(session.submit(client, request(TAG)).is_ok())?;

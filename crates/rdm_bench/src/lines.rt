@@ -136,29 +136,21 @@ fn add(alloc: Global, devices: &mut SceneDevices, uid: Uid) -> Option<()> {
     devices.add(device).ok()
 }
 
-/// What an operation asks.
-#[derive(Clone, Copy)]
-pub enum Asked {
-    Unmute,
-    Mute,
-    Branch,
-}
-
 /// What came after an operation of a run.
 #[derive(Drop)]
 pub struct Taped {
-    asked: Asked,
+    op: Op,
     pub reply: LineReply,
 }
 
 impl Taped {
     /// What an agent hears of it.
     pub fn heard(&self) -> OpReply {
-        match self.asked {
-            Asked::Unmute => OpReply::Done,
-            Asked::Mute if self.reply.is_empty() => OpReply::Mute(None),
-            Asked::Mute => OpReply::Mute(Some(ACK)),
-            Asked::Branch => OpReply::Branch(read_branch_reply(&self.reply)),
+        match self.op {
+            Op::UnmuteAll | Op::End => OpReply::Done,
+            Op::Mute(_) if self.reply.is_empty() => OpReply::Mute(None),
+            Op::Mute(_) => OpReply::Mute(Some(ACK)),
+            Op::Branch(_) => OpReply::Branch(read_branch_reply(&self.reply)),
         }
     }
 }
@@ -225,11 +217,8 @@ impl TestLine {
             Err(failure) => Err(failure),
         };
         agent.hear(read(op, tn, &answer));
-        self.keep(asked_by(op), answer.ok()?)
-    }
-
-    fn keep(&mut self, asked: Asked, reply: LineReply) -> Option<()> {
-        self.tape.push(Taped { asked, reply }).ok()
+        let reply = answer.ok()?;
+        self.tape.push(Taped { op, reply }).ok()
     }
 
     // What comes in place of the reply of those that keep to the rules.
@@ -266,14 +255,6 @@ impl TestLine {
         } else {
             Some(LineReply::new())
         }
-    }
-}
-
-fn asked_by(op: Op) -> Asked {
-    match op {
-        Op::UnmuteAll | Op::End => Asked::Unmute,
-        Op::Mute(_) => Asked::Mute,
-        Op::Branch(_) => Asked::Branch,
     }
 }
 
@@ -412,7 +393,7 @@ fn ends_of<R>(
 }
 
 /// How their UIDs are spread.
-#[derive(Clone, Copy, Debug, PartialEq, Eq)]
+#[derive(Clone, Copy, Debug)]
 pub enum Spread {
     /// Anywhere.
     Random,
@@ -454,7 +435,7 @@ pub fn uid_of(number: u64) -> Uid {
 }
 
 /// A generator of numbers (xorshift64*).
-#[derive(Clone, Copy, Debug)]
+#[derive(Drop)]
 pub struct Random(u64);
 
 impl Random {

@@ -43,6 +43,7 @@ pub fn time_requests<R: CpuClock + Print + Eprint + Wait>(
 ) -> Option<()> {
     let line = Replay::of_two_bytes(bench.alloc)?;
     let log = written_log(bench, waiting)?;
+    let record = written_record(bench.alloc, bench.repeats())?;
     let mut timing = Timing {
         bench,
         subject: if with_mutex {
@@ -55,11 +56,7 @@ pub fn time_requests<R: CpuClock + Print + Eprint + Wait>(
         waiting,
         discovery: None,
     };
-    if !with_mutex {
-        return on_rings(bench, clients, log, line, &mut timing);
-    }
-    let record = written_record(bench.alloc, bench.repeats())?;
-    on_port(bench, clients, log, record, line, &mut timing)
+    on_session(bench, with_mutex, clients, log, record, line, &mut timing)
 }
 
 /// Times discoveries of this many devices with a mutex or with ring buffers. The log has room for 40 of 1,024 devices.
@@ -70,6 +67,7 @@ pub fn time_discoveries<R: CpuClock + Print + Eprint + Wait>(
 ) -> Option<()> {
     let line = replay_of(bench.alloc, devices)?;
     let log = log(bench.alloc, FREE).ok()?;
+    let record = Vec::with_capacity(bench.alloc, FREE / 2).ok()?;
     let mut timing = Timing {
         bench,
         subject: if with_mutex { "port" } else { "rings" },
@@ -78,11 +76,7 @@ pub fn time_discoveries<R: CpuClock + Print + Eprint + Wait>(
         waiting: 0,
         discovery: Some((line.replies.len() as u64, devices)),
     };
-    if !with_mutex {
-        return on_rings(bench, 1, log, line, &mut timing);
-    }
-    let record = Vec::with_capacity(bench.alloc, FREE / 2).ok()?;
-    on_port(bench, 1, log, record, line, &mut timing)
+    on_session(bench, with_mutex, 1, log, record, line, &mut timing)
 }
 
 // How many devices a discovery found. None: it ended with a fault.
@@ -156,29 +150,36 @@ impl<L: Ledger, R: Wait, X: Line> Served for Locked<'_, L, R, X> {
     }
 }
 
-/// Opens a port with this many clients, over this log and this line, with this record, which is empty. Does this, and
-/// ends the port.
-pub fn on_port<X: Line + Drop, J: Job, R: Wait>(
+/// Opens a port, or ring buffers, for this many clients over this log and this line. Does this, and ends the clients. A
+/// port gets this record, which is empty.
+pub fn on_session<X: Line + Drop, D: Job, R: Wait>(
     bench: &Bench<'_, R>,
+    with_mutex: bool,
     clients: u8,
     log: Log,
     record: Vec<Exchange>,
     line: X,
-    job: &mut J,
+    job: &mut D,
 ) -> Option<()>
     requires { log.entries ≡ [] }
 {
-    on_port_of::<Brand, X, J, R>(bench, Blank::new(17), clients, log, record, line, job)
+    if with_mutex {
+        on_port::<Brand, X, D, R>(bench, Blank::new(17), clients, log, record, line, job)
+    } else {
+        let history = BlankHistory::new();
+        on_rings::<Brand, X, D, &R>(bench.rt, bench.alloc, history, clients, log, line, job)
+    }
 }
 
-fn on_port_of<L: Ledger, X: Line + Drop, J: Job, R: Wait>(
+// The port, with the ledger of this blank. It is ended with the record and the clients' shares.
+fn on_port<L: Ledger, X: Line + Drop, D: Job, R: Wait>(
     bench: &Bench<'_, R>,
     blank: Blank,
     count: u8,
     log: Log,
     record: Vec<Exchange>,
     line: X,
-    job: &mut J,
+    job: &mut D,
 ) -> Option<()>
     requires name { blank.name ≡ L.name }
     requires parts { (blank.parts ≡ L.parts) × (L.parts ≡ 17) }
@@ -302,28 +303,8 @@ impl<J: ViewHistory, W: Wait + Drop, X: Line> Served for Rings<J, Shown<J>, W, X
     }
 }
 
-/// Opens ring buffers for this many clients over this log and this line, does this, and ends the clients.
-pub fn on_rings<X: Line + Drop, D: Job, R: Wait>(
-    bench: &Bench<'_, R>,
-    count: u8,
-    log: Log,
-    line: X,
-    job: &mut D,
-) -> Option<()>
-    requires { log.entries ≡ [] }
-{
-    on_rings_of::<Brand, X, D, &R>(
-        bench.rt,
-        bench.alloc,
-        BlankHistory::new(),
-        count,
-        log,
-        line,
-        job,
-    )
-}
-
-fn on_rings_of<J: ViewHistory, X: Line + Drop, D: Job, W: Wait + Drop>(
+// The ring buffers, with the history of the views that this blank begins.
+fn on_rings<J: ViewHistory, X: Line + Drop, D: Job, W: Wait + Drop>(
     rt: W,
     alloc: Global,
     history: BlankHistory,

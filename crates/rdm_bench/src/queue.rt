@@ -25,13 +25,6 @@ enum Queue {
 }
 
 impl Queue {
-    fn join(&mut self, alloc: Global) -> bool {
-        match self {
-            Queue::Plain(queue) => queue.join_client(alloc, u8::MAX).is_ok(),
-            Queue::Logged(queue) => queue.join_client(alloc, u8::MAX).is_ok(),
-        }
-    }
-
     fn take(&mut self) -> Option<Frame> {
         match self {
             Queue::Plain(queue) => queue.take(),
@@ -142,8 +135,8 @@ pub fn time<R: CpuClock + Print + Eprint>(bench: &Bench<'_, R>, waiting: usize) 
         waiting,
         discovery: Some((line.replies.len() as u64, DEVICES)),
     };
-    let queue = Queue::Plain(Controller::new(bench.alloc, config()).ok()?);
-    timing.run(&mut joined(bench.alloc, queue, line, false)?)
+    let queue = Queue::Plain(new_controller(bench.alloc)?);
+    timing.run(&mut clients_of(bench.alloc, queue, line, false))
 }
 
 /// Times requests of a queue with or without a log. Outcomes are collected by the call for either kind, or by the one
@@ -157,8 +150,10 @@ pub fn time_requests<R: CpuClock + Print + Eprint>(
     let (subject, queue) = if with_log {
         ("queue with log", Queue::Logged(session(bench, waiting)?))
     } else {
-        let queue = Controller::new(bench.alloc, config()).ok()?;
-        ("queue without log", Queue::Plain(queue))
+        (
+            "queue without log",
+            Queue::Plain(new_controller(bench.alloc)?),
+        )
     };
     let mut timing = Timing {
         bench,
@@ -173,26 +168,36 @@ pub fn time_requests<R: CpuClock + Print + Eprint>(
         discovery: None,
     };
     let line = Replay::of_two_bytes(bench.alloc)?;
-    timing.run(&mut joined(bench.alloc, queue, line, by_outcome)?)
+    timing.run(&mut clients_of(bench.alloc, queue, line, by_outcome))
 }
 
-/// A session for the requests that are timed while this many wait.
+/// A session of sixteen clients, for the requests that are timed while this many wait.
 pub fn session<R>(bench: &Bench<'_, R>, waiting: usize) -> Option<Session> {
-    Session::new(bench.alloc, config(), written_log(bench, waiting)?).ok()
+    let log = written_log(bench, waiting)?;
+    let mut session = Session::new(bench.alloc, config(), log).ok()?;
+    for _ in 0..CLIENTS {
+        session.join_client(bench.alloc, u8::MAX).ok()?;
+    }
+    Some(session)
 }
 
-// Lets all clients join.
-fn joined(alloc: Global, mut queue: Queue, line: Replay, by_outcome: bool) -> Option<Clients> {
+// The same without a log.
+fn new_controller(alloc: Global) -> Option<Controller> {
+    let mut controller = Controller::new(alloc, config()).ok()?;
     for _ in 0..CLIENTS {
-        holds(queue.join(alloc))?;
+        controller.join_client(alloc, u8::MAX).ok()?;
     }
-    Some(Clients {
+    Some(controller)
+}
+
+fn clients_of(alloc: Global, queue: Queue, line: Replay, by_outcome: bool) -> Clients {
+    Clients {
         alloc,
         queue,
         line,
         by_outcome,
         found: DeviceSet::new(),
-    })
+    }
 }
 
 /// A line that replays the replies of a steady run over this many devices.

@@ -2,7 +2,7 @@
 //! be accepted and told once. Clients take turns drawn at random, the same in each run.
 use crate::bench::{Bench, holds};
 use crate::lines::Random;
-use crate::ports::{on_port, on_rings};
+use crate::ports::on_session;
 use crate::served::{CLIENTS, FREE, Job, Served};
 use rdm_client::Told;
 use rdm_join::Status;
@@ -64,11 +64,8 @@ fn soaked<R: Wait>(
     };
     let line = line_for(alloc, requests, seed)?;
     let log = log(alloc, FREE).ok()?;
-    if with_mutex {
-        on_port(bench, CLIENTS, log, Vec::new(alloc), line, &mut tally)?;
-    } else {
-        on_rings(bench, CLIENTS, log, line, &mut tally)?;
-    }
+    let record = Vec::new(alloc);
+    on_session(bench, with_mutex, CLIENTS, log, record, line, &mut tally)?;
     Some(tally)
 }
 

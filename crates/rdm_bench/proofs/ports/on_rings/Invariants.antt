@@ -1,6 +1,6 @@
--- the history of this session's views
-use Rattle.rdm_lanes.specs.Workers.{book_of}
+-- the clients get fewer
+use Rattle.std.proofs.Common.{length}
 use Rattle.rdm_bench.proofs.ports.on_rings.Given as goal
 
-abbrev pub ghosts-on_rings_of : goal.ghosts-on_rings_of
-ghosts-on_rings_of g a = record { book = book_of a.history }
+abbrev pub decreases-loop-client : goal.decreases-loop-client
+decreases-loop-client g l = length l.clients.items
