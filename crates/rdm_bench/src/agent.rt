@@ -12,16 +12,19 @@ use rdm_wire::UidSet;
 use std::alloc::Global;
 use std::time::CpuClock;
 
+// What is timed of a run's frames: whether branch replies are read from their bytes, and whether frames are written.
+const STEPS: [(&str, bool, bool); 3] = [
+    ("Step", false, false),
+    ("ReadAndStep", true, false),
+    ("WriteAndReadAndStep", true, true),
+];
+
 /// Times runs over this many devices: a start and an end alone; and all frames of a run, with branch replies read from
 /// their bytes or not, and with each frame written too or not.
 pub fn time<R: CpuClock + Print + Eprint>(bench: &Bench<'_, R>, count: usize) -> Option<()> {
     let known = devices(count, Spread::Random, (count as u64).wrapping_add(42))?;
     let tape = tape(bench.alloc, &known)?;
-    let heard = tape
-        .iter()
-        .map(|taped| taped.heard())
-        .collect::<Vec<OpReply>>(bench.alloc)
-        .ok()?;
+    let heard = heard_of(bench.alloc, tape.as_slice())?;
     let mut runs = Runs {
         known: &known,
         budget: 0,
@@ -33,11 +36,12 @@ pub fn time<R: CpuClock + Print + Eprint>(bench: &Bench<'_, R>, count: usize) ->
     bench.time("agent", "StartAndEnd", &mut runs)?;
     runs.budget = DEFAULT_BUDGET;
     runs.heard = heard;
-    bench.time("agent", "Step", &mut runs)?;
-    runs.reads = true;
-    bench.time("agent", "ReadAndStep", &mut runs)?;
-    runs.writes = true;
-    bench.time("agent", "WriteAndReadAndStep", &mut runs)
+    for (work, reads, writes) in STEPS {
+        runs.reads = reads;
+        runs.writes = writes;
+        bench.time("agent", work, &mut runs)?;
+    }
+    Some(())
 }
 
 /// What comes in a steady run on a line with these devices that loses nothing.
@@ -45,6 +49,14 @@ pub fn tape(alloc: Global, devices: &UidSet) -> Option<Vec<Taped>> {
     let mut line = TestLine::new(alloc, Wrong::Nothing, devices, 1)?;
     holds(line.searched(Search::Steady)?.found().len() == devices.len())?;
     Some(line.tape)
+}
+
+// What an agent hears of it.
+fn heard_of(alloc: Global, tape: &[Taped]) -> Option<Vec<OpReply>> {
+    tape.iter()
+        .map(|taped| taped.heard())
+        .collect::<Vec<OpReply>>(alloc)
+        .ok()
 }
 
 // Runs over these devices that may make this many exchanges, and what they hear.
@@ -62,10 +74,12 @@ impl Sample for Runs<'_> {
     #[inline(never)]
     fn run(&mut self) -> Option<u64> {
         let mut agent = Agent::start(Kind::Full, self.known, self.budget);
-        for (place, heard) in self.heard.as_slice().iter().enumerate() {
+        let mut place: usize = 0;
+        for heard in self.heard.as_slice() {
             let op = agent.next();
             self.write(op, place)?;
             hear(&mut agent, op, self.read(place, *heard))?;
+            place = place.wrapping_add(1);
         }
         if agent.next() != Op::End {
             return None;

@@ -15,14 +15,9 @@ pub fn time<R: CpuClock + Print + Eprint>(
     at_once: bool,
     waiting: usize,
 ) -> Option<()> {
-    let mut session = session(bench, waiting)?;
-    for place in 0..waiting {
-        let client = id_of(place % usize::from(CLIENTS));
-        holds(session.submit(client, request(TAG)).is_ok())?;
-    }
     let mut requests = Requests {
         alloc: bench.alloc,
-        session,
+        session: filled(session(bench, waiting)?, waiting)?,
         at_once,
         reply: reply(2)?,
         waiting,
@@ -30,6 +25,15 @@ pub fn time<R: CpuClock + Print + Eprint>(
     };
     let work = if at_once { "Run" } else { "Answer" };
     bench.time("queue with log", work, &mut requests)
+}
+
+// The session with this many requests of its clients.
+fn filled(mut session: Session, requests: usize) -> Option<Session> {
+    for place in 0..requests {
+        let client = id_of(place % usize::from(CLIENTS));
+        holds(session.submit(client, request(TAG)).is_ok())?;
+    }
+    Some(session)
 }
 
 // A session in which this many requests wait, and the reply to each of them.

@@ -49,6 +49,17 @@ pub enum Odd {
 const MOST_EXCHANGES: u64 = 40_000;
 
 impl Wrong {
+    // A scene of these devices. What is wrong with it is drawn by this generator.
+    fn scene(self, alloc: Global, good: &UidSet, random: &mut Random) -> Option<Scene> {
+        Some(Scene {
+            source: controller(),
+            devices: placed(alloc, good)?,
+            collisions: self.collisions(alloc, random)?,
+            losses: self.losses(alloc, random)?,
+            fails: Vec::new(alloc),
+        })
+    }
+
     // The device that breaks the rules, if there is one.
     fn odd(self) -> Option<Uid> {
         match self {
@@ -121,7 +132,15 @@ pub fn device_of(uid: Uid) -> Device
     }
 }
 
-// Puts into a scene a device that stays.
+// These devices, which stay.
+fn placed(alloc: Global, uids: &UidSet) -> Option<SceneDevices> {
+    let mut devices = SceneDevices::new(alloc);
+    for uid in uids.as_slice() {
+        add(alloc, &mut devices, *uid)?;
+    }
+    Some(devices)
+}
+
 fn add(alloc: Global, devices: &mut SceneDevices, uid: Uid) -> Option<()> {
     if uid.is_broadcast() {
         return None;
@@ -175,17 +194,7 @@ impl TestLine {
     /// A line with these devices, which keep to the rules. What is wrong with it is drawn by this seed.
     pub fn new(alloc: Global, wrong: Wrong, good: &UidSet, seed: u64) -> Option<TestLine> {
         let mut random = Random::new(seed);
-        let mut devices = SceneDevices::new(alloc);
-        for uid in good.iter().copied() {
-            add(alloc, &mut devices, uid)?;
-        }
-        let scene = Scene {
-            source: controller(),
-            devices,
-            collisions: wrong.collisions(alloc, &mut random)?,
-            losses: wrong.losses(alloc, &mut random)?,
-            fails: Vec::new(alloc),
-        };
+        let scene = wrong.scene(alloc, good, &mut random)?;
         Some(TestLine {
             line: SimLine::new(alloc, scene).ok()?,
             wrong,
@@ -366,14 +375,23 @@ fn print<R: Print>(
     spread: Spread,
     size: usize,
 ) -> Option<usize> {
+    let steady = print_ends(bench, wrong, spread, size, Search::Steady)?;
+    let quick = print_ends(bench, wrong, spread, size, Search::Quick)?;
+    Some(steady.wrapping_add(quick))
+}
+
+// The same with this search alone.
+fn print_ends<R: Print>(
+    bench: &Bench<'_, R>,
+    wrong: Wrong,
+    spread: Spread,
+    size: usize,
+    search: Search,
+) -> Option<usize> {
     let rt = bench.rt;
-    let mut right: usize = 0;
-    for search in [Search::Steady, Search::Quick] {
-        let ends = ends_of(bench, wrong, spread, size, search)?;
-        println!(rt; "{spread:?}, {wrong:?}, {search:?}: {ends:?}").ok()?;
-        right = right.wrapping_add(ends.right);
-    }
-    Some(right)
+    let ends = ends_of(bench, wrong, spread, size, search)?;
+    println!(rt; "{spread:?}, {wrong:?}, {search:?}: {ends:?}").ok()?;
+    Some(ends.right)
 }
 
 fn ends_of<R>(

@@ -85,12 +85,19 @@ fn run<R: Env + Files + AllocGlobal + CpuClock + Print + Eprint + Wait>(rt: &R) 
         rounds: within(rounds.as_str().parse::<usize>().ok()?, 1_000)?,
     };
     let size = size.as_str().parse::<usize>().ok()?;
-    if subject.as_str() != "all" {
-        return measure(&bench, subject.as_str(), size);
+    match subject.as_str() {
+        "all" => measure_all(&bench, within(size, 8)?),
+        subject => measure(&bench, subject, size),
     }
+}
+
+fn measure_all<R: Files + AllocGlobal + CpuClock + Print + Eprint + Wait>(
+    bench: &Bench<'_, R>,
+    size: usize,
+) -> Option<()> {
     for subject in ALL {
         let requests = if subject.starts_with("soak") { 100 } else { 1 };
-        measure(&bench, subject, within(size, 8)?.wrapping_mul(requests))?;
+        measure(bench, subject, size.wrapping_mul(requests))?;
     }
     Some(())
 }

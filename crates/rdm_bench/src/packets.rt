@@ -133,23 +133,27 @@ const WORKS: [(&str, Work); 6] = [
 
 /// Times calls on packets with this many bytes of data.
 pub fn time<R: CpuClock + Print + Eprint>(bench: &Bench<'_, R>, count: usize) -> Option<()> {
-    let reply = reply(count)?;
     let mut calls = Calls {
         work: Work::Judge,
         request: request(TAG),
         branch: bytes_of(&write_branch_reply(device_of(Who::First).uid, LONGEST_PREAMBLE))?,
-        events: Vec::new(bench.alloc),
+        events: replies(bench.alloc, &reply(count)?)?,
     };
     calls.request.param = data(count)?;
-    for tn in 0..=u8::MAX {
-        let event = LineEvent::Reply(numbered(&reply, tn));
-        calls.events.push(event).ok()?;
-    }
     for (name, work) in WORKS {
         calls.work = work;
         bench.time("calls", name, &mut calls)?;
     }
     Some(())
+}
+
+// This reply with each transaction number, in order.
+fn replies(alloc: Global, reply: &LineReply) -> Option<Vec<LineEvent>> {
+    let mut events = Vec::new(alloc);
+    for tn in 0..=u8::MAX {
+        events.push(LineEvent::Reply(numbered(reply, tn))).ok()?;
+    }
+    Some(events)
 }
 
 // A call, what is written, a branch reply, and the replies to the request by transaction numbers.

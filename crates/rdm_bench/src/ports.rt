@@ -10,7 +10,9 @@ use left_right::Absorb;
 use rdm_agent::Kind;
 use rdm_client::{AskTold, Collected, DeviceView, Told};
 use rdm_join::LineEvent;
-use rdm_lanes::{BlankHistory, Lanes, RingFault, Shown, ViewHistory, WorkerEnd, open_lanes};
+use rdm_lanes::{
+    BlankHistory, Lanes, RingClient, RingFault, Shown, ViewHistory, WorkerEnd, open_lanes,
+};
 use rdm_line::Line;
 use rdm_locked::{CallShare, Exchange, Left, LockedClient, Port, WorkerEnd as PortEnd};
 use rdm_queue::{Log, SubmitFault};
@@ -41,16 +43,17 @@ pub fn time_requests<R: CpuClock + Print + Eprint + Wait>(
     clients: u8,
     waiting: usize,
 ) -> Option<()> {
+    let subject = if with_mutex {
+        "port, clients"
+    } else {
+        "rings, clients"
+    };
     let line = Replay::of_two_bytes(bench.alloc)?;
     let log = written_log(bench, waiting)?;
     let record = written_record(bench.alloc, bench.repeats())?;
     let mut timing = Timing {
         bench,
-        subject: if with_mutex {
-            "port, clients"
-        } else {
-            "rings, clients"
-        },
+        subject,
         work: clients,
         clients,
         waiting,
@@ -65,12 +68,13 @@ pub fn time_discoveries<R: CpuClock + Print + Eprint + Wait>(
     with_mutex: bool,
     devices: usize,
 ) -> Option<()> {
+    let subject = if with_mutex { "port" } else { "rings" };
     let line = replay_of(bench.alloc, devices)?;
     let log = log(bench.alloc, FREE).ok()?;
     let record = Vec::with_capacity(bench.alloc, FREE / 2).ok()?;
     let mut timing = Timing {
         bench,
-        subject: if with_mutex { "port" } else { "rings" },
+        subject,
         work: "Full",
         clients: 1,
         waiting: 0,
@@ -327,14 +331,18 @@ fn on_rings<J: ViewHistory, X: Line + Drop, D: Job, W: Wait + Drop>(
         line: _line,
     } = rings;
     let Lanes {
-        mut clients,
+        clients,
         operator: _operator,
         worker: _worker,
     } = lanes;
-    // The callbacks of requests that were never told are cancelled.
+    end(alloc, clients);
+    done
+}
+
+// Ends the clients. The callbacks of requests that were never told are cancelled.
+fn end<J: ViewHistory>(alloc: Global, mut clients: Vec<RingClient<J, Note, AskNote>>) {
     while let Some(client) = clients.pop() {
         cancels(alloc, client.end().into_unspent());
     }
     clients.destroy_empty();
-    done
 }

@@ -135,7 +135,7 @@ pub fn time<R: CpuClock + Print + Eprint>(bench: &Bench<'_, R>, waiting: usize) 
         waiting,
         discovery: Some((line.replies.len() as u64, DEVICES)),
     };
-    let queue = Queue::Plain(new_controller(bench.alloc)?);
+    let queue = queue_of(bench, false, waiting)?;
     timing.run(&mut clients_of(bench.alloc, queue, line, false))
 }
 
@@ -147,28 +147,36 @@ pub fn time_requests<R: CpuClock + Print + Eprint>(
     by_outcome: bool,
     waiting: usize,
 ) -> Option<()> {
-    let (subject, queue) = if with_log {
-        ("queue with log", Queue::Logged(session(bench, waiting)?))
+    let subject = if with_log {
+        "queue with log"
     } else {
-        (
-            "queue without log",
-            Queue::Plain(new_controller(bench.alloc)?),
-        )
+        "queue without log"
     };
+    let work = if by_outcome {
+        "NextOutcome"
+    } else {
+        "NextCompletion"
+    };
+    let line = Replay::of_two_bytes(bench.alloc)?;
+    let queue = queue_of(bench, with_log, waiting)?;
     let mut timing = Timing {
         bench,
         subject,
-        work: if by_outcome {
-            "NextOutcome"
-        } else {
-            "NextCompletion"
-        },
+        work,
         clients: CLIENTS,
         waiting,
         discovery: None,
     };
-    let line = Replay::of_two_bytes(bench.alloc)?;
     timing.run(&mut clients_of(bench.alloc, queue, line, by_outcome))
+}
+
+// A queue of sixteen clients, for the requests that are timed while this many wait.
+fn queue_of<R>(bench: &Bench<'_, R>, with_log: bool, waiting: usize) -> Option<Queue> {
+    if with_log {
+        Some(Queue::Logged(session(bench, waiting)?))
+    } else {
+        Some(Queue::Plain(new_controller(bench.alloc)?))
+    }
 }
 
 /// A session of sixteen clients, for the requests that are timed while this many wait.

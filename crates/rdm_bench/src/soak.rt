@@ -54,6 +54,8 @@ fn soaked<R: Wait>(
     seed: u64,
 ) -> Option<Tally> {
     let alloc = bench.alloc;
+    let line = line_for(alloc, requests, seed)?;
+    let log = log(alloc, FREE).ok()?;
     let mut tally = Tally {
         requests,
         random: Random::new(seed),
@@ -62,8 +64,6 @@ fn soaked<R: Wait>(
         timeouts: 0,
         failed: 0,
     };
-    let line = line_for(alloc, requests, seed)?;
-    let log = log(alloc, FREE).ok()?;
     let record = Vec::new(alloc);
     on_session(bench, with_mutex, CLIENTS, log, record, line, &mut tally)?;
     Some(tally)

@@ -16,6 +16,13 @@ use std::time::CpuClock;
 // How many clients read.
 const READERS: usize = 16;
 
+// What is timed: whether a view is published, and whether it is read.
+const WORKS: [(&str, bool, bool); 3] = [
+    ("Publish", true, false),
+    ("PublishAndRead", true, true),
+    ("Read", false, true),
+];
+
 /// Times publications, reads of a view that has changed, and reads of one that hasn't, with this many devices.
 pub fn time<R: CpuClock + Print + Eprint + Wait>(bench: &Bench<'_, R>, count: usize) -> Option<()> {
     time_all::<Brand, &R, R>(bench, bench.rt, BlankHistory::new(), count)
@@ -29,24 +36,33 @@ fn time_all<J: ViewHistory, W: Wait + Drop, R: CpuClock + Print + Eprint>(
 ) -> Option<()>
     requires { book_of history ≡ J.book }
 {
+    let devices = device_set(count)?;
     let publisher = Publisher::<J, Shown<J>, W>::new(bench.alloc, rt, history, READERS).ok()?;
-    let mut readers = Vec::new(bench.alloc);
-    for _ in 0..READERS {
-        readers.push(publisher.reader().ok()?).ok()?;
-    }
     let mut views = Views {
         alloc: bench.alloc,
+        readers: readers_of(bench.alloc, &publisher)?,
         publisher,
-        readers,
-        devices: device_set(count)?,
+        devices,
         publishes: true,
         reads: false,
     };
-    bench.time("views", "Publish", &mut views)?;
-    views.reads = true;
-    bench.time("views", "PublishAndRead", &mut views)?;
-    views.publishes = false;
-    bench.time("views", "Read", &mut views)
+    for (work, publishes, reads) in WORKS {
+        views.publishes = publishes;
+        views.reads = reads;
+        bench.time("views", work, &mut views)?;
+    }
+    Some(())
+}
+
+fn readers_of<J: ViewHistory, W: Wait + Drop>(
+    alloc: Global,
+    publisher: &Publisher<J, Shown<J>, W>,
+) -> Option<Vec<ViewReader<J>>> {
+    let mut readers = Vec::new(alloc);
+    for _ in 0..READERS {
+        readers.push(publisher.reader().ok()?).ok()?;
+    }
+    Some(readers)
 }
 
 fn device_set(count: usize) -> Option<DeviceSet> {
