@@ -12,7 +12,7 @@ use std::marker::Model;
 use std::mem::size_of;
 
 /// An [`AskCompletion`](rdm_queue::AskCompletion) whose set is in a box, or left out if it is empty (profile of this
-/// project). So it is moved without its 32 KB. Contracts see that completion.
+/// project). Moving it copies no devices. Contracts treat it as an `AskCompletion`.
 #[derive(Debug, Drop)]
 pub struct BoxedAsk {
     run: u64,
@@ -55,7 +55,7 @@ impl BoxedAsk {
         self.fault
     }
 
-    /// The devices that the run found. None: no devices, and there is no box.
+    /// The devices that the run found. None: no devices.
     pub fn set(&self) -> Option<&DeviceSet>
         ensures some { IfSome result (λ set. set.now ≡ self.now.set) }
         ensures none { IfNone result (self.now.set ≡ []) }

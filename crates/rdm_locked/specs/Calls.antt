@@ -33,7 +33,7 @@ abbrev pub refused_discovers : AskFault → ℕ
 refused_discovers ask_faults.LogFull = 0
 refused_discovers _ = 1
 
--- the same for a client's discover: none too if there was no memory, since the session wasn't asked
+-- the same for a client's discover; none without memory, since the session wasn't asked
 abbrev pub refused_asks : DiscoverFault → ℕ
 refused_asks discover_faults.NoMemory = 0
 refused_asks (discover_faults.Refused fault) = refused_discovers fault

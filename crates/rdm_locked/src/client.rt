@@ -10,8 +10,7 @@ use crate::share::CallShare;
 use crate::spares::reserve_set;
 use rdm_agent::Kind;
 use rdm_client::{
-    AskCallback, AskTold, BoxedAsk, Callback, Collected, Desk, DeviceView, Tells, TellsAsk, Told,
-    Unspent,
+    AskCallback, AskTold, Callback, Collected, Desk, DeviceView, Tells, TellsAsk, Told, Unspent,
 };
 use rdm_queue::{AskFault, ClientId, OutcomeKind, SubmitFault};
 use rdm_wire::{DeviceSet, Request};
@@ -30,9 +29,10 @@ pub struct LockedClient<'a, L: Ledger, C = Callback, A = AskCallback> {
     calls: CallShare<L>,
     // Whether no callback was held for its oldest outcome: then it collects nothing any more.
     stranded: bool,
-    // A set for each discovery that may be collected. So a collect allocates nothing.
+    // At least one set for each discovery's callback that is held, so that a collect allocates nothing.
     spares: Vec<Box<DeviceSet>>,
     ghost spared: { length desk.asks ≤ length spares.items },
+    ghost few: { length spares.items ≤ 4 },
 }
 
 /// What is left of a client.
@@ -108,7 +108,8 @@ impl<'a, L: Ledger, C: Tells, A: TellsAsk> LockedClient<'a, L, C, A> {
     }
 
     /// Asks for a discovery, and returns its number. Memory for the devices that it may find, 32 KB, is allocated
-    /// before. The callback is held until it is called with the discovery's completion.
+    /// before. If the call is refused, the client keeps this memory for its next discovery; it has at most four. The
+    /// callback is held until it is called with the discovery's completion.
     /// Err: Refused with Full if the desk can't hold the callback, and then NoMemory, before all other faults; such a
     /// call has no entry, and isn't counted. Otherwise Refused as [`Inside::discover`](crate::Inside::discover)
     /// returns. The callback is returned.
@@ -253,12 +254,8 @@ impl<'a, L: Ledger, C: Tells, A: TellsAsk> LockedClient<'a, L, C, A> {
             spares,
             ..
         } = self;
-        let Some(set) = spares.last_mut() else {
-            unreachable!();
-        };
-        let collected = port.inside.lock(rt).collect_discovery(*number, set, calls);
-        let end = collected?;
-        let done = BoxedAsk::new(end.run, end.fault, spares.pop());
+        let collected = port.inside.lock(rt).collect_boxed(*number, spares, calls);
+        let done = collected?;
         Some(desk.call_oldest_ask(done))
     }
 

@@ -1,6 +1,6 @@
 //! What a port's mutex holds.
-ghost use Rattle.std.specs.Prelude.{◌≡◌, ◌≢◌, ◌≤◌, ◌+◌, [], Ok, Err, Some, OnOk, OnErr, IfOk, IfErr, IfSome, IfNone};
-ghost use Rattle.std.specs.Prelude.{OnSome, nat_lt, if◌then◌else◌};
+ghost use Rattle.std.specs.Prelude.{◌≡◌, ◌≢◌, ◌≤◌, ◌<◌, ◌+◌, ℕ, [], length, Ok, Err, Some, OnOk, OnErr, IfOk, IfErr};
+ghost use Rattle.std.specs.Prelude.{IfSome, IfNone, OnSome, nat_lt, if◌then◌else◌};
 ghost use Rattle.rdm_log.specs.log.Config.{steady};
 ghost use Rattle.rdm_log.specs.log.History.{next_client};
 ghost use Rattle.rdm_log.specs.log.Legal.{Legal};
@@ -9,6 +9,7 @@ ghost use Rattle.rdm_log.specs.promises.Blocks.{JoinLogs, SubmitLogs, DiscoverLo
 ghost use Rattle.rdm_log.specs.promises.Blocks.{CloseAdds, DeliverAdds, CollectAdds};
 ghost use Rattle.rdm_log.specs.promises.Promised.{Promised};
 ghost use Rattle.rdm_log.specs.promises.Outcomes.{oldest_kind, request_outcome, discovery_outcome};
+ghost use Rattle.rdm_log.specs.declared.outcome.Outcome.TheVariants as outcomes;
 ghost use Rattle.rdm_log.specs.declared.outcome.OutcomeKind.TheVariants as kinds;
 ghost use Rattle.rdm_locked.specs.Calls.{count_calls, submits_logged, discovers_logged};
 ghost use Rattle.rdm_locked.specs.Openings.{MayOpen, IsOpened};
@@ -20,7 +21,7 @@ use crate::share::CallShare;
 use crate::turn::Turn;
 pub use finish::SessionEnd;
 use rdm_agent::Kind;
-use rdm_client::DeviceView;
+use rdm_client::{BoxedAsk, DeviceView};
 use rdm_join::LineEvent;
 use rdm_queue::{
     AskFault, ClientId, Completion, Config, DiscoveryEnd, JoinFault, Log, LogFull, NoMemory,
@@ -223,6 +224,35 @@ impl<L: Ledger> Inside<L> {
         let end = session.next_discovery(client, set)?;
         mine.add_calls(calls, 1, session.log().entries().len());
         Some(end)
+    }
+
+    // Collects a client's oldest outcome if that is a discovery's, as `collect_discovery` does. Its devices replace
+    // those in the last spare set, which is taken out. None: as there, and as many spare sets are left.
+    pub(crate) fn collect_boxed(
+        &mut self,
+        client: ClientId,
+        spares: &mut Vec<Box<DeviceSet>>,
+        mine: &mut CallShare<L>,
+    ) -> Option<BoxedAsk>
+        requires { 0 < length spares.old.items }
+        ensures adds { IfSome result (λ done. (n : ℕ) × GrowsBy self.old.session
+            (CollectAdds self.old.session.opening self.old.session.entries client
+            (Some (outcomes.Discovery (Some n) done)))
+            self.new.session) }
+        ensures one_less { OnSome result (length spares.old.items ≡ length spares.new.items + 1) }
+        ensures counted { OnSome result (mine.new.count ≡ mine.old.count + 1) }
+        ensures unchanged { IfNone result ((self.new.session ≡ self.old.session)
+            × (length spares.new.items ≡ length spares.old.items) × (mine.new.count ≡ mine.old.count)) }
+        ensures clients { (self.new.joined ≡ self.old.joined) × (self.new.left ≡ self.old.left) }
+    {
+        let mut set = spares.pop().unwrap();
+        match self.collect_discovery(client, &mut set, mine) {
+            Some(end) => Some(BoxedAsk::new(end.run, end.fault, Some(set))),
+            None => {
+                spares.push_reserved(set);
+                None
+            }
+        }
     }
 
     /// Pauses, as [`Session::pause`] does.

@@ -1,11 +1,12 @@
 //! Memory for the devices that a client's discoveries find.
-ghost use Rattle.std.specs.Prelude.{◌≤◌, ◌<◌, length, OnOk};
+ghost use Rattle.std.specs.Prelude.{◌≡◌, ◌⊎◌, ◌≤◌, ◌<◌, ◌+◌, length, OnOk};
 
 use rdm_queue::NoMemory;
 use rdm_wire::DeviceSet;
 use std::alloc::Global;
 
-/// Sees to it that there are more sets than this many, `held`, of which there are at least as many before.
+/// Makes sure that there are more than `held` sets; there are at least `held` before. If there are more already, none
+/// is added.
 /// Err: out of memory. No set is lost.
 // It isn't inlined, since a set is made in its frame.
 #[inline(never)]
@@ -17,6 +18,7 @@ pub(crate) fn reserve_set(
     requires { held ≤ length spares.old.items }
     ensures more { OnOk result (held < length spares.new.items) }
     ensures kept { length spares.old.items ≤ length spares.new.items }
+    ensures few { (length spares.new.items ≡ length spares.old.items) ⊎ (length spares.new.items ≡ held + 1) }
 {
     if held < spares.len() {
         return Ok(());

@@ -3,7 +3,8 @@ use super::careful::{Careful, is_again};
 use super::checks::check;
 use super::lines::first_device;
 use rdm_agent::Kind;
-use rdm_rig::{Act, Ending, Found, Heard, LONG, Move, Step, Stop, Wrong};
+use rdm_queue::AskFault;
+use rdm_rig::{Act, Ending, Found, Heard, LONG, Move, Refusal, Step, Stop, Wrong};
 use rdm_stage::{Failed, PortOver, PortSetup, drive_port};
 use std::alloc::Global;
 use std::process::Abort;
@@ -39,6 +40,20 @@ static DISCOVERY: [Move; 4] = [
     ),
 ];
 
+// After a close discoveries are refused.
+static CLOSED: [Move; 4] = [
+    (Act::Join(2), Heard::Number(0)),
+    (Act::Close, Heard::Done),
+    (
+        Act::Client(0, Step::Discover(Kind::Full, 1)),
+        Heard::Refused(Refusal::Ask(AskFault::Closed, 1)),
+    ),
+    (
+        Act::Client(0, Step::Discover(Kind::Full, 2)),
+        Heard::Refused(Refusal::Ask(AskFault::Closed, 2)),
+    ),
+];
+
 // Makes these moves. None: the rig itself ran out of memory.
 fn plays<R: Wait + Abort>(rt: &R, alloc: Global, moves: &[Move]) -> Option<PortOver> {
     let line = first_device(rt, alloc, &[], &[]);
@@ -53,12 +68,17 @@ fn plays<R: Wait + Abort>(rt: &R, alloc: Global, moves: &[Move]) -> Option<PortO
     }
 }
 
-// Makes these moves, again if the rig runs out of memory. The answer to a request has this many parts.
-fn plays_again<R: Wait + Abort>(rt: &R, alloc: Global, moves: &[Move], parts: usize) {
-    let over = match plays(rt, alloc, moves) {
+// Makes these moves, again if the rig runs out of memory.
+fn plays_again<R: Wait + Abort>(rt: &R, alloc: Global, moves: &[Move]) -> PortOver {
+    match plays(rt, alloc, moves) {
         Some(over) => over,
         None => plays(rt, alloc, moves).expect(rt, "memory for the rig"),
-    };
+    }
+}
+
+// Makes these moves, whose request is answered in this many parts.
+fn answers<R: Wait + Abort>(rt: &R, alloc: Global, moves: &[Move], parts: usize) {
+    let over = plays_again(rt, alloc, moves);
     // The accept, a frame and a reply for each part, the end and the collect. The join comes before them.
     let request = parts.saturating_mul(2).saturating_add(3);
     let is_again = is_again(rt, &over.log, request.saturating_add(1), request);
@@ -76,21 +96,27 @@ fn plays_again<R: Wait + Abort>(rt: &R, alloc: Global, moves: &[Move], parts: us
 
 #[test]
 fn port_new_and_client_and_work(rt: HostRuntime) {
-    plays_again(&rt, rt.alloc(), &SHORT, 1);
+    answers(&rt, rt.alloc(), &SHORT, 1);
 }
 
 #[test]
 fn port_work_of_parts(rt: HostRuntime) {
-    plays_again(&rt, rt.alloc(), &IN_PARTS, 3);
+    answers(&rt, rt.alloc(), &IN_PARTS, 3);
 }
 
 // A discovery that found no memory isn't counted.
 #[test]
 fn port_client_discover_and_collect(rt: HostRuntime) {
-    let over = match plays(&rt, rt.alloc(), &DISCOVERY) {
-        Some(over) => over,
-        None => plays(&rt, rt.alloc(), &DISCOVERY).expect(&rt, "memory for the rig"),
-    };
+    let over = plays_again(&rt, rt.alloc(), &DISCOVERY);
     check(&rt, over.calls == 2 && over.recorded == 10);
     check(&rt, over.held == 0 && over.state.is_idle);
+}
+
+// The count of allocations shows that the first discovery allocates its memory although it is refused as Closed, and
+// that the second one finds that memory.
+#[test]
+fn port_client_discover_after_a_close(rt: HostRuntime) {
+    let over = plays_again(&rt, rt.alloc(), &CLOSED);
+    check(&rt, over.calls == 2 && over.recorded == 0);
+    check(&rt, over.held == 0 && over.state.is_closed);
 }
