@@ -11,8 +11,8 @@ use rdm_wire::{Device, DeviceSet};
 use std::marker::Model;
 use std::mem::size_of;
 
-/// An [`AskCompletion`](rdm_queue::AskCompletion) whose set is in a box, or left out if it is empty (profile of this
-/// project). Moving it copies no devices. Contracts treat it as an `AskCompletion`.
+/// An [`AskCompletion`](rdm_queue::AskCompletion) whose set is in a box, or left out if it is empty. Moving it copies
+/// no devices. Contracts treat it as an `AskCompletion`.
 #[derive(Debug, Drop)]
 pub struct BoxedAsk {
     run: u64,

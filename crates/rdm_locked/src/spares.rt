@@ -5,8 +5,7 @@ use rdm_queue::NoMemory;
 use rdm_wire::DeviceSet;
 use std::alloc::Global;
 
-/// Makes sure that there are more than `held` sets; there are at least `held` before. If there are more already, none
-/// is added.
+/// Makes sure that there are more than `held` sets; there are at least `held` before. It adds none if there are more.
 /// Err: out of memory. No set is lost.
 // It isn't inlined, since a set is made in its frame.
 #[inline(never)]

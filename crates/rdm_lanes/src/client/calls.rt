@@ -29,8 +29,8 @@ use rdm_wire::Request;
 
 impl<J: ViewHistory, C: Tells, A: TellsAsk> RingClient<J, C, A> {
     /// Sends a request to the worker, and holds its callback until the outcome is collected.
-    /// Err: the first fault that stands, Left, Full or RingFull; nothing has changed, and the request and the callback
-    /// come back. Full: callbacks of as many requests are held as the client has places, or `u64::MAX` calls were sent.
+    /// Err: the first fault that applies, Left, Full or RingFull. Nothing has changed, and the request and the callback
+    /// are returned. Full: as many requests' callbacks are held as the queue depth, or `u64::MAX` calls were sent.
     #[tactic(auto, using(crate::proofs::Counting::counted_sent, crate::proofs::Counting::work_more))]
     pub fn submit(&mut self, request: Request, callback: C) -> Result<(), (RingFault, Request, C)>
         ensures sent { OnOk result (sent_by self.new ≡ sent_by self.old ++ Submit request ∷ []) }
@@ -62,7 +62,7 @@ impl<J: ViewHistory, C: Tells, A: TellsAsk> RingClient<J, C, A> {
     }
 
     /// Sends a discovery to the worker, and holds its callback until the outcome is collected.
-    /// Err: the first fault that stands, Left, Full or RingFull; nothing has changed, and the callback comes back.
+    /// Err: the first fault that applies, Left, Full or RingFull. Nothing has changed, and the callback is returned.
     /// Full: four discoveries' callbacks are held, or `u64::MAX` calls were sent.
     #[tactic(auto, using(crate::proofs::Counting::counted_sent, crate::proofs::Counting::work_more))]
     pub fn discover(&mut self, kind: Kind, callback: A) -> Result<(), (RingFault, A)>
@@ -191,7 +191,7 @@ impl<J: ViewHistory, C: Tells, A: TellsAsk> RingClient<J, C, A> {
     }
 
     /// Tells the worker that the client leaves: it sends nothing more. What has come, and what is still to come, can
-    /// be collected all the same. Without effect where it has left.
+    /// be collected all the same. It has no effect once the client has left.
     /// Err: the ring of calls has no free slot; nothing has changed.
     #[tactic(auto, using(crate::proofs::Counting::counted_leave, crate::proofs::Counting::leave_more))]
     pub fn leave(&mut self) -> Result<(), RingFull>
@@ -238,7 +238,7 @@ impl<J: ViewHistory, C: Tells, A: TellsAsk> RingClient<J, C, A> {
         }
     }
 
-    /// Ends the client, and hands back the callbacks that it holds.
+    /// Ends the client, and returns the callbacks that it holds.
     #[tactic(auto, using(crate::proofs::Counting::values_long))]
     pub fn end(self) -> ClientEnd<J, C, A>
         ensures unspent { result.unspent ≡ record { requests = self.desk.requests; asks = self.desk.asks } }

@@ -15,16 +15,16 @@ use rdm_client::{AskCallback, Callback, Unspent};
 use rtrb::{Consumer, Producer};
 use std::alloc::Global;
 
-/// What is left of a client at its end, and how much it did. It isn't [`Drop`]: the callbacks that were not spent are
+/// What is left of a client at its end, and how much it did. It isn't [`Drop`]: the callbacks that weren't called are
 /// taken out of it.
 pub struct ClientEnd<J: ViewHistory, C = Callback, A = AskCallback> {
-    /// The callbacks that were not called: as many of either kind as the client has own calls without an outcome.
+    /// The callbacks that weren't called: one for each of the client's calls of that kind without an outcome.
     pub unspent: Unspent<C, A>,
     /// How many submits and discovers it sent.
     pub sent: u64,
     /// How many outcomes it collected.
     pub collected: u64,
-    /// The run of the last published view that it read; 0 where it read none of a run.
+    /// The run of the last published view that it read; 0 if it read none of a run.
     pub run: u64,
     pub(crate) calls: Producer<ClientCall, Global>,
     pub(crate) replies: Consumer<RingOutcome, Global>,
@@ -44,7 +44,7 @@ impl<J: ViewHistory, C, A> ClientEnd<J, C, A> {
         (self.calls.capacity(), self.replies.capacity())
     }
 
-    /// The callbacks that were not spent; the rest goes.
+    /// The callbacks that weren't called; the rest is dropped.
     pub fn into_unspent(self) -> Unspent<C, A>
         ensures { result ≡ self.unspent }
     {

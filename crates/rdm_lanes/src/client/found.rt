@@ -6,7 +6,7 @@ ghost use Rattle.rdm_lanes.specs.Views.{later_view, found_after, found_by};
 use crate::ring_outcome::RingOutcome;
 use rdm_client::{BoxedAsk, DeviceView};
 
-/// Keeps what the outcome tells of devices, if it is that of a discovery without fault.
+/// Keeps the outcome's devices, if it is that of a discovery without fault.
 pub fn keep_found(found: &mut DeviceView, item: &RingOutcome)
     ensures { found.new ≡ found_after found.old (value_in item.now) }
 {
@@ -15,7 +15,7 @@ pub fn keep_found(found: &mut DeviceView, item: &RingOutcome)
     }
 }
 
-// Keeps what the completion tells of devices, if it has no fault.
+// Keeps the completion's devices, if it has no fault.
 fn keep_devices(found: &mut DeviceView, done: &BoxedAsk)
     ensures { found.new ≡ found_by found.old done.now.run done.now.fault done.now.set }
 {
@@ -29,7 +29,7 @@ fn keep_devices(found: &mut DeviceView, done: &BoxedAsk)
     }
 }
 
-/// The later of two views, by run; the first, where they are of one run.
+/// The later of two views, by run; the first, if they are of one run.
 pub fn later<'a>(first: &'a DeviceView, second: &'a DeviceView) -> &'a DeviceView
     ensures { result.now ≡ later_view first.now second.now }
 {
