@@ -1,141 +1,126 @@
 //! Clients and a worker that are driven by hand, over lines that fail at once.
-use super::rows::{Row, play_all};
+use super::rows::{Row, USUAL, play_all};
 use rdm_agent::Kind;
 use rdm_join::Status;
 use rdm_queue::Owner;
-use rdm_rig::{Act, Ending, Found, Heard, Refusal, Said, Step, Stop};
+use rdm_rig::Act::{Client, Close, Retire, Work};
+use rdm_rig::Heard::{Discovery, Done, Nothing, Refused, Request, Sees, Worked};
+use rdm_rig::Step::{Collect, Discover, Leave, Look, Submit};
+use rdm_rig::Stop::{AllLeft, LogFull, Turns};
+use rdm_rig::{Ending, Found, Move, Refusal, Said};
 
 const FAILED: Status = Status::FailedToSend;
+
+// Two calls, of which the log has room for the first one.
+const TWO_CALLS: &[Move] = &[
+    (Client(0, Submit(1)), Done),
+    (Client(0, Submit(2)), Done),
+    (Work(1), Worked(LogFull)),
+    (Work(5), Worked(LogFull)),
+];
+
+// What the log says then.
+const ONE_CALL: &[Said] = &[Said::Join(0, 2), Said::Accept(0, 0)];
 
 static ROWS: [Row; 9] = [
     Row {
         shows: "a ring of one slot takes one call",
-        free: 100,
         ring: 1,
         places: &[2],
         moves: &[
-            (Act::Client(0, Step::Submit(1)), Heard::Done),
+            (Client(0, Submit(1)), Done),
+            (Client(0, Submit(2)), Refused(Refusal::RingFull(2))),
+            (Client(0, Leave), Refused(Refusal::NoSlot)),
+            (Client(0, Look), Sees(0, Found::Nobody)),
+            (Work(1), Worked(Turns)),
+            (Client(0, Collect), Request(1, FAILED)),
+            (Client(0, Collect), Nothing),
+            (Client(0, Leave), Done),
+            (Client(0, Leave), Done),
+            (Client(0, Submit(3)), Refused(Refusal::HasLeft(3))),
             (
-                Act::Client(0, Step::Submit(2)),
-                Heard::Refused(Refusal::RingFull(2)),
+                Client(0, Discover(Kind::Full, 4)),
+                Refused(Refusal::HasLeft(4)),
             ),
-            (Act::Client(0, Step::Leave), Heard::Refused(Refusal::NoSlot)),
-            (Act::Client(0, Step::Look), Heard::Sees(0, Found::Nobody)),
-            (Act::Work(1), Heard::Worked(Stop::Turns)),
-            (Act::Client(0, Step::Collect), Heard::Request(1, FAILED)),
-            (Act::Client(0, Step::Collect), Heard::Nothing),
-            (Act::Client(0, Step::Leave), Heard::Done),
-            (Act::Client(0, Step::Leave), Heard::Done),
-            (
-                Act::Client(0, Step::Submit(3)),
-                Heard::Refused(Refusal::HasLeft(3)),
-            ),
-            (
-                Act::Client(0, Step::Discover(Kind::Full, 4)),
-                Heard::Refused(Refusal::HasLeft(4)),
-            ),
-            (Act::Work(2), Heard::Worked(Stop::Turns)),
-            (Act::Retire, Heard::Done),
-            (Act::Work(2), Heard::Worked(Stop::AllLeft)),
+            (Work(2), Worked(Turns)),
+            (Retire, Done),
+            (Work(2), Worked(AllLeft)),
         ],
         counts: &[(1, 1, 0)],
-        is_paused: false,
-        is_closed: false,
-        log: None,
+        ..USUAL
     },
     Row {
         shows: "a client is full until it collects",
-        free: 100,
         ring: 8,
         places: &[1],
         moves: &[
-            (Act::Client(0, Step::Submit(1)), Heard::Done),
+            (Client(0, Submit(1)), Done),
+            (Client(0, Submit(2)), Refused(Refusal::Full(2))),
+            (Client(0, Discover(Kind::Full, 0)), Done),
+            (Client(0, Discover(Kind::Full, 1)), Done),
+            (Client(0, Discover(Kind::Full, 2)), Done),
+            (Client(0, Discover(Kind::Full, 3)), Done),
             (
-                Act::Client(0, Step::Submit(2)),
-                Heard::Refused(Refusal::Full(2)),
+                Client(0, Discover(Kind::Full, 5)),
+                Refused(Refusal::Full(5)),
             ),
-            (Act::Client(0, Step::Discover(Kind::Full, 0)), Heard::Done),
-            (Act::Client(0, Step::Discover(Kind::Full, 1)), Heard::Done),
-            (Act::Client(0, Step::Discover(Kind::Full, 2)), Heard::Done),
-            (Act::Client(0, Step::Discover(Kind::Full, 3)), Heard::Done),
+            (Work(10), Worked(Turns)),
+            (Client(0, Submit(2)), Refused(Refusal::Full(2))),
+            (Client(0, Collect), Request(1, FAILED)),
             (
-                Act::Client(0, Step::Discover(Kind::Full, 5)),
-                Heard::Refused(Refusal::Full(5)),
-            ),
-            (Act::Work(10), Heard::Worked(Stop::Turns)),
-            (
-                Act::Client(0, Step::Submit(2)),
-                Heard::Refused(Refusal::Full(2)),
-            ),
-            (Act::Client(0, Step::Collect), Heard::Request(1, FAILED)),
-            (
-                Act::Client(0, Step::Collect),
-                Heard::Discovery(0, 1, Ending::LineFailed, Found::Nobody),
+                Client(0, Collect),
+                Discovery(0, 1, Ending::LineFailed, Found::Nobody),
             ),
             (
-                Act::Client(0, Step::Collect),
-                Heard::Discovery(1, 2, Ending::LineFailed, Found::Nobody),
+                Client(0, Collect),
+                Discovery(1, 2, Ending::LineFailed, Found::Nobody),
             ),
-            (Act::Client(0, Step::Submit(6)), Heard::Done),
+            (Client(0, Submit(6)), Done),
         ],
         counts: &[(6, 3, 3)],
-        is_paused: false,
-        is_closed: false,
-        log: None,
+        ..USUAL
     },
     Row {
         shows: "a client without a place is full before its ring is",
-        free: 100,
         ring: 1,
         places: &[1],
         moves: &[
-            (Act::Client(0, Step::Submit(1)), Heard::Done),
-            (
-                Act::Client(0, Step::Submit(2)),
-                Heard::Refused(Refusal::Full(2)),
-            ),
+            (Client(0, Submit(1)), Done),
+            (Client(0, Submit(2)), Refused(Refusal::Full(2))),
         ],
         counts: &[(1, 0, 1)],
-        is_paused: false,
-        is_closed: false,
-        log: None,
+        ..USUAL
     },
     Row {
         shows: "the worker makes all its turns, with a call and an exchange in each",
-        free: 100,
         ring: 3,
         places: &[3],
         moves: &[
-            (Act::Client(0, Step::Submit(0)), Heard::Done),
-            (Act::Client(0, Step::Submit(1)), Heard::Done),
-            (Act::Client(0, Step::Submit(2)), Heard::Done),
-            (Act::Work(1), Heard::Worked(Stop::Turns)),
-            (Act::Client(0, Step::Collect), Heard::Request(0, FAILED)),
-            (Act::Client(0, Step::Collect), Heard::Nothing),
-            (Act::Work(2), Heard::Worked(Stop::Turns)),
-            (Act::Client(0, Step::Collect), Heard::Request(1, FAILED)),
-            (Act::Client(0, Step::Collect), Heard::Request(2, FAILED)),
+            (Client(0, Submit(0)), Done),
+            (Client(0, Submit(1)), Done),
+            (Client(0, Submit(2)), Done),
+            (Work(1), Worked(Turns)),
+            (Client(0, Collect), Request(0, FAILED)),
+            (Client(0, Collect), Nothing),
+            (Work(2), Worked(Turns)),
+            (Client(0, Collect), Request(1, FAILED)),
+            (Client(0, Collect), Request(2, FAILED)),
         ],
         counts: &[(3, 3, 0)],
-        is_paused: false,
-        is_closed: false,
-        log: None,
+        ..USUAL
     },
     Row {
         shows: "two clients are served in their order",
-        free: 100,
         ring: 1,
         places: &[1, 1],
         moves: &[
-            (Act::Client(1, Step::Submit(2)), Heard::Done),
-            (Act::Client(0, Step::Submit(1)), Heard::Done),
-            (Act::Work(2), Heard::Worked(Stop::Turns)),
-            (Act::Client(0, Step::Collect), Heard::Request(1, FAILED)),
-            (Act::Client(1, Step::Collect), Heard::Request(2, FAILED)),
+            (Client(1, Submit(2)), Done),
+            (Client(0, Submit(1)), Done),
+            (Work(2), Worked(Turns)),
+            (Client(0, Collect), Request(1, FAILED)),
+            (Client(1, Collect), Request(2, FAILED)),
         ],
         counts: &[(1, 1, 0), (1, 1, 0)],
-        is_paused: false,
-        is_closed: false,
         log: Some(&[
             Said::Join(0, 1),
             Said::Join(1, 1),
@@ -150,23 +135,22 @@ static ROWS: [Row; 9] = [
             Said::Finish(1, FAILED, 0),
             Said::Collect(1),
         ]),
+        ..USUAL
     },
     Row {
         shows: "a call after the close is told without a number",
-        free: 100,
         ring: 2,
         places: &[2],
         moves: &[
-            (Act::Client(0, Step::Submit(1)), Heard::Done),
-            (Act::Close, Heard::Done),
-            (Act::Work(1), Heard::Worked(Stop::Turns)),
-            (Act::Client(0, Step::Submit(2)), Heard::Done),
-            (Act::Work(1), Heard::Worked(Stop::Turns)),
-            (Act::Client(0, Step::Collect), Heard::Request(1, FAILED)),
-            (Act::Client(0, Step::Collect), Heard::Request(2, FAILED)),
+            (Client(0, Submit(1)), Done),
+            (Close, Done),
+            (Work(1), Worked(Turns)),
+            (Client(0, Submit(2)), Done),
+            (Work(1), Worked(Turns)),
+            (Client(0, Collect), Request(1, FAILED)),
+            (Client(0, Collect), Request(2, FAILED)),
         ],
         counts: &[(2, 2, 0)],
-        is_paused: false,
         is_closed: true,
         log: Some(&[
             Said::Join(0, 2),
@@ -176,58 +160,45 @@ static ROWS: [Row; 9] = [
             Said::Collect(0),
             Said::Refuse(Some(0), 1),
         ]),
+        ..USUAL
     },
     Row {
         shows: "a discovery after the close is told of run 0",
-        free: 100,
         ring: 2,
         places: &[2],
         moves: &[
-            (Act::Close, Heard::Done),
-            (Act::Work(1), Heard::Worked(Stop::Turns)),
-            (Act::Client(0, Step::Discover(Kind::Full, 7)), Heard::Done),
-            (Act::Work(1), Heard::Worked(Stop::Turns)),
+            (Close, Done),
+            (Work(1), Worked(Turns)),
+            (Client(0, Discover(Kind::Full, 7)), Done),
+            (Work(1), Worked(Turns)),
             (
-                Act::Client(0, Step::Collect),
-                Heard::Discovery(7, 0, Ending::Aborted, Found::Nobody),
+                Client(0, Collect),
+                Discovery(7, 0, Ending::Aborted, Found::Nobody),
             ),
         ],
         counts: &[(1, 1, 0)],
-        is_paused: false,
         is_closed: true,
-        log: None,
+        ..USUAL
     },
     Row {
         shows: "a full log ends the work in its first turn",
         free: 5,
         ring: 2,
         places: &[2],
-        moves: &[
-            (Act::Client(0, Step::Submit(1)), Heard::Done),
-            (Act::Client(0, Step::Submit(2)), Heard::Done),
-            (Act::Work(1), Heard::Worked(Stop::LogFull)),
-            (Act::Work(5), Heard::Worked(Stop::LogFull)),
-        ],
+        moves: TWO_CALLS,
         counts: &[(2, 0, 2)],
-        is_paused: false,
-        is_closed: false,
-        log: Some(&[Said::Join(0, 2), Said::Accept(0, 0)]),
+        log: Some(ONE_CALL),
+        ..USUAL
     },
     Row {
         shows: "three free entries are enough for a call",
         free: 4,
         ring: 2,
         places: &[2],
-        moves: &[
-            (Act::Client(0, Step::Submit(1)), Heard::Done),
-            (Act::Client(0, Step::Submit(2)), Heard::Done),
-            (Act::Work(1), Heard::Worked(Stop::LogFull)),
-            (Act::Work(5), Heard::Worked(Stop::LogFull)),
-        ],
+        moves: TWO_CALLS,
         counts: &[(2, 0, 2)],
-        is_paused: false,
-        is_closed: false,
-        log: Some(&[Said::Join(0, 2), Said::Accept(0, 0)]),
+        log: Some(ONE_CALL),
+        ..USUAL
     },
 ];
 

@@ -1,48 +1,44 @@
 //! What an operator does beside clients and a worker that are driven by hand, over lines that fail at once.
-use super::rows::{Row, play_all};
+use super::rows::{Row, USUAL, play_all};
 use rdm_agent::Kind;
 use rdm_join::Status;
 use rdm_queue::Owner;
-use rdm_rig::{Act, Found, Heard, Refusal, Said, Step, Stop};
+use rdm_rig::Act::{Client, Close, Pause, Resume, Retire, Work};
+use rdm_rig::Heard::{Done, Nothing, Refused, Request, Sees, Worked};
+use rdm_rig::Step::{Collect, Discover, Leave, Look, Submit};
+use rdm_rig::Stop::{LogFull, Turns};
+use rdm_rig::{Found, Refusal, Said};
 
 const FAILED: Status = Status::FailedToSend;
 
 static ROWS: [Row; 6] = [
     Row {
         shows: "the operator pauses",
-        free: 100,
         ring: 4,
         places: &[2],
-        moves: &[
-            (Act::Pause, Heard::Done),
-            (Act::Work(1), Heard::Worked(Stop::Turns)),
-        ],
+        moves: &[(Pause, Done), (Work(1), Worked(Turns))],
         counts: &[(0, 0, 0)],
         is_paused: true,
-        is_closed: false,
-        log: None,
+        ..USUAL
     },
     Row {
         shows: "the operator pauses and resumes",
-        free: 100,
         ring: 4,
         places: &[2],
         moves: &[
-            (Act::Pause, Heard::Done),
-            (Act::Work(1), Heard::Worked(Stop::Turns)),
-            (Act::Client(0, Step::Submit(1)), Heard::Done),
-            (Act::Work(2), Heard::Worked(Stop::Turns)),
-            (Act::Client(0, Step::Collect), Heard::Nothing),
-            (Act::Resume, Heard::Done),
-            (Act::Work(1), Heard::Worked(Stop::Turns)),
-            (Act::Client(0, Step::Collect), Heard::Request(1, FAILED)),
-            (Act::Retire, Heard::Done),
-            (Act::Pause, Heard::Done),
-            (Act::Work(2), Heard::Worked(Stop::Turns)),
+            (Pause, Done),
+            (Work(1), Worked(Turns)),
+            (Client(0, Submit(1)), Done),
+            (Work(2), Worked(Turns)),
+            (Client(0, Collect), Nothing),
+            (Resume, Done),
+            (Work(1), Worked(Turns)),
+            (Client(0, Collect), Request(1, FAILED)),
+            (Retire, Done),
+            (Pause, Done),
+            (Work(2), Worked(Turns)),
         ],
         counts: &[(1, 1, 0)],
-        is_paused: false,
-        is_closed: false,
         log: Some(&[
             Said::Join(0, 2),
             Said::Pause,
@@ -53,77 +49,64 @@ static ROWS: [Row; 6] = [
             Said::Finish(0, FAILED, 0),
             Said::Collect(0),
         ]),
+        ..USUAL
     },
     Row {
         shows: "the worker makes one call of the operator in a turn",
-        free: 100,
         ring: 4,
         places: &[1],
-        moves: &[
-            (Act::Pause, Heard::Done),
-            (Act::Resume, Heard::Done),
-            (Act::Work(1), Heard::Worked(Stop::Turns)),
-        ],
+        moves: &[(Pause, Done), (Resume, Done), (Work(1), Worked(Turns))],
         counts: &[(0, 0, 0)],
         is_paused: true,
-        is_closed: false,
-        log: None,
+        ..USUAL
     },
     Row {
         shows: "and the next one in the next turn",
-        free: 100,
         ring: 4,
         places: &[1],
         moves: &[
-            (Act::Pause, Heard::Done),
-            (Act::Resume, Heard::Done),
-            (Act::Work(1), Heard::Worked(Stop::Turns)),
-            (Act::Work(1), Heard::Worked(Stop::Turns)),
+            (Pause, Done),
+            (Resume, Done),
+            (Work(1), Worked(Turns)),
+            (Work(1), Worked(Turns)),
         ],
         counts: &[(0, 0, 0)],
-        is_paused: false,
-        is_closed: false,
-        log: None,
+        ..USUAL
     },
     Row {
         shows: "rings without a slot refuse each call",
-        free: 100,
         ring: 1,
         places: &[1],
         moves: &[
-            (Act::Client(0, Step::Submit(1)), Heard::Done),
+            (Client(0, Submit(1)), Done),
             (
-                Act::Client(0, Step::Discover(Kind::Full, 9)),
-                Heard::Refused(Refusal::RingFull(9)),
+                Client(0, Discover(Kind::Full, 9)),
+                Refused(Refusal::RingFull(9)),
             ),
-            (Act::Client(0, Step::Leave), Heard::Refused(Refusal::NoSlot)),
-            (Act::Client(0, Step::Look), Heard::Sees(0, Found::Nobody)),
-            (Act::Pause, Heard::Done),
-            (Act::Pause, Heard::Refused(Refusal::NoSlot)),
-            (Act::Resume, Heard::Refused(Refusal::NoSlot)),
-            (Act::Close, Heard::Refused(Refusal::NoSlot)),
-            (Act::Retire, Heard::Refused(Refusal::NoSlot)),
-            (Act::Work(1), Heard::Worked(Stop::Turns)),
-            (Act::Retire, Heard::Done),
+            (Client(0, Leave), Refused(Refusal::NoSlot)),
+            (Client(0, Look), Sees(0, Found::Nobody)),
+            (Pause, Done),
+            (Pause, Refused(Refusal::NoSlot)),
+            (Resume, Refused(Refusal::NoSlot)),
+            (Close, Refused(Refusal::NoSlot)),
+            (Retire, Refused(Refusal::NoSlot)),
+            (Work(1), Worked(Turns)),
+            (Retire, Done),
         ],
         counts: &[(1, 0, 1)],
         is_paused: true,
-        is_closed: false,
-        log: None,
+        ..USUAL
     },
     Row {
         shows: "three free entries are enough for a call of the operator",
         free: 4,
         ring: 1,
         places: &[1],
-        moves: &[
-            (Act::Pause, Heard::Done),
-            (Act::Work(1), Heard::Worked(Stop::LogFull)),
-        ],
+        moves: &[(Pause, Done), (Work(1), Worked(LogFull))],
         counts: &[(0, 0, 0)],
         is_paused: true,
-        is_closed: false,
         log: Some(&[Said::Join(0, 1), Said::Pause]),
+        ..USUAL
     },
 ];
 

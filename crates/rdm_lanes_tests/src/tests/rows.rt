@@ -27,6 +27,20 @@ pub struct Row {
     pub log: Option<&'static [Said]>,
 }
 
+/// What is usual in a row. The log has 100 free entries and isn't compared. At the end the session is neither paused
+/// nor closed.
+pub const USUAL: Row = Row {
+    shows: "",
+    free: 100,
+    ring: 1,
+    places: &[],
+    moves: &[],
+    counts: &[],
+    is_paused: false,
+    is_closed: false,
+    log: None,
+};
+
 /// Plays all these rows.
 pub fn play_all<R: Wait + Abort>(rt: &R, alloc: Global, rows: &[Row]) {
     for row in rows {

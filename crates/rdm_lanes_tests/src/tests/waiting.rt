@@ -1,61 +1,56 @@
 //! What waits for what with ring buffers, and what doesn't: clients and a worker that are driven by hand, over lines
 //! that fail.
-use super::rows::{Row, play_all};
+use super::rows::{Row, USUAL, play_all};
 use rdm_join::Status;
-use rdm_rig::{Act, Heard, Refusal, Said, Step, Stop};
+use rdm_rig::Act::{Client, Close, Retire, Work};
+use rdm_rig::Heard::{Done, Nothing, Refused, Request, Worked};
+use rdm_rig::Step::{Collect, Leave, Submit};
+use rdm_rig::Stop::{AllLeft, LogFull, Turns};
+use rdm_rig::{Refusal, Said};
 
 const FAILED: Status = Status::FailedToSend;
 
 static ROWS: [Row; 7] = [
     Row {
         shows: "an outcome waits for a slot of its ring",
-        free: 100,
         ring: 1,
         places: &[2],
         moves: &[
-            (Act::Client(0, Step::Submit(1)), Heard::Done),
-            (Act::Work(1), Heard::Worked(Stop::Turns)),
-            (Act::Client(0, Step::Submit(2)), Heard::Done),
-            (Act::Work(1), Heard::Worked(Stop::Turns)),
-            (Act::Client(0, Step::Collect), Heard::Request(1, FAILED)),
-            (Act::Client(0, Step::Collect), Heard::Nothing),
-            (Act::Work(1), Heard::Worked(Stop::Turns)),
-            (Act::Client(0, Step::Collect), Heard::Request(2, FAILED)),
+            (Client(0, Submit(1)), Done),
+            (Work(1), Worked(Turns)),
+            (Client(0, Submit(2)), Done),
+            (Work(1), Worked(Turns)),
+            (Client(0, Collect), Request(1, FAILED)),
+            (Client(0, Collect), Nothing),
+            (Work(1), Worked(Turns)),
+            (Client(0, Collect), Request(2, FAILED)),
         ],
         counts: &[(2, 2, 0)],
-        is_paused: false,
-        is_closed: false,
-        log: None,
+        ..USUAL
     },
     // In the third turn all have left, and one request still waits for the fourth turn.
     Row {
         shows: "what clients that have left asked is still sent, and they collect it",
-        free: 100,
         ring: 4,
         places: &[2, 1, 1],
         moves: &[
-            (Act::Client(0, Step::Submit(1)), Heard::Done),
-            (Act::Client(0, Step::Submit(2)), Heard::Done),
-            (Act::Client(0, Step::Leave), Heard::Done),
-            (
-                Act::Client(0, Step::Submit(9)),
-                Heard::Refused(Refusal::HasLeft(9)),
-            ),
-            (Act::Client(1, Step::Submit(3)), Heard::Done),
-            (Act::Client(1, Step::Leave), Heard::Done),
-            (Act::Client(2, Step::Submit(4)), Heard::Done),
-            (Act::Client(2, Step::Leave), Heard::Done),
-            (Act::Retire, Heard::Done),
-            (Act::Work(10), Heard::Worked(Stop::AllLeft)),
-            (Act::Client(0, Step::Collect), Heard::Request(1, FAILED)),
-            (Act::Client(0, Step::Collect), Heard::Request(2, FAILED)),
-            (Act::Client(1, Step::Collect), Heard::Request(3, FAILED)),
-            (Act::Client(2, Step::Collect), Heard::Request(4, FAILED)),
+            (Client(0, Submit(1)), Done),
+            (Client(0, Submit(2)), Done),
+            (Client(0, Leave), Done),
+            (Client(0, Submit(9)), Refused(Refusal::HasLeft(9))),
+            (Client(1, Submit(3)), Done),
+            (Client(1, Leave), Done),
+            (Client(2, Submit(4)), Done),
+            (Client(2, Leave), Done),
+            (Retire, Done),
+            (Work(10), Worked(AllLeft)),
+            (Client(0, Collect), Request(1, FAILED)),
+            (Client(0, Collect), Request(2, FAILED)),
+            (Client(1, Collect), Request(3, FAILED)),
+            (Client(2, Collect), Request(4, FAILED)),
         ],
         counts: &[(2, 2, 0), (1, 1, 0), (1, 1, 0)],
-        is_paused: false,
-        is_closed: false,
-        log: None,
+        ..USUAL
     },
     // Of 12 free entries the join takes 1, and each request takes 5 up to its collect.
     Row {
@@ -64,52 +59,45 @@ static ROWS: [Row; 7] = [
         ring: 1,
         places: &[2],
         moves: &[
-            (Act::Client(0, Step::Submit(1)), Heard::Done),
-            (Act::Work(1), Heard::Worked(Stop::Turns)),
-            (Act::Client(0, Step::Submit(2)), Heard::Done),
-            (Act::Work(1), Heard::Worked(Stop::Turns)),
-            (Act::Client(0, Step::Collect), Heard::Request(1, FAILED)),
-            (Act::Work(5), Heard::Worked(Stop::LogFull)),
-            (Act::Client(0, Step::Collect), Heard::Request(2, FAILED)),
+            (Client(0, Submit(1)), Done),
+            (Work(1), Worked(Turns)),
+            (Client(0, Submit(2)), Done),
+            (Work(1), Worked(Turns)),
+            (Client(0, Collect), Request(1, FAILED)),
+            (Work(5), Worked(LogFull)),
+            (Client(0, Collect), Request(2, FAILED)),
         ],
         counts: &[(2, 2, 0)],
-        is_paused: false,
-        is_closed: false,
-        log: None,
+        ..USUAL
     },
     Row {
         shows: "a full ring holds up no other client",
-        free: 100,
         ring: 1,
         places: &[2, 1],
         moves: &[
-            (Act::Client(0, Step::Submit(1)), Heard::Done),
-            (Act::Work(1), Heard::Worked(Stop::Turns)),
-            (Act::Client(0, Step::Submit(2)), Heard::Done),
-            (Act::Work(1), Heard::Worked(Stop::Turns)),
-            (Act::Client(1, Step::Submit(3)), Heard::Done),
-            (Act::Work(1), Heard::Worked(Stop::Turns)),
-            (Act::Client(1, Step::Collect), Heard::Request(3, FAILED)),
+            (Client(0, Submit(1)), Done),
+            (Work(1), Worked(Turns)),
+            (Client(0, Submit(2)), Done),
+            (Work(1), Worked(Turns)),
+            (Client(1, Submit(3)), Done),
+            (Work(1), Worked(Turns)),
+            (Client(1, Collect), Request(3, FAILED)),
         ],
         counts: &[(2, 0, 2), (1, 1, 0)],
-        is_paused: false,
-        is_closed: false,
-        log: None,
+        ..USUAL
     },
     Row {
         shows: "a call after the close is not made while the ring has no slot",
-        free: 100,
         ring: 1,
         places: &[2],
         moves: &[
-            (Act::Client(0, Step::Submit(1)), Heard::Done),
-            (Act::Close, Heard::Done),
-            (Act::Work(1), Heard::Worked(Stop::Turns)),
-            (Act::Client(0, Step::Submit(2)), Heard::Done),
-            (Act::Work(3), Heard::Worked(Stop::Turns)),
+            (Client(0, Submit(1)), Done),
+            (Close, Done),
+            (Work(1), Worked(Turns)),
+            (Client(0, Submit(2)), Done),
+            (Work(3), Worked(Turns)),
         ],
         counts: &[(2, 0, 2)],
-        is_paused: false,
         is_closed: true,
         log: Some(&[
             Said::Join(0, 2),
@@ -118,44 +106,41 @@ static ROWS: [Row; 7] = [
             Said::Finish(0, FAILED, 0),
             Said::Collect(0),
         ]),
+        ..USUAL
     },
     Row {
         shows: "a call after the close waits for a slot",
-        free: 100,
         ring: 1,
         places: &[2],
         moves: &[
-            (Act::Client(0, Step::Submit(1)), Heard::Done),
-            (Act::Close, Heard::Done),
-            (Act::Work(1), Heard::Worked(Stop::Turns)),
-            (Act::Client(0, Step::Submit(2)), Heard::Done),
-            (Act::Work(3), Heard::Worked(Stop::Turns)),
-            (Act::Client(0, Step::Collect), Heard::Request(1, FAILED)),
-            (Act::Work(1), Heard::Worked(Stop::Turns)),
-            (Act::Client(0, Step::Collect), Heard::Request(2, FAILED)),
+            (Client(0, Submit(1)), Done),
+            (Close, Done),
+            (Work(1), Worked(Turns)),
+            (Client(0, Submit(2)), Done),
+            (Work(3), Worked(Turns)),
+            (Client(0, Collect), Request(1, FAILED)),
+            (Work(1), Worked(Turns)),
+            (Client(0, Collect), Request(2, FAILED)),
         ],
         counts: &[(2, 2, 0)],
-        is_paused: false,
         is_closed: true,
-        log: None,
+        ..USUAL
     },
     Row {
         shows: "a client that leaves without collecting holds nobody up",
-        free: 100,
         ring: 1,
         places: &[2],
         moves: &[
-            (Act::Client(0, Step::Submit(1)), Heard::Done),
-            (Act::Close, Heard::Done),
-            (Act::Work(1), Heard::Worked(Stop::Turns)),
-            (Act::Client(0, Step::Leave), Heard::Done),
-            (Act::Retire, Heard::Done),
-            (Act::Work(2), Heard::Worked(Stop::AllLeft)),
+            (Client(0, Submit(1)), Done),
+            (Close, Done),
+            (Work(1), Worked(Turns)),
+            (Client(0, Leave), Done),
+            (Retire, Done),
+            (Work(2), Worked(AllLeft)),
         ],
         counts: &[(1, 0, 1)],
-        is_paused: false,
         is_closed: true,
-        log: None,
+        ..USUAL
     },
 ];
 
