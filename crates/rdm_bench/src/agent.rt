@@ -12,13 +12,6 @@ use rdm_wire::UidSet;
 use std::alloc::Global;
 use std::time::CpuClock;
 
-// What is timed of a run's frames: whether branch replies are read from their bytes, and whether frames are written.
-const STEPS: [(&str, bool, bool); 3] = [
-    ("Step", false, false),
-    ("ReadAndStep", true, false),
-    ("WriteAndReadAndStep", true, true),
-];
-
 /// Times runs over this many devices: a start and an end alone; and all frames of a run, with branch replies read from
 /// their bytes or not, and with each frame written too or not.
 pub fn time<R: CpuClock + Print + Eprint>(bench: &Bench<'_, R>, count: usize) -> Option<()> {
@@ -36,7 +29,11 @@ pub fn time<R: CpuClock + Print + Eprint>(bench: &Bench<'_, R>, count: usize) ->
     bench.time("agent", "StartAndEnd", &mut runs)?;
     runs.budget = DEFAULT_BUDGET;
     runs.heard = heard;
-    for (work, reads, writes) in STEPS {
+    for (work, reads, writes) in [
+        ("Step", false, false),
+        ("ReadAndStep", true, false),
+        ("WriteAndReadAndStep", true, true),
+    ] {
         runs.reads = reads;
         runs.writes = writes;
         bench.time("agent", work, &mut runs)?;
@@ -74,12 +71,10 @@ impl Sample for Runs<'_> {
     #[inline(never)]
     fn run(&mut self) -> Option<u64> {
         let mut agent = Agent::start(Kind::Full, self.known, self.budget);
-        let mut place: usize = 0;
-        for heard in self.heard.as_slice() {
+        for (place, heard) in self.heard.as_slice().iter().enumerate() {
             let op = agent.next();
             self.write(op, place)?;
             hear(&mut agent, op, self.read(place, *heard))?;
-            place = place.wrapping_add(1);
         }
         if agent.next() != Op::End {
             return None;

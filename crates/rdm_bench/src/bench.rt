@@ -62,7 +62,7 @@ impl<R: CpuClock + Print + Eprint> Bench<'_, R> {
             *time = self.now()?.saturating_sub(began).saturating_mul(1_000) / steps;
         }
         times.sort_unstable();
-        let (least, middle) = (times.first()?, times.get(SAMPLES / 2)?);
+        let (least, middle) = (times[0], times[SAMPLES / 2]);
         println!(rt; "{subject}, {work}: {steps}").ok()?;
         eprintln!(rt; "{subject}, {work}: {middle} ps each, {least} at least").ok()
     }

@@ -10,9 +10,7 @@ use left_right::Absorb;
 use rdm_agent::Kind;
 use rdm_client::{AskTold, Collected, DeviceView, Told};
 use rdm_join::LineEvent;
-use rdm_lanes::{
-    BlankHistory, Lanes, RingClient, RingFault, Shown, ViewHistory, WorkerEnd, open_lanes,
-};
+use rdm_lanes::{BlankHistory, Lanes, RingFault, Shown, ViewHistory, WorkerEnd, open_lanes};
 use rdm_line::Line;
 use rdm_locked::{CallShare, Exchange, Left, LockedClient, Port, WorkerEnd as PortEnd};
 use rdm_queue::{Log, SubmitFault};
@@ -331,18 +329,14 @@ fn on_rings<J: ViewHistory, X: Line + Drop, D: Job, W: Wait + Drop>(
         line: _line,
     } = rings;
     let Lanes {
-        clients,
+        mut clients,
         operator: _operator,
         worker: _worker,
     } = lanes;
-    end(alloc, clients);
-    done
-}
-
-// Ends the clients. The callbacks of requests that were never told are cancelled.
-fn end<J: ViewHistory>(alloc: Global, mut clients: Vec<RingClient<J, Note, AskNote>>) {
+    // The callbacks of requests that were never told are cancelled.
     while let Some(client) = clients.pop() {
         cancels(alloc, client.end().into_unspent());
     }
     clients.destroy_empty();
+    done
 }

@@ -117,27 +117,15 @@ struct Turns<'a, S> {
 
 impl<S: Served> Sample for Turns<'_, S> {
     fn run(&mut self) -> Option<u64> {
-        match self.discovery {
-            Some((frames, devices)) => self.discover(frames, devices),
-            None => self.request(),
+        if let Some((frames, devices)) = self.discovery {
+            self.served.discover()?;
+            self.served.work(frames)?;
+            holds(self.served.found()? == devices)?;
+            return Some(frames);
         }
-    }
-}
-
-impl<S: Served> Turns<'_, S> {
-    fn discover(&mut self, frames: u64, devices: usize) -> Option<u64> {
-        self.served.discover()?;
-        self.served.work(frames)?;
-        holds(self.served.found()? == devices)?;
-        Some(frames)
-    }
-
-    // One request is answered and collected, and another submitted.
-    fn request(&mut self) -> Option<u64> {
-        let clients = self.clients.max(1);
-        let submitter = self.turn.wrapping_add(self.waiting) % clients;
+        let submitter = self.turn.wrapping_add(self.waiting) % self.clients.max(1);
         self.served.work(1)?;
-        let told = self.served.collect(self.turn % clients)?;
+        let told = self.served.collect(self.turn % self.clients.max(1))?;
         holds(told.done.bytes.len() == 2 && self.served.submit(submitter, TAG)?)?;
         self.turn = self.turn.wrapping_add(1);
         Some(1)

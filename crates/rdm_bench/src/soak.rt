@@ -23,12 +23,8 @@ pub fn print<R: Files + AllocGlobal + Print + Eprint + Wait>(
     let rt = bench.rt;
     let kind = if with_mutex { "Locked" } else { "Rings" };
     for port in 1..=bench.rounds as u64 {
-        let Tally {
-            completed,
-            timeouts,
-            failed,
-            ..
-        } = soaked(bench, with_mutex, requests, port)?;
+        let tally = soaked(bench, with_mutex, requests, port)?;
+        let (completed, timeouts, failed) = (tally.completed, tally.timeouts, tally.failed);
         println!(rt; "{kind}: {completed} completed, {timeouts} timeouts, {failed} failed").ok()?;
         let kilobytes = resident(rt).unwrap_or(0);
         eprintln!(rt; "{kind}: {kilobytes} kB").ok()?;

@@ -16,13 +16,6 @@ use std::time::CpuClock;
 // How many clients read.
 const READERS: usize = 16;
 
-// What is timed: whether a view is published, and whether it is read.
-const WORKS: [(&str, bool, bool); 3] = [
-    ("Publish", true, false),
-    ("PublishAndRead", true, true),
-    ("Read", false, true),
-];
-
 /// Times publications, reads of a view that has changed, and reads of one that hasn't, with this many devices.
 pub fn time<R: CpuClock + Print + Eprint + Wait>(bench: &Bench<'_, R>, count: usize) -> Option<()> {
     time_all::<Brand, &R, R>(bench, bench.rt, BlankHistory::new(), count)
@@ -46,7 +39,11 @@ fn time_all<J: ViewHistory, W: Wait + Drop, R: CpuClock + Print + Eprint>(
         publishes: true,
         reads: false,
     };
-    for (work, publishes, reads) in WORKS {
+    for (work, publishes, reads) in [
+        ("Publish", true, false),
+        ("PublishAndRead", true, true),
+        ("Read", false, true),
+    ] {
         views.publishes = publishes;
         views.reads = reads;
         bench.time("views", work, &mut views)?;
