@@ -136,19 +136,23 @@ pub fn device_of(uid: Uid) -> Device
 fn placed(alloc: Global, uids: &UidSet) -> Option<SceneDevices> {
     let mut devices = SceneDevices::new(alloc);
     for uid in uids.as_slice() {
-        if uid.is_broadcast() {
-            return None;
-        }
-        let device = SceneDevice {
-            device: device_of(*uid),
-            preamble: 7,
-            params: Parameters::new(Vec::new(alloc)),
-            from: 0,
-            until: None,
-        };
-        devices.add(device).ok()?;
+        add(alloc, &mut devices, *uid)?;
     }
     Some(devices)
+}
+
+fn add(alloc: Global, devices: &mut SceneDevices, uid: Uid) -> Option<()> {
+    if uid.is_broadcast() {
+        return None;
+    }
+    let device = SceneDevice {
+        device: device_of(uid),
+        preamble: 7,
+        params: Parameters::new(Vec::new(alloc)),
+        from: 0,
+        until: None,
+    };
+    devices.add(device).ok()
 }
 
 /// What came after an operation of a run.
@@ -228,12 +232,25 @@ impl TestLine {
 
     // What comes in place of the reply of those that keep to the rules.
     fn changed(&mut self, op: Op, tn: u8, reply: LineReply) -> Option<LineReply> {
-        match (op, self.wrong) {
-            (Op::Branch(_), Wrong::Noise(many)) if reply.is_empty() => self.silence(many),
-            (Op::Branch(range), Wrong::Odd(odd, number)) => {
-                replied(odd, uid_of(number), range, reply)
-            }
-            (Op::Mute(uid), Wrong::Odd(Odd::GoesOn, number)) if uid == uid_of(number) => {
+        match op {
+            Op::Branch(range) => self.branched(range, reply),
+            Op::Mute(uid) => self.muted(uid, tn, reply),
+            _ => Some(reply),
+        }
+    }
+
+    fn branched(&mut self, range: UidRange, reply: LineReply) -> Option<LineReply> {
+        match self.wrong {
+            Wrong::Noise(_) if !reply.is_empty() => Some(reply),
+            Wrong::Noise(many) => self.silence(many),
+            Wrong::Odd(odd, number) => replied(odd, uid_of(number), range, reply),
+            _ => Some(reply),
+        }
+    }
+
+    fn muted(&self, uid: Uid, tn: u8, reply: LineReply) -> Option<LineReply> {
+        match self.wrong {
+            Wrong::Odd(Odd::GoesOn, number) if uid == uid_of(number) => {
                 bytes_of(&encode_response(&mute_response(&device_of(uid), controller(), tn)))
             }
             _ => Some(reply),
