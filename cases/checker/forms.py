@@ -31,7 +31,7 @@ ASK = f"(discovery) ({NUMBER}): (?:ok(?: {UID})*|{RUN_FAULT})"
 OUTCOME = re.compile(f"client ({NUMBER}) (?:{REQUEST}|{ASK})")
 
 # Whose outcome a line has: the client, whether it is a discovery's, and its number among the client's of that kind.
-Place = Tuple[int, bool, int]
+Position = Tuple[int, bool, int]
 
 
 def is_fault(text: bytes, status: int) -> bool:
@@ -58,13 +58,13 @@ def is_discovery(text: bytes, status: int) -> bool:
 def is_session(text: bytes, status: int, calls: int) -> bool:
     """The whole answer of a session with this many calls: each client's requests in order, then its discoveries."""
     lines = decoded(text)
-    places = list(places_of(lines))
-    if status != 0 or not lines.endswith("\n") or len(places) != calls:
+    positions = list(positions_of(lines))
+    if status != 0 or not lines.endswith("\n") or len(positions) != calls:
         return False
-    return all(follows(last, place) for last, place in zip([None, *places], places))
+    return all(follows(last, position) for last, position in zip([None, *positions], positions))
 
 
-def places_of(lines: str) -> Iterator[Optional[Place]]:
+def positions_of(lines: str) -> Iterator[Optional[Position]]:
     """Whose outcome each line has; none for one that has no outcome."""
     for line in lines[:-1].split("\n"):
         match = OUTCOME.fullmatch(line)
@@ -74,11 +74,11 @@ def places_of(lines: str) -> Iterator[Optional[Place]]:
             yield None
 
 
-def follows(last: Optional[Place], place: Optional[Place]) -> bool:
-    """Whether a place comes right after another one."""
-    if place is None:
+def follows(last: Optional[Position], position: Optional[Position]) -> bool:
+    """Whether a position comes right after another one."""
+    if position is None:
         return False
-    client, is_ask, number = place
+    client, is_ask, number = position
     if last is None:
         return number == 0
     if last[:2] == (client, is_ask):

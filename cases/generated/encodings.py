@@ -24,7 +24,7 @@ NO_TEXTS = (
 )
 
 # Where they are, at the tilde, doesn't matter: in an unknown key or its value, between values, before or after all.
-PLACES = (
+TEMPLATES = (
     b'{"source":"7a70:00000100","~":0}',
     b'{"source":"7a70:00000100","x":"~"}',
     b'{"source":"7a70:00000100"~}',
@@ -53,10 +53,10 @@ def cases() -> Iterator[Case]:
 
 
 def no_text() -> Iterator[Case]:
-    """Each of the bytes that are no text at each place."""
-    for place in PLACES:
+    """Each of the bytes that are no text in each template."""
+    for template in TEMPLATES:
         for text in NO_TEXTS:
-            file = place.replace(b"~", text)
+            file = template.replace(b"~", text)
             yield discover_case(f"the scene file {file!r}", file, NO_JSON)
             yield run_case(f"the session file {file!r}", file, NO_JSON)
 
@@ -64,8 +64,8 @@ def no_text() -> Iterator[Case]:
 def no_blanks() -> Iterator[Case]:
     """Bytes that are no blanks, and those that are."""
     for text in NO_BLANKS:
-        for place in (b'~{"source":"7a70:00000100"}', b'{"source":"7a70:00000100"}~'):
-            file = place.replace(b"~", text)
+        for template in (b'~{"source":"7a70:00000100"}', b'{"source":"7a70:00000100"}~'):
+            file = template.replace(b"~", text)
             yield discover_case(f"no blanks in the file {file!r}", file, NO_JSON)
     blanks = b'~{~"source"~:~"7a70:00000100"~}~'.replace(b"~", b" \t\r\n")
     yield discover_case("blanks between all", blanks, "frames 8\n")

@@ -157,7 +157,7 @@ def check_fault(checks: Checks, files: Tuple[Path, Path]) -> None:
         found = daemon.discover(True)
         checks.check("1234:00000007" in found, f"a fixture that mutes is lost: {found}")
         wanted = "discovery failed: ffff:00000001 alone answered its branch"
-        checks.check(wanted in daemon.messages, f"the fault isn't told: {daemon.messages}")
+        checks.check(wanted in daemon.messages, f"the fault isn't reported: {daemon.messages}")
 
 
 def check_own_discovery(checks: Checks, files: Tuple[Path, Path]) -> None:

@@ -116,10 +116,10 @@ class Bridges(TestCase):
         page = (PACKAGE / "LINES.md").read_text(encoding="utf-8")
         (skeleton,) = re.findall(r"^```python\n(.*?)^```$", page, re.DOTALL | re.MULTILINE)
         os.environ["PYTHONPATH"] = str(PACKAGE)
-        with folder() as place:
-            (place / "my_bridge.py").write_text(skeleton)
-            (place / "my_adapter.py").write_text(MY_ADAPTER)
-            with open_line(f"exec:{sys.executable} {place}/my_bridge.py {FIVE}") as line:
+        with folder() as directory:
+            (directory / "my_bridge.py").write_text(skeleton)
+            (directory / "my_adapter.py").write_text(MY_ADAPTER)
+            with open_line(f"exec:{sys.executable} {directory}/my_bridge.py {FIVE}") as line:
                 self.assertEqual(len(discover(line)), 5)
                 self.assertEqual(Controller(line).get(LEFT, 0x0082).data, b"Front left")
 
@@ -174,15 +174,15 @@ class Rigs(TestCase):
 
 class Adapters(TestCase):
     def test_the_program_on_a_rig(self) -> None:
-        with folder() as place:
-            program = self.program(place)
+        with folder() as directory:
+            program = self.program(directory)
             result = run_adapter(f"rig:{FIVE}", "discover", program=program)
             self.assertEqual((result.returncode, result.stderr), (0, ""))
             self.assertEqual(result.stdout.splitlines(), UIDS)
 
     def test_wrong_arguments_leave_no_bridge(self) -> None:
-        with folder() as place:
-            self.assertEqual(run_adapter(f"rig:{FIVE}", "nonsense", program=self.program(place)).returncode, 2)
+        with folder() as directory:
+            self.assertEqual(run_adapter(f"rig:{FIVE}", "nonsense", program=self.program(directory)).returncode, 2)
         self.assertEqual(run_adapter(f"rig:{FIVE}").returncode, 2)
 
     def test_a_program_that_opens_nothing(self) -> None:
@@ -191,14 +191,14 @@ class Adapters(TestCase):
             self.assertGreaterEqual(result.returncode, status)
 
     def test_a_line_that_cannot_be_opened(self) -> None:
-        with folder() as place:
-            result = run_adapter("enttec:/dev/none", "discover", program=self.program(place))
+        with folder() as directory:
+            result = run_adapter("enttec:/dev/none", "discover", program=self.program(directory))
             self.assertNotEqual(result.returncode, 0)
             self.assertIn("wurstlinen: /dev/none can't be opened", result.stderr)
 
-    def program(self, place: Path) -> str:
+    def program(self, directory: Path) -> str:
         """The stand-in as a program of its own."""
-        path = place / "program"
+        path = directory / "program"
         path.write_text(f"#!/bin/sh\nexec {sys.executable} {STAND_IN} \"$@\"\n")
         path.chmod(0o755)
         return str(path)
@@ -206,21 +206,21 @@ class Adapters(TestCase):
 
 class WithoutProof(TestCase):
     def test_an_unproved_run_has_no_line(self) -> None:
-        with folder() as place:
+        with folder() as directory:
             for name in ("wurstlinen", "crates.txt"):
-                shutil.copy(ROOT / name, place)
-            shutil.copytree(ROOT / "tools", place / "tools")
+                shutil.copy(ROOT / name, directory)
+            shutil.copytree(ROOT / "tools", directory / "tools")
             # The script wants this command, but refuses before it is called.
-            rt = place / "rt"
+            rt = directory / "rt"
             rt.write_text("#!/bin/sh\nexit 1\n")
             rt.chmod(0o755)
-            environment = {**os.environ, "PATH": f"{place}:{os.environ['PATH']}"}
+            environment = {**os.environ, "PATH": f"{directory}:{os.environ['PATH']}"}
             for option, words in (("--line", ["--line", "out"]), ("--line", ["--line=out"]), ("--log", ["--log=l"])):
                 arguments = ["discover", "--source", UIDS[0], *words]
-                result = subprocess.run([str(place / "wurstlinen"), "--unproved", *arguments], capture_output=True,
+                result = subprocess.run([str(directory / "wurstlinen"), "--unproved", *arguments], capture_output=True,
                                         text=True, env=environment, check=False)
                 self.assertEqual((result.returncode, result.stdout), (125, ""))
-                proved = " ".join([str(place / "wurstlinen"), *arguments])
+                proved = " ".join([str(directory / "wurstlinen"), *arguments])
                 reason = f"an unproved run can't use {option}; the proved one can: {proved}"
                 self.assertEqual(result.stderr, f"wurstlinen: {reason}\n")
 

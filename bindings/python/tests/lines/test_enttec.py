@@ -152,12 +152,12 @@ class Meeting(TestCase):
             self.assertEqual(driver.serial, 0x01020304)
 
     def test_what_is_no_terminal(self) -> None:
-        with folder() as place:
-            (place / "file").write_bytes(b"")
+        with folder() as directory:
+            (directory / "file").write_bytes(b"")
             for name in ("file", "none", ""):
                 with self.assertRaises(LineFailed):
-                    EnttecPro(str(place / name), place)
-            self.assertEqual(os.listdir(place), ["file"])
+                    EnttecPro(str(directory / name), directory)
+            self.assertEqual(os.listdir(directory), ["file"])
 
 
 class Locks(TestCase):
@@ -174,8 +174,8 @@ class Locks(TestCase):
             self.assertEqual(os.listdir(locks), [])
 
     def test_a_link_to_the_device_has_the_same_lock(self) -> None:
-        with folder() as locks, folder() as place, Emulator(ListLine()) as emulator:
-            link = place / "usb-ENTTEC-port0"
+        with folder() as locks, folder() as directory, Emulator(ListLine()) as emulator:
+            link = directory / "usb-ENTTEC-port0"
             link.symlink_to(emulator.path)
             with EnttecPro(str(link), locks):
                 self.assertEqual(os.listdir(locks), [f"LCK..{os.path.basename(emulator.path)}"])
@@ -398,17 +398,17 @@ class Faults(TestCase):
 
     def test_unplugging_fails_and_opening_again_works(self) -> None:
         for frame in (GET, BRANCH, UNMUTE):
-            with folder() as place:
-                path = place / "ttyUSB0"
+            with folder() as directory:
+                path = directory / "ttyUSB0"
                 with Emulator(Rig(one()), Widget(leaves_after=3)) as emulator:
                     path.symlink_to(emulator.path)
-                    driver = EnttecPro(str(path), place)
+                    driver = EnttecPro(str(path), directory)
                     for _ in range(3):
                         driver.exchange(frame)
                     with self.assertRaises(LineFailed):
                         driver.exchange(frame)
                     emulator.wait()
-                    self.assertEqual(os.listdir(place), ["ttyUSB0"])
+                    self.assertEqual(os.listdir(directory), ["ttyUSB0"])
                     with self.assertRaises(LineFailed):
                         driver.exchange(frame)
                 path.unlink()
@@ -416,7 +416,7 @@ class Faults(TestCase):
                     path.symlink_to(emulator.path)
                     self.assertTrue(driver.exchange(GET))
                     driver.close()
-                    with EnttecPro(str(path), place) as other:
+                    with EnttecPro(str(path), directory) as other:
                         self.assertTrue(other.exchange(GET))
 
 

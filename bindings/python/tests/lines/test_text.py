@@ -126,8 +126,8 @@ class Openings(TestCase):
 
     def test_fifos_in_both_orders(self) -> None:
         for frames_first in (False, True):
-            with folder() as place:
-                frames, replies = str(place / "frames"), str(place / "replies")
+            with folder() as directory:
+                frames, replies = str(directory / "frames"), str(directory / "replies")
                 os.mkfifo(frames)
                 os.mkfifo(replies)
                 thread = self.serve_in_thread(frames, replies, frames_first)
@@ -146,23 +146,23 @@ class Openings(TestCase):
             self.assertEqual(line.exchange(FRAME), b"\x06")
 
     def test_what_is_not_there_is_not_made(self) -> None:
-        with folder() as place:
-            os.mkfifo(place / "frames")
+        with folder() as directory:
+            os.mkfifo(directory / "frames")
             for text in ("text:{0}/none", "text:{0}/none,{0}/frames", "text:{0}/frames,{0}/none",
                          "text:{0}/frames"):
                 with self.assertRaises(LineFailed):
-                    open_line(text.format(place))
-            self.assertEqual(os.listdir(place), ["frames"])
+                    open_line(text.format(directory))
+            self.assertEqual(os.listdir(directory), ["frames"])
 
     def test_a_file_of_replies(self) -> None:
-        with folder() as place:
-            (place / "frames").write_bytes(b"before")
-            (place / "replies").write_bytes(b"01\n")
-            with open_line(f"text:{place}/frames,{place}/replies") as line:
+        with folder() as directory:
+            (directory / "frames").write_bytes(b"before")
+            (directory / "replies").write_bytes(b"01\n")
+            with open_line(f"text:{directory}/frames,{directory}/replies") as line:
                 self.assertEqual(line.exchange(FRAME), b"\x01")
                 with self.assertRaises(LineFailed):
                     line.exchange(FRAME)
-            self.assertTrue((place / "frames").read_bytes().startswith(FRAME.hex().encode()[:6]))
+            self.assertTrue((directory / "frames").read_bytes().startswith(FRAME.hex().encode()[:6]))
 
     def test_a_command(self) -> None:
         program = "import sys\nfor line in sys.stdin: print('cc' if line.strip() else 'failed', flush=True)"
