@@ -21,6 +21,21 @@ const NO_COMMANDS: [&str; 9] = [
     "cc011a7a7000000100123400000001000300000021006002010202a2",
 ];
 
+// Discovery commands with the right checksum, each with a field that none of this controller's has: a mute of a
+// manufacturer's devices, of sub-device 1, and with data; an unmute of one device; a branch to a manufacturer's
+// devices; the PID `0004`; start code `cd`; sub start code 2; a message length of 25 without data.
+const OTHER_DISCOVERY_COMMANDS: [&str; 9] = [
+    "cc01181234ffffffff7a7000000100050100000010000200062a",
+    "cc01181234000000017a70000001000501000001100002000230",
+    "cc01191234000000017a7000000100050100000010000201ff0330",
+    "cc01181234000000017a70000001000501000000100003000230",
+    "cc01241234ffffffff7a700000010005010000001000010c000000000000ffffffffffff0c3b",
+    "cc01181234000000017a70000001000501000000100004000231",
+    "cd01181234000000017a70000001000501000000100002000230",
+    "cc02181234000000017a70000001000501000000100002000230",
+    "cc01191234000000017a70000001000501000000100002000230",
+];
+
 // A GET of the parameter `0060`.
 fn get(rt: &impl Abort) -> Request {
     Request {
@@ -78,6 +93,13 @@ fn reads_none(rt: &impl Abort, alloc: Global, text: &str) {
 #[test]
 fn reads_no_commands(rt: HostRuntime) {
     for text in NO_COMMANDS {
+        reads_none(&rt, rt.alloc(), text);
+    }
+}
+
+#[test]
+fn reads_no_other_discovery_commands(rt: HostRuntime) {
+    for text in OTHER_DISCOVERY_COMMANDS {
         reads_none(&rt, rt.alloc(), text);
     }
 }
